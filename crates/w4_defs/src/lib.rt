@@ -1,0 +1,16 @@
+//! The definitions that all other crates are proved against, and the plain types they speak of.
+//! Sources: the WebAssembly Core Specification and the WASM-4 reference; where a file says "own rule",
+//! the rule is this project's. The definitions themselves are in `specs/`, one file a subject.
+#![tactic(auto)]
+
+pub mod console;
+pub mod memory;
+pub mod operation;
+pub mod steps;
+pub mod value;
+
+pub use console::{Halt, Import, Input, Sound, TextSource, Tone};
+pub use memory::OutOfMemory;
+pub use operation::Op;
+pub use steps::Steps;
+pub use value::{Cause, GlobalType, Limits, Val, ValType};
