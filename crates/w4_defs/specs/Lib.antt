@@ -1,1 +1,3 @@
 -- The definitions, one file a subject.
+pub mod Tree
+pub mod Module

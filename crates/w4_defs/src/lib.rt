@@ -5,12 +5,14 @@
 
 pub mod console;
 pub mod memory;
+pub mod module;
 pub mod operation;
 pub mod steps;
 pub mod value;
 
 pub use console::{Halt, Import, Input, Sound, TextSource, Tone};
 pub use memory::OutOfMemory;
+pub use module::{ExportKind, ImportKind, Locals};
 pub use operation::Op;
 pub use steps::Steps;
 pub use value::{Cause, GlobalType, Limits, Val, ValType};
