@@ -10,3 +10,4 @@ pub mod Bytes
 pub mod Control
 pub mod Effects
 pub mod Evaluation
+pub mod Resume
