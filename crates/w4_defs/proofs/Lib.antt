@@ -2,3 +2,6 @@
 pub mod Budgets
 pub mod Unfolding
 pub mod Turns
+pub mod ReadBack
+pub mod Numbers
+pub mod Ranges

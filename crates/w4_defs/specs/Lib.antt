@@ -11,3 +11,4 @@ pub mod Control
 pub mod Effects
 pub mod Evaluation
 pub mod Resume
+pub mod Flattening
