@@ -5,3 +5,4 @@ pub mod Turns
 pub mod ReadBack
 pub mod Numbers
 pub mod Ranges
+pub mod Entries

@@ -12,3 +12,6 @@ pub mod Effects
 pub mod Evaluation
 pub mod Resume
 pub mod Flattening
+pub mod WorkedRuns
+pub mod WorkedNumbers
+pub mod RunLaws

@@ -4,6 +4,7 @@
 #![tactic(auto)]
 
 pub mod console;
+pub mod evaluation_laws;
 pub mod integer;
 pub mod memory;
 pub mod module;
