@@ -9,3 +9,8 @@ pub mod BinaryMemory
 pub mod BinaryInstruction
 pub mod BinarySection
 pub mod BinaryModule
+pub mod Lookup
+pub mod SameType
+pub mod Imports
+pub mod Floats
+pub mod Profile
