@@ -12,6 +12,7 @@ use Rattle.w4_defs.specs.BinaryNumber.{unsigned}
 use Rattle.w4_defs.specs.BinaryType.{vector, sized, bytes, name, value_type, func_type, limits, table_type, global_type}
 use Rattle.w4_defs.specs.BinaryInstruction.{expression}
 use Rattle.w4_defs.specs.BinarySection.{Section, section, Rises, contents, Part, Alone, Counted}
+use Rattle.w4_defs.specs.Lookup.{local_count}
 use Rattle.w4_defs.specs.Module.{Imported, Exported, Global, ElementSegment, DataSegment, Function, WasmModule}
 
 abbrev pub preamble : List ℕ
@@ -40,11 +41,6 @@ exported e = name e.name then export_kind e.kind then unsigned 32 e.index
 
 abbrev pub element : ElementSegment → Texts
 element s = unsigned 32 s.table then expression s.offset then vector (unsigned 32) s.functions
-
--- how many locals the runs have together
-abbrev pub local_count : List Locals → ℕ
-local_count [] = 0
-local_count (run ∷ runs) = run.count + local_count runs
 
 abbrev pub run : Locals → Texts
 run l = unsigned 32 l.count then value_type l.kind

@@ -1,6 +1,10 @@
 -- The definitions, one file a subject.
 pub mod Tree
 pub mod Module
+pub mod Lookup
+pub mod Kinds
+pub mod ImportNames
+pub mod Imports
 pub mod BinaryText
 pub mod BinaryNumber
 pub mod BinaryType
@@ -9,8 +13,11 @@ pub mod BinaryMemory
 pub mod BinaryInstruction
 pub mod BinarySection
 pub mod BinaryModule
-pub mod Lookup
-pub mod SameType
-pub mod Imports
 pub mod Floats
 pub mod Profile
+pub mod Outcome
+pub mod Program
+pub mod Bytes
+pub mod Control
+pub mod Effects
+pub mod Evaluation

@@ -14,10 +14,10 @@ use Rattle.w4_defs.specs.declared.refusal.ProfileRefusal.{ProfileRefusal}
 use Rattle.w4_defs.specs.declared.refusal.ProfileRefusal.TheVariants.{Floats, TooManyLocals, TableTooLarge, UnknownImport, WrongImport, NoMemory, NoUpdate, WrongEntry, SegmentOutside}
 use Rattle.w4_defs.specs.Tree.{Expr, done, plain}
 use Rattle.w4_defs.specs.Module.{Signature, Imported, Exported, Function, WasmModule}
-use Rattle.w4_defs.specs.Lookup.{signature_of}
-use Rattle.w4_defs.specs.SameType.{same_signature}
-use Rattle.w4_defs.specs.BinaryModule.{local_count}
-use Rattle.w4_defs.specs.Imports.{env, memory, import_type, import_named, takes}
+use Rattle.w4_defs.specs.Lookup.{signature_of, local_count}
+use Rattle.w4_defs.specs.Kinds.{same_signature}
+use Rattle.w4_defs.specs.ImportNames.{import_named}
+use Rattle.w4_defs.specs.Imports.{env, memory, import_type, takes}
 use Rattle.w4_defs.specs.Floats.{module_has_float}
 
 -- parameters count 0 where the type index names no type
@@ -29,8 +29,12 @@ param_count (Some s) = length s.params
 abbrev pub has_many_locals : WasmModule → ℕ × Function → Bool
 has_many_locals m own = nat_lt 1024 (param_count (slice_get m.types own.0) + local_count own.1.runs)
 
+-- whether an import has the two names of the memory
+abbrev pub is_memory : Imported → Bool
+is_memory i = bytes_eq i.module_name env && bytes_eq i.name memory
+
 abbrev pub is_known : Imported → Bool
-is_known i = bytes_eq i.module_name env && (bytes_eq i.name memory || is_some (import_named i.name))
+is_known i = is_memory i || is_some (import_named i.module_name i.name)
 
 -- whether the type is there, and is the import's
 abbrev pub has_type_of : Import → Option Signature → Bool
@@ -53,8 +57,7 @@ is_right_memory _ = false
 
 abbrev pub is_right : WasmModule → Imported → Bool
 is_right m i =
-    bytes_eq i.module_name env
-    && (if bytes_eq i.name memory then is_right_memory i.kind else is_right_function m (import_named i.name) i.kind)
+    if is_memory i then is_right_memory i.kind else is_right_function m (import_named i.module_name i.name) i.kind
 
 abbrev pub first_wrong_import : WasmModule → Option ℕ
 first_wrong_import m = position (λ i. not (is_right m i)) m.imports
@@ -74,9 +77,6 @@ unknown_import m =
 abbrev pub wrong_import : WasmModule → Option ProfileRefusal
 wrong_import m =
     option_and_then (λ k. if_so (is_known_entry (slice_get m.imports k)) (WrongImport k)) (first_wrong_import m)
-
-abbrev pub is_memory : Imported → Bool
-is_memory i = bytes_eq i.module_name env && bytes_eq i.name memory
 
 abbrev pub is_update : Exported → Bool
 is_update e = bytes_eq e.name (codes "update")
