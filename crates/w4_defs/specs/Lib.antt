@@ -15,6 +15,11 @@ pub mod BinarySection
 pub mod BinaryModule
 pub mod Floats
 pub mod Profile
+pub mod OperandTypes
+pub mod Typing
+pub mod Validity
+pub mod Cart
+pub mod Shape
 pub mod Outcome
 pub mod Program
 pub mod Bytes
