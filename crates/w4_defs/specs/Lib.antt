@@ -1,6 +1,8 @@
 -- The definitions, one file a subject.
 pub mod Tree
+pub mod TreeCode
 pub mod Module
+pub mod View
 pub mod Lookup
 pub mod Kinds
 pub mod ImportNames

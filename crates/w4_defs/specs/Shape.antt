@@ -89,8 +89,8 @@ dropped s = option_map (λ top. with_kinds s top.1) (topmost s.marked s.kinds)
 abbrev pub chosen : Shape → Kind → List Kind → Option Shape
 chosen s k ks =
     option_and_then
-      (λ top. option_map (λ kind. with_kinds s (kind ∷ top.1)) (joined k top.0))
-      (topmost s.marked ks)
+    (λ top. option_map (λ kind. with_kinds s (kind ∷ top.1)) (joined k top.0))
+    (topmost s.marked ks)
 
 abbrev pub selected : Shape → Option Shape
 selected s = option_and_then (λ top. chosen s top.0 top.1) (topmost s.marked s.kinds)
@@ -109,8 +109,8 @@ abbrev pub common_label : Context → List ℕ → Option (List ValType)
 common_label c [] = None
 common_label c (l ∷ labels) =
     option_and_then
-      (λ label. if list_all (λ other. is_label label (slice_get c.labels other)) labels then Some label else None)
-      (slice_get c.labels l)
+    (λ label. if list_all (λ other. is_label label (slice_get c.labels other)) labels then Some label else None)
+    (slice_get c.labels l)
 
 -- the shape after an operation with its labels
 abbrev pub step : Context → Op → List ℕ → Shape → Option Shape
@@ -135,7 +135,7 @@ after c (if_then None taken_list rest) s =
 after c (if_then (Some t) taken_list rest) s = None
 after c (if_else r taken_list other rest) s =
     if stands_in (after (with_label (result_types r) c) taken_list empty) (result_types r)
-         && stands_in (after (with_label (result_types r) c) other empty) (result_types r)
+    && stands_in (after (with_label (result_types r) c) other empty) (result_types r)
     then option_and_then (λ below. after c rest (given (result_types r) below)) (taken (I32 ∷ []) s) else None
 
 -- the shape of a list that begins with no types
