@@ -1,3 +1,4 @@
 -- Laws of the definitions.
 pub mod Budgets
 pub mod Unfolding
+pub mod EmptyCartSections

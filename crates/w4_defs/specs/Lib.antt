@@ -22,6 +22,7 @@ pub mod Typing
 pub mod Validity
 pub mod Cart
 pub mod Shape
+pub mod EmptyCart
 pub mod Outcome
 pub mod Program
 pub mod Bytes

@@ -5,6 +5,7 @@
 
 pub mod console;
 pub mod instruction;
+pub mod laws_module;
 pub mod memory;
 pub mod module;
 pub mod operation;
