@@ -1,7 +1,6 @@
 -- The sections of the smallest cart, and that its module collects what they hold.
-use Rattle.std.specs.Prelude.{◌≡◌, ◌≢◌, refl, ℕ, ◌^◌, ◌<◌, ◌≤◌, List, [], ◌∷◌, ◌++◌, length, codes, IsUtf8}
+use Rattle.std.specs.Prelude.{refl, ℕ, ◌^◌, ◌<◌, List, [], ◌∷◌, ◌++◌, length, codes}
 use Rattle.std.proofs.Common.{inl, inr, arith, sym, append-nil}
-use Rattle.w4_defs.specs.Module.{WasmModule}
 use Rattle.w4_defs.specs.BinaryText.{items}
 use Rattle.w4_defs.specs.BinaryNumber.{unsigned}
 use Rattle.w4_defs.specs.BinaryType.{name}

@@ -2,3 +2,5 @@
 pub mod Budgets
 pub mod Unfolding
 pub mod EmptyCartSections
+pub mod EmptyCartValid
+pub mod TypingInParts

@@ -1,7 +1,7 @@
 -- The text of a module (Core Specification, section 5.5): the preamble and a list of sections up to
 -- the end of the bytes. The module collects what the sections hold; custom sections and the data
 -- count leave no trace.
-use Rattle.std.specs.Prelude.{◌≡◌, ℕ, ◌+◌, ◌^◌, ◌<◌, List, [], ◌∷◌, ◌++◌, length}
+use Rattle.std.specs.Prelude.{◌≡◌, ℕ, ◌^◌, ◌<◌, List, [], ◌∷◌, ◌++◌, length}
 use Rattle.w4_defs.specs.declared.module.ImportKind.{ImportKind}
 use Rattle.w4_defs.specs.declared.module.ImportKind.TheVariants as imports
 use Rattle.w4_defs.specs.declared.module.ExportKind.{ExportKind}

@@ -1,13 +1,15 @@
 -- Worked cases of the binary format and of typing: the smallest cart, whose `update` does nothing; the
 -- same with a longer spelling of a size; and a body whose operands nobody pushes.
-use Rattle.std.specs.Prelude.{ℕ, List, [], ◌∷◌, ◌++◌, codes, Option, None}
-use Rattle.w4_defs.specs.declared.operation.Op.TheVariants.{Unreachable, I32Add, Drop}
+use Rattle.std.specs.Prelude.{◌≡◌, ℕ, List, [], ◌∷◌, ◌++◌, codes, None}
+use Rattle.w4_defs.specs.declared.operation.Op.TheVariants.{Unreachable, I32Add, I64Const, Drop}
 use Rattle.w4_defs.specs.declared.module.ImportKind.TheVariants as imports
 use Rattle.w4_defs.specs.declared.module.ExportKind.TheVariants as exports
 use Rattle.w4_defs.specs.Tree.{Expr, mark, done, plain}
 use Rattle.w4_defs.specs.Module.{Signature, Function, WasmModule}
 use Rattle.w4_defs.specs.BinaryModule.{SpellsModule}
-use Rattle.w4_defs.specs.Typing.{BodyHasType}
+use Rattle.w4_defs.specs.Typing.{body_context, BodyHasType}
+use Rattle.w4_defs.specs.Cart.{IsCart}
+use Rattle.w4_defs.specs.Shape.{shape}
 
 -- the preamble, a type, an import, a function and an export
 abbrev pub empty_cart_head : List ℕ
@@ -57,9 +59,19 @@ EmptyCartIsSpelled = SpellsModule empty_cart empty_module
 abbrev pub LongSizeIsSpelled : Type 0
 LongSizeIsSpelled = SpellsModule empty_cart_with_long_size empty_module
 
+abbrev pub EmptyCartIsCart : Type 0
+EmptyCartIsCart = IsCart empty_cart empty_module
+
 -- unreachable, i32.add, drop
 abbrev pub adds_nothing : Function
 adds_nothing = record { runs = []; list = plain (mark Unreachable) (plain (mark I32Add) (plain (mark Drop) done)) }
 
+-- unreachable, i64.const, i32.add, drop
+abbrev pub adds_mixed : Expr
+adds_mixed = plain (mark Unreachable) (plain (mark (I64Const 0)) (plain (mark I32Add) (plain (mark Drop) done)))
+
 abbrev pub UnreachableCodeHasType : Type 0
 UnreachableCodeHasType = BodyHasType empty_module 0 adds_nothing
+
+abbrev pub MixedCodeHasNoShape : Type 0
+MixedCodeHasNoShape = shape (body_context empty_module nothing_to_nothing adds_nothing) adds_mixed ≡ None

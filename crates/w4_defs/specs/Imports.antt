@@ -1,5 +1,5 @@
 -- The types of the functions that a cart may import (WASM-4 reference). All parameters are i32.
-use Rattle.std.specs.Prelude.{ℕ, List, [], ◌∷◌, replicate, find, codes, bytes_eq, Option}
+use Rattle.std.specs.Prelude.{ℕ, List, [], ◌∷◌, replicate, codes}
 use Rattle.w4_defs.specs.declared.value.ValType.TheVariants.{I32}
 use Rattle.w4_defs.specs.declared.console.Import.{Import}
 use Rattle.w4_defs.specs.declared.console.Import.TheVariants.{Blit, BlitSub, Line, Hline, Vline, Oval, Rect, Text, TextUtf8, TextUtf16, Tone, Diskr, Diskw, Trace, TraceUtf8, TraceUtf16, Tracef}

@@ -1,6 +1,6 @@
 -- Which lists of instructions have a type (Core Specification, chapter 3, without floats): from which
 -- operand types they lead to which, both from the bottom to the top.
-use Rattle.std.specs.Prelude.{◌≡◌, ℕ, ◌<◌, Bool, nat_lt, if◌then◌else◌, List, [], ◌∷◌, ◌++◌, length, slice_get, Option, Some, None, option_map, option_and_then}
+use Rattle.std.specs.Prelude.{◌≡◌, ◌↔◌, ℕ, ◌<◌, nat_lt, if◌then◌else◌, List, [], ◌∷◌, ◌++◌, length, slice_get, Option, Some, None, option_and_then}
 use Rattle.w4_defs.specs.declared.value.ValType.{ValType}
 use Rattle.w4_defs.specs.declared.value.ValType.TheVariants.{I32, I64, F32, F64}
 use Rattle.w4_defs.specs.declared.value.GlobalType.{GlobalType}
@@ -114,3 +114,19 @@ body_context m s f =
 abbrev pub BodyHasType : WasmModule → ℕ → Function → Type 0
 BodyHasType m index f =
     (s : Signature) × (slice_get m.types index ≡ Some s) × HasType (body_context m s f) f.list [] s.results
+
+-- one list, and then another
+abbrev pub joined : Expr → Expr → Expr
+joined done tail = tail
+joined (plain m rest) tail = plain m (joined rest tail)
+joined (block r inner rest) tail = block r inner (joined rest tail)
+joined (loop r inner rest) tail = loop r inner (joined rest tail)
+joined (if_then r taken rest) tail = if_then r taken (joined rest tail)
+joined (if_else r taken other rest) tail = if_else r taken other (joined rest tail)
+
+-- a list has a type just where its two parts have, wherever it is cut: so it may be read from its
+-- first instruction on, as here, or from its last, as in the standard
+abbrev pub TypesInParts : Type 0
+TypesInParts =
+    (c : Context) (e tail : Expr) (ins outs : List ValType)
+    → HasType c (joined e tail) ins outs ↔ ((mid : List ValType) × HasType c e ins mid × HasType c tail mid outs)

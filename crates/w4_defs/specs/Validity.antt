@@ -1,6 +1,6 @@
 -- When a module is valid (Core Specification, section 3.4, without floats): the module rules hold and
 -- each own body has its type.
-use Rattle.std.specs.Prelude.{◌≡◌, ◌≢◌, ℕ, ◌<◌, ◌≤◌, List, [], length, slice_get, Option, Some, None, All, AllPairs}
+use Rattle.std.specs.Prelude.{◌≡◌, ◌≢◌, ℕ, ◌<◌, ◌≤◌, [], length, slice_get, Option, Some, None, All, AllPairs}
 use Rattle.w4_defs.specs.declared.value.ValType.{ValType}
 use Rattle.w4_defs.specs.declared.value.ValType.TheVariants.{I32, I64}
 use Rattle.w4_defs.specs.declared.value.Limits.{Limits}
@@ -9,7 +9,7 @@ use Rattle.w4_defs.specs.declared.operation.Op.TheVariants.{I32Const, I64Const}
 use Rattle.w4_defs.specs.declared.module.ExportKind.{ExportKind}
 use Rattle.w4_defs.specs.declared.module.ExportKind.TheVariants.{Func, Table, Memory, Global}
 use Rattle.w4_defs.specs.Tree.{Expr, done, plain}
-use Rattle.w4_defs.specs.Module.{Signature, ElementSegment, DataSegment, Function, WasmModule}
+use Rattle.w4_defs.specs.Module.{ElementSegment, DataSegment, Function, WasmModule}
 use Rattle.w4_defs.specs.Lookup.{function_indices, signature_of, tables_of, memories_of, global_types}
 use Rattle.w4_defs.specs.Typing.{BodyHasType}
 

@@ -1,6 +1,7 @@
-//! Worked cases of the definitions of modules, as laws by computation.
+//! Laws of the definitions of modules, and worked cases of them.
 
-ghost use Rattle.w4_defs.specs.EmptyCart.{EmptyCartIsSpelled, LongSizeIsSpelled, UnreachableCodeHasType};
+ghost use Rattle.w4_defs.specs.EmptyCart.{EmptyCartIsCart, EmptyCartIsSpelled, LongSizeIsSpelled, MixedCodeHasNoShape, UnreachableCodeHasType};
+ghost use Rattle.w4_defs.specs.Typing.{TypesInParts};
 
 /// 53 bytes spell the smallest cart: one function `update` that does nothing.
 pub fn empty_cart_is_spelled()
@@ -12,7 +13,22 @@ pub fn long_size_is_spelled()
     ensures { LongSizeIsSpelled }
 {}
 
+/// None of the causes of a refusal holds of these 53 bytes.
+pub fn empty_cart_is_cart()
+    ensures { EmptyCartIsCart }
+{}
+
 /// Behind `unreachable` the typing chooses the operands of `i32.add`.
 pub fn unreachable_code_has_type()
     ensures { UnreachableCodeHasType }
+{}
+
+/// An i64 that was pushed behind `unreachable` is no operand of `i32.add`.
+pub fn mixed_code_has_no_shape()
+    ensures { MixedCodeHasNoShape }
+{}
+
+/// A list has a type where its two parts have, wherever it is cut.
+pub fn lists_have_types_in_parts()
+    ensures { TypesInParts }
 {}
