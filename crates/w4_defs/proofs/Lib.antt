@@ -4,3 +4,4 @@ pub mod Unfolding
 pub mod EmptyCartSections
 pub mod EmptyCartValid
 pub mod TypingInParts
+pub mod LongNumbers

@@ -1,6 +1,6 @@
 -- Memory instructions (Core Specification, section 5.4: "Memory Instructions", with the two bulk
--- instructions of Core 2.0). Rows stand in the order of their codes; what isn't here is looked up
--- among the numeric instructions.
+-- instructions of Core 2.0). Rows stand in the order of their codes, the four float accesses in one;
+-- what isn't here is looked up among the numeric instructions. After the prefix fc stands a number.
 use Rattle.std.specs.Prelude.{◌≡◌, ℕ, ◌⊎◌}
 use Rattle.w4_defs.specs.declared.operation.Op.{Op}
 use Rattle.w4_defs.specs.declared.operation.Op.TheVariants.{MemorySize, MemoryGrow, MemoryCopy, MemoryFill, FloatMemory, I32Load, I64Load, I32Load8S, I32Load8U, I32Load16S, I32Load16U, I64Load8S, I64Load8U, I64Load16S, I64Load16U, I64Load32S, I64Load32U, I32Store, I64Store, I32Store8, I32Store16, I64Store8, I64Store16, I64Store32}

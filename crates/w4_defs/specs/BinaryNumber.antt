@@ -31,3 +31,13 @@ signed w n = leb LastSigned w n
 -- a number of fixed width, the lowest byte first
 abbrev pub little_endian : Width → ℕ → Texts
 little_endian w n text = (length text ≡ byte_len w) × (n ≡ from_le_bytes w text)
+
+-- worked cases: 160 and -1; and 4 in five bytes
+abbrev pub NumberCases : Type 0
+NumberCases =
+    signed 32 160 (0xa0 ∷ 0x01 ∷ []) × signed 32 0xffffffff (0x7f ∷ []) × signed 64 0xffffffffffffffff (0x7f ∷ [])
+    × unsigned 32 4 (0x84 ∷ 0x80 ∷ 0x80 ∷ 0x80 ∷ 0x00 ∷ [])
+
+-- a bit past the 32nd has no text
+abbrev pub TooLongNumber : Type 0
+TooLongNumber = (n : ℕ) → unsigned 32 n (0x84 ∷ 0x80 ∷ 0x80 ∷ 0x80 ∷ 0x10 ∷ []) → ⊥

@@ -1,5 +1,6 @@
 -- Numeric instructions (Core Specification, section 5.4: "Numeric Instructions", with the sign
--- extensions and saturating truncations of Core 2.0). Rows stand in the order of their codes.
+-- extensions and saturating truncations of Core 2.0). Rows stand in the order of their codes, the
+-- float instructions of many codes last. Whatever has no row has no text.
 use Rattle.std.specs.Prelude.{ℕ, ◌≤◌, ◌⊎◌}
 use Rattle.std.specs.Int.{w32, w64}
 use Rattle.w4_defs.specs.declared.operation.Op.{Op}

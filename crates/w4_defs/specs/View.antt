@@ -1,4 +1,5 @@
--- The public instructions and modules of `src/` as trees and records of lists.
+-- The public instructions of `src/`, with the lists that they hold, as trees: each is the operation of
+-- its name, and the default label of a br_table stands behind the others.
 use Rattle.std.specs.Prelude.{List, [], ◌∷◌, ◌++◌, Option}
 use Rattle.w4_defs.specs.declared.value.ValType.{ValType}
 use Rattle.w4_defs.specs.declared.operation.Op.TheVariants as op

@@ -1,7 +1,18 @@
 //! Laws of the definitions of modules, and worked cases of them.
 
+ghost use Rattle.w4_defs.specs.BinaryNumber.{NumberCases, TooLongNumber};
 ghost use Rattle.w4_defs.specs.EmptyCart.{EmptyCartIsCart, EmptyCartIsSpelled, LongSizeIsSpelled, MixedCodeHasNoShape, UnreachableCodeHasType};
 ghost use Rattle.w4_defs.specs.Typing.{TypesInParts};
+
+/// Numbers in one, two and five bytes.
+pub fn numbers_are_spelled()
+    ensures { NumberCases }
+{}
+
+/// In the fifth byte of a u32 the unused bits are 0.
+pub fn unused_bits_are_zero()
+    ensures { TooLongNumber }
+{}
 
 /// 53 bytes spell the smallest cart: one function `update` that does nothing.
 pub fn empty_cart_is_spelled()
