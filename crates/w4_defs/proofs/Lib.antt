@@ -6,3 +6,7 @@ pub mod ReadBack
 pub mod Numbers
 pub mod Ranges
 pub mod Entries
+pub mod EmptyCartSections
+pub mod EmptyCartValid
+pub mod TypingInParts
+pub mod LongNumbers

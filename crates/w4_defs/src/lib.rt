@@ -6,16 +6,24 @@
 pub mod console;
 pub mod evaluation_laws;
 pub mod integer;
+pub mod instruction;
+pub mod laws_module;
 pub mod memory;
 pub mod module;
 pub mod operation;
+pub mod refusal;
 pub mod steps;
 pub mod value;
 
 pub use console::{Halt, Import, Input, Sound, TextSource, Tone};
 pub use integer::{Binary, Compare, Unary};
+pub use instruction::Instr;
 pub use memory::OutOfMemory;
-pub use module::{ExportKind, ImportKind, Locals};
+pub use module::{
+    Body, Element, Export, ExportKind, FuncType, GlobalEntry, ImportEntry, ImportKind, Locals,
+    Module, Segment,
+};
 pub use operation::Op;
+pub use refusal::{CartKind, ProfileRefusal};
 pub use steps::Steps;
 pub use value::{Cause, GlobalType, Limits, Val, ValType};
