@@ -1,2 +1,3 @@
 -- Lemmas about the definitions, for this crate and those above.
 pub mod PaintLaws
+pub mod RegisterLaws

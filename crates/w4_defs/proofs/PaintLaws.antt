@@ -91,7 +91,7 @@ packed-small page f n =
     let d : painted_at page f (n + 3) < 4 = painted_at-small page f (n + 3) in
     omega arith
 
-paint-outside : (page : List ℕ) (f : Painter) (i : ℕ) → (i < 160) ⊎ (6560 ≤ i) → get_or (paint page f) i 0 ≡ get_or page i 0
+pub paint-outside : (page : List ℕ) (f : Painter) (i : ℕ) → (i < 160) ⊎ (6560 ≤ i) → get_or (paint page f) i 0 ≡ get_or page i 0
 paint-outside page f i out = elim (cases_lt i (length page)) [
   | inl h ↦ get_or-paint page f i h ∙ outside_byte page f i out
   | inr h ↦ get_or_past (paint page f) i 0 (subst (λ (n : ℕ). n ≤ i) (sym (length-paint page f)) h) ∙ sym (get_or_past page i 0 h)

@@ -4,6 +4,7 @@
 #![tactic(auto)]
 
 pub mod console;
+pub mod drawing;
 pub mod memory;
 pub mod module;
 pub mod operation;
