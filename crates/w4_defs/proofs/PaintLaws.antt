@@ -24,7 +24,7 @@ unfolding paint
 get_or-paint page f i h = get_or-map-range_with_len (painted_byte page f) 0 (length page) i i 0 h (omega arith)
 
 -- the k-th of four entries in a byte
-four_digits : (a b c d : ℕ) → a < 4 → b < 4 → c < 4 → d < 4 →
+pub four_digits : (a b c d : ℕ) → a < 4 → b < 4 → c < 4 → d < 4 →
     ((a + 4 * b + 16 * c + 64 * d) / 1 % 4 ≡ a) × ((a + 4 * b + 16 * c + 64 * d) / 4 % 4 ≡ b)
     × ((a + 4 * b + 16 * c + 64 * d) / 16 % 4 ≡ c) × ((a + 4 * b + 16 * c + 64 * d) / 64 % 4 ≡ d)
 four_digits a b c d ha hb hc hd = (omega arith, omega arith, omega arith, omega arith)

@@ -7,7 +7,7 @@ use Rattle.w4_defs.specs.Image.{shown_from, image}
 use Rattle.w4_defs.proofs.PaintLaws.{paint-outside}
 
 -- a list whose middle was put in place of as many elements
-spliced : (xs mid : List ℕ) (at next : ℕ) → length mid + at ≡ next → next ≤ length xs →
+pub spliced : (xs mid : List ℕ) (at next : ℕ) → length mid + at ≡ next → next ≤ length xs →
     (length (take at xs ++ mid ++ drop next xs) ≡ length xs)
     × ((k : ℕ) → k < length mid → get_or (take at xs ++ mid ++ drop next xs) (at + k) 0 ≡ get_or mid k 0)
     × ((i : ℕ) → (i < at) ⊎ (next ≤ i) → get_or (take at xs ++ mid ++ drop next xs) i 0 ≡ get_or xs i 0)
