@@ -10,3 +10,6 @@ pub mod EmptyCartSections
 pub mod EmptyCartValid
 pub mod TypingInParts
 pub mod LongNumbers
+-- Lemmas about the definitions, for this crate and those above.
+pub mod PaintLaws
+pub mod RegisterLaws

@@ -35,3 +35,10 @@ pub mod Flattening
 pub mod WorkedRuns
 pub mod WorkedNumbers
 pub mod RunLaws
+pub mod Framebuffer
+pub mod Colours
+pub mod Shapes
+pub mod Blit
+pub mod Text
+pub mod MemoryMap
+pub mod Image

@@ -12,6 +12,9 @@ pub mod memory;
 pub mod module;
 pub mod operation;
 pub mod refusal;
+pub mod drawing;
+pub mod page;
+pub mod picture;
 pub mod steps;
 pub mod value;
 
@@ -25,5 +28,7 @@ pub use module::{
 };
 pub use operation::Op;
 pub use refusal::{CartKind, ProfileRefusal};
+pub use page::PageBytes;
+pub use picture::Picture;
 pub use steps::Steps;
 pub use value::{Cause, GlobalType, Limits, Val, ValType};
