@@ -1,3 +1,10 @@
 -- The definitions, one file a subject.
 pub mod Tree
 pub mod Module
+pub mod Logs
+pub mod Tones
+pub mod Disk
+pub mod Sources
+pub mod Traces
+pub mod State
+pub mod Texts
