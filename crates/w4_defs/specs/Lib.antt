@@ -8,3 +8,6 @@ pub mod Sources
 pub mod Traces
 pub mod State
 pub mod Texts
+pub mod Framebuffer
+pub mod MemoryMap
+pub mod Image
