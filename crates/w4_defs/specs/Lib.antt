@@ -11,3 +11,7 @@ pub mod Texts
 pub mod Framebuffer
 pub mod MemoryMap
 pub mod Image
+pub mod Entries
+pub mod Reset
+pub mod Frame
+pub mod Run
