@@ -15,3 +15,11 @@ pub mod Entries
 pub mod Reset
 pub mod Frame
 pub mod Run
+pub mod Outcome
+pub mod ImportNames
+pub mod Program
+pub mod Kinds
+pub mod Bytes
+pub mod Control
+pub mod Effects
+pub mod Evaluation

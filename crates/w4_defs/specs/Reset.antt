@@ -1,7 +1,7 @@
 -- A reset of the console (WASM-4 reference for registers and entry functions; the order of events and what
 -- follows a trap or a spent budget are own rules). What has no meaning, None here, stays so; an accepted
 -- cart never comes to it.
-use Rattle.std.specs.Prelude.{◌≡◌, ℕ, ◌+◌, List, [], ◌∷◌, ◌++◌, take, drop, length, replicate, Option, Some, None, option_map, refl}
+use Rattle.std.specs.Prelude.{◌≡◌, ℕ, ◌+◌, List, [], ◌∷◌, ◌++◌, take, drop, length, Option, Some, None, option_map, refl}
 use Rattle.w4_defs.specs.declared.console.Halt.{Halt}
 use Rattle.w4_defs.specs.declared.console.Halt.TheVariants.{Running, Trapped, Spent}
 use Rattle.w4_defs.specs.declared.console.Voice.{Voice}
@@ -11,7 +11,7 @@ use Rattle.w4_defs.specs.Program.{constant_of}
 use Rattle.w4_defs.specs.Evaluation.{run_entry}
 use Rattle.w4_defs.specs.Logs.{empty_log}
 use Rattle.w4_defs.specs.Tones.{silent, all_aged, sounds_at}
-use Rattle.w4_defs.specs.State.{State, zero_page, FrameRecord, Moment, Board, Underway}
+use Rattle.w4_defs.specs.State.{State, zero_page, Moment, Board, Underway}
 use Rattle.w4_defs.specs.Entries.{entries, first_globals}
 
 -- All that a run reads and doesn't change: the cart's module, the imports' weights and effects, the font's

@@ -1,5 +1,5 @@
 -- Runs: frames one after another, from any state or from a reset.
-use Rattle.std.specs.Prelude.{◌≡◌, ℕ, List, [], ◌∷◌, ◌++◌, take, Option, Some, option_and_then}
+use Rattle.std.specs.Prelude.{ℕ, List, [], ◌∷◌, take, Option, Some, option_and_then}
 use Rattle.w4_defs.specs.declared.console.Input.{Input}
 use Rattle.w4_defs.specs.State.{State, Moment}
 use Rattle.w4_defs.specs.Reset.{Setup, reset}

@@ -1,9 +1,10 @@
 -- Trace lines (WASM-4 reference: `trace`, `traceUtf8`, `traceUtf16`, `tracef`). Own rule: a line is cut
 -- after 128 bytes, and the places of tracef's format are those below.
-use Rattle.std.specs.Prelude.{◌≡◌, ℕ, ◌+◌, ◌*◌, ◌%◌, ◌^◌, ◌==◌, nat_lt, nat_le, ◌||◌, if◌then◌else◌, List, [], ◌∷◌, ◌++◌, map, take, drop, slice_index, ℤ, pos, ◌-ℤ◌, codes, false, refl}
+use Rattle.std.specs.Prelude.{◌≡◌, ℕ, ◌+◌, ◌%◌, ◌^◌, ◌==◌, nat_lt, nat_le, ◌||◌, if◌then◌else◌, List, [], ◌∷◌, ◌++◌, map, take, drop, ℤ, pos, ◌-ℤ◌, codes, false, refl}
 use Rattle.std.specs.Fmt.{digits, signed_decimal}
 use Rattle.w4_defs.specs.declared.console.TextSource.{TextSource}
 use Rattle.w4_defs.specs.declared.console.TextSource.TheVariants.{Utf16}
+use Rattle.w4_defs.specs.Bytes.{number_at}
 use Rattle.w4_defs.specs.Sources.{before_zero, source_codes}
 
 abbrev pub line_room : ℕ
@@ -22,9 +23,7 @@ trace_line page source = line_of (map traced_code (source_codes page source))
 
 -- the 32 bits at an address, the lowest byte first; a byte past the page's end reads 0
 abbrev pub word_at : List ℕ → ℕ → ℕ
-word_at page at =
-    slice_index page at + 256 * slice_index page (at + 1)
-    + 65536 * slice_index page (at + 2) + 16777216 * slice_index page (at + 3)
+word_at page at = number_at page at 4
 
 -- 32 bits read as a signed number
 abbrev pub signed_word : ℕ → ℤ
