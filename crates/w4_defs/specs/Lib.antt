@@ -4,7 +4,7 @@ pub mod Module
 pub mod Logs
 pub mod Tones
 pub mod Disk
-pub mod Sources
+pub mod Words
 pub mod Traces
 pub mod State
 pub mod Texts
@@ -23,3 +23,4 @@ pub mod Bytes
 pub mod Control
 pub mod Effects
 pub mod Evaluation
+pub mod Board

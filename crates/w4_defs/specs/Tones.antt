@@ -5,10 +5,7 @@ use Rattle.std.specs.Prelude.{◌≡◌, ℕ, zero, suc, ◌+◌, ◌-◌, ◌*�
 use Rattle.w4_defs.specs.declared.console.Tone.{Tone}
 use Rattle.w4_defs.specs.declared.console.Voice.{Voice}
 use Rattle.w4_defs.specs.declared.console.Sound.{Sound}
-
--- byte k of a number, counted from the lowest
-abbrev pub byte_of : ℕ → ℕ → ℕ
-byte_of number k = number / 256 ^ k % 256
+use Rattle.w4_defs.specs.Words.{byte_of}
 
 -- a peak of 0 means 100
 abbrev pub peak_of : ℕ → ℕ
