@@ -9,6 +9,10 @@ pub mod Traces
 pub mod State
 pub mod Texts
 pub mod Framebuffer
+pub mod Colours
+pub mod Shapes
+pub mod Blit
+pub mod Text
 pub mod MemoryMap
 pub mod Image
 pub mod Entries

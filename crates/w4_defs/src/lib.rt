@@ -8,6 +8,7 @@ pub mod memory;
 pub mod module;
 pub mod operation;
 pub mod page;
+pub mod picture;
 pub mod steps;
 pub mod value;
 
@@ -16,5 +17,6 @@ pub use memory::OutOfMemory;
 pub use module::{ExportKind, ImportKind, Locals};
 pub use operation::Op;
 pub use page::PageBytes;
+pub use picture::Picture;
 pub use steps::Steps;
 pub use value::{Cause, GlobalType, Limits, Val, ValType};

@@ -1,0 +1,2 @@
+-- Lemmas about the definitions, for this crate and those above.
+pub mod PaintLaws
