@@ -1,6 +1,6 @@
 -- The functions that a cart may import (WASM-4 reference): what each weighs of the budget (own rule) and
 -- what it does, given its arguments and the page.
-use Rattle.std.specs.Prelude.{◌≡◌, ℕ, ◌+◌, List, [], ◌∷◌, length, slice_index, ℤ, Option, Some, None, refl}
+use Rattle.std.specs.Prelude.{◌≡◌, ℕ, ◌+◌, List, [], ◌∷◌, length, slice_index, ℤ, Some, None, refl}
 use Rattle.w4_defs.specs.declared.console.Import.{Import}
 use Rattle.w4_defs.specs.declared.console.Import.TheVariants as import
 use Rattle.w4_defs.specs.declared.console.TextSource.{TextSource}
@@ -15,8 +15,8 @@ use Rattle.w4_defs.specs.Framebuffer.{Painter, paint}
 use Rattle.w4_defs.specs.Shapes.{natural, line_painter, hline_painter, vline_painter, oval_painter, rect_painter}
 use Rattle.w4_defs.specs.Blit.{blit_painter}
 use Rattle.w4_defs.specs.Text.{source_bytes, text_codes, text_painter}
-use Rattle.w4_defs.specs.Logs.{logged, kept_lines, kept_tones}
-use Rattle.w4_defs.specs.Tones.{decoded, played}
+use Rattle.w4_defs.specs.Logs.{empty_log, logged, kept_lines, kept_tones}
+use Rattle.w4_defs.specs.Tones.{decoded, played, silent}
 use Rattle.w4_defs.specs.Disk.{disk_write, disk_read, disk_read_count}
 use Rattle.w4_defs.specs.Traces.{trace_line, tracef_line}
 use Rattle.w4_defs.specs.State.{Board}
@@ -169,3 +169,31 @@ console = record { weight = λ board. weight; effect = effect }
 -- a cart with a font and a budget on the console
 abbrev pub console_setup : WasmModule → List ℕ → ℕ → Setup
 console_setup cart font budget = record { cart = cart; outside = console; font = font; budget = budget }
+
+-- Worked cases over a small page: what texts weigh, what the disk's calls answer, a line, and two tones on
+-- one channel of which the second has no length: both are listed and the channel is silent.
+abbrev pub plain_board : Board
+plain_board = record { font = []; channels = silent; disk = []; tones = empty_log; traces = empty_log }
+
+abbrev pub BoardCases : Type 0
+BoardCases =
+    let page : List ℕ = 65 ∷ 66 ∷ 0 ∷ 67 ∷ [] in
+    let put = effect plain_board import.Diskw (1 ∷ 2000 ∷ []) page in
+    let got = effect put.host import.Diskr (0 ∷ 2 ∷ []) page in
+    let traced = effect plain_board import.TraceUtf16 (2 ∷ 9 ∷ []) page in
+    let first = effect plain_board import.Tone (14418360 ∷ 67109890 ∷ 50 ∷ 0 ∷ []) page in
+    let second = effect first.host import.Tone (440 ∷ 0 ∷ 50 ∷ 0 ∷ []) page in
+    (weight import.Trace (0 ∷ []) page ≡ 66)
+    × (weight import.TextUtf8 (1 ∷ 4294967295 ∷ 0 ∷ 0 ∷ []) page ≡ 67)
+    × (weight import.TextUtf16 (9 ∷ 4 ∷ 0 ∷ 0 ∷ []) page ≡ 64)
+    × (put.answer ≡ Some 3)
+    × (put.host.disk ≡ 66 ∷ 0 ∷ 67 ∷ [])
+    × (got.answer ≡ Some 2)
+    × (got.page ≡ 66 ∷ 0 ∷ 0 ∷ 67 ∷ [])
+    × (traced.host.traces.kept ≡ (63 ∷ []) ∷ [])
+    × (length second.host.tones.kept ≡ 2)
+    × (second.host.channels ≡ silent)
+
+pub board-cases : BoardCases
+unfolding weight effect
+board-cases = (refl, refl, refl, refl, refl, refl, refl, refl, refl, refl)

@@ -7,7 +7,7 @@ pub mod Disk
 pub mod Words
 pub mod Traces
 pub mod State
-pub mod Texts
+pub mod FrameTexts
 pub mod Framebuffer
 pub mod Colours
 pub mod Shapes

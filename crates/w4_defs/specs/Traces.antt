@@ -1,6 +1,6 @@
 -- Trace lines (WASM-4 reference: `trace`, `traceUtf8`, `traceUtf16`, `tracef`). Own rule: a line is cut
 -- after 128 bytes, and the places of tracef's format are those below.
-use Rattle.std.specs.Prelude.{◌≡◌, ℕ, ◌+◌, ◌%◌, ◌^◌, ◌==◌, nat_lt, nat_le, ◌||◌, if◌then◌else◌, List, [], ◌∷◌, ◌++◌, map, take, take_while, not, drop, codes, false, refl}
+use Rattle.std.specs.Prelude.{◌≡◌, ℕ, ◌+◌, ◌%◌, ◌==◌, nat_le, ◌||◌, if◌then◌else◌, List, [], ◌∷◌, ◌++◌, map, take, take_while, not, drop, codes, false, refl}
 use Rattle.std.specs.Fmt.{digits, signed_decimal}
 use Rattle.w4_defs.specs.declared.console.TextSource.{TextSource}
 use Rattle.w4_defs.specs.declared.console.TextSource.TheVariants.{Utf16}
