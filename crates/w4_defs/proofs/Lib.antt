@@ -1,2 +1,5 @@
 -- Lemmas about the definitions, for this crate and those above.
 pub mod PaintLaws
+pub mod RunLaws
+pub mod LogLaws
+pub mod ToneLaws

@@ -4,6 +4,7 @@
 #![tactic(auto)]
 
 pub mod console;
+pub mod console_laws;
 pub mod memory;
 pub mod module;
 pub mod operation;
