@@ -3,3 +3,6 @@ pub mod PaintLaws
 pub mod RunLaws
 pub mod LogLaws
 pub mod ToneLaws
+pub mod Budgets
+pub mod Unfolding
+pub mod Turns

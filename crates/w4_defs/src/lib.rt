@@ -5,6 +5,7 @@
 
 pub mod console;
 pub mod console_laws;
+pub mod integer;
 pub mod memory;
 pub mod module;
 pub mod operation;
@@ -14,6 +15,7 @@ pub mod steps;
 pub mod value;
 
 pub use console::{Halt, Import, Input, Sound, TextSource, Tone, Voice};
+pub use integer::{Binary, Compare, Unary};
 pub use memory::OutOfMemory;
 pub use module::{ExportKind, ImportKind, Locals};
 pub use operation::Op;
