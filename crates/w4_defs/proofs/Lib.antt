@@ -6,3 +6,4 @@ pub mod ToneLaws
 pub mod Budgets
 pub mod Unfolding
 pub mod Turns
+pub mod RegisterLaws

@@ -6,6 +6,7 @@
 pub mod console;
 pub mod console_laws;
 pub mod integer;
+pub mod drawing;
 pub mod memory;
 pub mod module;
 pub mod operation;
