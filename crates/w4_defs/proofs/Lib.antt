@@ -7,3 +7,4 @@ pub mod Budgets
 pub mod Unfolding
 pub mod Turns
 pub mod RegisterLaws
+pub mod FrameLaws

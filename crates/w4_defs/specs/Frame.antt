@@ -1,6 +1,6 @@
 -- A frame of the console (WASM-4 reference for registers and `update`; the order of events and what follows
 -- a trap or a spent budget are own rules). A halted console leaves halt by a reset alone.
-use Rattle.std.specs.Prelude.{ℕ, List, ◌++◌, take, drop, replicate, Option, Some, None, option_map, option_and_then, if◌then◌else◌}
+use Rattle.std.specs.Prelude.{◌≡◌, ◌≢◌, true, false, ℕ, List, ◌++◌, take, drop, replicate, Option, Some, None, option_map, option_and_then, if◌then◌else◌}
 use Rattle.w4_defs.specs.declared.console.Halt.{Halt}
 use Rattle.w4_defs.specs.declared.console.Halt.TheVariants.{Running, Trapped, Spent}
 use Rattle.w4_defs.specs.declared.console.Input.{Input}
@@ -55,3 +55,13 @@ begun setup state input = if input.reset then start setup state.disk else Some (
 -- a frame: the next state and its record
 unfoldable pub frame : Setup → State → Input → Option Moment
 frame setup state input = option_map recorded (option_and_then (update setup input) (begun setup state input))
+
+-- a halted console is left as it is but for the ageing of its channels, unless the input has a reset
+abbrev pub HaltStays : Type 0
+HaltStays = (setup : Setup) (state : State) (input : Input) → input.reset ≡ false → state.halt ≢ Running →
+    frame setup state input ≡ Some (recorded (underway state))
+
+-- a frame with a reset forgets all of the state but its disk
+abbrev pub ResetKeepsDisk : Type 0
+ResetKeepsDisk = (setup : Setup) (state other : State) (input : Input) → input.reset ≡ true → state.disk ≡ other.disk →
+    frame setup state input ≡ frame setup other input

@@ -2,9 +2,16 @@
 
 ghost use Rattle.std.specs.Prelude.{◌≡◌, ◌+◌, ◌<◌, ◌≤◌, ◌*◌, ◌*ℤ◌, ◌+ℤ◌, ◌-ℤ◌, int_div, max, min, None, pos, Some, ℕ, List};
 ghost use Rattle.w4_defs.specs.declared.console.Tone.{Tone as ATone};
-ghost use Rattle.w4_defs.specs.Logs.{LogsInOrder};
+ghost use Rattle.w4_defs.specs.Board.{BoardCases};
+ghost use Rattle.w4_defs.specs.Disk.{DiskCases};
+ghost use Rattle.w4_defs.specs.Frame.{HaltStays, ResetKeepsDisk};
+ghost use Rattle.w4_defs.specs.FrameTexts.{TextCases};
+ghost use Rattle.w4_defs.specs.Logs.{DroppedCase, LogsInOrder};
+ghost use Rattle.w4_defs.specs.Reset.{FirstRegisters};
 ghost use Rattle.w4_defs.specs.Run.{FoldsInParts, FoldsState, PlaysInParts, RunsBetween, RunsOn};
-ghost use Rattle.w4_defs.specs.Tones.{aged_often, level_at, mix, slide, started, ticks, tone_frames};
+ghost use Rattle.w4_defs.specs.Tones.{SilencedCase, TenFrames, aged_often, level_at, mix, slide, started, ticks, tone_frames};
+ghost use Rattle.w4_defs.specs.Traces.{PlaceCases, TraceCase, TracefCase};
+ghost use Rattle.w4_defs.specs.Words.{WordCases};
 
 use crate::console::Tone;
 
@@ -56,4 +63,25 @@ pub fn runs_in_parts()
     ensures state_decides { FoldsState }
     ensures next { RunsOn }
     ensures between { RunsBetween }
+{}
+
+/// A halt stays until a reset, and a frame with a reset depends on the disk alone.
+pub fn halts_and_resets()
+    ensures halt_stays { HaltStays }
+    ensures reset_keeps_disk { ResetKeepsDisk }
+{}
+
+/// Worked cases, by computation.
+pub fn console_cases()
+    ensures words { WordCases }
+    ensures logs { DroppedCase }
+    ensures ten_frames { TenFrames }
+    ensures silenced { SilencedCase }
+    ensures disk { DiskCases }
+    ensures trace { TraceCase }
+    ensures tracef { TracefCase }
+    ensures places { PlaceCases }
+    ensures texts { TextCases }
+    ensures registers { FirstRegisters }
+    ensures board { BoardCases }
 {}
