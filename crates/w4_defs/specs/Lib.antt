@@ -30,3 +30,4 @@ pub mod Effects
 pub mod Evaluation
 pub mod Board
 pub mod Resume
+pub mod FrameCases

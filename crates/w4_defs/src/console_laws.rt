@@ -5,6 +5,7 @@ ghost use Rattle.w4_defs.specs.declared.console.Tone.{Tone as ATone};
 ghost use Rattle.w4_defs.specs.Board.{BoardCases};
 ghost use Rattle.w4_defs.specs.Disk.{DiskCases};
 ghost use Rattle.w4_defs.specs.Frame.{HaltStays, ResetKeepsDisk};
+ghost use Rattle.w4_defs.specs.FrameCases.{BudgetCases, EntryCases, LineCases, PageCases};
 ghost use Rattle.w4_defs.specs.FrameTexts.{TextCases};
 ghost use Rattle.w4_defs.specs.Logs.{DroppedCase, LogsInOrder};
 ghost use Rattle.w4_defs.specs.Reset.{FirstRegisters};
@@ -84,4 +85,8 @@ pub fn console_cases()
     ensures texts { TextCases }
     ensures registers { FirstRegisters }
     ensures board { BoardCases }
+    ensures budgets { BudgetCases }
+    ensures entries { EntryCases }
+    ensures pages { PageCases }
+    ensures lines { LineCases }
 {}

@@ -6,6 +6,7 @@ use Rattle.w4_defs.specs.Traces.{trace-case, tracef-case, place-cases}
 use Rattle.w4_defs.specs.FrameTexts.{text-cases}
 use Rattle.w4_defs.specs.Reset.{first-registers}
 use Rattle.w4_defs.specs.Board.{board-cases}
+use Rattle.w4_defs.specs.FrameCases.{budget-cases, entry-cases, page-cases, line-cases}
 use Rattle.w4_defs.proofs.console_laws.console_cases.Goals as goal
 
 pub returns-clause-words : goal.returns-clause-words
@@ -40,3 +41,15 @@ returns-clause-registers c = first-registers
 
 pub returns-clause-board : goal.returns-clause-board
 returns-clause-board c = board-cases
+
+pub returns-clause-budgets : goal.returns-clause-budgets
+returns-clause-budgets c = budget-cases
+
+pub returns-clause-entries : goal.returns-clause-entries
+returns-clause-entries c = entry-cases
+
+pub returns-clause-pages : goal.returns-clause-pages
+returns-clause-pages c = page-cases
+
+pub returns-clause-lines : goal.returns-clause-lines
+returns-clause-lines c = line-cases
