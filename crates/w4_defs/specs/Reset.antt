@@ -13,7 +13,7 @@ use Rattle.w4_defs.specs.Tones.{Channels, silent, all_aged, sounds_at}
 use Rattle.w4_defs.specs.State.{State, zero_page, Moment, Board, Underway}
 use Rattle.w4_defs.specs.Entries.{entries, first_globals}
 
--- All that a run reads and doesn't change: the cart's module, the imports' weights and effects, the font's
+-- all that a run reads and doesn't change: the cart's module, the imports' weights and effects, the font's
 -- bytes, and the budget of each reset and of each frame
 pub record Setup : Type 0 where
   pub cart : WasmModule

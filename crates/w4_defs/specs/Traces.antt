@@ -73,10 +73,10 @@ pub tracef-case : TracefCase
 unfolding digits
 tracef-case = refl
 
--- every other place of a format: a byte, a float, an unknown letter, a lone % at the end
+-- the other letters of a format: a byte, a float of eight bytes, an unknown letter, a lone % at the end
 abbrev pub PlaceCases : Type 0
-PlaceCases = let page = codes "%c%f%d%q%" ++ 0 ∷ 65 ∷ 0 ∷ 0 ∷ 0 ∷ [] in
-    tracef_line page 0 10 ≡ codes "A<f64>0q"
+PlaceCases = let page = codes "%c%f%d%q%" ++ 0 ∷ 65 ∷ 9 ∷ 9 ∷ 9 ∷ 9 ∷ 9 ∷ 9 ∷ 9 ∷ 9 ∷ 9 ∷ 9 ∷ 9 ∷ 7 ∷ 0 ∷ 0 ∷ 0 ∷ [] in
+    tracef_line page 0 10 ≡ codes "A<f64>7q"
 
 pub place-cases : PlaceCases
 unfolding digits
