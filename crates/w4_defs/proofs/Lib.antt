@@ -13,3 +13,7 @@ pub mod LongNumbers
 -- Lemmas about the definitions, for this crate and those above.
 pub mod PaintLaws
 pub mod RegisterLaws
+pub mod RunLaws
+pub mod LogLaws
+pub mod ToneLaws
+pub mod FrameLaws

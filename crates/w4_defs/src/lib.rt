@@ -8,6 +8,8 @@ pub mod evaluation_laws;
 pub mod integer;
 pub mod instruction;
 pub mod laws_module;
+pub mod console_laws;
+pub mod drawing;
 pub mod memory;
 pub mod module;
 pub mod operation;
@@ -18,7 +20,7 @@ pub mod picture;
 pub mod steps;
 pub mod value;
 
-pub use console::{Halt, Import, Input, Sound, TextSource, Tone};
+pub use console::{Halt, Import, Input, Sound, TextSource, Tone, Voice};
 pub use integer::{Binary, Compare, Unary};
 pub use instruction::Instr;
 pub use memory::OutOfMemory;
