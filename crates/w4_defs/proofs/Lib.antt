@@ -1,4 +1,4 @@
--- Laws of the definitions.
+-- Laws of the definitions, for this crate and those above.
 pub mod Budgets
 pub mod Unfolding
 pub mod Turns
@@ -10,7 +10,6 @@ pub mod EmptyCartSections
 pub mod EmptyCartValid
 pub mod TypingInParts
 pub mod LongNumbers
--- Lemmas about the definitions, for this crate and those above.
 pub mod PaintLaws
 pub mod RegisterLaws
 pub mod RunLaws
