@@ -16,3 +16,5 @@ pub mod RunLaws
 pub mod LogLaws
 pub mod ToneLaws
 pub mod FrameLaws
+pub mod ReadingLaws
+pub mod RecordingLaws

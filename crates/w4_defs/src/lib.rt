@@ -13,9 +13,11 @@ pub mod laws_module;
 pub mod memory;
 pub mod module;
 pub mod operation;
+pub mod order;
 pub mod page;
 pub mod picture;
 pub mod refusal;
+pub mod spelled;
 pub mod steps;
 pub mod value;
 
@@ -28,6 +30,7 @@ pub use module::{
     Module, Segment,
 };
 pub use operation::Op;
+pub use order::Order;
 pub use page::PageBytes;
 pub use picture::Picture;
 pub use refusal::{CartKind, ProfileRefusal};
