@@ -6,3 +6,4 @@ pub mod ReadBack
 pub mod Numbers
 pub mod Ranges
 pub mod Entries
+pub mod Faults
