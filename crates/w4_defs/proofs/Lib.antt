@@ -7,3 +7,4 @@ pub mod Numbers
 pub mod Ranges
 pub mod Entries
 pub mod Faults
+pub mod GlobalTypes
