@@ -18,3 +18,5 @@ pub mod ToneLaws
 pub mod FrameLaws
 pub mod ReadingLaws
 pub mod RecordingLaws
+pub mod Faults
+pub mod GlobalTypes

@@ -3,7 +3,7 @@
 ghost use Rattle.w4_defs.specs.Bytes.{PutIsFound, PutKeepsLength, PutKeepsOthers};
 ghost use Rattle.w4_defs.specs.Flattening.{FlatteningDetermines, FlatteningIsReadBack};
 ghost use Rattle.w4_defs.specs.Integers.{BinaryInRange, ExtendedInRange, UnaryInRange};
-ghost use Rattle.w4_defs.specs.RunLaws.{BudgetOnlyFalls, EvalTakesSteps, LargeEntryTraps, ResumedTakesSteps, RunIsResumed};
+ghost use Rattle.w4_defs.specs.RunLaws.{BudgetOnlyFalls, EvalTakesSteps, FaultsChangeNothing, GlobalsKeepTypes, LargeEntryTraps, ResumedTakesSteps, RunIsResumed, SpentImportsChangeNothing};
 ghost use Rattle.w4_defs.specs.WorkedNumbers as numbers;
 ghost use Rattle.w4_defs.specs.WorkedRuns as runs;
 
@@ -72,4 +72,7 @@ pub fn run_laws<H>()
     ensures resumed { RunIsResumed H }
     ensures resumed_steps { ResumedTakesSteps H }
     ensures large_entry { LargeEntryTraps H }
+    ensures faults { FaultsChangeNothing H }
+    ensures imports { SpentImportsChangeNothing H }
+    ensures globals { GlobalsKeepTypes H }
 {}
