@@ -5,3 +5,4 @@ pub mod EmptyCartSections
 pub mod EmptyCartValid
 pub mod TypingInParts
 pub mod LongNumbers
+pub mod EmptyCartCount
