@@ -20,3 +20,4 @@ pub mod ReadingLaws
 pub mod RecordingLaws
 pub mod Faults
 pub mod GlobalTypes
+pub mod EmptyCartCount

@@ -4,11 +4,13 @@ use Rattle.std.specs.Prelude.{◌≡◌, ℕ, List, [], ◌∷◌, ◌++◌, cod
 use Rattle.w4_defs.specs.declared.operation.Op.TheVariants.{Unreachable, I32Add, I64Const, Drop}
 use Rattle.w4_defs.specs.declared.module.ImportKind.TheVariants as imports
 use Rattle.w4_defs.specs.declared.module.ExportKind.TheVariants as exports
+use Rattle.w4_defs.specs.declared.refusal.CartKind.TheVariants.{Profile}
+use Rattle.w4_defs.specs.declared.refusal.ProfileRefusal.TheVariants.{NoMemory}
 use Rattle.w4_defs.specs.Tree.{Expr, mark, done, plain}
 use Rattle.w4_defs.specs.Module.{Signature, Function, WasmModule}
-use Rattle.w4_defs.specs.BinaryModule.{SpellsModule}
+use Rattle.w4_defs.specs.BinaryModule.{preamble, SpellsModule}
 use Rattle.w4_defs.specs.Typing.{body_context, BodyHasType}
-use Rattle.w4_defs.specs.Cart.{IsCart}
+use Rattle.w4_defs.specs.Cart.{IsRefused, IsCart}
 use Rattle.w4_defs.specs.Shape.{shape}
 
 -- the preamble, a type, an import, a function and an export
@@ -58,6 +60,18 @@ EmptyCartIsSpelled = SpellsModule empty_cart empty_module
 
 abbrev pub LongSizeIsSpelled : Type 0
 LongSizeIsSpelled = SpellsModule empty_cart_with_long_size empty_module
+
+-- with a data count section before the code section
+abbrev pub empty_cart_with_data_count : List ℕ
+empty_cart_with_data_count =
+    empty_cart_head ++ 0x0c ∷ 0x01 ∷ 0x00 ∷ 0x0a ∷ 0x04 ∷ 0x01 ∷ 0x02 ∷ 0x00 ∷ 0x0b ∷ []
+
+abbrev pub DataCountIsSpelled : Type 0
+DataCountIsSpelled = SpellsModule empty_cart_with_data_count empty_module
+
+-- a module without sections imports no memory
+abbrev pub PreambleIsRefused : Type 0
+PreambleIsRefused = IsRefused preamble (Profile NoMemory)
 
 abbrev pub EmptyCartIsCart : Type 0
 EmptyCartIsCart = IsCart empty_cart empty_module

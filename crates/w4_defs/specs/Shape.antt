@@ -78,10 +78,10 @@ topmost false [] = None
 topmost marked (k ∷ ks) = Some (k, ks)
 
 -- the kind of what agrees with both
-abbrev pub joined : Kind → Kind → Option Kind
-joined None k = Some k
-joined (Some t) None = Some (Some t)
-joined (Some t) (Some u) = if same_type t u then Some (Some t) else None
+abbrev pub common_kind : Kind → Kind → Option Kind
+common_kind None k = Some k
+common_kind (Some t) None = Some (Some t)
+common_kind (Some t) (Some u) = if same_type t u then Some (Some t) else None
 
 abbrev pub dropped : Shape → Option Shape
 dropped s = option_map (λ top. with_kinds s top.1) (topmost s.marked s.kinds)
@@ -89,7 +89,7 @@ dropped s = option_map (λ top. with_kinds s top.1) (topmost s.marked s.kinds)
 abbrev pub chosen : Shape → Kind → List Kind → Option Shape
 chosen s k ks =
     option_and_then
-    (λ top. option_map (λ kind. with_kinds s (kind ∷ top.1)) (joined k top.0))
+    (λ top. option_map (λ kind. with_kinds s (kind ∷ top.1)) (common_kind k top.0))
     (topmost s.marked ks)
 
 abbrev pub selected : Shape → Option Shape
@@ -130,11 +130,11 @@ after c (block r inner rest) s =
     if stands_in (after (with_label (result_types r) c) inner empty) (result_types r) then after c rest (given (result_types r) s) else None
 after c (loop r inner rest) s =
     if stands_in (after (with_label [] c) inner empty) (result_types r) then after c rest (given (result_types r) s) else None
-after c (if_then None taken_list rest) s =
-    if stands_in (after (with_label [] c) taken_list empty) [] then option_and_then (after c rest) (taken (I32 ∷ []) s) else None
-after c (if_then (Some t) taken_list rest) s = None
-after c (if_else r taken_list other rest) s =
-    if stands_in (after (with_label (result_types r) c) taken_list empty) (result_types r)
+after c (if_then None first_list rest) s =
+    if stands_in (after (with_label [] c) first_list empty) [] then option_and_then (after c rest) (taken (I32 ∷ []) s) else None
+after c (if_then (Some t) first_list rest) s = None
+after c (if_else r first_list other rest) s =
+    if stands_in (after (with_label (result_types r) c) first_list empty) (result_types r)
     && stands_in (after (with_label (result_types r) c) other empty) (result_types r)
     then option_and_then (λ below. after c rest (given (result_types r) below)) (taken (I32 ∷ []) s) else None
 

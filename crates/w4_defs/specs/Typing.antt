@@ -27,8 +27,8 @@ abbrev pub result_types : Option ValType → List ValType
 result_types None = []
 result_types (Some t) = t ∷ []
 
-abbrev pub takes : ValType → Option Arrow
-takes t = Some (t ∷ [], [])
+abbrev pub consumes : ValType → Option Arrow
+consumes t = Some (t ∷ [], [])
 
 abbrev pub sets : GlobalType → Option Arrow
 sets g = arrow_if g.mutable (g.value ∷ []) []
@@ -50,7 +50,7 @@ only_type c (Call func) = option_and_then calls (signature_of c.within func)
 only_type c (CallIndirect signature table) =
     if nat_lt table (length (tables_of c.within)) then option_and_then calls_indirectly (slice_get c.within.types signature) else None
 only_type c (LocalGet index) = option_and_then gives (slice_get c.locals index)
-only_type c (LocalSet index) = option_and_then takes (slice_get c.locals index)
+only_type c (LocalSet index) = option_and_then consumes (slice_get c.locals index)
 only_type c (LocalTee index) = option_and_then unary (slice_get c.locals index)
 only_type c (GlobalGet index) = option_and_then (λ g. gives g.value) (slice_get (global_types c.within) index)
 only_type c (GlobalSet index) = option_and_then sets (slice_get (global_types c.within) index)

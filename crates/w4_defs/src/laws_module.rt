@@ -1,7 +1,7 @@
 //! Laws of the definitions of modules, and worked cases of them.
 
 ghost use Rattle.w4_defs.specs.BinaryNumber.{NumberCases, TooLongNumber};
-ghost use Rattle.w4_defs.specs.EmptyCart.{EmptyCartIsCart, EmptyCartIsSpelled, LongSizeIsSpelled, MixedCodeHasNoShape, UnreachableCodeHasType};
+ghost use Rattle.w4_defs.specs.EmptyCart.{DataCountIsSpelled, EmptyCartIsCart, EmptyCartIsSpelled, LongSizeIsSpelled, MixedCodeHasNoShape, PreambleIsRefused, UnreachableCodeHasType};
 ghost use Rattle.w4_defs.specs.Typing.{TypesInParts};
 
 /// Numbers in one, two and five bytes.
@@ -22,6 +22,16 @@ pub fn empty_cart_is_spelled()
 /// A size may be spelled in up to five bytes, and the module is the same.
 pub fn long_size_is_spelled()
     ensures { LongSizeIsSpelled }
+{}
+
+/// A data count section leaves no trace.
+pub fn data_count_is_spelled()
+    ensures { DataCountIsSpelled }
+{}
+
+/// The first 8 bytes alone spell a module, which imports no memory.
+pub fn preamble_is_refused()
+    ensures { PreambleIsRefused }
 {}
 
 /// None of the causes of a refusal holds of these 53 bytes.
