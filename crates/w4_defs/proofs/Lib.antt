@@ -8,3 +8,4 @@ pub mod Unfolding
 pub mod Turns
 pub mod RegisterLaws
 pub mod FrameLaws
+pub mod ClearLaws
