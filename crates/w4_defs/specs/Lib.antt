@@ -31,3 +31,7 @@ pub mod Evaluation
 pub mod Board
 pub mod Resume
 pub mod FrameCases
+pub mod Flattening
+pub mod WorkedRuns
+pub mod WorkedNumbers
+pub mod RunLaws

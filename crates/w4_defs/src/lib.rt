@@ -6,6 +6,7 @@
 pub mod console;
 pub mod console_laws;
 pub mod drawing;
+pub mod evaluation_laws;
 pub mod integer;
 pub mod memory;
 pub mod module;
