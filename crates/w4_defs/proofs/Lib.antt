@@ -21,3 +21,4 @@ pub mod RecordingLaws
 pub mod Faults
 pub mod GlobalTypes
 pub mod EmptyCartCount
+pub mod ClearLaws

@@ -4,7 +4,7 @@ ghost use Rattle.std.specs.Prelude.{◌≡◌, ◌+◌, ◌<◌, ◌≤◌, ◌*
 ghost use Rattle.w4_defs.specs.declared.console.Tone.{Tone as ATone};
 ghost use Rattle.w4_defs.specs.Board.{BoardCases};
 ghost use Rattle.w4_defs.specs.Disk.{DiskCases};
-ghost use Rattle.w4_defs.specs.Frame.{HaltStays, ResetKeepsDisk};
+ghost use Rattle.w4_defs.specs.Frame.{ClearedIsPainted, HaltStays, ResetKeepsDisk};
 ghost use Rattle.w4_defs.specs.FrameCases.{BudgetCases, EntryCases, LineCases, PageCases};
 ghost use Rattle.w4_defs.specs.FrameTexts.{TextCases};
 ghost use Rattle.w4_defs.specs.Logs.{DroppedCase, LogsInOrder};
@@ -71,8 +71,9 @@ pub fn runs_in_parts()
     ensures between { RunsBetween }
 {}
 
-/// A halt stays until a reset, and a frame with a reset depends on the disk alone.
+/// Clearing is painting every pixel 0, a halt stays until a reset, and a frame with a reset depends on the disk alone.
 pub fn halts_and_resets()
+    ensures cleared { ClearedIsPainted }
     ensures halt_stays { HaltStays }
     ensures reset_keeps_disk { ResetKeepsDisk }
 {}
