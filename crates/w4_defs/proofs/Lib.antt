@@ -6,3 +6,4 @@ pub mod EmptyCartValid
 pub mod TypingInParts
 pub mod LongNumbers
 pub mod EmptyCartCount
+pub mod ViewLaws
