@@ -22,3 +22,4 @@ pub mod Faults
 pub mod GlobalTypes
 pub mod EmptyCartCount
 pub mod ClearLaws
+pub mod ViewLaws

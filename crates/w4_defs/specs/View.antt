@@ -7,7 +7,7 @@ use Rattle.w4_defs.specs.declared.instruction.Instr.{Instr, Held-Instr-If-2, Non
 use Rattle.w4_defs.specs.declared.instruction.Instr as instr
 use Rattle.w4_defs.specs.Tree.{Expr, mark, done, plain, block, loop, if_then, if_else}
 
-abbrev mutual
+unfoldable mutual
   -- the tree that begins with this instruction and goes on with that tree
   pub before : Instr → Expr → Expr
   before instr.Unreachable rest = plain (mark op.Unreachable) rest
