@@ -18,3 +18,4 @@ pub mod RunLaws
 pub mod LogLaws
 pub mod ToneLaws
 pub mod FrameLaws
+pub mod PlainSound
