@@ -1,5 +1,5 @@
 -- A memory or numeric instruction finds the operands that its type takes, and leaves what it gives.
-use Rattle.std.proofs.Common.{◌≡◌, ℕ, ◌+◌, ◌%◌, ◌^◌, List, [], ◌∷◌, ◌++◌, Option, Some, None, Bool, true, false, cond, ◌&&◌, nat_eq, nat_le, reverse, Result, Ok, Err, refl, ap, sym, subst, ◌∙◌}
+use Rattle.std.proofs.Common.{◌≡◌, ℕ, ◌+◌, ◌%◌, ◌^◌, List, [], ◌∷◌, Some, Bool, true, false, cond, ◌&&◌, nat_le, Result, Ok, Err, refl, ap, subst, ◌∙◌}
 use Rattle.w4_defs.specs.declared.value.Val.{Val}
 use Rattle.w4_defs.specs.declared.value.Val.TheVariants as val
 use Rattle.w4_defs.specs.declared.value.ValType.{ValType}
@@ -12,7 +12,6 @@ use Rattle.w4_defs.specs.declared.integer.Binary.{Binary}
 use Rattle.w4_defs.specs.declared.integer.Binary.TheVariants as binary_op
 use Rattle.w4_defs.specs.declared.integer.Compare.{Compare}
 use Rattle.w4_defs.specs.declared.integer.Compare.TheVariants as compare_op
-use Rattle.w4_defs.specs.declared.operation.Op.{Op}
 use Rattle.w4_defs.specs.declared.operation.Op.TheVariants as op
 use Rattle.w4_defs.specs.Kinds.{type_of}
 use Rattle.w4_defs.specs.Program.{value_of}
@@ -20,20 +19,10 @@ use Rattle.w4_defs.specs.Integers.{binary, extended}
 use Rattle.w4_defs.specs.Bytes.{number_at}
 use Rattle.w4_defs.specs.Control.{on_i32, on_number}
 use Rattle.w4_defs.specs.Effects.{Effect, Does, Traps, Lacks, Plain, width_of, in_page, load, store, calculated, eqz, comparison, one_operand, two_operands, conversion, memory_grow, memory_copy, memory_fill, copied, effect}
-use Rattle.w4_defs.specs.OperandTypes.{Arrow, arrow_if, memory_type}
+use Rattle.w4_defs.specs.OperandTypes.{Arrow, arrow_if}
 use Rattle.w4_defs.specs.Typing.{IsInt}
 use Rattle.w4_defs.specs.RunLaws.{types_of}
-
--- the operands' types, from the top, and the locals' afterwards; nothing is missing
-abbrev pub Suits : List ValType → List ValType → Effect → Type 0
-Suits types locals (Does ops ls page) = (types_of ops ≡ types) × (types_of ls ≡ locals)
-Suits types locals (Traps c) = Unit {0}
-Suits types locals Lacks = ⊥
-
--- where the operands are those that are taken, with others below, the effect leaves what is given above these
-pub record Sound (plain : Plain) (arrow : Arrow) : Type 0 where
-  pub suits : (under : List ValType) (ops ls : List Val) (page : List ℕ) → types_of ops ≡ reverse arrow.0 ++ under
-      → Suits (reverse arrow.1 ++ under) (types_of ls) (plain ops ls page)
+use Rattle.w4_defs.specs.Soundness.{Suits, Sound, PlainInstructionsAreSound}
 
 on_i32_suits : (types locals us : List ValType) (ops : List Val) (go : ℕ → List Val → Effect) → types_of ops ≡ I32 ∷ us
     → ((n : ℕ) (ops : List Val) → types_of ops ≡ us → Suits types locals (go n ops)) → Suits types locals (on_i32 Lacks ops go)
@@ -73,45 +62,61 @@ pushed_sound : (v : Val) → Sound (λ ops ls page. Does (v ∷ ops) ls page) ([
 pushed_sound v = record { suits = λ us ops ls page h. (ap (λ xs. type_of v ∷ xs) h, refl) }
 
 one_sound : (t : ValType) (o : Unary) → IsInt t → Sound (one_operand t o) (t ∷ [], t ∷ [])
-one_sound t o i = record { suits = λ us ops ls page h. on_number_suits t i (t ∷ us) (types_of ls) us ops _ h (λ a ops k.
-    (ap (λ x. x ∷ types_of ops) (type_of_value t _ i) ∙ ap (λ xs. t ∷ xs) k, refl)) }
+one_sound t o i = record {
+  suits = λ us ops ls page h. on_number_suits t i (t ∷ us) (types_of ls) us ops _ h (λ a ops k.
+      (ap (λ x. x ∷ types_of ops) (type_of_value t _ i) ∙ ap (λ xs. t ∷ xs) k, refl));
+}
 
 two_sound : (t : ValType) (o : Binary) → IsInt t → Sound (two_operands t o) (t ∷ t ∷ [], t ∷ [])
-two_sound t o i = record { suits = λ us ops ls page h. on_number_suits t i (t ∷ us) (types_of ls) (t ∷ us) ops _ h (λ b ops k.
-    on_number_suits t i (t ∷ us) (types_of ls) us ops _ k (λ a ops k. calculated_suits t i us (binary (width_of t) o a b) ops ls page k)) }
+two_sound t o i = record {
+  suits = λ us ops ls page h. on_number_suits t i (t ∷ us) (types_of ls) (t ∷ us) ops _ h (λ b ops k.
+      on_number_suits t i (t ∷ us) (types_of ls) us ops _ k (λ a ops k. calculated_suits t i us (binary (width_of t) o a b) ops ls page k));
+}
 
 comparison_sound : (t : ValType) (o : Compare) → IsInt t → Sound (comparison t o) (t ∷ t ∷ [], I32 ∷ [])
-comparison_sound t o i = record { suits = λ us ops ls page h. on_number_suits t i (I32 ∷ us) (types_of ls) (t ∷ us) ops _ h (λ b ops k.
-    on_number_suits t i (I32 ∷ us) (types_of ls) us ops _ k (λ a ops k. (ap (λ xs. I32 ∷ xs) k, refl))) }
+comparison_sound t o i = record {
+  suits = λ us ops ls page h. on_number_suits t i (I32 ∷ us) (types_of ls) (t ∷ us) ops _ h (λ b ops k.
+      on_number_suits t i (I32 ∷ us) (types_of ls) us ops _ k (λ a ops k. (ap (λ xs. I32 ∷ xs) k, refl)));
+}
 
 eqz_sound : (t : ValType) → IsInt t → Sound (eqz t) (t ∷ [], I32 ∷ [])
 eqz_sound t i = record { suits = λ us ops ls page h. on_number_suits t i (I32 ∷ us) (types_of ls) us ops _ h (λ a ops k. (ap (λ xs. I32 ∷ xs) k, refl)) }
 
 conversion_sound : (t t' : ValType) (value : ℕ → Val) → IsInt t → ((n : ℕ) → type_of (value n) ≡ t') → Sound (conversion t value) (t ∷ [], t' ∷ [])
-conversion_sound t t' value i v = record { suits = λ us ops ls page h. on_number_suits t i (t' ∷ us) (types_of ls) us ops _ h (λ a ops k.
-    (ap (λ x. x ∷ types_of ops) (v a) ∙ ap (λ xs. t' ∷ xs) k, refl)) }
+conversion_sound t t' value i v = record {
+  suits = λ us ops ls page h. on_number_suits t i (t' ∷ us) (types_of ls) us ops _ h (λ a ops k.
+      (ap (λ x. x ∷ types_of ops) (v a) ∙ ap (λ xs. t' ∷ xs) k, refl));
+}
 
 load_sound : (offset count : ℕ) (t : ValType) (value : ℕ → Val) → ((n : ℕ) → type_of (value n) ≡ t) → Sound (load offset count value) (I32 ∷ [], t ∷ [])
-load_sound offset count t value v = record { suits = λ us ops ls page h. on_i32_suits (t ∷ us) (types_of ls) us ops _ h (λ a ops k.
-    in_page_suits (t ∷ us) (types_of ls) (a + offset) count (Does (value (number_at page (a + offset) count) ∷ ops) ls page)
-      (ap (λ x. x ∷ types_of ops) (v (number_at page (a + offset) count)) ∙ ap (λ xs. t ∷ xs) k, refl)) }
+load_sound offset count t value v = record {
+  suits = λ us ops ls page h. on_i32_suits (t ∷ us) (types_of ls) us ops _ h (λ a ops k.
+      in_page_suits (t ∷ us) (types_of ls) (a + offset) count (Does (value (number_at page (a + offset) count) ∷ ops) ls page)
+      (ap (λ x. x ∷ types_of ops) (v (number_at page (a + offset) count)) ∙ ap (λ xs. t ∷ xs) k, refl));
+}
 
 store_sound : (offset count : ℕ) (t : ValType) → IsInt t → Sound (store t offset count) (I32 ∷ t ∷ [], [])
-store_sound offset count t i = record { suits = λ us ops ls page h. on_number_suits t i us (types_of ls) (I32 ∷ us) ops _ h (λ n ops k.
-    on_i32_suits us (types_of ls) us ops _ k (λ a ops k. in_page_suits us (types_of ls) (a + offset) count (Does ops ls _) (k, refl))) }
+store_sound offset count t i = record {
+  suits = λ us ops ls page h. on_number_suits t i us (types_of ls) (I32 ∷ us) ops _ h (λ n ops k.
+      on_i32_suits us (types_of ls) us ops _ k (λ a ops k. in_page_suits us (types_of ls) (a + offset) count (Does ops ls _) (k, refl)));
+}
 
 grow_sound : Sound memory_grow (I32 ∷ [], I32 ∷ [])
 grow_sound = record { suits = λ us ops ls page h. on_i32_suits (I32 ∷ us) (types_of ls) us ops _ h (λ n ops k. (ap (λ xs. I32 ∷ xs) k, refl)) }
 
 copy_sound : Sound memory_copy (I32 ∷ I32 ∷ I32 ∷ [], [])
-copy_sound = record { suits = λ us ops ls page h. on_i32_suits us (types_of ls) (I32 ∷ I32 ∷ us) ops _ h (λ n ops k.
-    on_i32_suits us (types_of ls) (I32 ∷ us) ops _ k (λ s ops k. on_i32_suits us (types_of ls) us ops _ k (λ d ops k.
-      cond_suits us (types_of ls) (nat_le (s + n) 65536 && nat_le (d + n) 65536) (Does ops ls (copied page d s n)) (Traps cause.Memory) (k, refl) tt))) }
+copy_sound = record {
+  suits = λ us ops ls page h. on_i32_suits us (types_of ls) (I32 ∷ I32 ∷ us) ops _ h (λ n ops k.
+      on_i32_suits us (types_of ls) (I32 ∷ us) ops _ k (λ s ops k. on_i32_suits us (types_of ls) us ops _ k (λ d ops k.
+      cond_suits us (types_of ls) (nat_le (s + n) 65536 && nat_le (d + n) 65536) (Does ops ls (copied page d s n)) (Traps cause.Memory) (k, refl) tt)));
+}
 
 fill_sound : Sound memory_fill (I32 ∷ I32 ∷ I32 ∷ [], [])
-fill_sound = record { suits = λ us ops ls page h. on_i32_suits us (types_of ls) (I32 ∷ I32 ∷ us) ops _ h (λ n ops k.
-    on_i32_suits us (types_of ls) (I32 ∷ us) ops _ k (λ value ops k. on_i32_suits us (types_of ls) us ops _ k (λ d ops k.
-      in_page_suits us (types_of ls) d n (Does ops ls _) (k, refl)))) }
+fill_sound = record {
+  suits = λ us ops ls page h. on_i32_suits us (types_of ls) (I32 ∷ I32 ∷ us) ops _ h (λ n ops k.
+      on_i32_suits us (types_of ls) (I32 ∷ us) ops _ k (λ value ops k. on_i32_suits us (types_of ls) us ops _ k (λ d ops k.
+      in_page_suits us (types_of ls) d n (Does ops ls _) (k, refl))));
+}
 
 -- ---- the table
 
@@ -122,7 +127,7 @@ where_memory : (has : Bool) (plain : Plain) (a b : List ValType) (found : Arrow)
 where_memory true plain a b found s h = given plain (a, b) found s h
 where_memory false plain a b found s h = absurd (cc h)
 
-pub plain_sound : (has : Bool) (o : Op) (arrow : Arrow) → memory_type has o ≡ Some arrow → Sound (effect o) arrow
+pub plain_sound : PlainInstructionsAreSound
 plain_sound has (op.I32Load align offset) arrow h = where_memory (has && nat_le (2 ^ align) 4) (load offset 4 val.I32) (I32 ∷ []) (I32 ∷ []) arrow (load_sound offset 4 I32 val.I32 (λ n. refl)) h
 plain_sound has (op.I64Load align offset) arrow h = where_memory (has && nat_le (2 ^ align) 8) (load offset 8 val.I64) (I32 ∷ []) (I64 ∷ []) arrow (load_sound offset 8 I64 val.I64 (λ n. refl)) h
 plain_sound has (op.I32Load8S align offset) arrow h = where_memory (has && nat_le (2 ^ align) 1) (load offset 1 (λ n. val.I32 (extended 8 32 n))) (I32 ∷ []) (I32 ∷ []) arrow (load_sound offset 1 I32 (λ n. val.I32 (extended 8 32 n)) (λ n. refl)) h

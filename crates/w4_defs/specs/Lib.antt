@@ -7,7 +7,6 @@ pub mod Flattening
 pub mod Module
 pub mod View
 pub mod Lookup
-
 -- the binary format
 pub mod BinaryText
 pub mod BinaryNumber
@@ -17,13 +16,11 @@ pub mod BinaryMemory
 pub mod BinaryInstruction
 pub mod BinarySection
 pub mod BinaryModule
-
 -- the profile
 pub mod ImportNames
 pub mod Imports
 pub mod Floats
 pub mod Profile
-
 -- validation
 pub mod Kinds
 pub mod OperandTypes
@@ -31,7 +28,6 @@ pub mod Typing
 pub mod Validity
 pub mod Cart
 pub mod Shape
-
 -- execution
 pub mod Integers
 pub mod Bytes
@@ -41,7 +37,6 @@ pub mod Control
 pub mod Effects
 pub mod Evaluation
 pub mod Resume
-
 -- The console: drawing
 pub mod Framebuffer
 pub mod Colours
@@ -50,14 +45,12 @@ pub mod Blit
 pub mod Text
 pub mod MemoryMap
 pub mod Image
-
 -- devices
 pub mod Words
 pub mod Logs
 pub mod Tones
 pub mod Disk
 pub mod Traces
-
 -- runs
 pub mod State
 pub mod Entries
@@ -66,10 +59,10 @@ pub mod Frame
 pub mod Run
 pub mod Board
 pub mod FrameTexts
-
 -- worked cases and laws
 pub mod WorkedNumbers
 pub mod EmptyCart
 pub mod WorkedRuns
 pub mod RunLaws
 pub mod FrameCases
+pub mod Soundness
