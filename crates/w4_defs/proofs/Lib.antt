@@ -23,3 +23,4 @@ pub mod GlobalTypes
 pub mod EmptyCartCount
 pub mod ClearLaws
 pub mod ViewLaws
+pub mod PlainSound

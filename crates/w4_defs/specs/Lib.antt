@@ -69,3 +69,4 @@ pub mod EmptyCart
 pub mod WorkedRuns
 pub mod RunLaws
 pub mod FrameCases
+pub mod Soundness
