@@ -37,6 +37,7 @@ pub mod Control
 pub mod Effects
 pub mod Evaluation
 pub mod Resume
+pub mod Soundness
 -- The console: drawing
 pub mod Framebuffer
 pub mod Colours
@@ -69,4 +70,3 @@ pub mod EmptyCart
 pub mod WorkedRuns
 pub mod RunLaws
 pub mod FrameCases
-pub mod Soundness
