@@ -214,3 +214,6 @@ impl House for MemoryHouse {
         self.store.write_file(alloc, name, bytes)
     }
 }
+
+#[cfg(test)]
+mod tests;

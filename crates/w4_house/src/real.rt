@@ -38,8 +38,16 @@ pub struct RealHouse<'a, R: Files, O: Write + Drop, E: Write + Drop> {
 }
 
 impl<'a, R: Files, O: Write + Drop, E: Write + Drop> RealHouse<'a, R, O, E> {
+    ghost use Rattle.w4_house.specs.Edge.{real_world};
+
     /// Nothing has failed so far.
-    pub fn new(runtime: &'a R, out: O, err: E) -> RealHouse<'a, R, O, E> {
+    pub fn new(runtime: &'a R, out: O, err: E) -> RealHouse<'a, R, O, E>
+        ensures out { result.out ≡ out }
+        ensures err { result.err ≡ err }
+        ensures read_faults { (real_world result).read_faults ≡ 0 }
+        ensures write_faults { (real_world result).write_faults ≡ 0 }
+        ensures err_faults { (real_world result).err_faults ≡ 0 }
+    {
         RealHouse {
             runtime,
             out,
@@ -172,3 +180,6 @@ impl<'a, R: Files, O: Write + Drop, E: Write + Drop> House for RealHouse<'a, R, 
         Err(WriteRefusal::Failed)
     }
 }
+
+#[cfg(test)]
+mod tests;
