@@ -1,0 +1,15 @@
+//! The house: all that the program reaches outside itself, as a trait of four calls, and three that
+//! keep it. A caller relies on the clauses of `House` alone, which say what a call gives and leaves,
+//! and that a count rose wherever a call failed.
+#![tactic(auto)]
+
+pub mod calls;
+pub mod memory;
+mod put;
+pub mod real;
+pub mod sure;
+
+pub use calls::{House, HouseFault, WriteRefusal};
+pub use memory::MemoryHouse;
+pub use real::RealHouse;
+pub use sure::SureHouse;
