@@ -1,0 +1,2 @@
+pub mod LebLaws
+pub mod ListLaws

@@ -1,0 +1,3 @@
+-- What a first cart is, and what its module is.
+pub mod Leb
+pub mod FirstCart

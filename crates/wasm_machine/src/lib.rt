@@ -1,0 +1,10 @@
+//! Runs first carts: reads their bytes, and runs their one function by the WebAssembly Core
+//! Specification, chapter 4, under a budget of instructions. The layer above relies on the ending and
+//! the page being exactly those of the evaluator.
+#![tactic(auto)]
+
+pub mod first_cart;
+pub mod read;
+
+pub use first_cart::{FirstCart, FirstOp, FirstRefusal};
+
