@@ -4,3 +4,12 @@ pub mod Module
 pub mod Framebuffer
 pub mod MemoryMap
 pub mod Image
+pub mod Outcome
+pub mod ImportNames
+pub mod Program
+pub mod Kinds
+pub mod Integers
+pub mod Bytes
+pub mod Control
+pub mod Effects
+pub mod Evaluation
