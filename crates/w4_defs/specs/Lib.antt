@@ -1,9 +1,24 @@
 -- The definitions, one file a subject.
 pub mod Tree
 pub mod Module
+pub mod Logs
+pub mod Tones
+pub mod Disk
+pub mod Words
+pub mod Traces
+pub mod State
+pub mod FrameTexts
 pub mod Framebuffer
+pub mod Colours
+pub mod Shapes
+pub mod Blit
+pub mod Text
 pub mod MemoryMap
 pub mod Image
+pub mod Entries
+pub mod Reset
+pub mod Frame
+pub mod Run
 pub mod Outcome
 pub mod ImportNames
 pub mod Program
@@ -13,3 +28,4 @@ pub mod Bytes
 pub mod Control
 pub mod Effects
 pub mod Evaluation
+pub mod Board

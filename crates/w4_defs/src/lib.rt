@@ -9,14 +9,16 @@ pub mod memory;
 pub mod module;
 pub mod operation;
 pub mod page;
+pub mod picture;
 pub mod steps;
 pub mod value;
 
-pub use console::{Halt, Import, Input, Sound, TextSource, Tone};
+pub use console::{Halt, Import, Input, Sound, TextSource, Tone, Voice};
 pub use integer::{Binary, Compare, Unary};
 pub use memory::OutOfMemory;
 pub use module::{ExportKind, ImportKind, Locals};
 pub use operation::Op;
 pub use page::PageBytes;
+pub use picture::Picture;
 pub use steps::Steps;
 pub use value::{Cause, GlobalType, Limits, Val, ValType};
