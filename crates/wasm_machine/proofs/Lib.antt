@@ -1,2 +1,3 @@
 pub mod LebLaws
 pub mod ListLaws
+pub mod SlotLaws

@@ -4,7 +4,10 @@
 #![tactic(auto)]
 
 pub mod first_cart;
+pub mod machine;
 pub mod read;
+mod slots;
 
 pub use first_cart::{FirstCart, FirstOp, FirstRefusal};
-
+pub use machine::Ending;
+pub use read::read_first;
