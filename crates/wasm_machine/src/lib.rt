@@ -9,5 +9,5 @@ pub mod read;
 mod slots;
 
 pub use first_cart::{FirstCart, FirstOp, FirstRefusal};
-pub use machine::Ending;
+pub use machine::{Ending, Machine};
 pub use read::read_first;
