@@ -1,4 +1,9 @@
--- Laws of the definitions, for this crate and those above.
+-- Lemmas about the definitions, for this crate and those above.
+pub mod PaintLaws
+pub mod RunLaws
+pub mod LogLaws
+pub mod ToneLaws
 pub mod Budgets
 pub mod Unfolding
-pub mod PaintLaws
+pub mod Turns
+pub mod RegisterLaws

@@ -29,3 +29,4 @@ pub mod Control
 pub mod Effects
 pub mod Evaluation
 pub mod Board
+pub mod Resume

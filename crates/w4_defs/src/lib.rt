@@ -4,7 +4,9 @@
 #![tactic(auto)]
 
 pub mod console;
+pub mod console_laws;
 pub mod integer;
+pub mod drawing;
 pub mod memory;
 pub mod module;
 pub mod operation;
