@@ -69,8 +69,8 @@ instruction_list zero height bytes = None
 instruction_list (suc turns) height bytes =
     if bytes_eq bytes (0x0b ∷ []) then (if height == 0 then Some [] else None)
     else option_and_then (λ (op, after).
-        option_and_then (λ next. option_map (λ ops. op ∷ ops) (instruction_list turns next after)) (height_after height op))
-      (instruction bytes)
+    option_and_then (λ next. option_map (λ ops. op ∷ ops) (instruction_list turns next after)) (height_after height op))
+    (instruction bytes)
 
 -- the instructions of a code section with one body, which has no locals and at most 125 bytes
 abbrev pub first_body : List ℕ → Option (List FirstOp)
@@ -97,22 +97,22 @@ first_list (op ∷ ops) = plain (mark (operation op)) (first_list ops)
 -- the module of a first cart with these instructions: update is its only function, over one page
 abbrev pub first_module : List FirstOp → WasmModule
 first_module ops = record {
-    types = record { params = []; results = [] } ∷ [];
-    imports = record {
-        module_name = 0x65 ∷ 0x6e ∷ 0x76 ∷ [];
-        name = 0x6d ∷ 0x65 ∷ 0x6d ∷ 0x6f ∷ 0x72 ∷ 0x79 ∷ [];
-        kind = Memory (record { least = 1; greatest = None })
-      } ∷ [];
-    functions = 0 ∷ [];
-    tables = [];
-    memories = [];
-    globals = [];
-    exports = record { name = 0x75 ∷ 0x70 ∷ 0x64 ∷ 0x61 ∷ 0x74 ∷ 0x65 ∷ []; kind = Func; index = 0 } ∷ [];
-    start = None;
-    elements = [];
-    bodies = record { runs = []; list = first_list ops } ∷ [];
-    segments = []
-  }
+  types = record { params = []; results = [] } ∷ [];
+  imports = record {
+    module_name = 0x65 ∷ 0x6e ∷ 0x76 ∷ [];
+    name = 0x6d ∷ 0x65 ∷ 0x6d ∷ 0x6f ∷ 0x72 ∷ 0x79 ∷ [];
+    kind = Memory (record { least = 1; greatest = None });
+  } ∷ [];
+  functions = 0 ∷ [];
+  tables = [];
+  memories = [];
+  globals = [];
+  exports = record { name = 0x75 ∷ 0x70 ∷ 0x64 ∷ 0x61 ∷ 0x74 ∷ 0x65 ∷ []; kind = Func; index = 0 } ∷ [];
+  start = None;
+  elements = [];
+  bodies = record { runs = []; list = first_list ops } ∷ [];
+  segments = [];
+}
 
 -- from this many operands on each instruction finds its operands, and none are left at the end
 abbrev pub Balanced : ℕ → List FirstOp → Type 0
