@@ -4,8 +4,8 @@ ghost use Rattle.std.specs.Prelude.{◌≡◌, ◌<◌};
 
 use super::Console;
 use std::alloc::Global;
-use std::process::Abort;
 use std::marker::Brand;
+use std::process::Abort;
 use std::sync::ledger::{Blank, Ledger};
 use std::test::Fail;
 use w4_defs::{Cause, Halt, Input, Steps};
@@ -56,11 +56,46 @@ fn play<L: Ledger>(rt: &impl Abort, alloc: Global, blank: Blank) -> Result<(), F
     console.reset();
     // the cart, pad 1, reset, budget; then halt and the page at 4, 22, 26, 28, 30 and 160
     let frames = [
-        (&copies, 27, false, 100, Halt::Running, [0xcf, 27, 0xfe, 3, 4, 27]),
-        (&copies, 0, false, 4, Halt::Running, [0xcf, 0, 0xfe, 3, 4, 0]),
-        (&traps, 1, false, 100, Halt::Trapped(Cause::Memory), [0xcf, 1, 0xfe, 3, 4, 0]),
-        (&copies, 2, false, 100, Halt::Trapped(Cause::Memory), [0xcf, 1, 0xfe, 3, 4, 0]),
-        (&copies, 5, true, 100, Halt::Running, [0xcf, 5, 0xfe, 3, 4, 5]),
+        (
+            &copies,
+            27,
+            false,
+            100,
+            Halt::Running,
+            [0xcf, 27, 0xfe, 3, 4, 27],
+        ),
+        (
+            &copies,
+            0,
+            false,
+            4,
+            Halt::Running,
+            [0xcf, 0, 0xfe, 3, 4, 0],
+        ),
+        (
+            &traps,
+            1,
+            false,
+            100,
+            Halt::Trapped(Cause::Memory),
+            [0xcf, 1, 0xfe, 3, 4, 0],
+        ),
+        (
+            &copies,
+            2,
+            false,
+            100,
+            Halt::Trapped(Cause::Memory),
+            [0xcf, 1, 0xfe, 3, 4, 0],
+        ),
+        (
+            &copies,
+            5,
+            true,
+            100,
+            Halt::Running,
+            [0xcf, 5, 0xfe, 3, 4, 5],
+        ),
         (&copies, 6, false, 3, Halt::Spent, [0xcf, 6, 0xfe, 3, 4, 0]),
     ];
     for (cart, first, reset, budget, halt, seen) in frames {
