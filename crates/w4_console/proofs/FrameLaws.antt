@@ -1,21 +1,14 @@
 -- The laws of a first cart's reset and frame.
-use Rattle.std.proofs.Common.{◌≡◌, ℕ, Bool, true, false, List, [], Option, Some, None, refl, sym, ◌∙◌, ap}
+use Rattle.std.proofs.Common.{◌≡◌, ℕ, true, false, List, Some, refl, ◌∙◌, ap}
 use Rattle.std.specs.Option.{option_map, option_and_then}
 use Rattle.w4_defs.specs.declared.console.Halt.{Halt}
 use Rattle.w4_defs.specs.declared.console.Halt.TheVariants.{Running, Trapped, Spent}
 use Rattle.w4_defs.specs.declared.console.Input.{Input}
-use Rattle.w4_defs.specs.declared.value.Cause.{Cause}
-use Rattle.w4_defs.specs.Outcome.{Outside}
-use Rattle.w4_defs.specs.State.{State, Board, Underway}
-use Rattle.w4_defs.specs.Reset.{Setup, reset, start, start_page, first_page, underway, recorded, then_on, store_of}
-use Rattle.w4_defs.specs.Frame.{frame, update, begun, input_page}
-use Rattle.w4_defs.specs.Evaluation.{run_entry}
+use Rattle.w4_defs.specs.State.{State}
+use Rattle.w4_defs.specs.Reset.{reset, start, start_page, first_page, underway, recorded}
+use Rattle.w4_defs.specs.Frame.{frame, update}
 use Rattle.wasm_machine.specs.declared.first_cart.FirstOp.{FirstOp}
-use Rattle.wasm_machine.specs.declared.machine.Ending.{Ending}
-use Rattle.wasm_machine.specs.declared.machine.Ending.TheVariants as ending
-use Rattle.wasm_machine.specs.FirstCart.{first_module}
-use Rattle.wasm_machine.specs.Running.{RunsTo, ended_with, store_of as store_with}
-use Rattle.w4_console.specs.FirstConsole.{first_state, first_setup, quiet, ResetsTo, StartsTo, FramesTo, UpdatesTo, halt_after}
+use Rattle.w4_console.specs.FirstConsole.{first_state, first_setup, quiet, ResetsTo, StartsTo, FramesTo, UpdatesTo}
 
 -- a first cart has no data segments, and no function that a reset calls
 pub starts : (page : List ℕ) (halt : Halt) → StartsTo (first_state page halt) (first_state first_page Running)

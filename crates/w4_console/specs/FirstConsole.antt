@@ -6,7 +6,7 @@ use Rattle.w4_defs.specs.declared.console.Halt.TheVariants.{Running, Trapped, Sp
 use Rattle.w4_defs.specs.declared.console.Input.{Input}
 use Rattle.w4_defs.specs.Outcome.{Outside}
 use Rattle.w4_defs.specs.Tones.{silent}
-use Rattle.w4_defs.specs.State.{State, Board, Moment, Underway, empty_record}
+use Rattle.w4_defs.specs.State.{State, Board, Moment, empty_record}
 use Rattle.w4_defs.specs.Reset.{Setup, reset, start, underway}
 use Rattle.w4_defs.specs.Frame.{frame, update}
 use Rattle.wasm_machine.specs.declared.first_cart.FirstOp.{FirstOp}

@@ -1,5 +1,5 @@
 -- The laws of a LEB128 number, byte by byte, over lists as code takes them apart.
-use Rattle.std.proofs.Common.{◌≡◌, ℕ, zero, suc, ◌+◌, ◌-◌, ◌^◌, ◌<◌, ◌≤◌, Bool, true, false, nat_lt, nat_le, List, [], ◌∷◌, length, get_or, take, drop, Option, Some, None, refl, arith, sub-one, sym, ◌∙◌, ap}
+use Rattle.std.proofs.Common.{◌≡◌, ℕ, zero, suc, ◌+◌, ◌-◌, ◌^◌, ◌<◌, true, false, nat_lt, List, [], ◌∷◌, length, get_or, take, drop, Option, Some, None, refl, arith, sub-one, ap}
 use Rattle.std.proofs.lemmas.List.{take_all}
 use Rattle.std.specs.Option.{option_map}
 use Rattle.wasm_machine.specs.Leb.{signed, from_byte, below, ends_positive, ends_negative}

@@ -1,9 +1,9 @@
 -- The laws of a first cart's list of instructions, one instruction a step, over lists that grow at
 -- their end.
-use Rattle.std.proofs.Common.{◌≡◌, ℕ, zero, suc, ◌+◌, ◌-◌, ◌<◌, ◌≤◌, Bool, true, false, nat_eq, nat_le, cond, if◌then◌else◌, List, [], ◌∷◌, ◌++◌, length, Option, Some, None, refl, arith, sub-one, sym, ◌∙◌, ap, append_assoc, subst}
+use Rattle.std.proofs.Common.{◌≡◌, ℕ, zero, suc, ◌+◌, ◌-◌, ◌<◌, ◌≤◌, Bool, true, false, nat_eq, nat_le, if◌then◌else◌, List, [], ◌∷◌, ◌++◌, Option, Some, None, refl, arith, sub-one, sym, ◌∙◌, ap, append_assoc}
 use Rattle.std.proofs.Math.Dec.{eqb-suc-zero}
 use Rattle.std.proofs.lemmas.Bool.{eq-eqb}
-use Rattle.std.specs.Option.{option_map, option_and_then}
+use Rattle.std.specs.Option.{option_map}
 use Rattle.std.specs.Str.{bytes_eq}
 use Rattle.wasm_machine.specs.declared.first_cart.FirstOp.{FirstOp}
 use Rattle.wasm_machine.specs.declared.first_cart.FirstOp.TheVariants.{Const, Add, Load, Store, Drop}

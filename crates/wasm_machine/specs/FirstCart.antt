@@ -1,7 +1,7 @@
 -- A first cart (own rule): a module all of whose bytes are fixed but those of one body, which is a
 -- list of i32.const, i32.add, i32.load8_u, i32.store8 and drop (Core Specification, sections 5.4 and
 -- 5.5). Before each instruction at least as many operands are there as it takes, and none at the end.
-use Rattle.std.specs.Prelude.{ℕ, zero, suc, ◌+◌, ◌-◌, ◌≡◌, Bool, true, false, ◌&&◌, ◌==◌, nat_le, if◌then◌else◌, List, [], ◌∷◌, length, take, drop, Option, Some, None, codes, refl}
+use Rattle.std.specs.Prelude.{ℕ, zero, suc, ◌+◌, ◌-◌, ◌≡◌, ◌&&◌, ◌==◌, nat_le, if◌then◌else◌, List, [], ◌∷◌, length, take, drop, Option, Some, None, codes, refl}
 use Rattle.std.specs.Option.{option_map, option_and_then}
 use Rattle.std.specs.Str.{bytes_eq}
 use Rattle.w4_defs.specs.declared.operation.Op.{Op}
@@ -87,7 +87,7 @@ first_cart bytes = if bytes_eq (take 47 bytes) first_head then first_body (drop 
 abbrev pub CopyingCase : Type 0
 CopyingCase =
     first_body (
-      0x0a ∷ 0x0f ∷ 0x01 ∷ 0x0d ∷ 0x00 ∷ 0x41 ∷ 0xa0 ∷ 0x01 ∷ 0x41 ∷ 0x16 ∷ 0x2d ∷ 0x00 ∷ 0x00 ∷ 0x3a ∷ 0x00 ∷ 0x00 ∷ 0x0b ∷ []
+    0x0a ∷ 0x0f ∷ 0x01 ∷ 0x0d ∷ 0x00 ∷ 0x41 ∷ 0xa0 ∷ 0x01 ∷ 0x41 ∷ 0x16 ∷ 0x2d ∷ 0x00 ∷ 0x00 ∷ 0x3a ∷ 0x00 ∷ 0x00 ∷ 0x0b ∷ []
     ) ≡ Some (Const 160 ∷ Const 22 ∷ Load ∷ Store ∷ [])
 
 pub copying-case : CopyingCase

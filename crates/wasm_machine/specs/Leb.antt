@@ -2,7 +2,7 @@
 -- 2^32, with the bytes after it. Each byte holds seven bits, the lowest first, and one of 128 or more
 -- has another after it. The number has at most five bytes; the fifth has its top four bits, and its
 -- unused bits equal the sign.
-use Rattle.std.specs.Prelude.{ℕ, zero, suc, ◌+◌, ◌-◌, ◌*◌, ◌%◌, ◌^◌, ◌≡◌, Bool, true, false, ◌&&◌, ◌==◌, nat_lt, nat_le, if◌then◌else◌, List, [], ◌∷◌, Option, Some, None, refl}
+use Rattle.std.specs.Prelude.{ℕ, zero, suc, ◌+◌, ◌-◌, ◌*◌, ◌%◌, ◌^◌, ◌≡◌, Bool, ◌&&◌, ◌==◌, nat_lt, nat_le, if◌then◌else◌, List, [], ◌∷◌, Option, Some, None, refl}
 use Rattle.std.specs.Option.{option_map}
 
 -- the last byte of a number that isn't negative; `left` says how many bytes may come after it

@@ -1,4 +1,4 @@
-use Rattle.std.proofs.Common.{refl, ◌∙◌, ap, replicate, ℕ}
+use Rattle.std.proofs.Common.{◌∙◌, ap, replicate, ℕ}
 use Rattle.w4_defs.specs.State.{zero_page}
 use Rattle.w4_console.proofs.page.wipe.Goals as goal
 

@@ -1,6 +1,4 @@
-use Rattle.std.proofs.Common.{rules, arith, tests, ap, ◌∙◌, sym, ◌≡◌, ◌+◌, ◌-◌, ◌*◌, ◌%◌, ◌≤◌, ◌<◌, ◌^◌, length, ℕ, ◌/◌, Bool, true, false, nat_eq, nat_lt, Some, None, List, [], ◌∷◌, ◌++◌, slice_index_or, slice_set, bit_and, bit_or, Fits, w8, w32, w64, Bor, MutBor}
-use Rattle.wasm_machine.specs.Leb.{signed, ends_positive, ends_negative}
-use Rattle.std.specs.Option.{option_map}
+use Rattle.std.proofs.Common.{rules, arith, tests, ap, ◌∙◌, ℕ, Some, None}
 use Rattle.wasm_machine.proofs.LebLaws.{signed-none, signed-empty, signed-positive, signed-negative, signed-wrong, signed-more, tail}
 use Rattle.wasm_machine.proofs.read.+signed_number.Goals as goal
 

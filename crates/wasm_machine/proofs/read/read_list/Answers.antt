@@ -1,8 +1,7 @@
-use Rattle.std.proofs.Common.{rules, refl, arith, ap, sym, subst, ◌∙◌, length-append, tests, ◌≡◌, ◌+◌, ◌-◌, ◌≤◌, ◌<◌, [], ◌∷◌, length, ℕ, Bool, true, false, nat_eq, List, ◌++◌, Some, None, Option}
+use Rattle.std.proofs.Common.{rules, refl, arith, ap, ◌∙◌, length-append, ◌≡◌, ◌+◌, ◌-◌, [], ◌∷◌, length, ◌++◌, Some}
 use Rattle.std.proofs.lemmas.Grind.{common_steps}
 use Rattle.std.proofs.lemmas.List.{append-nil}
-use Rattle.wasm_machine.specs.declared.first_cart.FirstOp.{FirstOp}
-use Rattle.wasm_machine.specs.FirstCart.{instruction_list, Balanced}
+use Rattle.wasm_machine.specs.FirstCart.{Balanced}
 use Rattle.wasm_machine.proofs.ListLaws.{joined, joined-one, list-out, list-done, list-left, list-no, list-low, list-more, height-rises, completes-one}
 use Rattle.wasm_machine.proofs.read.read_list.Goals as goal
 

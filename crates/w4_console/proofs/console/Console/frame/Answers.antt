@@ -1,4 +1,4 @@
-use Rattle.std.proofs.Common.{rules, ◌≡◌, ap, sym, refl}
+use Rattle.std.proofs.Common.{refl}
 use Rattle.w4_console.proofs.FrameLaws.{updates-halted, frames-on, frames-anew}
 use Rattle.w4_console.proofs.console.Console.frame.Goals as goal
 

@@ -1,4 +1,3 @@
-use Rattle.std.proofs.Common.{◌≡◌, ap, sym, refl}
 use Rattle.w4_console.proofs.FrameLaws.{starts, resets}
 use Rattle.w4_console.proofs.console.Console.reset.Goals as goal
 

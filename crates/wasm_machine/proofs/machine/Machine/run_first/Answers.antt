@@ -1,7 +1,6 @@
-use Rattle.std.proofs.Common.{rules, slice_index_or, arith, refl, ap, sym, ◌∙◌, ◌≡◌, ◌≤◌, ◌<◌, ◌+◌, ◌-◌, suc, length, drop, ℕ, List, [], ◌∷◌}
+use Rattle.std.proofs.Common.{slice_index_or, arith, ◌∙◌, ◌≡◌, ◌-◌, suc}
 use Rattle.std.proofs.lemmas.List.{drop_more, drop_all}
 use Rattle.wasm_machine.specs.declared.first_cart.FirstOp.TheVariants.{Const}
-use Rattle.wasm_machine.specs.Running.{Steps, RunsTo}
 use Rattle.wasm_machine.proofs.RunLaws.{enters, onward-goes, onward-traps, onward-spends, onward-ends, balanced-next, left-one}
 use Rattle.wasm_machine.proofs.machine.Machine.run_first.Goals as goal
 

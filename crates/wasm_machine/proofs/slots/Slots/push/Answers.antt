@@ -1,6 +1,4 @@
-use Rattle.std.proofs.Common.{rules, arith, ◌≡◌, ◌∙◌, ap, sym, length, List, ◌∷◌, ℕ, ◌<◌, ◌≤◌}
-use Rattle.std.proofs.lemmas.Grind.{common_steps}
-use Rattle.wasm_machine.specs.Slots.{from_top}
+use Rattle.std.proofs.Common.{arith, ◌∙◌, ap, length, List, ◌∷◌, ℕ}
 use Rattle.wasm_machine.proofs.SlotLaws.{length-from_top, from_top-push}
 use Rattle.wasm_machine.proofs.slots.Slots.push.Goals as goal
 
