@@ -9,3 +9,6 @@ pub mod Bytes
 pub mod Control
 pub mod Effects
 pub mod Evaluation
+pub mod Framebuffer
+pub mod MemoryMap
+pub mod Image

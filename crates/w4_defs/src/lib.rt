@@ -7,6 +7,7 @@ pub mod console;
 pub mod memory;
 pub mod module;
 pub mod operation;
+pub mod page;
 pub mod steps;
 pub mod value;
 
@@ -14,5 +15,6 @@ pub use console::{Halt, Import, Input, Sound, TextSource, Tone};
 pub use memory::OutOfMemory;
 pub use module::{ExportKind, ImportKind, Locals};
 pub use operation::Op;
+pub use page::PageBytes;
 pub use steps::Steps;
 pub use value::{Cause, GlobalType, Limits, Val, ValType};

@@ -1,0 +1,47 @@
+-- The framebuffer: 160 by 160 pixels of two bits each, in the page's bytes 0xa0 to 0x199f. Pixel (x, y)
+-- stands in framebuffer byte (160 y + x) / 4, in the two bits from bit 2 (x mod 4) (WASM-4 memory map).
+use Rattle.std.specs.Prelude.{◌≡◌, ℕ, ◌+◌, ◌-◌, ◌*◌, ◌/◌, ◌%◌, ◌^◌, ◌||◌, List, [], ◌∷◌, ◌++◌, map, length, replicate, nat_lt, nat_le, if◌then◌else◌, slice_index, Option, unwrap_or, refl}
+use Rattle.std.specs.List.{range_with_len}
+use Rattle.std.specs.Option.{option_or}
+
+-- the entry, 0 to 3, that stands at (x, y), both below 160
+abbrev pub pixel : List ℕ → ℕ → ℕ → ℕ
+pixel page x y = slice_index page (160 + (160 * y + x) / 4) / 4 ^ (x % 4) % 4
+
+-- a page whose framebuffer begins with these bytes, for worked cases
+abbrev pub page_with : List ℕ → List ℕ
+page_with bytes = replicate 160 0 ++ bytes
+
+-- the byte 0xe4 shows its four pixels from the lowest bits on
+abbrev pub PixelCase : Type 0
+PixelCase = let page = page_with (228 ∷ []) in
+    (pixel page 0 0 ≡ 0) × (pixel page 1 0 ≡ 1) × (pixel page 2 0 ≡ 2) × (pixel page 3 0 ≡ 3)
+
+pub pixel-case : PixelCase
+pixel-case = (refl, refl, refl, refl)
+
+-- Painting. A painter says for each pixel of the screen which entry it is given, or that it is left.
+abbrev pub Painter : Type 0
+Painter = ℕ → ℕ → Option ℕ
+
+-- the pixel after painting: the painter's entry modulo 4, where there is one, else as before
+abbrev pub painted_pixel : List ℕ → Painter → ℕ → ℕ → ℕ
+painted_pixel page f x y = unwrap_or (f x y) (pixel page x y) % 4
+
+-- the n-th pixel in rows from the top
+abbrev pub painted_at : List ℕ → Painter → ℕ → ℕ
+painted_at page f n = painted_pixel page f (n % 160) (n / 160)
+
+-- a byte of the page after painting: outside the framebuffer as before, else four pixels
+abbrev pub painted_byte : List ℕ → Painter → ℕ → ℕ
+painted_byte page f i = if nat_lt i 160 || nat_le 6560 i then slice_index page i else
+    let n = 4 * (i - 160) in
+    painted_at page f n + 4 * painted_at page f (n + 1) + 16 * painted_at page f (n + 2) + 64 * painted_at page f (n + 3)
+
+-- the page after painting
+unfoldable pub paint : List ℕ → Painter → List ℕ
+paint page f = map (painted_byte page f) (range_with_len 0 (length page))
+
+-- the second painter over the first
+abbrev pub over : Painter → Painter → Painter
+over g f x y = option_or (g x y) (f x y)
