@@ -1,0 +1,2 @@
+-- Lemmas of the page.
+pub mod StoredBytes

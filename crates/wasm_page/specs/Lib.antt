@@ -1,0 +1,4 @@
+-- The words of the page's clauses, one file a subject.
+pub mod Accesses
+pub mod Counts
+pub mod Lending
