@@ -5,6 +5,7 @@ pub mod Outcome
 pub mod ImportNames
 pub mod Program
 pub mod Kinds
+pub mod Integers
 pub mod Bytes
 pub mod Control
 pub mod Effects
@@ -12,3 +13,4 @@ pub mod Evaluation
 pub mod Framebuffer
 pub mod MemoryMap
 pub mod Image
+pub mod Resume

@@ -4,6 +4,7 @@
 #![tactic(auto)]
 
 pub mod console;
+pub mod integer;
 pub mod memory;
 pub mod module;
 pub mod operation;
@@ -12,6 +13,7 @@ pub mod steps;
 pub mod value;
 
 pub use console::{Halt, Import, Input, Sound, TextSource, Tone};
+pub use integer::{Binary, Compare, Unary};
 pub use memory::OutOfMemory;
 pub use module::{ExportKind, ImportKind, Locals};
 pub use operation::Op;

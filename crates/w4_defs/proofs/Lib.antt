@@ -1,0 +1,4 @@
+-- Laws of the definitions.
+pub mod Budgets
+pub mod Unfolding
+pub mod Turns
