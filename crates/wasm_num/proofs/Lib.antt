@@ -1,0 +1,3 @@
+-- Lemmas of the integer operations, stated over the width.
+pub mod LeadingZeros
+pub mod Rotations

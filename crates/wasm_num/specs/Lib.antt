@@ -1,0 +1,1 @@
+-- The operations are defined in w4_defs, in `specs/Integers.antt`.
