@@ -3,14 +3,13 @@
 //! every operand, and traps exactly where the definition does.
 #![tactic(auto)]
 
-pub mod binary;
-pub mod compare;
+pub mod bits32;
+pub mod bits64;
 mod division;
+pub mod laws;
 mod sign;
 #[cfg(test)]
 mod tests;
-pub mod unary;
 
-pub use binary::{binary32, binary64};
-pub use compare::{compare32, compare64};
-pub use unary::{unary32, unary64};
+pub use bits32::{binary32, compare32, unary32};
+pub use bits64::{binary64, compare64, unary64};

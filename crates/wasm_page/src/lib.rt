@@ -4,7 +4,6 @@
 #![tactic(auto)]
 
 mod access;
-pub mod laws;
 pub mod page;
 #[cfg(test)]
 mod tests;

@@ -1,2 +1,0 @@
--- Lemmas of the page.
-pub mod StoredBytes
