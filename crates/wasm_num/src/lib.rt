@@ -1,0 +1,15 @@
+//! The integer operations of 32 and 64 bits by machine operations (Core Specification, section 4.3.2).
+//! The layers above rely on this: each call gives exactly what the definition of the operation says, for
+//! every operand, and traps exactly where the definition does.
+#![tactic(auto)]
+
+pub mod bits32;
+pub mod bits64;
+mod division;
+pub mod laws;
+mod sign;
+#[cfg(test)]
+mod tests;
+
+pub use bits32::{binary32, compare32, unary32};
+pub use bits64::{binary64, compare64, unary64};
