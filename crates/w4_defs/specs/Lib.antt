@@ -4,3 +4,6 @@ pub mod Module
 pub mod Framebuffer
 pub mod MemoryMap
 pub mod Image
+pub mod Reading
+pub mod Recording
+pub mod Script

@@ -7,7 +7,9 @@ pub mod console;
 pub mod memory;
 pub mod module;
 pub mod operation;
+pub mod order;
 pub mod page;
+pub mod spelled;
 pub mod steps;
 pub mod value;
 
@@ -15,6 +17,8 @@ pub use console::{Halt, Import, Input, Sound, TextSource, Tone};
 pub use memory::OutOfMemory;
 pub use module::{ExportKind, ImportKind, Locals};
 pub use operation::Op;
+pub use order::Order;
 pub use page::PageBytes;
+pub use spelled::{recordings_are_read_back, scripts_are_read};
 pub use steps::Steps;
 pub use value::{Cause, GlobalType, Limits, Val, ValType};
