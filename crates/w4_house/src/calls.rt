@@ -1,0 +1,119 @@
+//! The calls of a house and their answers.
+
+ghost use Rattle.std.specs.Prelude.{◌≡◌, ◌≤◌, List, Some, length, IfOk, OnOk, OnErr, IsErrOf, ⊤};
+ghost use Rattle.std.specs.Option.{ForSome};
+ghost use Rattle.std.specs.FinMap.{get};
+ghost use Rattle.w4_house.specs.World.{
+  World,
+  Rises,
+  front_of,
+  LacksFile,
+  Appends,
+  AppendsFront,
+  Puts,
+  OpensOnly,
+  LeavesReading,
+  LeavesPrinting,
+  LeavesReporting,
+  LeavesSaving,
+};
+
+use std::alloc::{AllocError, Global};
+use thiserror::Error;
+use w4_defs::OutOfMemory;
+
+/// Why a file couldn't be read.
+#[derive(Clone, Copy, PartialEq, Eq, Debug, Error)]
+pub enum HouseFault {
+    /// The house tells its files and has none of this name.
+    #[error("no such file")]
+    Absent,
+    /// The read failed, and the count of failed reads rose.
+    #[error("the read failed")]
+    Failed,
+    /// Memory was refused.
+    #[error("out of memory")]
+    OutOfMemory,
+}
+
+/// Why bytes weren't written, or not all of them.
+#[derive(Clone, Copy, PartialEq, Eq, Debug, Error)]
+pub enum WriteRefusal {
+    /// The write failed, and its count of faults rose.
+    #[error("the write failed")]
+    Failed,
+    /// Memory was refused.
+    #[error("out of memory")]
+    OutOfMemory,
+}
+
+impl From<AllocError> for HouseFault {
+    ghost use Rattle.w4_house.specs.declared.calls.HouseFault.{HouseFault};
+
+    ghost from_gives = { λ _ fault. fault ≡ HouseFault.OutOfMemory };
+
+    fn from(_refusal: AllocError) -> HouseFault {
+        HouseFault::OutOfMemory
+    }
+}
+
+impl From<OutOfMemory> for WriteRefusal {
+    ghost use Rattle.w4_house.specs.declared.calls.WriteRefusal.{WriteRefusal};
+
+    ghost from_gives = { λ _ refusal. refusal ≡ WriteRefusal.OutOfMemory };
+
+    fn from(_refusal: OutOfMemory) -> WriteRefusal {
+        WriteRefusal::OutOfMemory
+    }
+}
+
+impl From<AllocError> for WriteRefusal {
+    ghost use Rattle.w4_house.specs.declared.calls.WriteRefusal.{WriteRefusal};
+
+    ghost from_gives = { λ _ refusal. refusal ≡ WriteRefusal.OutOfMemory };
+
+    fn from(_refusal: AllocError) -> WriteRefusal {
+        WriteRefusal::OutOfMemory
+    }
+}
+
+/// Files, two outputs and three counts of faults, which never fall.
+///
+/// The counts are those of reads, of writes to standard output and to files, and of writes to
+/// standard error. Each call leaves the two counts that aren't its own, and all else that isn't named
+/// for it. Names are compared byte by byte.
+pub trait House {
+    ghost world: { Self → World };
+
+    /// The first `most` bytes of a file, or all where it has fewer.
+    fn read_front(&mut self, alloc: Global, name: &str, most: usize) -> Result<Vec<u8>, HouseFault>
+        ensures bytes { IfOk result (λ bytes. ForSome (world self.old).files (λ files. front_of files name.now most ≡ Some bytes.items)) }
+        ensures most { IfOk result (λ bytes. length bytes.items ≤ most) }
+        ensures absent { IsErrOf result HouseFault.Absent → LacksFile (world self.old).files name.now }
+        ensures absent_count { IsErrOf result HouseFault.Absent → (world self.new).read_faults ≡ (world self.old).read_faults }
+        ensures failed { IsErrOf result HouseFault.Failed → Rises (world self.old).read_faults (world self.new).read_faults }
+        ensures rest { LeavesReading (world self.old) (world self.new) };
+
+    /// Writes to standard output. After a refusal it has got a first part of the bytes.
+    fn write_out(&mut self, alloc: Global, bytes: &[u8]) -> Result<(), WriteRefusal>
+        ensures all { OnOk result (Appends (world self.old).out (world self.new).out bytes.now) }
+        ensures front { OnErr result (AppendsFront (world self.old).out (world self.new).out bytes.now) }
+        ensures failed { IsErrOf result WriteRefusal.Failed → Rises (world self.old).write_faults (world self.new).write_faults }
+        ensures rest { LeavesPrinting (world self.old) (world self.new) };
+
+    /// Writes to standard error. After a refusal it has got a first part of the bytes.
+    fn write_err(&mut self, alloc: Global, bytes: &[u8]) -> Result<(), WriteRefusal>
+        ensures all { OnOk result (Appends (world self.old).err (world self.new).err bytes.now) }
+        ensures front { OnErr result (AppendsFront (world self.old).err (world self.new).err bytes.now) }
+        ensures failed { IsErrOf result WriteRefusal.Failed → Rises (world self.old).err_faults (world self.new).err_faults }
+        ensures rest { LeavesReporting (world self.old) (world self.new) };
+
+    /// Makes a file of just these bytes. After a failure any bytes may stand in this one file; after want
+    /// of memory it is as before.
+    fn write_file(&mut self, alloc: Global, name: &str, bytes: &[u8]) -> Result<(), WriteRefusal>
+        ensures whole { OnOk result (Puts (world self.old).files (world self.new).files name.now bytes.now) }
+        ensures others { OnErr result (OpensOnly (world self.old).files (world self.new).files name.now) }
+        ensures failed { IsErrOf result WriteRefusal.Failed → Rises (world self.old).write_faults (world self.new).write_faults }
+        ensures out_of_memory { IsErrOf result WriteRefusal.OutOfMemory → (world self.new).files ≡ (world self.old).files }
+        ensures rest { LeavesSaving (world self.old) (world self.new) };
+}

@@ -1,0 +1,11 @@
+//! The house: all that the program reaches outside itself, as a trait of four calls, and three that
+//! keep it. A caller relies on the clauses of `House` alone, which say what a call gives and leaves,
+//! and that a count rose wherever a call failed.
+#![tactic(auto)]
+
+pub mod calls;
+mod put;
+pub mod sure;
+
+pub use calls::{House, HouseFault, WriteRefusal};
+pub use sure::SureHouse;
