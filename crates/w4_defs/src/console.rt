@@ -70,6 +70,14 @@ pub struct Tone {
     pub note: bool,
 }
 
+/// A tone that a channel plays, and how many frames it has been played. A tone ends before its age
+/// reaches the sum of its four lengths.
+#[derive(Clone, Copy, PartialEq, Eq, Debug)]
+pub struct Voice {
+    pub tone: Tone,
+    pub age: u16,
+}
+
 /// What a channel sounds at one tick: its level, at most 100, and its frequency in hertz.
 #[derive(Clone, Copy, PartialEq, Eq, Debug)]
 pub struct Sound {

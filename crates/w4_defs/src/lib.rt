@@ -13,7 +13,7 @@ pub mod spelled;
 pub mod steps;
 pub mod value;
 
-pub use console::{Halt, Import, Input, Sound, TextSource, Tone};
+pub use console::{Halt, Import, Input, Sound, TextSource, Tone, Voice};
 pub use memory::OutOfMemory;
 pub use module::{ExportKind, ImportKind, Locals};
 pub use operation::Op;
