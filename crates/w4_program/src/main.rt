@@ -1,0 +1,14 @@
+//! w4
+#![tactic(auto)]
+
+mod fields;
+mod reading;
+mod recording;
+mod status;
+mod writing;
+
+use std::process::ExitCode;
+
+fn main(_rt: HostRuntime) -> ExitCode {
+    ExitCode::from(status::number(status::Status::Done))
+}
