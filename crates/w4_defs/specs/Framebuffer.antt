@@ -1,6 +1,6 @@
 -- The framebuffer: 160 by 160 pixels of two bits each, in the page's bytes 0xa0 to 0x199f. Pixel (x, y)
 -- stands in framebuffer byte (160 y + x) / 4, in the two bits from bit 2 (x mod 4) (WASM-4 memory map).
-use Rattle.std.specs.Prelude.{◌≡◌, ℕ, ◌+◌, ◌-◌, ◌*◌, ◌/◌, ◌%◌, ◌^◌, ◌||◌, List, [], ◌∷◌, ◌++◌, map, length, replicate, nat_lt, nat_le, if◌then◌else◌, slice_index, Option, unwrap_or, refl}
+use Rattle.std.specs.Prelude.{◌≡◌, ℕ, ◌+◌, ◌-◌, ◌*◌, ◌/◌, ◌%◌, ◌^◌, ◌||◌, ◌<◌, ◌≤◌, ◌⊎◌, List, [], ◌∷◌, ◌++◌, map, length, replicate, nat_lt, nat_le, if◌then◌else◌, slice_index, Option, unwrap_or, refl}
 use Rattle.std.specs.List.{range_with_len}
 use Rattle.std.specs.Option.{option_or}
 
@@ -32,11 +32,14 @@ painted_pixel page f x y = unwrap_or (f x y) (pixel page x y) % 4
 abbrev pub painted_at : List ℕ → Painter → ℕ → ℕ
 painted_at page f n = painted_pixel page f (n % 160) (n / 160)
 
+-- four entries as a byte, from the n-th on: the first in the lowest bits
+abbrev pub packed : (ℕ → ℕ) → ℕ → ℕ
+packed entry n = entry n + 4 * entry (n + 1) + 16 * entry (n + 2) + 64 * entry (n + 3)
+
 -- a byte of the page after painting: outside the framebuffer as before, else four pixels
 abbrev pub painted_byte : List ℕ → Painter → ℕ → ℕ
-painted_byte page f i = if nat_lt i 160 || nat_le 6560 i then slice_index page i else
-    let n = 4 * (i - 160) in
-    painted_at page f n + 4 * painted_at page f (n + 1) + 16 * painted_at page f (n + 2) + 64 * painted_at page f (n + 3)
+painted_byte page f i =
+    if nat_lt i 160 || nat_le 6560 i then slice_index page i else packed (painted_at page f) (4 * (i - 160))
 
 -- the page after painting
 unfoldable pub paint : List ℕ → Painter → List ℕ
@@ -45,3 +48,10 @@ paint page f = map (painted_byte page f) (range_with_len 0 (length page))
 -- the second painter over the first
 abbrev pub over : Painter → Painter → Painter
 over g f x y = option_or (g x y) (f x y)
+
+-- painting in words: what the pixels and the other bytes of the page are afterwards
+pub record Paints (before after : List ℕ) (f : Painter) : Type 0 where
+  pub pixels : (x y : ℕ) → x < 160 → y < 160 → pixel after x y ≡ painted_pixel before f x y
+  pub outside : (i : ℕ) → (i < 160) ⊎ (6560 ≤ i) → slice_index after i ≡ slice_index before i
+  pub len : length after ≡ length before
+  pub bytes : (i : ℕ) → 160 ≤ i → i < 6560 → slice_index after i < 256

@@ -41,3 +41,17 @@ empty_record = record { tones = empty_log; traces = empty_log; sounds = replicat
 pub record Moment : Type 0 where
   pub state : State
   pub made : FrameRecord
+
+-- What a cart's imports work on besides the page: the font's bytes, channels, disk, and the frame's logs
+pub record Board : Type 0 where
+  pub font : List ℕ
+  pub channels : Channels
+  pub disk : List ℕ
+  pub tones : Log Tone
+  pub traces : Log (List ℕ)
+
+-- a reset or a frame before its record is taken: the state and the logs so far
+pub record Underway : Type 0 where
+  pub state : State
+  pub tones : Log Tone
+  pub traces : Log (List ℕ)

@@ -1,14 +1,11 @@
 -- Tones (WASM-4 reference, `tone`): what one call asks for, and what a channel sounds at each tick.
 -- Own rule: a peak of 0 means 100 and levels are cut at 100; a frame has 735 ticks; levels and
 -- frequencies go along straight lines, in whole numbers.
-use Rattle.std.specs.Prelude.{◌≡◌, ℕ, zero, suc, ◌+◌, ◌-◌, ◌*◌, ◌/◌, ◌%◌, ◌^◌, min, ◌==◌, nat_lt, nat_le, ◌||◌, if◌then◌else◌, List, [], ◌∷◌, map, replicate, slice_set, Option, Some, None, option_map, slice_index_or, refl}
+use Rattle.std.specs.Prelude.{◌≡◌, ℕ, zero, suc, ◌+◌, ◌-◌, ◌*◌, ◌/◌, ◌%◌, min, ◌==◌, nat_lt, nat_le, ◌||◌, if◌then◌else◌, List, [], ◌∷◌, map, replicate, slice_set, Option, Some, None, option_map, slice_index_or, refl}
 use Rattle.w4_defs.specs.declared.console.Tone.{Tone}
 use Rattle.w4_defs.specs.declared.console.Voice.{Voice}
 use Rattle.w4_defs.specs.declared.console.Sound.{Sound}
-
--- byte k of a number, counted from the lowest
-abbrev pub byte_of : ℕ → ℕ → ℕ
-byte_of number k = number / 256 ^ k % 256
+use Rattle.w4_defs.specs.Words.{byte_of}
 
 -- a peak of 0 means 100
 abbrev pub peak_of : ℕ → ℕ

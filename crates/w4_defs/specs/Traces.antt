@@ -1,10 +1,15 @@
 -- Trace lines (WASM-4 reference: `trace`, `traceUtf8`, `traceUtf16`, `tracef`). Own rule: a line is cut
 -- after 128 bytes, and the places of tracef's format are those below.
-use Rattle.std.specs.Prelude.{◌≡◌, ℕ, ◌+◌, ◌*◌, ◌%◌, ◌^◌, ◌==◌, nat_lt, nat_le, ◌||◌, if◌then◌else◌, List, [], ◌∷◌, ◌++◌, map, take, drop, slice_index, ℤ, pos, ◌-ℤ◌, codes, false, refl}
+use Rattle.std.specs.Prelude.{◌≡◌, ℕ, ◌+◌, ◌%◌, ◌==◌, nat_le, ◌||◌, if◌then◌else◌, List, [], ◌∷◌, ◌++◌, map, take, take_while, not, drop, codes, false, refl}
 use Rattle.std.specs.Fmt.{digits, signed_decimal}
 use Rattle.w4_defs.specs.declared.console.TextSource.{TextSource}
 use Rattle.w4_defs.specs.declared.console.TextSource.TheVariants.{Utf16}
-use Rattle.w4_defs.specs.Sources.{before_zero, source_codes}
+use Rattle.w4_defs.specs.Words.{word_at, signed_word}
+use Rattle.w4_defs.specs.Text.{text_codes}
+
+-- the bytes before the first 0, or all
+abbrev pub before_zero : List ℕ → List ℕ
+before_zero bytes = take_while (λ byte. not (byte == 0)) bytes
 
 abbrev pub line_room : ℕ
 line_room = 128
@@ -18,17 +23,7 @@ traced_code code = if nat_le code 255 then code else 63
 
 -- the line of `trace`, `traceUtf8` and `traceUtf16`
 abbrev pub trace_line : List ℕ → TextSource → List ℕ
-trace_line page source = line_of (map traced_code (source_codes page source))
-
--- the 32 bits at an address, the lowest byte first; a byte past the page's end reads 0
-abbrev pub word_at : List ℕ → ℕ → ℕ
-word_at page at =
-    slice_index page at + 256 * slice_index page (at + 1)
-    + 65536 * slice_index page (at + 2) + 16777216 * slice_index page (at + 3)
-
--- 32 bits read as a signed number
-abbrev pub signed_word : ℕ → ℤ
-signed_word word = if nat_lt word (2 ^ 31) then pos word else pos word -ℤ pos (2 ^ 32)
+trace_line page source = line_of (map traced_code (text_codes page source))
 
 -- what tracef writes for % and a letter, whose argument stands at this address: c a byte, d a signed
 -- decimal, x hexadecimal, s the text at that address, f a fixed word; any other letter is itself

@@ -10,6 +10,7 @@ pub mod operation;
 pub mod order;
 pub mod page;
 pub mod spelled;
+pub mod picture;
 pub mod steps;
 pub mod value;
 
@@ -20,5 +21,6 @@ pub use operation::Op;
 pub use order::Order;
 pub use page::PageBytes;
 pub use spelled::{recordings_are_read_back, scripts_are_read};
+pub use picture::Picture;
 pub use steps::Steps;
 pub use value::{Cause, GlobalType, Limits, Val, ValType};

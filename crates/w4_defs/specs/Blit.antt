@@ -1,0 +1,73 @@
+-- What a blit paints, asked of the pixels on the screen (WASM-4 reference: blit, blitSub and their flags).
+-- All sums and products are exact; a byte past the page's end reads 0; every byte is that of the page at
+-- the call. Own rule: how rotation and flips combine. Without rotation cell (i, j) lands at (x + i, y + j),
+-- with it at (x + j, y + i). Columns are read backward where exactly one of flip x and rotation is set,
+-- rows where flip y is set.
+use Rattle.std.specs.Prelude.{◌≡◌, ℕ, ◌+◌, ◌-◌, ◌*◌, ◌/◌, ◌%◌, ◌^◌, Bool, List, [], ◌∷◌, ◌==◌, if◌then◌else◌, slice_index, ℤ, pos, ◌+ℤ◌, ◌-ℤ◌, Option, Some, None, refl}
+use Rattle.w4_defs.specs.declared.picture.Picture.{Picture}
+use Rattle.w4_defs.specs.Framebuffer.{Painter, painted_byte, page_with}
+use Rattle.w4_defs.specs.Colours.{entry_of}
+use Rattle.w4_defs.specs.Shapes.{only_if, is_inside, natural, asked}
+
+abbrev pub has_flag : Picture → ℕ → Bool
+has_flag picture weight = picture.flags / weight % 2 == 1
+
+-- the value of the picture's pixel q: two bits or one, the first pixel in a byte's highest bits
+abbrev pub source_value : List ℕ → Picture → ℕ → ℕ
+source_value page picture q =
+    if has_flag picture 1
+    then slice_index page (picture.ptr + q / 4) / 4 ^ (3 - q % 4) % 4
+    else slice_index page (picture.ptr + q / 8) / 2 ^ (7 - q % 8) % 2
+
+-- the column and the row of the picture that cell (i, j) reads
+abbrev pub column_of : Picture → ℕ → ℕ
+column_of picture i = picture.src_x + (if picture.flags / 2 % 2 == picture.flags / 8 % 2 then i else picture.w - 1 - i)
+
+abbrev pub row_of : Picture → ℕ → ℕ
+row_of picture j = picture.src_y + (if has_flag picture 4 then picture.h - 1 - j else j)
+
+-- pixel value v is painted in colour v + 1
+abbrev pub cell_entry : List ℕ → Picture → ℕ → ℕ → Option ℕ
+cell_entry page picture i j = entry_of picture.colors (source_value page picture (row_of picture j * picture.stride + column_of picture i) + 1)
+
+-- the entry of the cell that lands so far to the right and below
+abbrev pub landed_entry : List ℕ → Picture → ℕ → ℕ → Option ℕ
+landed_entry page picture right below = if has_flag picture 8 then cell_entry page picture below right else cell_entry page picture right below
+
+-- the width and the height on the screen
+abbrev pub wide : Picture → ℕ
+wide picture = if has_flag picture 8 then picture.h else picture.w
+
+abbrev pub high : Picture → ℕ
+high picture = if has_flag picture 8 then picture.w else picture.h
+
+abbrev pub blit_painter : List ℕ → Picture → ℤ → ℤ → Painter
+blit_painter page picture x y u v =
+    only_if (is_inside x (x +ℤ pos (wide picture)) y (y +ℤ pos (high picture)) u v)
+    (landed_entry page picture (natural (pos u -ℤ x)) (natural (pos v -ℤ y)))
+
+-- 8 by 8 at (0, 0), flip x and rotation, where the bytes end after `ff 00 00 01`: column 0 is painted, and
+-- (3, 7)
+abbrev pub TurnedCase : Type 0
+TurnedCase =
+    let picture : Picture = record { colors = 32; ptr = 0; w = 8; h = 8; src_x = 0; src_y = 0; stride = 8; flags = 10 } in
+    let f : Painter = blit_painter (255 ∷ 0 ∷ 0 ∷ 1 ∷ []) picture (pos 0) (pos 0) in
+    (asked f 9 0 ≡ Some 1 ∷ None ∷ None ∷ None ∷ None ∷ None ∷ None ∷ None ∷ None ∷ [])
+    × (asked f 9 6 ≡ Some 1 ∷ None ∷ None ∷ None ∷ None ∷ None ∷ None ∷ None ∷ None ∷ [])
+    × (asked f 9 7 ≡ Some 1 ∷ None ∷ None ∷ Some 1 ∷ None ∷ None ∷ None ∷ None ∷ None ∷ [])
+    × (asked f 9 8 ≡ None ∷ None ∷ None ∷ None ∷ None ∷ None ∷ None ∷ None ∷ None ∷ [])
+
+pub turned-case : TurnedCase
+turned-case = (refl, refl, refl, refl)
+
+-- two bits a pixel, read from the framebuffer that is painted: byte 1b first, painted one pixel to the
+-- right, gives 93 03
+abbrev pub OverlapCase : Type 0
+OverlapCase =
+    let page = page_with (27 ∷ []) in
+    let picture : Picture = record { colors = 17185; ptr = 160; w = 4; h = 1; src_x = 0; src_y = 0; stride = 4; flags = 1 } in
+    let f : Painter = blit_painter page picture (pos 1) (pos 0) in
+    (painted_byte page f 160 ≡ 147) × (painted_byte page f 161 ≡ 3)
+
+pub overlap-case : OverlapCase
+overlap-case = (refl, refl)

@@ -1,0 +1,57 @@
+-- A frame of the console (WASM-4 reference for registers and `update`; the order of events and what follows
+-- a trap or a spent budget are own rules). A halted console leaves halt by a reset alone.
+use Rattle.std.specs.Prelude.{ℕ, List, ◌++◌, take, drop, replicate, Option, Some, None, option_map, option_and_then, if◌then◌else◌}
+use Rattle.w4_defs.specs.declared.console.Halt.{Halt}
+use Rattle.w4_defs.specs.declared.console.Halt.TheVariants.{Running, Trapped, Spent}
+use Rattle.w4_defs.specs.declared.console.Input.{Input}
+use Rattle.w4_defs.specs.Evaluation.{run_entry}
+use Rattle.w4_defs.specs.MemoryMap.{put_input, keeps_framebuffer}
+use Rattle.w4_defs.specs.State.{State, Moment, Underway}
+use Rattle.w4_defs.specs.Entries.{update_entry}
+use Rattle.w4_defs.specs.Reset.{Setup, underway, store_of, then_on, start, recorded}
+
+-- all pixels of the framebuffer 0
+unfoldable pub cleared : List ℕ → List ℕ
+cleared page = take 160 page ++ replicate 6400 0 ++ drop 6560 page
+
+-- the page as `update` finds it: the input is written, and the framebuffer cleared unless it is kept
+abbrev pub input_page : List ℕ → Input → List ℕ
+input_page page input =
+    let next = put_input page input in
+    if keeps_framebuffer next then next else cleared next
+
+abbrev pub with_page : State → List ℕ → State
+with_page state page = record {
+  page = page;
+  globals = state.globals;
+  channels = state.channels;
+  disk = state.disk;
+  halt = state.halt;
+}
+
+-- the call of `update` with the whole budget
+abbrev pub call_update : Setup → Option ℕ → Underway → Option Underway
+call_update setup None now = None
+call_update setup (Some function) now =
+    then_on (run_entry setup.cart setup.outside function (store_of setup.font now) setup.budget) (λ now rest. Some now)
+
+-- while the cart runs, the input and `update`; a halted cart is left as it is
+abbrev pub update_from : Setup → Input → Underway → Halt → Option Underway
+update_from setup input now Running = call_update setup (update_entry setup.cart) (record {
+  state = with_page now.state (input_page now.state.page input);
+  tones = now.tones;
+  traces = now.traces;
+})
+update_from setup input now (Trapped cause) = Some now
+update_from setup input now Spent = Some now
+
+abbrev pub update : Setup → Input → Underway → Option Underway
+update setup input now = update_from setup input now now.state.halt
+
+-- a frame whose input has a reset begins with one that keeps the state's own disk, and with its logs
+abbrev pub begun : Setup → State → Input → Option Underway
+begun setup state input = if input.reset then start setup state.disk else Some (underway state)
+
+-- a frame: the next state and its record
+unfoldable pub frame : Setup → State → Input → Option Moment
+frame setup state input = option_map recorded (option_and_then (update setup input) (begun setup state input))
