@@ -1,3 +1,4 @@
 pub mod World
 pub mod Stored
 pub mod Told
+pub mod Edge

@@ -20,9 +20,13 @@ pub record World : Type 0 where
   pub write_faults : ℕ
   pub err_faults : ℕ
 
+-- One more, up to 2^64 - 1, where a count stays.
+abbrev pub raised : ℕ → ℕ
+raised count = min (count + 1) (2 ^ 64 - 1)
+
 -- A count rises by one at least. It is also said to rise where it stands at 2^64 - 1.
 abbrev pub Rises : ℕ → ℕ → Type 0
-Rises before now = min (before + 1) (2 ^ 64 - 1) ≤ now
+Rises before now = raised before ≤ now
 
 -- The first `most` bytes of the file of this name, or all of them where there are fewer; None without a file.
 abbrev pub front_of : Files → List ℕ → ℕ → Option (List ℕ)
@@ -84,6 +88,15 @@ pub record LeavesSaving (old new : World) : Type 0 where
 
 -- Nothing but the files may have changed.
 pub record OnlyFiles (old new : World) : Type 0 where
+  pub out : new.out ≡ old.out
+  pub err : new.err ≡ old.err
+  pub reads : new.read_faults ≡ old.read_faults
+  pub writes : new.write_faults ≡ old.write_faults
+  pub errs : new.err_faults ≡ old.err_faults
+
+-- Nothing has changed.
+pub record SameWorld (old new : World) : Type 0 where
+  pub files : new.files ≡ old.files
   pub out : new.out ≡ old.out
   pub err : new.err ≡ old.err
   pub reads : new.read_faults ≡ old.read_faults

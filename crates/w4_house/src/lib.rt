@@ -4,8 +4,12 @@
 #![tactic(auto)]
 
 pub mod calls;
+pub mod memory;
 mod put;
+pub mod real;
 pub mod sure;
 
 pub use calls::{House, HouseFault, WriteRefusal};
+pub use memory::MemoryHouse;
+pub use real::RealHouse;
 pub use sure::SureHouse;

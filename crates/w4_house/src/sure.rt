@@ -99,3 +99,6 @@ impl House for SureHouse {
         Ok(self.put_file(name, bytes)?)
     }
 }
+
+#[cfg(test)]
+mod tests;

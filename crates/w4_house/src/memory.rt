@@ -1,0 +1,219 @@
+//! A house in memory whose calls fail where a test wants it.
+
+ghost use Rattle.std.specs.Prelude.{
+  ◌≡◌,
+  ◌≤◌,
+  ◌++◌,
+  ◌↔◌,
+  ◌==◌,
+  [],
+  ◌∷◌,
+  List,
+  ℕ,
+  Some,
+  None,
+  IsTrue,
+  IfOk,
+  OnOk,
+  OnErr,
+  IsErrOf,
+  length,
+  option_copied,
+};
+ghost use Rattle.std.specs.List.{list_any};
+ghost use Rattle.w4_house.specs.World.{raised};
+
+use crate::calls::{House, HouseFault, WriteRefusal};
+use crate::sure::SureHouse;
+use std::alloc::Global;
+use w4_defs::OutOfMemory;
+
+/// It tells everything, and has a list of the numbers of calls that are to fail.
+///
+/// The calls of the trait are numbered from 1 in the order in which they come. One whose number is in
+/// the list answers Failed, raises its own count, and appends and changes nothing.
+#[derive(Drop)]
+pub struct MemoryHouse {
+    store: SureHouse,
+    failing: Vec<u64>,
+    calls: u64,
+    read_faults: u64,
+    write_faults: u64,
+    err_faults: u64,
+}
+
+impl MemoryHouse {
+    ghost use Rattle.std.specs.FinMap.{get, empty};
+    ghost use Rattle.w4_house.specs.World.{Puts, OnlyFiles, SameWorld};
+    ghost use Rattle.w4_house.specs.Told.{memory_files, memory_world, last_call, failing_calls};
+
+    /// A house with no files and nothing written, in which no call is to fail.
+    pub fn new(alloc: Global) -> MemoryHouse
+        ensures files { (memory_world result).files ≡ Some empty }
+        ensures out { (memory_world result).out ≡ Some [] }
+        ensures err { (memory_world result).err ≡ Some [] }
+        ensures read_faults { (memory_world result).read_faults ≡ 0 }
+        ensures write_faults { (memory_world result).write_faults ≡ 0 }
+        ensures err_faults { (memory_world result).err_faults ≡ 0 }
+        ensures numbered { last_call result ≡ 0 }
+        ensures listed { failing_calls result ≡ [] }
+    {
+        MemoryHouse {
+            store: SureHouse::new(alloc),
+            failing: Vec::new(alloc),
+            calls: 0,
+            read_faults: 0,
+            write_faults: 0,
+            err_faults: 0,
+        }
+    }
+
+    /// Makes a file of just these bytes. After want of memory nothing has changed.
+    pub fn put_file(&mut self, name: &str, bytes: &[u8]) -> Result<(), OutOfMemory>
+        ensures whole { OnOk result (Puts (memory_world self.old).files (memory_world self.new).files name.now bytes.now) }
+        ensures refused { OnErr result ((memory_world self.new).files ≡ (memory_world self.old).files) }
+        ensures rest { OnlyFiles (memory_world self.old) (memory_world self.new) }
+        ensures numbered { last_call self.new ≡ last_call self.old }
+        ensures listed { failing_calls self.new ≡ failing_calls self.old }
+    {
+        self.store.put_file(name, bytes)
+    }
+
+    /// Adds a number to the list of calls that are to fail. After want of memory nothing has changed.
+    pub fn fail_at(&mut self, call: u64) -> Result<(), OutOfMemory>
+        ensures listed { OnOk result (failing_calls self.new ≡ failing_calls self.old ++ call ∷ []) }
+        ensures refused { OnErr result (failing_calls self.new ≡ failing_calls self.old) }
+        ensures rest { SameWorld (memory_world self.old) (memory_world self.new) }
+        ensures numbered { last_call self.new ≡ last_call self.old }
+    {
+        Ok(self.failing.push(call)?)
+    }
+
+    /// The bytes of a file, or None exactly where there is no file of this name.
+    pub fn file(&self, name: &str) -> Option<&[u8]>
+        ensures { option_copied result ≡ get (memory_files self.now) name.now }
+    {
+        self.store.file(name)
+    }
+
+    /// What was written to standard output.
+    pub fn out(&self) -> &[u8]
+        ensures { (memory_world self.now).out ≡ Some result.now }
+    {
+        self.store.out()
+    }
+
+    /// What was written to standard error.
+    pub fn err(&self) -> &[u8]
+        ensures { (memory_world self.now).err ≡ Some result.now }
+    {
+        self.store.err()
+    }
+}
+
+/// Numbers one more call, and says whether it is to fail.
+fn is_failing(calls: &mut u64, failing: &[u64]) -> bool
+    ensures numbered { calls.new ≡ raised calls.old }
+    ensures listed { result ≡ list_any (λ call. call == raised calls.old) failing.now }
+{
+    *calls = calls.saturating_add(1);
+    failing.contains(calls)
+}
+
+impl House for MemoryHouse {
+    ghost use Rattle.std.specs.Option.{ForSome};
+    ghost use Rattle.w4_house.specs.World.{
+      Rises,
+      front_of,
+      LacksFile,
+      Appends,
+      AppendsFront,
+      Puts,
+      OpensOnly,
+      LeavesReading,
+      LeavesPrinting,
+      LeavesReporting,
+      LeavesSaving,
+    };
+    ghost use Rattle.w4_house.specs.Told.{memory_world, CountsCall, count_after, fails_next};
+
+    ghost world = { memory_world };
+
+    /// Failed comes exactly where the number of the call is in the list.
+    fn read_front(&mut self, alloc: Global, name: &str, most: usize) -> Result<Vec<u8>, HouseFault>
+        ensures bytes { IfOk result (λ bytes. ForSome (memory_world self.old).files (λ files. front_of files name.now most ≡ Some bytes.items)) }
+        ensures most { IfOk result (λ bytes. length bytes.items ≤ most) }
+        ensures absent { IsErrOf result HouseFault.Absent → LacksFile (memory_world self.old).files name.now }
+        ensures absent_count { IsErrOf result HouseFault.Absent → (memory_world self.new).read_faults ≡ (memory_world self.old).read_faults }
+        ensures failed { IsErrOf result HouseFault.Failed → Rises (memory_world self.old).read_faults (memory_world self.new).read_faults }
+        ensures rest { LeavesReading (memory_world self.old) (memory_world self.new) }
+        ensures fails { IsTrue (fails_next self.old) → IsErrOf result HouseFault.Failed }
+        ensures fails_only { IsErrOf result HouseFault.Failed → IsTrue (fails_next self.old) }
+        ensures count { (memory_world self.new).read_faults ≡ count_after self.old (memory_world self.old).read_faults }
+        ensures counted { CountsCall self.old self.new }
+    {
+        if is_failing(&mut self.calls, &self.failing) {
+            self.read_faults = self.read_faults.saturating_add(1);
+            return Err(HouseFault::Failed);
+        }
+        self.store.read_front(alloc, name, most)
+    }
+
+    fn write_out(&mut self, alloc: Global, bytes: &[u8]) -> Result<(), WriteRefusal>
+        ensures all { OnOk result (Appends (memory_world self.old).out (memory_world self.new).out bytes.now) }
+        ensures front { OnErr result (AppendsFront (memory_world self.old).out (memory_world self.new).out bytes.now) }
+        ensures failed { IsErrOf result WriteRefusal.Failed → Rises (memory_world self.old).write_faults (memory_world self.new).write_faults }
+        ensures rest { LeavesPrinting (memory_world self.old) (memory_world self.new) }
+        ensures fails { IsTrue (fails_next self.old) → IsErrOf result WriteRefusal.Failed }
+        ensures fails_only { IsErrOf result WriteRefusal.Failed → IsTrue (fails_next self.old) }
+        ensures count { (memory_world self.new).write_faults ≡ count_after self.old (memory_world self.old).write_faults }
+        ensures counted { CountsCall self.old self.new }
+        ensures unchanged { IsErrOf result WriteRefusal.Failed → (memory_world self.new).out ≡ (memory_world self.old).out }
+    {
+        if is_failing(&mut self.calls, &self.failing) {
+            self.write_faults = self.write_faults.saturating_add(1);
+            return Err(WriteRefusal::Failed);
+        }
+        self.store.write_out(alloc, bytes)
+    }
+
+    fn write_err(&mut self, alloc: Global, bytes: &[u8]) -> Result<(), WriteRefusal>
+        ensures all { OnOk result (Appends (memory_world self.old).err (memory_world self.new).err bytes.now) }
+        ensures front { OnErr result (AppendsFront (memory_world self.old).err (memory_world self.new).err bytes.now) }
+        ensures failed { IsErrOf result WriteRefusal.Failed → Rises (memory_world self.old).err_faults (memory_world self.new).err_faults }
+        ensures rest { LeavesReporting (memory_world self.old) (memory_world self.new) }
+        ensures fails { IsTrue (fails_next self.old) → IsErrOf result WriteRefusal.Failed }
+        ensures fails_only { IsErrOf result WriteRefusal.Failed → IsTrue (fails_next self.old) }
+        ensures count { (memory_world self.new).err_faults ≡ count_after self.old (memory_world self.old).err_faults }
+        ensures counted { CountsCall self.old self.new }
+        ensures unchanged { IsErrOf result WriteRefusal.Failed → (memory_world self.new).err ≡ (memory_world self.old).err }
+    {
+        if is_failing(&mut self.calls, &self.failing) {
+            self.err_faults = self.err_faults.saturating_add(1);
+            return Err(WriteRefusal::Failed);
+        }
+        self.store.write_err(alloc, bytes)
+    }
+
+    fn write_file(&mut self, alloc: Global, name: &str, bytes: &[u8]) -> Result<(), WriteRefusal>
+        ensures whole { OnOk result (Puts (memory_world self.old).files (memory_world self.new).files name.now bytes.now) }
+        ensures others { OnErr result (OpensOnly (memory_world self.old).files (memory_world self.new).files name.now) }
+        ensures failed { IsErrOf result WriteRefusal.Failed → Rises (memory_world self.old).write_faults (memory_world self.new).write_faults }
+        ensures out_of_memory { IsErrOf result WriteRefusal.OutOfMemory → (memory_world self.new).files ≡ (memory_world self.old).files }
+        ensures rest { LeavesSaving (memory_world self.old) (memory_world self.new) }
+        ensures fails { IsTrue (fails_next self.old) → IsErrOf result WriteRefusal.Failed }
+        ensures fails_only { IsErrOf result WriteRefusal.Failed → IsTrue (fails_next self.old) }
+        ensures count { (memory_world self.new).write_faults ≡ count_after self.old (memory_world self.old).write_faults }
+        ensures counted { CountsCall self.old self.new }
+        ensures unchanged { IsErrOf result WriteRefusal.Failed → (memory_world self.new).files ≡ (memory_world self.old).files }
+    {
+        if is_failing(&mut self.calls, &self.failing) {
+            self.write_faults = self.write_faults.saturating_add(1);
+            return Err(WriteRefusal::Failed);
+        }
+        self.store.write_file(alloc, name, bytes)
+    }
+}
+
+#[cfg(test)]
+mod tests;

@@ -1,0 +1,185 @@
+//! The house of the running program: the system's files and two writers.
+
+ghost use Rattle.std.specs.Prelude.{
+  ◌≡◌,
+  ◌≤◌,
+  List,
+  Some,
+  IfOk,
+  OnOk,
+  OnErr,
+  IsErrOf,
+  is_ok,
+  length,
+  if◌then◌else◌,
+};
+
+use crate::calls::{House, HouseFault, WriteRefusal};
+use std::alloc::Global;
+use std::fs;
+use std::io::{self, Read, Write};
+use std::rt::Files;
+
+/// How many bytes are asked of a file at once.
+const PIECE: usize = 4096;
+
+/// Over the files of a runtime and two writers, in the program its standard streams.
+///
+/// It tells no content. Each count rises at each refusal of its calls, that of an absent file and of
+/// want of memory among them.
+#[derive(Drop)]
+pub struct RealHouse<'a, R: Files, O: Write + Drop, E: Write + Drop> {
+    runtime: &'a R,
+    out: O,
+    err: E,
+    read_faults: u64,
+    write_faults: u64,
+    err_faults: u64,
+}
+
+impl<'a, R: Files, O: Write + Drop, E: Write + Drop> RealHouse<'a, R, O, E> {
+    ghost use Rattle.w4_house.specs.Edge.{real_world};
+
+    /// Nothing has failed so far.
+    pub fn new(runtime: &'a R, out: O, err: E) -> RealHouse<'a, R, O, E>
+        ensures out { result.out ≡ out }
+        ensures err { result.err ≡ err }
+        ensures read_faults { (real_world result).read_faults ≡ 0 }
+        ensures write_faults { (real_world result).write_faults ≡ 0 }
+        ensures err_faults { (real_world result).err_faults ≡ 0 }
+    {
+        RealHouse {
+            runtime,
+            out,
+            err,
+            read_faults: 0,
+            write_faults: 0,
+            err_faults: 0,
+        }
+    }
+}
+
+/// The first `most` bytes that a reader gives, or all. Each turn takes a byte at least, or is the last.
+fn read_some<F: Read>(alloc: Global, file: &mut F, most: usize) -> Result<Vec<u8>, HouseFault>
+    ensures most { IfOk result (λ bytes. length bytes.items ≤ most) }
+    ensures never_absent { IsErrOf result HouseFault.Absent → ⊥ }
+{
+    let mut bytes = Vec::new(alloc);
+    let mut piece = [0u8; PIECE];
+    while bytes.len() < most {
+        let room = PIECE.min(most - bytes.len());
+        match file.read(&mut piece[..room]) {
+            Ok(0) => return Ok(bytes),
+            Ok(count) => bytes.extend_from_slice(&piece[..count])?,
+            Err(_) => return Err(HouseFault::Failed),
+        }
+    }
+    Ok(bytes)
+}
+
+/// The same of a file by name.
+fn read_file<R: Files>(
+    alloc: Global,
+    runtime: &R,
+    name: &str,
+    most: usize,
+) -> Result<Vec<u8>, HouseFault>
+    ensures most { IfOk result (λ bytes. length bytes.items ≤ most) }
+    ensures never_absent { IsErrOf result HouseFault.Absent → ⊥ }
+{
+    match fs::open(runtime, name) {
+        Ok(mut file) => read_some(alloc, &mut file, most),
+        Err(_) => Err(HouseFault::Failed),
+    }
+}
+
+impl<'a, R: Files, O: Write + Drop, E: Write + Drop> House for RealHouse<'a, R, O, E> {
+    ghost use Rattle.std.specs.Option.{ForSome};
+    ghost use Rattle.std.specs.Io.KnownBytes as known;
+    ghost use Rattle.w4_house.specs.World.{
+      Rises,
+      front_of,
+      LacksFile,
+      Appends,
+      AppendsFront,
+      Puts,
+      OpensOnly,
+      LeavesReading,
+      LeavesPrinting,
+      LeavesReporting,
+      LeavesSaving,
+    };
+    ghost use Rattle.w4_house.specs.Edge.{real_world, count_since};
+
+    ghost world = { real_world };
+
+    fn read_front(&mut self, alloc: Global, name: &str, most: usize) -> Result<Vec<u8>, HouseFault>
+        ensures bytes { IfOk result (λ bytes. ForSome (real_world self.old).files (λ files. front_of files name.now most ≡ Some bytes.items)) }
+        ensures most { IfOk result (λ bytes. length bytes.items ≤ most) }
+        ensures absent { IsErrOf result HouseFault.Absent → LacksFile (real_world self.old).files name.now }
+        ensures absent_count { IsErrOf result HouseFault.Absent → (real_world self.new).read_faults ≡ (real_world self.old).read_faults }
+        ensures failed { IsErrOf result HouseFault.Failed → Rises (real_world self.old).read_faults (real_world self.new).read_faults }
+        ensures rest { LeavesReading (real_world self.old) (real_world self.new) }
+        ensures never_absent { IsErrOf result HouseFault.Absent → ⊥ }
+        ensures count { (real_world self.new).read_faults ≡ count_since result (real_world self.old).read_faults }
+    {
+        let answer = read_file(alloc, self.runtime, name, most);
+        if answer.is_err() {
+            self.read_faults = self.read_faults.saturating_add(1);
+        }
+        answer
+    }
+
+    fn write_out(&mut self, _alloc: Global, bytes: &[u8]) -> Result<(), WriteRefusal>
+        ensures all { OnOk result (Appends (real_world self.old).out (real_world self.new).out bytes.now) }
+        ensures front { OnErr result (AppendsFront (real_world self.old).out (real_world self.new).out bytes.now) }
+        ensures failed { IsErrOf result WriteRefusal.Failed → Rises (real_world self.old).write_faults (real_world self.new).write_faults }
+        ensures rest { LeavesPrinting (real_world self.old) (real_world self.new) }
+        ensures sent { OnOk result (known.Appends (O.contents self.old.out) (O.contents self.new.out) bytes.now) }
+        ensures never_out_of_memory { IsErrOf result WriteRefusal.OutOfMemory → ⊥ }
+        ensures count { (real_world self.new).write_faults ≡ count_since result (real_world self.old).write_faults }
+    {
+        let written = self.out.write_all(bytes).is_ok() && self.out.flush().is_ok();
+        if written {
+            return Ok(());
+        }
+        self.write_faults = self.write_faults.saturating_add(1);
+        Err(WriteRefusal::Failed)
+    }
+
+    fn write_err(&mut self, _alloc: Global, bytes: &[u8]) -> Result<(), WriteRefusal>
+        ensures all { OnOk result (Appends (real_world self.old).err (real_world self.new).err bytes.now) }
+        ensures front { OnErr result (AppendsFront (real_world self.old).err (real_world self.new).err bytes.now) }
+        ensures failed { IsErrOf result WriteRefusal.Failed → Rises (real_world self.old).err_faults (real_world self.new).err_faults }
+        ensures rest { LeavesReporting (real_world self.old) (real_world self.new) }
+        ensures sent { OnOk result (known.Appends (E.contents self.old.err) (E.contents self.new.err) bytes.now) }
+        ensures never_out_of_memory { IsErrOf result WriteRefusal.OutOfMemory → ⊥ }
+        ensures count { (real_world self.new).err_faults ≡ count_since result (real_world self.old).err_faults }
+    {
+        let written = self.err.write_all(bytes).is_ok() && self.err.flush().is_ok();
+        if written {
+            return Ok(());
+        }
+        self.err_faults = self.err_faults.saturating_add(1);
+        Err(WriteRefusal::Failed)
+    }
+
+    fn write_file(&mut self, _alloc: Global, name: &str, bytes: &[u8]) -> Result<(), WriteRefusal>
+        ensures whole { OnOk result (Puts (real_world self.old).files (real_world self.new).files name.now bytes.now) }
+        ensures others { OnErr result (OpensOnly (real_world self.old).files (real_world self.new).files name.now) }
+        ensures failed { IsErrOf result WriteRefusal.Failed → Rises (real_world self.old).write_faults (real_world self.new).write_faults }
+        ensures out_of_memory { IsErrOf result WriteRefusal.OutOfMemory → (real_world self.new).files ≡ (real_world self.old).files }
+        ensures rest { LeavesSaving (real_world self.old) (real_world self.new) }
+        ensures never_out_of_memory { IsErrOf result WriteRefusal.OutOfMemory → ⊥ }
+        ensures count { (real_world self.new).write_faults ≡ count_since result (real_world self.old).write_faults }
+    {
+        if fs::write(self.runtime, name, bytes).is_ok() {
+            return Ok(());
+        }
+        self.write_faults = self.write_faults.saturating_add(1);
+        Err(WriteRefusal::Failed)
+    }
+}
+
+#[cfg(test)]
+mod tests;
