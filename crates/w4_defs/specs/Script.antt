@@ -18,10 +18,12 @@ abbrev pub digits_after : ℕ → List ℕ → Option ℕ
 digits_after n [] = Some n
 digits_after n (d ∷ ds) = if nat_le 48 d && nat_le d 57 then digits_after (10 * n + (d - 48)) ds else None
 
+-- the value of decimal digits, within the limit of every number
+abbrev pub value_of : List ℕ → Option ℕ
+value_of digits = digits_after 0 digits >>= at_most 4294967295
+
 unfoldable pub number_of : List ℕ → Option ℕ
-number_of word = if nat_le 1 (length word) && nat_le (length word) 10
-    then digits_after 0 word >>= at_most 4294967295
-    else None
+number_of word = if nat_le 1 (length word) && nat_le (length word) 10 then value_of word else None
 
 unfoldable pub byte_of : List ℕ → Option ℕ
 byte_of word = number_of word >>= at_most 255
@@ -65,14 +67,20 @@ order_of line = do
       else if bytes_eq name.0 (codes "show") then show_of name.1
       else None
 
+-- the order of the first line, and the bytes after the line
+unfoldable pub first_of : List ℕ → Option (Order × List ℕ)
+first_of bytes = do
+  line ← cut_at 10 bytes
+  order ← order_of line.0
+  Some (order, line.1)
+
 -- the orders of so many lines, which are all of the bytes
 unfoldable pub lines_of : ℕ → List ℕ → Option (List Order)
 lines_of zero bytes = if length bytes == 0 then Some [] else None
 lines_of (suc count) bytes = do
-  line ← cut_at 10 bytes
-  order ← order_of line.0
-  more ← lines_of count line.1
-  Some (order ∷ more)
+  first ← first_of bytes
+  more ← lines_of count first.1
+  Some (first.0 ∷ more)
 
 -- the orders of a script: it has as many lines as bytes 10
 unfoldable pub orders_of : List ℕ → Option (List Order)
@@ -87,5 +95,5 @@ ScriptCase =
     × (lines_of 1 (codes "show 4294967296" ++ 10 ∷ []) ≡ None)
 
 pub script-case : ScriptCase
-unfolding lines_of order_of show_of set_of coordinate_of byte_of number_of
+unfolding lines_of first_of order_of show_of set_of coordinate_of byte_of number_of
 script-case = (refl, refl, refl)

@@ -4,6 +4,7 @@
 mod fields;
 mod reading;
 mod recording;
+mod script;
 mod status;
 mod writing;
 
