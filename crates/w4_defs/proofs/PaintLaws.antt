@@ -24,7 +24,7 @@ unfolding paint
 get_or-paint page f i h = get_or-map-range_with_len (painted_byte page f) 0 (length page) i i 0 h (omega arith)
 
 -- the k-th of four entries in a byte
-four_digits : (a b c d : ℕ) → a < 4 → b < 4 → c < 4 → d < 4 →
+pub four_digits : (a b c d : ℕ) → a < 4 → b < 4 → c < 4 → d < 4 →
     ((a + 4 * b + 16 * c + 64 * d) / 1 % 4 ≡ a) × ((a + 4 * b + 16 * c + 64 * d) / 4 % 4 ≡ b)
     × ((a + 4 * b + 16 * c + 64 * d) / 16 % 4 ≡ c) × ((a + 4 * b + 16 * c + 64 * d) / 64 % 4 ≡ d)
 four_digits a b c d ha hb hc hd = (omega arith, omega arith, omega arith, omega arith)
@@ -91,7 +91,7 @@ packed-small page f n =
     let d : painted_at page f (n + 3) < 4 = painted_at-small page f (n + 3) in
     omega arith
 
-paint-outside : (page : List ℕ) (f : Painter) (i : ℕ) → (i < 160) ⊎ (6560 ≤ i) → get_or (paint page f) i 0 ≡ get_or page i 0
+pub paint-outside : (page : List ℕ) (f : Painter) (i : ℕ) → (i < 160) ⊎ (6560 ≤ i) → get_or (paint page f) i 0 ≡ get_or page i 0
 paint-outside page f i out = elim (cases_lt i (length page)) [
   | inl h ↦ get_or-paint page f i h ∙ outside_byte page f i out
   | inr h ↦ get_or_past (paint page f) i 0 (subst (λ (n : ℕ). n ≤ i) (sym (length-paint page f)) h) ∙ sym (get_or_past page i 0 h)

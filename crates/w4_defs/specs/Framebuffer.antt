@@ -55,3 +55,22 @@ pub record Paints (before after : List ℕ) (f : Painter) : Type 0 where
   pub outside : (i : ℕ) → (i < 160) ⊎ (6560 ≤ i) → slice_index after i ≡ slice_index before i
   pub len : length after ≡ length before
   pub bytes : (i : ℕ) → 160 ≤ i → i < 6560 → slice_index after i < 256
+
+-- ---- laws of painting, of a page of 65,536 bytes
+
+-- the painted page is what the words say
+abbrev pub PaintIsPainted : Type 0
+PaintIsPainted = (page : List ℕ) (f : Painter) → length page ≡ 65536 → Paints page (paint page f) f
+
+-- and no other page is
+abbrev pub PaintIsTheOne : Type 0
+PaintIsTheOne = (before after : List ℕ) (f : Painter) → length before ≡ 65536 → Paints before after f → after ≡ paint before f
+
+-- painting twice is painting the one over the other
+abbrev pub PaintTwice : Type 0
+PaintTwice = (page : List ℕ) (f g : Painter) → length page ≡ 65536 → paint (paint page f) g ≡ paint page (over g f)
+
+-- only what a painter says of the screen's pixels counts
+abbrev pub PaintOnScreen : Type 0
+PaintOnScreen = (page : List ℕ) (f g : Painter) → length page ≡ 65536
+    → ((x y : ℕ) → x < 160 → y < 160 → f x y ≡ g x y) → paint page f ≡ paint page g

@@ -26,8 +26,10 @@ pub mod Outcome
 pub mod ImportNames
 pub mod Program
 pub mod Kinds
+pub mod Integers
 pub mod Bytes
 pub mod Control
 pub mod Effects
 pub mod Evaluation
 pub mod Board
+pub mod Resume

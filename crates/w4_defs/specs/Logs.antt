@@ -1,6 +1,6 @@
 -- A log of one frame (own rule): the first entries up to a bound, and how many came later. The count
 -- stays at 2^64 - 1. A frame keeps 32 lines and 64 tones.
-use Rattle.std.specs.Prelude.{◌≡◌, ℕ, zero, suc, ◌+◌, ◌-◌, ◌^◌, min, nat_lt, if◌then◌else◌, List, [], ◌∷◌, ◌++◌, length, replicate, refl}
+use Rattle.std.specs.Prelude.{◌≡◌, ℕ, ◌+◌, ◌-◌, ◌^◌, min, nat_lt, if◌then◌else◌, List, [], ◌∷◌, ◌++◌, length, take, replicate, refl}
 
 pub record Log (Entry : Type 0) : Type 0 where
   pub kept : List Entry
@@ -22,14 +22,22 @@ logged bound log entry =
     if nat_lt (length log.kept) bound then record { kept = log.kept ++ entry ∷ []; dropped = log.dropped }
     else record { kept = log.kept; dropped = min (log.dropped + 1) (2 ^ 64 - 1) }
 
--- a log after the same entry so many times
-abbrev pub logged_often : {Entry : Type 0} → ℕ → ℕ → Log Entry → Entry → Log Entry
-logged_often bound zero log entry = log
-logged_often bound (suc times) log entry = logged_often bound times (logged bound log entry) entry
+-- the log after more entries
+abbrev pub all_logged : {Entry : Type 0} → ℕ → Log Entry → List Entry → Log Entry
+all_logged bound log [] = log
+all_logged bound log (entry ∷ entries) = all_logged bound (logged bound log entry) entries
+
+-- the log of all these entries in words: the first ones, and the number of the others, cut at 2^64 - 1
+abbrev pub log_of : {Entry : Type 0} → ℕ → List Entry → Log Entry
+log_of bound entries = record { kept = take bound entries; dropped = min (length entries - bound) (2 ^ 64 - 1) }
+
+-- entries that come one after another leave that log
+abbrev pub LogsInOrder : Type 0 → Type 0
+LogsInOrder Entry = (bound : ℕ) (entries : List Entry) → all_logged bound empty_log entries ≡ log_of bound entries
 
 -- 33 lines in a frame: 32 are kept and one is dropped
 abbrev pub DroppedCase : Type 0
-DroppedCase = logged_often {Entry = ℕ} kept_lines 33 empty_log 7 ≡ record { kept = replicate 32 7; dropped = 1 }
+DroppedCase = all_logged {Entry = ℕ} kept_lines empty_log (replicate 33 7) ≡ record { kept = replicate 32 7; dropped = 1 }
 
 pub dropped-case : DroppedCase
 dropped-case = refl

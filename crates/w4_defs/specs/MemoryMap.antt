@@ -1,8 +1,9 @@
 -- The registers of the page (WASM-4 memory map): the palette at 0x04, DRAW_COLORS at 0x14, the gamepads
 -- at 0x16, the mouse at 0x1a, the system flags at 0x1f. Numbers of several bytes have the lowest first.
-use Rattle.std.specs.Prelude.{◌≡◌, ℕ, ◌+◌, ◌*◌, ◌/◌, ◌%◌, Bool, List, [], ◌∷◌, ◌++◌, take, drop, slice_index, ◌==◌, refl}
+use Rattle.std.specs.Prelude.{◌<◌, ◌≤◌, ◌⊎◌, length, ◌≡◌, ℕ, ◌+◌, ◌*◌, ◌/◌, ◌%◌, Bool, List, [], ◌∷◌, ◌++◌, take, drop, slice_index, ◌==◌, refl}
 use Rattle.std.specs.Int.{cast_unsigned, w16}
 use Rattle.w4_defs.specs.declared.console.Input.{Input}
+use Rattle.w4_defs.specs.Framebuffer.{Painter, paint}
 
 -- red, green and blue of a palette entry, 0 to 3: entries are 32 bits 0xRRGGBB, so that blue comes first
 abbrev pub palette : List ℕ → ℕ → List ℕ
@@ -36,3 +37,19 @@ input_bytes input =
 -- the page with an input in its registers
 abbrev pub put_input : List ℕ → Input → List ℕ
 put_input page input = take 22 page ++ input_bytes input ++ drop 31 page
+
+-- ---- laws of the registers, of a page of 65,536 bytes
+
+-- an input changes its nine bytes alone
+abbrev pub InputIsPut : Type 0
+InputIsPut = (page : List ℕ) (input : Input) → length page ≡ 65536 →
+    (length (put_input page input) ≡ 65536)
+    × ((k : ℕ) → k < 9 → slice_index (put_input page input) (22 + k) ≡ slice_index (input_bytes input) k)
+    × ((i : ℕ) → (i < 22) ⊎ (31 ≤ i) → slice_index (put_input page input) i ≡ slice_index page i)
+
+-- painting leaves every register
+abbrev pub PaintLeavesRegisters : Type 0
+PaintLeavesRegisters = (page : List ℕ) (f : Painter) → length page ≡ 65536 →
+    (draw_colors (paint page f) ≡ draw_colors page)
+    × (system_flags (paint page f) ≡ system_flags page)
+    × ((entry : ℕ) → entry < 4 → palette (paint page f) entry ≡ palette page entry)

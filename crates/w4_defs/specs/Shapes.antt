@@ -2,7 +2,7 @@
 -- line). Coordinates are signed and added exactly; what lies off the screen is skipped; a width, height
 -- or length below 1 draws nothing. Own rules: a rect is filled, then outlined; which cells an oval has;
 -- which points a line has.
-use Rattle.std.specs.Prelude.{◌≡◌, ℕ, ◌+◌, ◌-◌, ◌*◌, ◌/◌, max, Bool, ◌&&◌, ◌||◌, not, List, [], ◌∷◌, map, nat_le, if◌then◌else◌, ℤ, pos, negsuc, ◌+ℤ◌, ◌-ℤ◌, int_le, int_lt, unsigned_abs, Option, Some, None, refl}
+use Rattle.std.specs.Prelude.{◌<◌, ◌≤◌, ◌≡◌, ℕ, ◌+◌, ◌-◌, ◌*◌, ◌/◌, max, Bool, ◌&&◌, ◌||◌, not, List, [], ◌∷◌, map, nat_le, if◌then◌else◌, ℤ, pos, negsuc, ◌+ℤ◌, ◌-ℤ◌, int_le, int_lt, unsigned_abs, Option, Some, None, refl}
 use Rattle.std.specs.List.{range_with_len, list_any}
 use Rattle.std.specs.Option.{option_or}
 use Rattle.w4_defs.specs.Framebuffer.{Painter, over}
@@ -99,6 +99,12 @@ toward a b steps = if int_le a b then a +ℤ pos steps else a -ℤ pos steps
 -- is at least (t less - floor(most / 2)) / most
 abbrev pub minor_step : ℕ → ℕ → ℕ → ℕ
 minor_step t less most = (t * less + (most - 1) / 2) / most
+
+-- that number: k most >= t less - floor(most / 2) > (k - 1) most, without subtraction
+abbrev pub MinorStepIsCeiling : Type 0
+MinorStepIsCeiling = (t less most : ℕ) → 0 < most →
+    let k = minor_step t less most in
+    (t * less ≤ k * most + most / 2) × (k * most + most / 2 < t * less + most)
 
 -- how far an axis has moved after t steps, by its own distance and the other axis's
 abbrev pub moved : ℕ → ℕ → ℕ → ℕ

@@ -123,3 +123,8 @@ SilencedCase = played (played silent (decoded 14418360 67109890 50 0)) (decoded 
 
 pub silenced-case : SilencedCase
 silenced-case = refl
+
+-- a channel after so many frames
+abbrev pub aged_often : ℕ → Option Voice → Option Voice
+aged_often zero channel = channel
+aged_often (suc frames) channel = aged_often frames (aged channel)

@@ -4,6 +4,9 @@
 #![tactic(auto)]
 
 pub mod console;
+pub mod console_laws;
+pub mod integer;
+pub mod drawing;
 pub mod memory;
 pub mod module;
 pub mod operation;
@@ -15,6 +18,7 @@ pub mod steps;
 pub mod value;
 
 pub use console::{Halt, Import, Input, Sound, TextSource, Tone, Voice};
+pub use integer::{Binary, Compare, Unary};
 pub use memory::OutOfMemory;
 pub use module::{ExportKind, ImportKind, Locals};
 pub use operation::Op;

@@ -1,0 +1,59 @@
+//! What the console's definitions promise, as contracts of functions that do nothing.
+
+ghost use Rattle.std.specs.Prelude.{◌≡◌, ◌+◌, ◌<◌, ◌≤◌, ◌*◌, ◌*ℤ◌, ◌+ℤ◌, ◌-ℤ◌, int_div, max, min, None, pos, Some, ℕ, List};
+ghost use Rattle.w4_defs.specs.declared.console.Tone.{Tone as ATone};
+ghost use Rattle.w4_defs.specs.Logs.{LogsInOrder};
+ghost use Rattle.w4_defs.specs.Run.{FoldsInParts, FoldsState, PlaysInParts, RunsBetween, RunsOn};
+ghost use Rattle.w4_defs.specs.Tones.{aged_often, level_at, mix, slide, started, ticks, tone_frames};
+
+use crate::console::Tone;
+
+/// A level on its way lies between its two ends.
+pub fn level_between(from: u32, to: u32, at: u32, len: u32)
+    requires { at < len }
+    ensures low { min from to ≤ mix from to at len }
+    ensures high { mix from to at len ≤ max from to }
+{}
+
+/// No level of a tone exceeds 100, where its peak and its sustain level don't.
+pub fn level_bound(tone: Tone, tick: u32)
+    requires peak { tone.peak ≤ 100 }
+    requires level { tone.level ≤ 100 }
+    requires within { tick < ticks (tone_frames tone) }
+    ensures { level_at tone tick ≤ 100 }
+{}
+
+/// A frequency on its way lies between the first and the second.
+pub fn frequency_between(first: u16, second: u16, at: u32, len: u32)
+    requires { at < len }
+    ensures low { min first second ≤ slide first second at len }
+    ensures high { slide first second at len ≤ max first second }
+{}
+
+/// A sliding frequency is the first one and the part of the signed difference, cut toward zero.
+pub fn frequency_cut(first: u16, second: u16, at: u32, len: u32)
+    requires { at < len }
+    ensures { pos (slide first second at len) ≡ pos first +ℤ int_div ((pos second -ℤ pos first) *ℤ pos at) (pos len) }
+{}
+
+/// A new tone sounds for exactly its frames, and then its channel is silent.
+pub fn tone_ends(tone: Tone, frames: u16)
+    ensures sounds { frames < tone_frames tone → aged_often frames (started tone) ≡ Some (record { tone = tone; age = frames }) }
+    ensures ends { tone_frames tone ≤ frames → aged_often frames (started tone) ≡ None }
+{}
+
+/// A log keeps the first entries up to its bound and counts the others up to 2^64 - 1.
+pub fn logs_in_order()
+    ensures tones { LogsInOrder ATone }
+    ensures lines { LogsInOrder (List ℕ) }
+{}
+
+/// A run over inputs in two parts is the run over the second from where the first ends; the next place of a
+/// run from reset is one frame on, and a later place is the fold of the inputs between.
+pub fn runs_in_parts()
+    ensures moments { PlaysInParts }
+    ensures states { FoldsInParts }
+    ensures state_decides { FoldsState }
+    ensures next { RunsOn }
+    ensures between { RunsBetween }
+{}

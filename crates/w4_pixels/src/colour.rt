@@ -1,0 +1,33 @@
+//! DRAW_COLORS (WASM-4 reference).
+
+ghost use Rattle.std.specs.Option.{ForSome};
+ghost use Rattle.std.specs.Prelude.{◌-◌, ◌/◌, ◌%◌, ◌<◌, ◌≡◌, ◌≤◌, ◌^◌};
+ghost use Rattle.w4_defs.specs.Colours.{entry_of};
+
+/// The palette entry, 0 to 3, of colour 1, 2, 3 or 4 of DRAW_COLORS. None is transparent.
+pub fn entry_of(colors: u16, number: u8) -> Option<u8>
+    requires from_one { 1 ≤ number }
+    requires to_four { number ≤ 4 }
+    ensures value { result ≡ entry_of colors number }
+    ensures bound { ForSome result (λ e. e < 4) }
+{
+    let nibble = nibble_of(colors, number);
+    if nibble == 0 {
+        None
+    } else {
+        Some((nibble - 1) % 4)
+    }
+}
+
+fn nibble_of(colors: u16, number: u8) -> u8
+    requires from_one { 1 ≤ number }
+    requires to_four { number ≤ 4 }
+    ensures { result ≡ colors / 16 ^ (number - 1) % 16 }
+{
+    match number {
+        1 => (colors % 16) as u8,
+        2 => (colors / 16 % 16) as u8,
+        3 => (colors / 256 % 16) as u8,
+        _ => (colors / 4096 % 16) as u8,
+    }
+}

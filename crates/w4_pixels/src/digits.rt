@@ -1,0 +1,61 @@
+//! A byte of the framebuffer as its four two-bit digits, the lowest first.
+
+ghost use Rattle.std.specs.Prelude.{◌/◌, ◌%◌, ◌&&◌, ◌<◌, ◌≡◌, ◌≤◌, ◌^◌, ℕ, if◌then◌else◌, nat_le, nat_lt};
+
+/// The k-th digit of a byte.
+pub fn digit(byte: u8, k: u32) -> u8
+    requires { k < 4 }
+    ensures { result ≡ byte / 4 ^ k % 4 }
+{
+    match k {
+        0 => byte % 4,
+        1 => byte / 4 % 4,
+        2 => byte / 16 % 4,
+        _ => byte / 64,
+    }
+}
+
+/// The byte with the entry in its digits from `low` up to `high`, which is left out.
+pub fn with_part(byte: u8, low: u32, high: u32, entry: u8) -> u8
+    requires { entry < 4 }
+    ensures { (k : ℕ) → k < 4 → result / 4 ^ k % 4 ≡ (if nat_le low k && nat_lt k high then entry else byte / 4 ^ k % 4) }
+{
+    if low == 0 && high == 4 {
+        filled(entry)
+    } else {
+        mixed(byte, low, high, entry)
+    }
+}
+
+/// A byte of four times the same digit.
+fn filled(entry: u8) -> u8
+    requires { entry < 4 }
+    ensures { (k : ℕ) → k < 4 → result / 4 ^ k % 4 ≡ entry }
+{
+    85 * entry
+}
+
+fn mixed(byte: u8, low: u32, high: u32, entry: u8) -> u8
+    requires { entry < 4 }
+    ensures { (k : ℕ) → k < 4 → result / 4 ^ k % 4 ≡ (if nat_le low k && nat_lt k high then entry else byte / 4 ^ k % 4) }
+{
+    let first = chosen(byte, 0, low, high, entry);
+    let second = chosen(byte, 1, low, high, entry);
+    let third = chosen(byte, 2, low, high, entry);
+    let fourth = chosen(byte, 3, low, high, entry);
+    first + 4 * second + 16 * third + 64 * fourth
+}
+
+/// The entry where `k` is from `low` up to `high`, else the byte's own digit.
+fn chosen(byte: u8, k: u32, low: u32, high: u32, entry: u8) -> u8
+    requires digit { k < 4 }
+    requires entry { entry < 4 }
+    ensures value { result ≡ (if nat_le low k && nat_lt k high then entry else byte / 4 ^ k % 4) }
+    ensures bound { result < 4 }
+{
+    if low <= k && k < high {
+        entry
+    } else {
+        digit(byte, k)
+    }
+}

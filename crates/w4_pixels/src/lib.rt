@@ -1,0 +1,14 @@
+//! Pixels of the framebuffer: points, spans and clearing, written by whole bytes (WASM-4 memory map).
+//! Every call's contract is the painted page, so the layers above add up painters and see no bytes.
+#![tactic(auto)]
+
+pub mod colour;
+mod digits;
+pub mod dots;
+pub mod runs;
+pub mod screen;
+
+pub use colour::entry_of;
+pub use dots::{pixel, point};
+pub use runs::{clear, span};
+pub use screen::{cell, on_screen, screen_part};

@@ -1,0 +1,4 @@
+pub mod LebLaws
+pub mod ListLaws
+pub mod SlotLaws
+pub mod RunLaws
