@@ -3,16 +3,23 @@
 ghost use Rattle.std.specs.Prelude.{
   ◌≡◌,
   ◌≤◌,
+  ◌<◌,
+  ◌+◌,
   List,
   Some,
   IfOk,
   OnOk,
   OnErr,
   IsErrOf,
+  Ok,
   is_ok,
   length,
+  take,
   if◌then◌else◌,
 };
+ghost use Rattle.std.specs.Option.{ForSome};
+ghost use Rattle.std.specs.Io.KnownBytes.{IsAtEnd};
+ghost use Rattle.w4_house.specs.Given.{Gives};
 
 use crate::calls::{House, HouseFault, WriteRefusal};
 use std::alloc::Global;
@@ -59,19 +66,37 @@ impl<'a, R: Files, O: Write + Drop, E: Write + Drop> RealHouse<'a, R, O, E> {
     }
 }
 
+/// One read of at most `room` bytes, which are appended. Ok 0 is the end of a reader, where there is room.
+fn read_piece<F: Read>(file: &mut F, bytes: &mut Vec<u8>, room: usize) -> Result<usize, HouseFault>
+    ensures within { IfOk result (λ count. count ≤ room) }
+    ensures grown { IfOk result (λ count. length bytes.new.items ≡ length bytes.old.items + count) }
+    ensures given { OnOk result (Gives (F.remaining file.old) (F.remaining file.new) bytes.old.items bytes.new.items) }
+    ensures end { result ≡ Ok 0 → 0 < room → IsAtEnd (F.remaining file.new) }
+    ensures never_absent { IsErrOf result HouseFault.Absent → ⊥ }
+{
+    let mut piece = [0u8; PIECE];
+    let part = &mut piece[..PIECE.min(room)];
+    match file.read(part) {
+        Ok(count) => {
+            bytes.extend_from_slice(&part[..count])?;
+            Ok(count)
+        }
+        Err(_) => Err(HouseFault::Failed),
+    }
+}
+
 /// The first `most` bytes that a reader gives, or all. Each turn takes a byte at least, or is the last.
 fn read_some<F: Read>(alloc: Global, file: &mut F, most: usize) -> Result<Vec<u8>, HouseFault>
+    ensures bytes { IfOk result (λ bytes. ForSome (F.remaining file.old) (λ left. bytes.items ≡ take most left)) }
     ensures most { IfOk result (λ bytes. length bytes.items ≤ most) }
     ensures never_absent { IsErrOf result HouseFault.Absent → ⊥ }
 {
     let mut bytes = Vec::new(alloc);
-    let mut piece = [0u8; PIECE];
     while bytes.len() < most {
-        let room = PIECE.min(most - bytes.len());
-        match file.read(&mut piece[..room]) {
-            Ok(0) => return Ok(bytes),
-            Ok(count) => bytes.extend_from_slice(&piece[..count])?,
-            Err(_) => return Err(HouseFault::Failed),
+        let room = most - bytes.len();
+        let count = read_piece(file, &mut bytes, room)?;
+        if count == 0 {
+            return Ok(bytes);
         }
     }
     Ok(bytes)
@@ -94,7 +119,6 @@ fn read_file<R: Files>(
 }
 
 impl<'a, R: Files, O: Write + Drop, E: Write + Drop> House for RealHouse<'a, R, O, E> {
-    ghost use Rattle.std.specs.Option.{ForSome};
     ghost use Rattle.std.specs.Io.KnownBytes as known;
     ghost use Rattle.w4_house.specs.World.{
       Rises,
