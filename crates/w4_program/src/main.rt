@@ -2,10 +2,12 @@
 #![tactic(auto)]
 
 mod fields;
+mod load;
 mod reading;
 mod recording;
 mod script;
 mod status;
+mod words;
 mod writing;
 
 use std::process::ExitCode;
