@@ -1,0 +1,2 @@
+-- What a console with first carts stands for.
+pub mod FirstConsole
