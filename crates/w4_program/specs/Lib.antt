@@ -6,4 +6,5 @@ pub mod Recorded
 pub mod Answering
 pub mod Output
 pub mod Causes
+pub mod Scenes
 pub mod Views

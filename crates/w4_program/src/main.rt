@@ -1,11 +1,16 @@
 //! w4
 #![tactic(auto)]
 
+mod carry;
 mod fields;
+mod image;
 mod load;
 mod reading;
 mod recording;
+mod run;
+mod scene;
 mod script;
+mod stage;
 mod status;
 mod words;
 mod writing;
