@@ -22,23 +22,9 @@ pub starts : (page : List ℕ) (halt : Halt) → StartsTo (first_state page halt
 unfolding start start_page
 starts page halt cart outside font budget = refl
 
-pub resets : (page : List ℕ) (halt : Halt) → ResetsTo (first_state page halt) (first_state first_page Running)
+pub resets : ResetsTo (first_state first_page Running)
 unfolding reset
-resets page halt cart outside font budget = ap (option_map recorded) (starts page halt cart outside font budget)
-
--- what the end of `update` leaves
-lands : (ending : Ending) (font page : List ℕ) → then_on (ended_with ending (store_of font (underway (first_state page Running)))) (λ now rest. Some now)
-    ≡ Some (underway (first_state page (halt_after ending)))
-lands (ending.Done rest) font page = refl
-lands (ending.Trap cause) font page = refl
-lands ending.Spent font page = refl
-
-pub updates : (cart : List FirstOp) (input : Input) (budget : ℕ) (page next : List ℕ) (ending : Ending)
-    → RunsTo cart (input_page page input) budget ending next
-    → UpdatesTo cart input budget (first_state page Running) (first_state next (halt_after ending))
-updates cart input budget page next ending runs outside font =
-    ap (λ e. then_on e (λ now rest. Some now)) (runs outside [] (store_of font (underway (first_state page Running))).host)
-    ∙ lands ending font next
+resets cart outside font budget = ap (option_map recorded) (starts first_page Running cart outside font budget)
 
 -- a halted console is left as it is
 pub updates-halted : (cart : List FirstOp) (input : Input) (budget : ℕ) (page : List ℕ) (halt : Halt) → (halt ≡ Running → ⊥)

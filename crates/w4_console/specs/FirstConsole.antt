@@ -26,12 +26,12 @@ first_setup cart outside font budget = record { cart = first_module cart; outsid
 abbrev pub quiet : State → Moment
 quiet state = record { state = state; made = empty_record }
 
--- the reset of every first cart, with the disk that is there, leaves this state
-abbrev pub ResetsTo : State → State → Type 0
-ResetsTo state next = (cart : List FirstOp) (outside : Outside Board) (font : List ℕ) (budget : ℕ)
-    → reset (first_setup cart outside font budget) state.disk ≡ Some (quiet next)
+-- the reset of every first cart, with the empty disk that all have, leaves this state
+abbrev pub ResetsTo : State → Type 0
+ResetsTo next = (cart : List FirstOp) (outside : Outside Board) (font : List ℕ) (budget : ℕ)
+    → reset (first_setup cart outside font budget) [] ≡ Some (quiet next)
 
--- and it is already this state before its record is taken and the channels age
+-- a reset with the state's own disk comes to this state before its record is taken and the channels age
 abbrev pub StartsTo : State → State → Type 0
 StartsTo state next = (cart : List FirstOp) (outside : Outside Board) (font : List ℕ) (budget : ℕ)
     → start (first_setup cart outside font budget) state.disk ≡ Some (underway next)

@@ -46,7 +46,7 @@ impl Console {
 
     /// Starts any first cart anew. Such a cart has no function that a reset calls.
     pub fn reset(&mut self)
-        ensures state { ResetsTo self.old self.new }
+        ensures state { ResetsTo self.new }
         ensures start { StartsTo self.old self.new }
         ensures running { self.new.halt ≡ Halt.Running }
     {
