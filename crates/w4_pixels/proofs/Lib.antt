@@ -1,2 +1,3 @@
 -- Lemmas of the pixels.
 mod PackedLaws
+pub mod BoxLaws
