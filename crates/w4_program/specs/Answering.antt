@@ -30,12 +30,18 @@ abbrev pub picture : Option Moment → List ℕ
 picture (Some moment) = image moment.state.page
 picture None = []
 
+unfoldable pub answer_set : List Input → ℕ → Input → Answered
+answer_set inputs k input = if nat_lt k (length inputs) then silent (slice_set inputs k input) else refused inputs
+
+unfoldable pub answer_show : Setup → List ℕ → List Input → ℕ → Answered
+answer_show setup disk inputs p = if nat_le p (length inputs)
+    then record { out = picture (run setup disk inputs p); inputs = inputs }
+    else refused inputs
+
 -- the answer of one order, over the inputs as they are
-unfoldable pub answer : Setup → List ℕ → List Input → Order → Answered
-answer setup disk inputs (Set k input) =
-    if nat_lt k (length inputs) then silent (slice_set inputs k input) else refused inputs
-answer setup disk inputs (Show p) =
-    if nat_le p (length inputs) then record { out = picture (run setup disk inputs p); inputs = inputs } else refused inputs
+abbrev pub answer : Setup → List ℕ → List Input → Order → Answered
+answer setup disk inputs (Set k input) = answer_set inputs k input
+answer setup disk inputs (Show p) = answer_show setup disk inputs p
 
 -- all answers in order
 unfoldable pub answers : Setup → List ℕ → List Input → List Order → Answered

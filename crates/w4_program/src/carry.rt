@@ -4,9 +4,8 @@ ghost use Rattle.std.specs.Prelude.{
     ◌≡◌, ◌≤◌, [], length, OnOk, IfErr, vec_len,
 };
 ghost use Rattle.w4_defs.specs.Recording.{spelling};
-ghost use Rattle.w4_defs.specs.Reset.{Setup};
 ghost use Rattle.w4_house.specs.World.{Appends, Puts, LeavesPrinting, LeavesSaving};
-ghost use Rattle.w4_program.specs.Answering.{answer, answers, no_frame};
+ghost use Rattle.w4_program.specs.Answering.{answer, answer_set, answer_show, answers};
 ghost use Rattle.w4_program.specs.Output.{answered, left};
 ghost use Rattle.w4_program.specs.Causes.{StopsWriting, Carries, LeavesErr};
 ghost use Rattle.w4_program.specs.Scenes.{scene_setup};
@@ -22,7 +21,7 @@ use w4_house::{House, WriteRefusal};
 use crate::load::Loaded;
 use crate::recording::Recording;
 use crate::scene::Scene;
-use crate::stage::{Stage, new_stage, render};
+use crate::stage::{Stage, new_stage, render, shown};
 use crate::status::Status;
 use crate::writing::write_recording;
 
@@ -53,7 +52,7 @@ fn save<H: House>(alloc: Global, house: &mut H, name: &str, bytes: &[u8]) -> Res
 }
 
 /// The image of a place on standard output, or that there is no such place.
-#[tactic(auto, unfolding(crate::specs::Answering::answer))]
+#[tactic(auto, unfolding(crate::specs::Answering::answer_show))]
 fn show<H: House>(
     alloc: Global,
     house: &mut H,
@@ -63,7 +62,7 @@ fn show<H: House>(
     p: u32,
 ) -> Result<(), Status>
     requires budget { 1 ≤ scene.now.budget }
-    ensures out { OnOk result (Appends (H.world house.old).out (H.world house.new).out (answer (scene_setup scene.now) [] inputs.now (Order.Show p)).out) }
+    ensures out { OnOk result (Appends (H.world house.old).out (H.world house.new).out (answer_show (scene_setup scene.now) [] inputs.now p).out) }
     ensures stops { IfErr result (λ why. StopsWriting (H.world house.old) (H.world house.new) why) }
     ensures rest { LeavesPrinting (H.world house.old) (H.world house.new) }
 {
@@ -72,11 +71,11 @@ fn show<H: House>(
         return print(alloc, house, b"refused no frame\n");
     }
     render::<Brand>(stage, scene, inputs, place, Blank::new(1));
-    print(alloc, house, stage.image.as_slice())
+    print(alloc, house, shown(stage))
 }
 
 /// Another input in the place of one, or that there is no such input.
-#[tactic(auto, unfolding(crate::specs::Answering::answer))]
+#[tactic(auto, unfolding(crate::specs::Answering::answer_set))]
 fn set<H: House>(
     alloc: Global,
     house: &mut H,
@@ -84,14 +83,15 @@ fn set<H: House>(
     k: u32,
     input: Input,
 ) -> Result<(), Status>
-    ensures out { (setup : Setup) → OnOk result (Appends (H.world house.old).out (H.world house.new).out (answer setup [] inputs.old.items (Order.Set k input)).out) }
-    ensures inputs { (setup : Setup) → OnOk result (inputs.new.items ≡ (answer setup [] inputs.old.items (Order.Set k input)).inputs) }
+    ensures out { OnOk result (Appends (H.world house.old).out (H.world house.new).out (answer_set inputs.old.items k input).out) }
+    ensures inputs { OnOk result (inputs.new.items ≡ (answer_set inputs.old.items k input).inputs) }
     ensures len { vec_len inputs.new ≡ vec_len inputs.old }
     ensures stops { IfErr result (λ why. StopsWriting (H.world house.old) (H.world house.new) why) }
     ensures rest { LeavesPrinting (H.world house.old) (H.world house.new) }
 {
     let at = k as usize;
-    if inputs.len() <= at {
+    let count = inputs.as_slice().len();
+    if count <= at {
         return print(alloc, house, b"refused no frame\n");
     }
     inputs[at] = input;
@@ -99,7 +99,6 @@ fn set<H: House>(
 }
 
 /// Carries out one order.
-#[tactic(auto, unfolding(crate::specs::Answering::answer))]
 fn obey_order<H: House>(
     alloc: Global,
     house: &mut H,

@@ -3,7 +3,6 @@
 
 mod carry;
 mod fields;
-mod image;
 mod load;
 mod reading;
 mod recording;

@@ -12,14 +12,14 @@ use std::sync::ledger::{Blank, Ledger};
 use w4_console::Console;
 use w4_defs::{Input, OutOfMemory, Steps};
 
-use crate::image::{IMAGE_LEN, image_into};
+use w4_image::{IMAGE_LEN, image_into};
 use crate::scene::Scene;
 
 /// A console, and the image of its page.
 #[derive(Drop)]
 pub struct Stage {
     console: Console,
-    pub image: Box<[u8; IMAGE_LEN]>,
+    image: Box<[u8; IMAGE_LEN]>,
 }
 
 /// A stage that shows nothing yet. Takes all the memory that showing needs.
@@ -43,7 +43,8 @@ fn run_to<L: Ledger>(
     ensures ticks { steps.new ≡ steps.old + place }
 {
     console.reset();
-    for input in &inputs[..place] {
+    let played = &inputs[..place];
+    for input in played {
         console.frame(scene.cart, input, scene.budget, steps);
     }
 }
@@ -66,4 +67,11 @@ pub fn render<L: Ledger>(
     let mut steps: Steps<L> = Steps::new(blank);
     run_to(&mut stage.console, scene, inputs, place, &mut steps);
     image_into(stage.console.page(), &mut stage.image);
+}
+
+/// The image in the stage.
+pub fn shown(stage: &Stage) -> &[u8]
+    ensures { result.now ≡ stage.now.image.value }
+{
+    stage.image.as_slice()
 }
