@@ -50,4 +50,4 @@ unfolding frame
 frames-anew cart input budget state fresh next r s first u outside font =
     let setup = first_setup cart outside font budget in
     rw r (ap (λ b. option_map recorded (option_and_then (update setup input) b)) (s cart outside font budget)
-      ∙ ap (option_map recorded) (u outside font) ∙ ap Some (recorded-quiet next next.page next.halt first))
+    ∙ ap (option_map recorded) (u outside font) ∙ ap Some (recorded-quiet next next.page next.halt first))

@@ -56,7 +56,13 @@ impl Console {
 
     /// Runs one frame under a budget of units, and ticks once. An input with a reset starts anew first. A
     /// halted console is left as it is.
-    pub fn frame<L: Ledger>(&mut self, cart: &FirstCart, input: &Input, budget: u32, steps: &mut Steps<L>)
+    pub fn frame<L: Ledger>(
+        &mut self,
+        cart: &FirstCart,
+        input: &Input,
+        budget: u32,
+        steps: &mut Steps<L>,
+    )
         requires { 1 ≤ budget }
         ensures state { FramesTo cart.now input.now budget self.old self.new }
         ensures ticks { steps.new ≡ steps.old + 1 }
@@ -100,8 +106,7 @@ impl Console {
 /// A page has 65,536 bytes, as each parameter of its type tells a proof.
 fn length_of(page: &PageBytes)
     ensures { length page.now ≡ 65536 }
-{
-}
+{}
 
 fn halt_after(ending: Ending) -> Halt
     ensures { result ≡ halt_after ending }

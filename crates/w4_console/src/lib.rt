@@ -7,3 +7,6 @@ pub mod console;
 mod page;
 
 pub use console::Console;
+
+#[cfg(test)]
+mod tests;

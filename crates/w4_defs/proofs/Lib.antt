@@ -9,3 +9,10 @@ pub mod Budgets
 pub mod Unfolding
 pub mod Turns
 pub mod RegisterLaws
+pub mod FrameLaws
+pub mod ClearLaws
+pub mod ReadBack
+pub mod Numbers
+pub mod Ranges
+pub mod Entries
+pub mod Faults

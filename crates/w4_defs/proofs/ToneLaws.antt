@@ -1,12 +1,12 @@
 -- Laws of tones: levels and frequencies lie between their ends, and a tone ends after its frames.
-use Rattle.std.proofs.Common.{◌≡◌, ℕ, zero, suc, ◌+◌, ◌-◌, ◌*◌, ◌/◌, ◌<◌, ◌≤◌, inl, inr, min, max, Bool, true, false, cond, nat_lt, pos, neg_ℤ, ◌+ℤ◌, ◌-ℤ◌, ◌*ℤ◌, int_div, Some, None, refl, sym, ◌∙◌, ap, subst, mul_comm, zero-mul, arith}
+use Rattle.std.proofs.Common.{◌≡◌, ℕ, zero, suc, ◌+◌, ◌-◌, ◌*◌, ◌/◌, ◌<◌, ◌≤◌, inl, inr, min, max, Bool, true, false, cond, nat_lt, ◌==◌, ◌||◌, pos, neg_ℤ, ◌+ℤ◌, ◌-ℤ◌, ◌*ℤ◌, int_div, Some, None, refl, sym, ◌∙◌, ap, subst, mul_comm, zero-mul, arith}
 use Rattle.std.proofs.lemmas.Int.{ints}
 use Rattle.std.proofs.lemmas.Nat.{le-div, mul-le}
 use Rattle.std.proofs.Math.Nat.{mul-add, div-le_of_le-mul, zero-div}
 use Rattle.std.proofs.lemmas.Bool.{cases_lt, lt-ltb, le-ltb, ltb-true, ltb-false, le-leb, lt-leb, eq-eqb, ne_eqb}
 use Rattle.w4_defs.specs.declared.console.Tone.{Tone}
 use Rattle.w4_defs.specs.declared.console.Voice.{Voice}
-use Rattle.w4_defs.specs.Tones.{mix, slide, ticks, tone_frames, level_at, older, aged_often, started}
+use Rattle.w4_defs.specs.Tones.{mix, slide, ticks, tone_frames, level_at, frequency_at, older, aged_often, started}
 
 -- ---- levels
 
@@ -74,6 +74,16 @@ slide_below first second at len h = elim (cases_lt second first) [
   | inl down ↦ omega (arith, slide_down first second at len down, part_small (first - second) at len h)
   | inr up ↦ omega (arith, slide_up first second at len up, part_small (second - first) at len h)
 ]
+
+pub frequency_above : (tone : Tone) (t : ℕ) → t < ticks (tone_frames tone) → min tone.first tone.second ≤ frequency_at tone t
+unfolding frequency_at
+frequency_above tone t h = of_both ((tone.second == 0) || tone.note) (λ n. min tone.first tone.second ≤ n) _ _
+    (λ still. omega arith) (λ slides. slide_above tone.first tone.second t (ticks (tone_frames tone)) h)
+
+pub frequency_below : (tone : Tone) (t : ℕ) → t < ticks (tone_frames tone) → frequency_at tone t ≤ max tone.first tone.second
+unfolding frequency_at
+frequency_below tone t h = of_both ((tone.second == 0) || tone.note) (λ n. n ≤ max tone.first tone.second) _ _
+    (λ still. omega arith) (λ slides. slide_below tone.first tone.second t (ticks (tone_frames tone)) h)
 
 -- a quotient of a number that isn't positive is cut toward zero
 neg_part : (n len : ℕ) → int_div (neg_ℤ (pos n)) (pos len) ≡ neg_ℤ (pos (n / len))

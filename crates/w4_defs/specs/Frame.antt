@@ -1,18 +1,23 @@
 -- A frame of the console (WASM-4 reference for registers and `update`; the order of events and what follows
 -- a trap or a spent budget are own rules). A halted console leaves halt by a reset alone.
-use Rattle.std.specs.Prelude.{ℕ, List, ◌++◌, take, drop, replicate, Option, Some, None, option_map, option_and_then, if◌then◌else◌}
+use Rattle.std.specs.Prelude.{length, ◌≡◌, ◌≢◌, true, false, ℕ, List, ◌++◌, take, drop, replicate, Option, Some, None, option_map, option_and_then, if◌then◌else◌}
 use Rattle.w4_defs.specs.declared.console.Halt.{Halt}
 use Rattle.w4_defs.specs.declared.console.Halt.TheVariants.{Running, Trapped, Spent}
 use Rattle.w4_defs.specs.declared.console.Input.{Input}
 use Rattle.w4_defs.specs.Evaluation.{run_entry}
 use Rattle.w4_defs.specs.MemoryMap.{put_input, keeps_framebuffer}
-use Rattle.w4_defs.specs.State.{State, Moment, Underway}
+use Rattle.w4_defs.specs.Framebuffer.{paint}
+use Rattle.w4_defs.specs.State.{page_size, State, Moment, Underway}
 use Rattle.w4_defs.specs.Entries.{update_entry}
 use Rattle.w4_defs.specs.Reset.{Setup, underway, store_of, then_on, start, recorded}
 
 -- all pixels of the framebuffer 0
 unfoldable pub cleared : List ℕ → List ℕ
 cleared page = take 160 page ++ replicate 6400 0 ++ drop 6560 page
+
+-- in the words of painting: a painter that makes every pixel 0
+abbrev pub ClearedIsPainted : Type 0
+ClearedIsPainted = (page : List ℕ) → length page ≡ page_size → cleared page ≡ paint page (λ x y. Some 0)
 
 -- the page as `update` finds it: the input is written, and the framebuffer cleared unless it is kept
 abbrev pub input_page : List ℕ → Input → List ℕ
@@ -55,3 +60,13 @@ begun setup state input = if input.reset then start setup state.disk else Some (
 -- a frame: the next state and its record
 unfoldable pub frame : Setup → State → Input → Option Moment
 frame setup state input = option_map recorded (option_and_then (update setup input) (begun setup state input))
+
+-- a halted console is left as it is but for the ageing of its channels, unless the input has a reset
+abbrev pub HaltStays : Type 0
+HaltStays = (setup : Setup) (state : State) (input : Input) → input.reset ≡ false → state.halt ≢ Running →
+    frame setup state input ≡ Some (recorded (underway state))
+
+-- a frame with a reset forgets all of the state but its disk
+abbrev pub ResetKeepsDisk : Type 0
+ResetKeepsDisk = (setup : Setup) (state other : State) (input : Input) → input.reset ≡ true → state.disk ≡ other.disk →
+    frame setup state input ≡ frame setup other input

@@ -8,7 +8,7 @@ use Rattle.w4_defs.specs.declared.console.Halt.{Halt}
 use Rattle.w4_defs.specs.declared.console.Halt.TheVariants.{Running, Trapped, Spent}
 use Rattle.w4_defs.specs.declared.console.Tone.{Tone}
 use Rattle.w4_defs.specs.declared.console.Sound.{Sound}
-use Rattle.w4_defs.specs.Logs.{empty_log, logged, kept_tones}
+use Rattle.w4_defs.specs.Logs.{empty_log, logged, kept_lines, kept_tones}
 use Rattle.w4_defs.specs.Tones.{decoded, played, silent, sounds_at, level_at, frequency_at}
 use Rattle.w4_defs.specs.State.{State, FrameRecord}
 
@@ -94,25 +94,36 @@ state_line place inputs state kept =
     codes "state" ++ spaced place ++ codes " of" ++ spaced inputs ++ codes " halt " ++ halt_words state.halt
     ++ codes " disk" ++ spaced (length state.disk) ++ codes " kept" ++ flat_map spaced kept ++ line_end
 
--- Worked cases. A tone of 440 to 220 hertz with attack 4, no decay, sustain 2 and release 4, as its
--- schedule text in the first frame, and the four places of an escape.
+-- Worked cases: the first frame of a tone of 440 to 220 hertz with attack 4, no decay, sustain 2 and
+-- release 4; a line with bytes on both sides of each bound of an escape; what was dropped; a halted state.
 abbrev pub worked_tone : Tone
 worked_tone = decoded 14418360 67109890 50 0
 
 abbrev pub worked_record : FrameRecord
 worked_record = record {
   tones = logged kept_tones empty_log worked_tone;
-  traces = logged 32 empty_log (65 ∷ 10 ∷ 92 ∷ 126 ∷ 127 ∷ 255 ∷ []);
+  traces = logged kept_lines empty_log (31 ∷ 32 ∷ 65 ∷ 91 ∷ 92 ∷ 93 ∷ 126 ∷ 127 ∷ 255 ∷ []);
   sounds = sounds_at 0 (played silent worked_tone);
 }
+
+abbrev pub crowded_record : FrameRecord
+crowded_record = record {
+  tones = record { kept = []; dropped = 2 };
+  traces = record { kept = []; dropped = 10 };
+  sounds = None ∷ Some (record { level = 3; frequency = 9 }) ∷ None ∷ Some (record { level = 0; frequency = 70 }) ∷ [];
+}
+
+abbrev pub worked_state : State
+worked_state = record { page = []; globals = []; channels = silent; disk = 7 ∷ 8 ∷ []; halt = Trapped DivideByZero }
 
 abbrev pub TextCases : Type 0
 TextCases =
     (schedule_text 1 worked_record ≡ codes "frame 1\ntone 0 440 220 4 0 2 4 100 50 0 0 0\nsound 0 0 440\n")
-    × (trace_text 12 worked_record ≡ codes "frame 12\ntrace A\\x0a\\x5c~\\x7f\\xff\n")
-    × (state_line 6 10 (record { page = []; globals = []; channels = silent; disk = 7 ∷ 8 ∷ []; halt = Trapped DivideByZero })
-    (0 ∷ 5 ∷ 6 ∷ []) ≡ codes "state 6 of 10 halt trap divide by zero disk 2 kept 0 5 6\n")
+    × (schedule_text 0 crowded_record ≡ codes "frame 0\ndropped 2\nsound 1 3 9\nsound 3 0 70\n")
+    × (trace_text 12 worked_record ≡ codes "frame 12\ntrace \\x1f A[\\x5c]~\\x7f\\xff\n")
+    × (trace_text 0 crowded_record ≡ codes "frame 0\ndropped 10\n")
+    × (state_line 6 10 worked_state (0 ∷ 5 ∷ 6 ∷ []) ≡ codes "state 6 of 10 halt trap divide by zero disk 2 kept 0 5 6\n")
 
 pub text-cases : TextCases
 unfolding schedule_text trace_text state_line digits level_at frequency_at
-text-cases = (refl, refl, refl)
+text-cases = (refl, refl, refl, refl, refl)

@@ -33,3 +33,8 @@ pub mod Effects
 pub mod Evaluation
 pub mod Board
 pub mod Resume
+pub mod FrameCases
+pub mod Flattening
+pub mod WorkedRuns
+pub mod WorkedNumbers
+pub mod RunLaws

@@ -4,17 +4,16 @@
 use Rattle.std.specs.Prelude.{◌≡◌, ℕ, ◌+◌, List, [], ◌∷◌, ◌++◌, take, drop, length, Option, Some, None, option_map, refl}
 use Rattle.w4_defs.specs.declared.console.Halt.{Halt}
 use Rattle.w4_defs.specs.declared.console.Halt.TheVariants.{Running, Trapped, Spent}
-use Rattle.w4_defs.specs.declared.console.Voice.{Voice}
 use Rattle.w4_defs.specs.Module.{DataSegment, WasmModule}
 use Rattle.w4_defs.specs.Outcome.{Store, Outside, Ended, Finished, Faulted, Exhausted, Undefined}
 use Rattle.w4_defs.specs.Program.{constant_of}
 use Rattle.w4_defs.specs.Evaluation.{run_entry}
 use Rattle.w4_defs.specs.Logs.{empty_log}
-use Rattle.w4_defs.specs.Tones.{silent, all_aged, sounds_at}
+use Rattle.w4_defs.specs.Tones.{Channels, silent, all_aged, sounds_at}
 use Rattle.w4_defs.specs.State.{State, zero_page, Moment, Board, Underway}
 use Rattle.w4_defs.specs.Entries.{entries, first_globals}
 
--- All that a run reads and doesn't change: the cart's module, the imports' weights and effects, the font's
+-- all that a run reads and doesn't change: the cart's module, the imports' weights and effects, the font's
 -- bytes, and the budget of each reset and of each frame
 pub record Setup : Type 0 where
   pub cart : WasmModule
@@ -115,7 +114,7 @@ unfoldable pub start : Setup → List ℕ → Option Underway
 start setup disk = call_all setup (entries setup.cart) (underway (fresh setup.cart disk)) setup.budget
 
 -- the record has the logs and the four sounds at tick 0; then the channels age
-abbrev pub with_channels : State → List (Option Voice) → State
+abbrev pub with_channels : State → Channels → State
 with_channels state channels = record {
   page = state.page;
   globals = state.globals;

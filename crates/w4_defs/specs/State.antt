@@ -42,7 +42,7 @@ pub record Moment : Type 0 where
   pub state : State
   pub made : FrameRecord
 
--- What a cart's imports work on besides the page: the font's bytes, channels, disk, and the frame's logs
+-- what a cart's imports work on besides the page: the font's bytes, channels, disk, and the frame's logs
 pub record Board : Type 0 where
   pub font : List ℕ
   pub channels : Channels

@@ -1,7 +1,7 @@
 -- Tones (WASM-4 reference, `tone`): what one call asks for, and what a channel sounds at each tick.
 -- Own rule: a peak of 0 means 100 and levels are cut at 100; a frame has 735 ticks; levels and
 -- frequencies go along straight lines, in whole numbers.
-use Rattle.std.specs.Prelude.{◌≡◌, ℕ, zero, suc, ◌+◌, ◌-◌, ◌*◌, ◌/◌, ◌%◌, min, ◌==◌, nat_lt, nat_le, ◌||◌, if◌then◌else◌, List, [], ◌∷◌, map, replicate, slice_set, Option, Some, None, option_map, slice_index_or, refl}
+use Rattle.std.specs.Prelude.{◌≡◌, ◌<◌, ◌≤◌, ℕ, zero, suc, ◌+◌, ◌-◌, ◌*◌, ◌/◌, ◌%◌, min, ◌==◌, nat_lt, nat_le, ◌||◌, if◌then◌else◌, List, [], ◌∷◌, map, replicate, slice_set, Option, Some, None, option_map, slice_index_or, refl}
 use Rattle.w4_defs.specs.declared.console.Tone.{Tone}
 use Rattle.w4_defs.specs.declared.console.Voice.{Voice}
 use Rattle.w4_defs.specs.declared.console.Sound.{Sound}
@@ -27,6 +27,14 @@ decoded frequency duration volume flags = record {
   pan = flags / 16 % 4;
   note = flags / 64 % 2 == 1;
 }
+
+-- what a tone keeps to, as every decoded one does
+pub record IsTone (tone : Tone) : Type 0 where
+  pub channel : tone.channel < 4
+  pub duty : tone.duty < 4
+  pub pan : tone.pan < 4
+  pub peak : tone.peak ≤ 100
+  pub level : tone.level ≤ 100
 
 -- the length of a tone in frames, and a length in ticks
 abbrev pub tone_frames : Tone → ℕ
@@ -67,9 +75,19 @@ sound_of tick voice =
     let t = ticks voice.age + tick in
     record { level = level_at voice.tone t; frequency = frequency_at voice.tone t }
 
+-- what a voice keeps to: it is within its tone's frames
+pub record IsVoice (voice : Voice) : Type 0 where
+  pub tone : IsTone voice.tone
+  pub lasts : voice.age < tone_frames voice.tone
+
 -- the four channels, of which a silent one has no voice
 abbrev pub Channels : Type 0
 Channels = List (Option Voice)
+
+-- what a channel keeps to
+abbrev pub IsPlaying : Option Voice → Type 0
+IsPlaying None = Unit {0}
+IsPlaying (Some voice) = IsVoice voice
 
 abbrev pub silent : Channels
 silent = replicate 4 None

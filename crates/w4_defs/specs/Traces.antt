@@ -1,11 +1,11 @@
 -- Trace lines (WASM-4 reference: `trace`, `traceUtf8`, `traceUtf16`, `tracef`). Own rule: a line is cut
 -- after 128 bytes, and the places of tracef's format are those below.
-use Rattle.std.specs.Prelude.{◌≡◌, ℕ, ◌+◌, ◌%◌, ◌==◌, nat_le, ◌||◌, if◌then◌else◌, List, [], ◌∷◌, ◌++◌, map, take, take_while, not, drop, codes, false, refl}
+use Rattle.std.specs.Prelude.{◌≡◌, ℕ, ◌+◌, ◌%◌, ◌==◌, nat_le, ◌||◌, if◌then◌else◌, List, [], ◌∷◌, ◌++◌, map, take, take_while, not, drop, codes, false, length, replicate, refl}
 use Rattle.std.specs.Fmt.{digits, signed_decimal}
 use Rattle.w4_defs.specs.declared.console.TextSource.{TextSource}
-use Rattle.w4_defs.specs.declared.console.TextSource.TheVariants.{Utf16}
+use Rattle.w4_defs.specs.declared.console.TextSource.TheVariants.{Cstr, Utf8, Utf16}
 use Rattle.w4_defs.specs.Words.{word_at, signed_word}
-use Rattle.w4_defs.specs.Text.{text_codes}
+use Rattle.w4_defs.specs.Text.{source_bytes, units}
 
 -- the bytes before the first 0, or all
 abbrev pub before_zero : List ℕ → List ℕ
@@ -17,13 +17,18 @@ line_room = 128
 abbrev pub line_of : List ℕ → List ℕ
 line_of bytes = take line_room bytes
 
--- the byte that a code is written as: itself, or a question mark above 255
-abbrev pub traced_code : ℕ → ℕ
-traced_code code = if nat_le code 255 then code else 63
+-- the byte that a 16-bit unit is written as: itself, or a question mark above 255
+abbrev pub traced_unit : ℕ → ℕ
+traced_unit unit = if nat_le unit 255 then unit else 63
 
--- the line of `trace`, `traceUtf8` and `traceUtf16`
+-- the bytes that `trace`, `traceUtf8` and `traceUtf16` write
+abbrev pub traced : List ℕ → TextSource → List ℕ
+traced page (Cstr ptr) = source_bytes page (Cstr ptr)
+traced page (Utf8 ptr len) = source_bytes page (Utf8 ptr len)
+traced page (Utf16 ptr len) = map traced_unit (units (source_bytes page (Utf16 ptr len)))
+
 abbrev pub trace_line : List ℕ → TextSource → List ℕ
-trace_line page source = line_of (map traced_code (text_codes page source))
+trace_line page source = line_of (traced page source)
 
 -- what tracef writes for % and a letter, whose argument stands at this address: c a byte, d a signed
 -- decimal, x hexadecimal, s the text at that address, f a fixed word; any other letter is itself
@@ -68,10 +73,10 @@ pub tracef-case : TracefCase
 unfolding digits
 tracef-case = refl
 
--- every other place of a format: a byte, a float, an unknown letter, a lone % at the end
+-- the other letters of a format: a byte, a float of eight bytes, an unknown letter, a lone % at the end
 abbrev pub PlaceCases : Type 0
-PlaceCases = let page = codes "%c%f%d%q%" ++ 0 ∷ 65 ∷ 0 ∷ 0 ∷ 0 ∷ [] in
-    tracef_line page 0 10 ≡ codes "A<f64>0q"
+PlaceCases = let page = codes "%c%f%d%q%" ++ 0 ∷ 65 ∷ 9 ∷ 9 ∷ 9 ∷ 9 ∷ 9 ∷ 9 ∷ 9 ∷ 9 ∷ 9 ∷ 9 ∷ 9 ∷ 7 ∷ 0 ∷ 0 ∷ 0 ∷ [] in
+    tracef_line page 0 10 ≡ codes "A<f64>7q"
 
 pub place-cases : PlaceCases
 unfolding digits
@@ -79,7 +84,9 @@ place-cases = refl
 
 -- units above 255 are written as a question mark
 abbrev pub TraceCase : Type 0
-TraceCase = trace_line (65 ∷ 0 ∷ 65 ∷ 1 ∷ 66 ∷ []) (Utf16 0 5) ≡ codes "A?"
+TraceCase = let page : List ℕ = 65 ∷ 0 ∷ 65 ∷ 1 ∷ 66 ∷ [] in
+    (trace_line page (Utf16 0 5) ≡ codes "A?") × (trace_line page (Cstr 2) ≡ 65 ∷ 1 ∷ 66 ∷ [])
+    × (trace_line page (Utf8 1 2) ≡ 0 ∷ 65 ∷ []) × (length (line_of (replicate 200 65)) ≡ 128)
 
 pub trace-case : TraceCase
-trace-case = refl
+trace-case = (refl, refl, refl, refl)

@@ -2,11 +2,24 @@
 
 ghost use Rattle.std.specs.Prelude.{◌≡◌, ◌+◌, ◌<◌, ◌≤◌, ◌*◌, ◌*ℤ◌, ◌+ℤ◌, ◌-ℤ◌, int_div, max, min, None, pos, Some, ℕ, List};
 ghost use Rattle.w4_defs.specs.declared.console.Tone.{Tone as ATone};
-ghost use Rattle.w4_defs.specs.Logs.{LogsInOrder};
+ghost use Rattle.w4_defs.specs.Board.{BoardCases};
+ghost use Rattle.w4_defs.specs.Disk.{DiskCases};
+ghost use Rattle.w4_defs.specs.Frame.{ClearedIsPainted, HaltStays, ResetKeepsDisk};
+ghost use Rattle.w4_defs.specs.FrameCases.{BudgetCases, EntryCases, LineCases, PageCases};
+ghost use Rattle.w4_defs.specs.FrameTexts.{TextCases};
+ghost use Rattle.w4_defs.specs.Logs.{DroppedCase, LogsInOrder};
+ghost use Rattle.w4_defs.specs.Reset.{FirstRegisters};
 ghost use Rattle.w4_defs.specs.Run.{FoldsInParts, FoldsState, PlaysInParts, RunsBetween, RunsOn};
-ghost use Rattle.w4_defs.specs.Tones.{aged_often, level_at, mix, slide, started, ticks, tone_frames};
+ghost use Rattle.w4_defs.specs.Tones.{SilencedCase, TenFrames, aged_often, decoded, frequency_at, IsTone, level_at, mix, slide, started, ticks, tone_frames};
+ghost use Rattle.w4_defs.specs.Traces.{PlaceCases, TraceCase, TracefCase};
+ghost use Rattle.w4_defs.specs.Words.{WordCases};
 
 use crate::console::Tone;
+
+/// Every decoded tone keeps to the ranges of a tone.
+pub fn decoded_ranges(frequency: u32, duration: u32, volume: u32, flags: u32)
+    ensures { IsTone (decoded frequency duration volume flags) }
+{}
 
 /// A level on its way lies between its two ends.
 pub fn level_between(from: u32, to: u32, at: u32, len: u32)
@@ -23,11 +36,11 @@ pub fn level_bound(tone: Tone, tick: u32)
     ensures { level_at tone tick ≤ 100 }
 {}
 
-/// A frequency on its way lies between the first and the second.
-pub fn frequency_between(first: u16, second: u16, at: u32, len: u32)
-    requires { at < len }
-    ensures low { min first second ≤ slide first second at len }
-    ensures high { slide first second at len ≤ max first second }
+/// The frequency at a tick of a tone lies between its first and its second.
+pub fn frequency_between(tone: Tone, tick: u32)
+    requires within { tick < ticks (tone_frames tone) }
+    ensures low { min tone.first tone.second ≤ frequency_at tone tick }
+    ensures high { frequency_at tone tick ≤ max tone.first tone.second }
 {}
 
 /// A sliding frequency is the first one and the part of the signed difference, cut toward zero.
@@ -56,4 +69,30 @@ pub fn runs_in_parts()
     ensures state_decides { FoldsState }
     ensures next { RunsOn }
     ensures between { RunsBetween }
+{}
+
+/// Clearing is painting every pixel 0, a halt stays until a reset, and a frame with a reset depends on the disk alone.
+pub fn halts_and_resets()
+    ensures cleared { ClearedIsPainted }
+    ensures halt_stays { HaltStays }
+    ensures reset_keeps_disk { ResetKeepsDisk }
+{}
+
+/// Worked cases, by computation.
+pub fn console_cases()
+    ensures words { WordCases }
+    ensures logs { DroppedCase }
+    ensures ten_frames { TenFrames }
+    ensures silenced { SilencedCase }
+    ensures disk { DiskCases }
+    ensures trace { TraceCase }
+    ensures tracef { TracefCase }
+    ensures places { PlaceCases }
+    ensures texts { TextCases }
+    ensures registers { FirstRegisters }
+    ensures board { BoardCases }
+    ensures budgets { BudgetCases }
+    ensures entries { EntryCases }
+    ensures pages { PageCases }
+    ensures lines { LineCases }
 {}

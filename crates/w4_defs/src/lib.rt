@@ -5,8 +5,9 @@
 
 pub mod console;
 pub mod console_laws;
-pub mod integer;
 pub mod drawing;
+pub mod evaluation_laws;
+pub mod integer;
 pub mod memory;
 pub mod module;
 pub mod operation;

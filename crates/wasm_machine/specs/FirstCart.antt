@@ -1,7 +1,7 @@
 -- A first cart (own rule): a module all of whose bytes are fixed but those of one body, which is a
 -- list of i32.const, i32.add, i32.load8_u, i32.store8 and drop (Core Specification, sections 5.4 and
 -- 5.5). Before each instruction at least as many operands are there as it takes, and none at the end.
-use Rattle.std.specs.Prelude.{ℕ, zero, suc, ◌+◌, ◌-◌, ◌≡◌, Bool, true, false, ◌&&◌, ◌==◌, nat_le, if◌then◌else◌, List, [], ◌∷◌, length, take, drop, Option, Some, None}
+use Rattle.std.specs.Prelude.{ℕ, zero, suc, ◌+◌, ◌-◌, ◌≡◌, Bool, true, false, ◌&&◌, ◌==◌, nat_le, if◌then◌else◌, List, [], ◌∷◌, length, take, drop, Option, Some, None, codes, refl}
 use Rattle.std.specs.Option.{option_map, option_and_then}
 use Rattle.std.specs.Str.{bytes_eq}
 use Rattle.w4_defs.specs.declared.operation.Op.{Op}
@@ -69,8 +69,8 @@ instruction_list zero height bytes = None
 instruction_list (suc turns) height bytes =
     if bytes_eq bytes (0x0b ∷ []) then (if height == 0 then Some [] else None)
     else option_and_then (λ (op, after).
-        option_and_then (λ next. option_map (λ ops. op ∷ ops) (instruction_list turns next after)) (height_after height op))
-      (instruction bytes)
+    option_and_then (λ next. option_map (λ ops. op ∷ ops) (instruction_list turns next after)) (height_after height op))
+    (instruction bytes)
 
 -- the instructions of a code section with one body, which has no locals and at most 125 bytes
 abbrev pub first_body : List ℕ → Option (List FirstOp)
@@ -82,6 +82,24 @@ first_body bytes = None
 -- the instructions of the first cart that these bytes are, or None
 abbrev pub first_cart : List ℕ → Option (List FirstOp)
 first_cart bytes = if bytes_eq (take 47 bytes) first_head then first_body (drop 47 bytes) else None
+
+-- a code section that loads the byte at 22 and stores it at 160; and one with a nop, which is no first cart's
+abbrev pub CopyingCase : Type 0
+CopyingCase =
+    first_body (
+      0x0a ∷ 0x0f ∷ 0x01 ∷ 0x0d ∷ 0x00 ∷ 0x41 ∷ 0xa0 ∷ 0x01 ∷ 0x41 ∷ 0x16 ∷ 0x2d ∷ 0x00 ∷ 0x00 ∷ 0x3a ∷ 0x00 ∷ 0x00 ∷ 0x0b ∷ []
+    ) ≡ Some (Const 160 ∷ Const 22 ∷ Load ∷ Store ∷ [])
+
+pub copying-case : CopyingCase
+unfolding instruction_list signed
+copying-case = refl
+
+abbrev pub NopCase : Type 0
+NopCase = first_body (0x0a ∷ 0x05 ∷ 0x01 ∷ 0x03 ∷ 0x00 ∷ 0x01 ∷ 0x0b ∷ []) ≡ None
+
+pub nop-case : NopCase
+unfolding instruction_list signed
+nop-case = refl
 
 abbrev pub operation : FirstOp → Op
 operation (Const value) = I32Const value
@@ -97,22 +115,22 @@ first_list (op ∷ ops) = plain (mark (operation op)) (first_list ops)
 -- the module of a first cart with these instructions: update is its only function, over one page
 abbrev pub first_module : List FirstOp → WasmModule
 first_module ops = record {
-    types = record { params = []; results = [] } ∷ [];
-    imports = record {
-        module_name = 0x65 ∷ 0x6e ∷ 0x76 ∷ [];
-        name = 0x6d ∷ 0x65 ∷ 0x6d ∷ 0x6f ∷ 0x72 ∷ 0x79 ∷ [];
-        kind = Memory (record { least = 1; greatest = None })
-      } ∷ [];
-    functions = 0 ∷ [];
-    tables = [];
-    memories = [];
-    globals = [];
-    exports = record { name = 0x75 ∷ 0x70 ∷ 0x64 ∷ 0x61 ∷ 0x74 ∷ 0x65 ∷ []; kind = Func; index = 0 } ∷ [];
-    start = None;
-    elements = [];
-    bodies = record { runs = []; list = first_list ops } ∷ [];
-    segments = []
-  }
+  types = record { params = []; results = [] } ∷ [];
+  imports = record {
+    module_name = codes "env";
+    name = codes "memory";
+    kind = Memory (record { least = 1; greatest = None });
+  } ∷ [];
+  functions = 0 ∷ [];
+  tables = [];
+  memories = [];
+  globals = [];
+  exports = record { name = codes "update"; kind = Func; index = 0 } ∷ [];
+  start = None;
+  elements = [];
+  bodies = record { runs = []; list = first_list ops } ∷ [];
+  segments = [];
+}
 
 -- from this many operands on each instruction finds its operands, and none are left at the end
 abbrev pub Balanced : ℕ → List FirstOp → Type 0

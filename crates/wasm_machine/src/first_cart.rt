@@ -1,7 +1,6 @@
 //! A first cart, as the list of its instructions.
 
 use std::marker::Model;
-use w4_defs::OutOfMemory;
 
 /// An instruction that a first cart may hold. Loads and stores have alignment 0 and offset 0.
 #[derive(Clone, Copy, PartialEq, Eq, Debug)]
@@ -39,16 +38,10 @@ impl Model for FirstCart {
 }
 
 /// Why bytes weren't taken as a first cart.
-#[derive(Debug, Drop)]
+#[derive(Clone, Copy, PartialEq, Eq, Debug)]
 pub enum FirstRefusal {
     /// They are no first cart.
     NotBuilt,
     /// There was no memory for the instructions.
     OutOfMemory,
-}
-
-impl From<OutOfMemory> for FirstRefusal {
-    fn from(_refusal: OutOfMemory) -> FirstRefusal {
-        FirstRefusal::OutOfMemory
-    }
 }

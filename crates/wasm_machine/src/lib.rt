@@ -11,3 +11,6 @@ mod slots;
 pub use first_cart::{FirstCart, FirstOp, FirstRefusal};
 pub use machine::{Ending, Machine};
 pub use read::read_first;
+
+#[cfg(test)]
+mod tests;

@@ -4,11 +4,10 @@ ghost use Rattle.std.specs.Prelude.{◌≡◌, ◌+◌, ◌-◌, ◌*◌, ◌%�
 ghost use Rattle.wasm_machine.specs.Leb.{signed, ends_positive, ends_negative};
 ghost use Rattle.wasm_machine.specs.FirstCart.{at_zero, constant, instruction, height_after, instruction_list, first_body, first_cart};
 ghost use Rattle.std.specs.Str.{bytes_eq};
+ghost use Rattle.std.specs.Option.{option_map};
 
 use crate::first_cart::{FirstCart, FirstOp, FirstRefusal};
 use std::alloc::Global;
-ghost use Rattle.std.specs.Option.{option_map};
-
 
 /// A number, with the bytes after it.
 #[derive(Drop)]
@@ -43,17 +42,26 @@ fn signed_number(most: u32, bytes: &[u8]) -> Option<Word<'_>>
     }
     let (left, byte, after) = (most - 1, bytes[0], &bytes[1..]);
     if ends_positive(left, byte) {
-        return Some(Word { value: u32::from(byte), after });
+        return Some(Word {
+            value: u32::from(byte),
+            after,
+        });
     }
     if ends_negative(left, byte) {
-        return Some(Word { value: 0xffff_ff80 + u32::from(byte), after });
+        return Some(Word {
+            value: 0xffff_ff80 + u32::from(byte),
+            after,
+        });
     }
     if byte < 128 {
         return None;
     }
     match signed_number(left, after) {
         None => None,
-        Some(high) => Some(Word { value: below(byte, high.value), after: high.after }),
+        Some(high) => Some(Word {
+            value: below(byte, high.value),
+            after: high.after,
+        }),
     }
 }
 
@@ -84,10 +92,8 @@ fn at_zero<'a>(op: FirstOp, bytes: &'a [u8]) -> Option<Step<'a>>
 
 /// The `i32.const` of a number.
 fn constant(word: Option<Word<'_>>) -> Option<Step<'_>>
-    ensures {
-        option_map (λ s. (s.op, s.after.now)) result
-        ≡ option_map constant (option_map (λ w. (w.value, w.after.now)) word.entry)
-    }
+    ensures { option_map (λ s. (s.op, s.after.now)) result
+        ≡ option_map constant (option_map (λ w. (w.value, w.after.now)) word.entry) }
 {
     match word {
         None => None,
@@ -102,13 +108,21 @@ fn constant(word: Option<Word<'_>>) -> Option<Step<'_>>
 fn first_step(bytes: &[u8]) -> Option<Step<'_>>
     ensures { option_map (λ s. (s.op, s.after.now)) result ≡ instruction bytes.now }
 {
-    let [code, after @ ..] = bytes else { return None };
+    let [code, after @ ..] = bytes else {
+        return None
+    };
     match *code {
         0x41 => constant(signed_number(5, after)),
-        0x6a => Some(Step { op: FirstOp::Add, after }),
+        0x6a => Some(Step {
+            op: FirstOp::Add,
+            after,
+        }),
         0x2d => at_zero(FirstOp::Load, after),
         0x3a => at_zero(FirstOp::Store, after),
-        0x1a => Some(Step { op: FirstOp::Drop, after }),
+        0x1a => Some(Step {
+            op: FirstOp::Drop,
+            after,
+        }),
         _ => None,
     }
 }
@@ -125,7 +139,11 @@ fn height_after(height: usize, op: FirstOp) -> Option<usize>
         FirstOp::Store => (2, 0),
         FirstOp::Drop => (1, 0),
     };
-    if taken <= height { Some(height - taken + left) } else { None }
+    if taken <= height {
+        Some(height - taken + left)
+    } else {
+        None
+    }
 }
 
 /// The `end` that is the last byte.
@@ -146,7 +164,11 @@ fn read_list(alloc: Global, list: &[u8]) -> Result<FirstCart, FirstRefusal>
     let mut height = 0;
     'list: for _turn in 0..list.len() {
         if is_end(rest) {
-            return if height == 0 { Ok(FirstCart { ops }) } else { Err(FirstRefusal::NotBuilt) };
+            return if height == 0 {
+                Ok(FirstCart { ops })
+            } else {
+                Err(FirstRefusal::NotBuilt)
+            };
         }
         let Some(step) = first_step(rest) else {
             return Err(FirstRefusal::NotBuilt);

@@ -18,7 +18,7 @@ pub returns-then-ends_negative : goal.returns-then-ends_negative
 returns-then-ends_negative t c =
     rw c.from-then-ends_negative.ensures
     (ap (λ (n : ℕ). Some (n, tail c.args.bytes.now)) (omega arith)
-      ∙ signed-negative c.args.most c.args.bytes.now (omega arith) (search rules) (search rules) (search rules))
+    ∙ signed-negative c.args.most c.args.bytes.now (omega arith) (search rules) (search rules) (search rules))
 
 pub returns-then-byte-lt128 : goal.returns-then-byte-lt128
 returns-then-byte-lt128 t c =
@@ -32,4 +32,4 @@ pub returns-in-Some : goal.returns-in-Some
 returns-in-Some t c =
     ap (λ (n : ℕ). Some (n, c.in-Some.high.after.now)) c.below.ensures
     ∙ signed-more c.args.most c.args.bytes.now (Some (c.in-Some.high.value, c.in-Some.high.after.now)) (omega arith) (search rules) (search rules)
-      (search rules) (search (rules, tests)) c.in-Some.ensures
+    (search rules) (search (rules, tests)) c.in-Some.ensures

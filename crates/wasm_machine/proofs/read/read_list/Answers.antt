@@ -43,14 +43,14 @@ list-preserved c =
     let less : length c.args.list.now - c.list._turn - 1 ≡ length c.args.list.now - (c.list._turn + 1) = omega arith in
     record {
       reads =
-        c.list.invariant.reads
-        ∙ ap (joined c.list.ops.items)
+          c.list.invariant.reads
+          ∙ ap (joined c.list.ops.items)
           (list-more _ _ _ _ _ _ (omega arith) (search rules) c.in-Some.ensures c.in-Some-height_after.ensures)
-        ∙ joined-one c.list.ops.items c.in-Some.step.op _
-        ∙ rw (grown, less) refl;
+          ∙ joined-one c.list.ops.items c.in-Some.step.op _
+          ∙ rw (grown, less) refl;
       completes = rw grown (completes-one _ _ _ _ c.in-Some-height_after.ensures c.list.invariant.completes);
       few = rw (grown, length-append) (omega (arith, c.list.invariant.few));
-      low = omega (arith, height-rises _ _ _ c.in-Some-height_after.ensures)
+      low = omega (arith, height-rises _ _ _ c.in-Some-height_after.ensures);
     }
 
 -- src/read.rt:139:1

@@ -8,5 +8,5 @@ invariant-list l = record {
   reads : instruction_list (length l.list) 0 l.list ≡ joined l.ops.items (instruction_list (length l.list - l._turn) l.height l.rest);
   completes : Completes l.height l.ops.items;
   few : length l.ops.items ≤ l._turn;
-  low : l.height ≤ l._turn
+  low : l.height ≤ l._turn;
 }

@@ -11,8 +11,8 @@ returns-then-rest-eq0 c =
     let front = drop_more items c.loop-op.op-index (Const 0) c.loop-op-test.true in
     record {
       runs = λ outside globals board. rw (← c.loop-op.invariant.whole)
-        (enters outside items _ _ c.loop-op.invariant.few ∙ c.loop-op.invariant.goes outside globals board
-        ∙ onward-spends outside items _ _ _ _ _ _ front c.if-rest-eq0.true)
+          (enters outside items _ _ c.loop-op.invariant.few ∙ c.loop-op.invariant.goes outside globals board
+          ∙ onward-spends outside items _ _ _ _ _ _ front c.if-rest-eq0.true);
     }
 
 pub returns-in-Some : goal.returns-in-Some
@@ -22,8 +22,8 @@ returns-in-Some c =
     let unit : c.loop-op.rest ≡ suc (c.loop-op.rest - 1) = omega arith in
     record {
       runs = λ outside globals board. rw (← c.loop-op.invariant.whole)
-        (enters outside items _ _ c.loop-op.invariant.few ∙ c.loop-op.invariant.goes outside globals board
-        ∙ onward-traps outside items _ _ _ _ c.step.new.slots _ _ globals board _ _ _ front unit c.in-Some.ensures.did)
+          (enters outside items _ _ c.loop-op.invariant.few ∙ c.loop-op.invariant.goes outside globals board
+          ∙ onward-traps outside items _ _ _ _ c.step.new.slots _ _ globals board _ _ _ front unit c.in-Some.ensures.did);
     }
 
 pub loop-op-preserved : goal.loop-op-preserved
@@ -37,7 +37,7 @@ loop-op-preserved c =
       balanced = (balanced-next _ _ _ _ front c.loop-op.invariant.balanced).1 _ c.in_default.ensures.height;
       low = omega (arith, c.in_default.ensures.height, left-one (slice_index_or items c.loop-op.op-index (Const 0)), c.loop-op.invariant.low);
       goes = λ outside globals board. c.loop-op.invariant.goes outside globals board
-        ∙ onward-goes outside items _ _ _ _ _ _ _ globals board _ _ front unit c.in_default.ensures.did
+          ∙ onward-goes outside items _ _ _ _ _ _ _ globals board _ _ front unit c.in_default.ensures.did;
     }
 
 pub returns : goal.returns
@@ -45,6 +45,6 @@ returns c =
     let items = c.deref-op-items.result.now in
     record {
       runs = λ outside globals board. rw (← c.loop-op.invariant.whole)
-        (enters outside items _ _ c.loop-op.invariant.few ∙ c.loop-op.invariant.goes outside globals board
-        ∙ onward-ends outside items _ _ _ _ (drop_all c.loop-op.op-index items (omega arith)) c.loop-op.invariant.balanced)
+          (enters outside items _ _ c.loop-op.invariant.few ∙ c.loop-op.invariant.goes outside globals board
+          ∙ onward-ends outside items _ _ _ _ (drop_all c.loop-op.op-index items (omega arith)) c.loop-op.invariant.balanced);
     }

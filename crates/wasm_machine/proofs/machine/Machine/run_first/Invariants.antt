@@ -14,6 +14,6 @@ invariant-loop-op l = record {
   balanced : Balanced (length l.self.slots) (drop l.op-index l.op-items);
   low : length l.self.slots ≤ l.op-index;
   goes : (outside : Outside Board) (globals : List Val) (board : Board)
-    → onward outside l.op-items l.op-items [] (store_of l.initial.page globals board) l.budget
-      ≡ onward outside l.op-items (drop l.op-index l.op-items) (operands l.self.slots) (store_of l.page globals board) l.rest
+      → onward outside l.op-items l.op-items [] (store_of l.initial.page globals board) l.budget
+      ≡ onward outside l.op-items (drop l.op-index l.op-items) (operands l.self.slots) (store_of l.page globals board) l.rest;
 }

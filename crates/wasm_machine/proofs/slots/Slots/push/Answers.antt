@@ -21,5 +21,5 @@ returns c =
     let high = length-from_top c.self.inside.slots.items c.self.inside.count in
     let same = ap length c.self.view_is in
     from_top-push c.self.inside.slots.items c.self.inside.count c.args.number
-      (omega (arith, c.requires, high, same, c.self.invariant))
+    (omega (arith, c.requires, high, same, c.self.invariant))
     ∙ ap (λ (ns : List ℕ). c.args.number ∷ ns) c.self.view_is

@@ -1,0 +1,27 @@
+use Rattle.w4_defs.proofs.Faults.{faults_change_nothing, spent_imports_change_nothing}
+use Rattle.w4_defs.proofs.Budgets.{eval_keeps}
+use Rattle.w4_defs.proofs.Unfolding.{eval_unfolds}
+use Rattle.w4_defs.proofs.Entries.{run_is_resumed, large_entry_traps}
+use Rattle.w4_defs.proofs.Turns.{unfolds}
+use Rattle.w4_defs.proofs.evaluation_laws.run_laws.Goals as goal
+
+pub returns-clause-budget : goal.returns-clause-budget
+returns-clause-budget g c = eval_keeps
+
+pub returns-clause-steps : goal.returns-clause-steps
+returns-clause-steps g c = eval_unfolds
+
+pub returns-clause-resumed : goal.returns-clause-resumed
+returns-clause-resumed g c = run_is_resumed
+
+pub returns-clause-large_entry : goal.returns-clause-large_entry
+returns-clause-large_entry g c = large_entry_traps
+
+pub returns-clause-resumed_steps : goal.returns-clause-resumed_steps
+returns-clause-resumed_steps g c = unfolds
+
+pub returns-clause-faults : goal.returns-clause-faults
+returns-clause-faults g c = faults_change_nothing
+
+pub returns-clause-imports : goal.returns-clause-imports
+returns-clause-imports g c = spent_imports_change_nothing

@@ -1,0 +1,138 @@
+-- Worked cases of resets and frames: small carts on the console, by computation.
+use Rattle.std.specs.Prelude.{◌≡◌, ℕ, ◌+◌, Bool, map, length, pos, List, [], ◌∷◌, slice_index, true, false, Option, Some, None, option_map, codes, refl}
+use Rattle.w4_defs.specs.declared.value.ValType.TheVariants as type
+use Rattle.w4_defs.specs.declared.value.Cause.TheVariants as cause
+use Rattle.w4_defs.specs.declared.module.ImportKind.TheVariants as kind
+use Rattle.w4_defs.specs.declared.module.ExportKind.TheVariants as export
+use Rattle.w4_defs.specs.declared.operation.Op.TheVariants as op
+use Rattle.w4_defs.specs.declared.console.Halt.{Halt}
+use Rattle.w4_defs.specs.declared.console.Halt.TheVariants.{Running, Trapped, Spent}
+use Rattle.w4_defs.specs.declared.console.Input.{Input}
+use Rattle.w4_defs.specs.Tree.{Expr, done, plain, loop, mark}
+use Rattle.w4_defs.specs.Module.{Exported, DataSegment, WasmModule}
+use Rattle.w4_defs.specs.Evaluation.{eval, eval_within}
+use Rattle.w4_defs.specs.State.{Moment, zero_page}
+use Rattle.w4_defs.specs.Reset.{first_page, start_page, start, reset}
+use Rattle.w4_defs.specs.Frame.{frame, cleared}
+use Rattle.w4_defs.specs.Board.{console_setup, weight, effect}
+use Rattle.w4_defs.specs.Run.{run}
+
+-- a cart that imports `trace` as function 0, and exports own functions from index 1 on
+abbrev exports_from : ℕ → List (List ℕ × Expr) → List Exported
+exports_from index [] = []
+exports_from index (row ∷ rows) = record { name = row.0; kind = export.Func; index = index } ∷ exports_from (index + 1) rows
+
+abbrev small_cart : List (List ℕ × Expr) → List DataSegment → WasmModule
+small_cart rows segments = record {
+  types = record { params = []; results = [] } ∷ record { params = type.I32 ∷ []; results = [] } ∷ [];
+  imports = record { module_name = codes "env"; name = codes "trace"; kind = kind.Func 1 } ∷ [];
+  functions = map (λ row. 0) rows;
+  tables = [];
+  memories = [];
+  globals = [];
+  exports = exports_from 1 rows;
+  start = None;
+  elements = [];
+  bodies = map (λ row. record { runs = []; list = row.1 }) rows;
+  segments = segments;
+}
+
+-- lists of instructions
+abbrev then_nop : Expr → Expr
+then_nop rest = plain (mark op.Nop) rest
+
+abbrev endless : Expr
+endless = loop None (plain (mark (op.Br 0)) done) done
+
+abbrev trapping : Expr
+trapping = plain (mark op.Unreachable) done
+
+-- the first gamepad into the first byte of the framebuffer
+abbrev showing : Expr
+showing = plain (mark (op.I32Const 160)) (plain (mark (op.I32Const 22))
+    (plain (mark (op.I32Load8U 0 0)) (plain (mark (op.I32Store8 0 0)) done)))
+
+-- the text at 0 as a trace line, which weighs 2 and 64 and a unit for each byte
+abbrev tracing : Expr
+tracing = plain (mark (op.I32Const 0)) (plain (mark (op.Call 0)) done)
+
+abbrev bytes_at : ℕ → List ℕ → DataSegment
+bytes_at address bytes = record { memory = 0; offset = plain (mark (op.I32Const address)) done; bytes = bytes }
+
+abbrev pad : ℕ → Bool → Input
+pad bits again = record { pads = bits ∷ 0 ∷ 0 ∷ 0 ∷ []; mouse_x = pos 0; mouse_y = pos 0; buttons = 0; reset = again }
+
+abbrev last : List (List ℕ × Expr) → List DataSegment → ℕ → List Input → Option Moment
+last rows segments budget inputs = run (console_setup (small_cart rows segments) [] budget) [] inputs (length inputs)
+
+abbrev halt_of : Option Moment → Option Halt
+halt_of moment = option_map (λ moment. moment.state.halt) moment
+
+abbrev page_byte : ℕ → Option Moment → Option ℕ
+page_byte address moment = option_map (λ moment. slice_index moment.state.page address) moment
+
+abbrev lines_of : Option Moment → Option (List (List ℕ))
+lines_of moment = option_map (λ moment. moment.made.traces.kept) moment
+
+-- three instructions want three units; an endless loop is spent at every budget
+abbrev pub BudgetCases : Type 0
+BudgetCases =
+    let three = (codes "update", then_nop (then_nop (then_nop done))) ∷ [] in
+    let circle = (codes "update", endless) ∷ [] in
+    (halt_of (last three [] 3 (pad 0 false ∷ [])) ≡ Some Running)
+    × (halt_of (last three [] 2 (pad 0 false ∷ [])) ≡ Some Spent)
+    × (halt_of (last circle [] 50 (pad 0 false ∷ [])) ≡ Some Spent)
+
+pub budget-cases : BudgetCases
+unfolding eval eval_within zero_page first_page start_page start reset cleared frame
+budget-cases = (refl, refl, refl)
+
+-- a reset's entries share one budget, and the first that traps or is spent is the last that is called
+abbrev pub EntryCases : Type 0
+EntryCases =
+    let two : Expr = then_nop (then_nop done) in
+    let shared = (codes "update", done) ∷ (codes "start", two) ∷ (codes "_start", two) ∷ [] in
+    let trapped = (codes "update", then_nop done) ∷ (codes "_initialize", endless) ∷ (codes "_start", trapping) ∷ [] in
+    let spent = (codes "update", then_nop done) ∷ (codes "_initialize", endless) ∷ (codes "start", trapping) ∷ [] in
+    (halt_of (last shared [] 4 []) ≡ Some Running)
+    × (halt_of (last shared [] 3 []) ≡ Some Spent)
+    × (halt_of (last trapped [] 40 []) ≡ Some (Trapped cause.Unreachable))
+    × (halt_of (last trapped [] 40 (pad 0 false ∷ [])) ≡ Some (Trapped cause.Unreachable))
+    × (halt_of (last spent [] 40 []) ≡ Some Spent)
+
+pub entry-cases : EntryCases
+unfolding eval eval_within zero_page first_page start_page start reset cleared frame
+entry-cases = (refl, refl, refl, refl, refl)
+
+-- the input stands in its registers, data segments over the first values of the registers, and a frame
+-- clears the framebuffer unless system flag 1 is set
+abbrev pub PageCases : Type 0
+PageCases =
+    let show = (codes "update", showing) ∷ [] in
+    let still = (codes "update", done) ∷ [] in
+    (page_byte 160 (last show [] 9 (pad 27 false ∷ [])) ≡ Some 27)
+    × (page_byte 22 (last show [] 9 (pad 27 false ∷ pad 1 false ∷ [])) ≡ Some 1)
+    × (page_byte 4 (last still [] 9 []) ≡ Some 207)
+    × (page_byte 4 (last still (bytes_at 4 (7 ∷ []) ∷ []) 9 []) ≡ Some 7)
+    × (page_byte 160 (last still (bytes_at 160 (9 ∷ []) ∷ []) 9 (pad 0 false ∷ [])) ≡ Some 0)
+    × (page_byte 160 (last still (bytes_at 160 (9 ∷ []) ∷ bytes_at 31 (1 ∷ []) ∷ []) 9 (pad 0 false ∷ [])) ≡ Some 9)
+
+pub page-cases : PageCases
+unfolding eval eval_within zero_page first_page start_page start reset cleared frame
+page-cases = (refl, refl, refl, refl, refl, refl)
+
+-- a frame that begins with a reset has the reset's lines before its own; the weight of a line is taken
+-- before its effect
+abbrev pub LineCases : Type 0
+LineCases =
+    let both = (codes "update", tracing) ∷ (codes "start", tracing) ∷ [] in
+    let text = bytes_at 0 (65 ∷ []) ∷ [] in
+    (lines_of (last both text 67 []) ≡ Some ((65 ∷ []) ∷ []))
+    × (lines_of (last both text 67 (pad 0 false ∷ [])) ≡ Some ((65 ∷ []) ∷ []))
+    × (lines_of (last both text 67 (pad 0 true ∷ [])) ≡ Some ((65 ∷ []) ∷ (65 ∷ []) ∷ []))
+    × (lines_of (last both text 66 []) ≡ Some [])
+    × (halt_of (last both text 66 []) ≡ Some Spent)
+
+pub line-cases : LineCases
+unfolding eval eval_within zero_page first_page start_page start reset cleared frame weight effect
+line-cases = (refl, refl, refl, refl, refl)

@@ -1,0 +1,77 @@
+//! What the definitions of trees, integers and runs promise, as contracts of functions that do nothing.
+
+ghost use Rattle.w4_defs.specs.Bytes.{PutIsFound, PutKeepsLength, PutKeepsOthers};
+ghost use Rattle.w4_defs.specs.Flattening.{FlatteningDetermines, FlatteningIsReadBack};
+ghost use Rattle.w4_defs.specs.Integers.{BinaryInRange, ExtendedInRange, UnaryInRange};
+ghost use Rattle.w4_defs.specs.RunLaws.{BudgetOnlyFalls, EvalTakesSteps, FaultsChangeNothing, LargeEntryTraps, ResumedTakesSteps, RunIsResumed, SpentImportsChangeNothing};
+ghost use Rattle.w4_defs.specs.WorkedNumbers as numbers;
+ghost use Rattle.w4_defs.specs.WorkedRuns as runs;
+
+/// A flattening determines its tree.
+pub fn flattening_laws()
+    ensures read_back { FlatteningIsReadBack }
+    ensures determines { FlatteningDetermines }
+{}
+
+/// A number that is put into the page changes just its bytes, and is found there.
+pub fn number_laws()
+    ensures length { PutKeepsLength }
+    ensures others { PutKeepsOthers }
+    ensures found { PutIsFound }
+{}
+
+/// Each integer operation gives a number of its width.
+pub fn integer_ranges()
+    ensures one_operand { UnaryInRange }
+    ensures two_operands { BinaryInRange }
+    ensures extended { ExtendedInRange }
+{}
+
+/// Worked cases of the integer operations.
+pub fn integer_cases()
+    ensures wrap { numbers.SumsWrap }
+    ensures cut { numbers.QuotientsAreCut }
+    ensures missing { numbers.QuotientsAreMissing }
+    ensures shifts { numbers.ShiftsTakeTheWidth }
+    ensures digits { numbers.DigitsAreCounted }
+    ensures signs { numbers.SignsAreCompared }
+    ensures extensions { numbers.SignsAreExtended }
+    ensures select { numbers.SelectTakesByCondition }
+{}
+
+/// Worked cases of the budget.
+pub fn budget_cases()
+    ensures nops { runs.NopsTakeUnits }
+    ensures trap { runs.TrapTakesUnit }
+    ensures endless { runs.EndlessLoopIsSpent }
+    ensures turns { runs.LoopIsChargedOnce }
+    ensures import { runs.ImportTakesWeight }
+    ensures fill { runs.FillTakesFurtherUnits }
+    ensures fill_outside { runs.FillPastTheEndTraps }
+{}
+
+/// Worked cases of the page.
+pub fn page_cases()
+    ensures outside { runs.PastTheEndTraps }
+    ensures little_endian { runs.StoresAreLittleEndian }
+    ensures copy { runs.CopyTakesOldBytes }
+    ensures one_page { runs.MemoryIsOnePage }
+{}
+
+/// Worked cases of calls and of the stack rule.
+pub fn call_cases()
+    ensures depth { runs.DepthIsBounded }
+    ensures indirect { runs.IndirectCallsAreJudged }
+    ensures reserve { runs.ReserveCounts }
+{}
+
+/// Laws of all runs, for any host.
+pub fn run_laws<H>()
+    ensures budget { BudgetOnlyFalls H }
+    ensures steps { EvalTakesSteps H }
+    ensures resumed { RunIsResumed H }
+    ensures resumed_steps { ResumedTakesSteps H }
+    ensures large_entry { LargeEntryTraps H }
+    ensures faults { FaultsChangeNothing H }
+    ensures imports { SpentImportsChangeNothing H }
+{}
