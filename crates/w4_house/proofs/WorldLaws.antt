@@ -15,7 +15,7 @@ rises_on first second third rises later = omega arith
 pub rises_later : (first second third : ℕ) → first ≤ second → Rises second third → Rises first third
 rises_later first second third later rises = omega arith
 
--- Nothing at all changes a world less than any call.
+-- Where nothing has changed, all is left that a call leaves.
 pub reading_none : (world : World) → LeavesReading world world
 reading_none world = record { files = refl; out = refl; err = refl; later = omega arith; writes = refl; errs = refl }
 
