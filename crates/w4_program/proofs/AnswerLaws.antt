@@ -33,7 +33,7 @@ owes_nothing first now owed whole none so_far = λ before told.
 answers-step : (setup : Setup) (items next : List Input) (orders : List Order) (i : ℕ) (d : Order) → i < length orders
     → next ≡ (answer setup [] items (get_or orders i d)).inputs
     → answers setup [] items (drop i orders)
-      ≡ record { out = (answer setup [] items (get_or orders i d)).out ++ (answers setup [] next (drop (i + 1) orders)).out; inputs = (answers setup [] next (drop (i + 1) orders)).inputs }
+    ≡ record { out = (answer setup [] items (get_or orders i d)).out ++ (answers setup [] next (drop (i + 1) orders)).out; inputs = (answers setup [] next (drop (i + 1) orders)).inputs }
 unfolding answers
 answers-step setup items next orders i d lt e =
     let first : drop i orders ≡ get_or orders i d ∷ drop (i + 1) orders = rw (add-one i) (drop-cons orders i d lt) in
@@ -45,7 +45,7 @@ pub answers-out-step : (first now after : World) (setup : Setup) (items next : L
     → Owes first now (answers setup [] items (drop i orders)).out whole → Owes first after (answers setup [] next (drop (i + 1) orders)).out whole
 answers-out-step first now after setup items next orders i d whole lt e more so_far =
     owes_less first now after (answer setup [] items (get_or orders i d)).out (answers setup [] next (drop (i + 1) orders)).out whole more
-      (subst (λ (a : Answered). Owes first now a.out whole) (answers-step setup items next orders i d lt e) so_far)
+    (subst (λ (a : Answered). Owes first now a.out whole) (answers-step setup items next orders i d lt e) so_far)
 
 pub answers-inputs-step : (setup : Setup) (items next : List Input) (orders : List Order) (i : ℕ) (d : Order) (whole : List Input) → i < length orders
     → next ≡ (answer setup [] items (get_or orders i d)).inputs

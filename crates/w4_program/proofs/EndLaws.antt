@@ -8,7 +8,7 @@ use Rattle.w4_house.specs.World.{Files, World, Rises, Appends, AppendsFront, Put
 use Rattle.w4_house.proofs.WorldLaws.{rises_later}
 use Rattle.w4_program.specs.declared.status.Status.{Status}
 use Rattle.w4_program.specs.declared.status.Status.TheVariants as status
-use Rattle.w4_program.specs.Words.{EditWords}
+use Rattle.w4_program.specs.Forms.{EditWords}
 use Rattle.w4_program.specs.Output.{Refusal, NoFile, NotBuilt, Made, Loaded, loaded, answered, left, edited}
 use Rattle.w4_program.specs.Causes.{ReadFails, Refuses, Stops, StopsWriting, Untouched, Writes, Ends, IsRefusal, IsReported, Reports, LeavesErr, Carries, status_of}
 use Rattle.w4_program.proofs.StepLaws.{stops_first}
@@ -32,14 +32,16 @@ carries_stopped old new status.NotBuilt out name bytes h = h
 pub ends_unloaded : (old new : World) (why : Status) (words : EditWords) → LeavesReading old new → Stops old new why (λ files. loaded words files) → Ends old new why (λ files. edited words files)
 unfolding edited
 ends_unloaded old new status.Done words leaves h = absurd h
-ends_unloaded old new status.ReadFault words leaves h =
-    (stops_first old new status.ReadFault (λ files. loaded words files) (λ files l. Ok (record { out = (answered l).out; files = insert files words.out (spelling (left l)) })) h,
-      (leaves.out, leaves.files))
+ends_unloaded old new status.ReadFault words leaves h = (
+  stops_first old new status.ReadFault (λ files. loaded words files) (λ files l. Ok (record { out = (answered l).out; files = insert files words.out (spelling (left l)) })) h,
+  (leaves.out, leaves.files),
+)
 ends_unloaded old new status.WriteFault words leaves h = absurd h
 ends_unloaded old new status.OutOfMemory words leaves h = tt
-ends_unloaded old new status.NotBuilt words leaves h =
-    (stops_first old new status.NotBuilt (λ files. loaded words files) (λ files l. Ok (record { out = (answered l).out; files = insert files words.out (spelling (left l)) })) h,
-      (leaves.out, leaves.files))
+ends_unloaded old new status.NotBuilt words leaves h = (
+  stops_first old new status.NotBuilt (λ files. loaded words files) (λ files l. Ok (record { out = (answered l).out; files = insert files words.out (spelling (left l)) })) h,
+  (leaves.out, leaves.files),
+)
 
 -- the files were right, and the work on them ended so
 pub ends_carried : (first second third : World) (why : Status) (words : EditWords) (l : Loaded) → LeavesReading first second → ForSome first.files (λ files. loaded words files ≡ Ok l)

@@ -10,7 +10,7 @@ unfolding inputs_of
 inputs_of-step front whole count i bytes lt so_far =
     let k : count - i ≡ suc (count - (i + 1)) = omega arith in
     let one : front ++ inputs_of (count - i) bytes ≡ (front ++ input_of (take 9 bytes) ∷ []) ++ inputs_of (count - (i + 1)) (drop 9 bytes)
-        = rw k (sym (append_assoc front (input_of (take 9 bytes) ∷ []) (inputs_of (count - (i + 1)) (drop 9 bytes)))) in
+    = rw k (sym (append_assoc front (input_of (take 9 bytes) ∷ []) (inputs_of (count - (i + 1)) (drop 9 bytes)))) in
     sym one ∙ so_far
 
 pub inputs_of-end : (front whole : List Input) (count i : ℕ) (bytes : List ℕ) → count ≤ i → front ++ inputs_of (count - i) bytes ≡ whole → front ≡ whole

@@ -1,5 +1,5 @@
 -- Digits and lines that are read one after another.
-use Rattle.std.proofs.Common.{◌≡◌, ℕ, zero, suc, ◌+◌, ◌-◌, ◌*◌, ◌<◌, ◌≤◌, Bool, true, false, cond, leb, List, [], ◌∷◌, ◌++◌, take, drop, Option, Some, None, refl, sym, ap, ◌∙◌, ◌&&◌, eqb, length, drop-cons, get_or, add-one,  append_assoc, arith}
+use Rattle.std.proofs.Common.{◌≡◌, ℕ, zero, suc, ◌+◌, ◌-◌, ◌*◌, ◌<◌, ◌≤◌, Bool, true, false, cond, leb, List, [], ◌∷◌, ◌++◌, take, drop, Option, Some, None, refl, sym, ap, ◌∙◌, ◌&&◌, eqb, length, drop-cons, get_or, add-one, append_assoc, arith}
 use Rattle.std.proofs.lemmas.List.{append-nil}
 use Rattle.std.proofs.lemmas.Bool.{lt-leb, le-leb}
 use Rattle.w4_defs.specs.declared.order.Order.{Order}
@@ -23,7 +23,7 @@ pub digits-step : (n i : ℕ) (digits : List ℕ) (whole : Option ℕ) → i < l
 digits-step n i digits whole lt low high so_far =
     let first : drop i digits ≡ get_or digits i 0 ∷ drop (i + 1) digits = rw (add-one i) (drop-cons digits i 0 lt) in
     let one : digits_after n (drop i digits) ≡ digits_after (10 * n + (get_or digits i 0 - 48)) (drop (i + 1) digits)
-        = rw (first, le-leb 48 (get_or digits i 0) low, le-leb (get_or digits i 0) 57 high) refl in
+    = rw (first, le-leb 48 (get_or digits i 0) low, le-leb (get_or digits i 0) 57 high) refl in
     sym one ∙ so_far
 
 -- what was read before, and what is still read
@@ -40,7 +40,7 @@ unfolding lines_of
 lines_of-step front count i bytes after order whole lt first so_far =
     let k : count - i ≡ suc (count - (i + 1)) = omega arith in
     let one : with_front front (lines_of (count - i) bytes) ≡ with_front (front ++ order ∷ []) (lines_of (count - (i + 1)) after)
-        = rw (k, first) (regroup front order (lines_of (count - (i + 1)) after)) in
+    = rw (k, first) (regroup front order (lines_of (count - (i + 1)) after)) in
     sym one ∙ so_far
 
 pub lines_of-stops : (status : Status) (front : List Order) (count i : ℕ) (bytes : List ℕ) (whole : Option (List Order)) → i < count → Refuses status (first_of bytes)

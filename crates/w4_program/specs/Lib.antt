@@ -1,6 +1,6 @@
 -- What the program promises, from its words and files to its answers and statuses.
 pub mod Lines
-pub mod Words
+pub mod Forms
 pub mod Reads
 pub mod Recorded
 pub mod Answering

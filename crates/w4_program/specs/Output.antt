@@ -12,7 +12,7 @@ use Rattle.w4_defs.specs.Reset.{Setup}
 use Rattle.w4_defs.specs.Board.{console_setup}
 use Rattle.wasm_machine.specs.FirstCart.{first_cart, first_module}
 use Rattle.w4_house.specs.World.{Files, front_of}
-use Rattle.w4_program.specs.Words.{EditWords, Form, Edit, form_of}
+use Rattle.w4_program.specs.Forms.{EditWords, Form, Edit, form_of}
 use Rattle.w4_program.specs.Recorded.{plain_recording_of}
 use Rattle.w4_program.specs.Answering.{Answered, answers}
 

@@ -1,7 +1,13 @@
 //! The orders of an edit, one after another, and the recording left.
 
 ghost use Rattle.std.specs.Prelude.{
-    ◌≡◌, ◌≤◌, [], length, OnOk, IfErr, vec_len,
+  ◌≡◌,
+  ◌≤◌,
+  [],
+  length,
+  OnOk,
+  IfErr,
+  vec_len,
 };
 ghost use Rattle.w4_defs.specs.Recording.{spelling};
 ghost use Rattle.w4_house.specs.World.{Appends, Puts, LeavesPrinting, LeavesSaving};
@@ -11,19 +17,17 @@ ghost use Rattle.w4_program.specs.Causes.{StopsWriting, Carries, LeavesErr};
 ghost use Rattle.w4_program.specs.Scenes.{scene_setup};
 ghost use Rattle.w4_program.specs.Views.{loaded_view};
 
-use std::alloc::Global;
-use std::marker::Brand;
-use std::sync::ledger::Blank;
-
-use w4_defs::{Input, Order};
-use w4_house::{House, WriteRefusal};
-
 use crate::load::Loaded;
 use crate::recording::Recording;
 use crate::scene::Scene;
 use crate::stage::{Stage, new_stage, render, shown};
 use crate::status::Status;
 use crate::writing::write_recording;
+use std::alloc::Global;
+use std::marker::Brand;
+use std::sync::ledger::Blank;
+use w4_defs::{Input, Order};
+use w4_house::{House, WriteRefusal};
 
 /// Writes bytes to standard output.
 fn print<H: House>(alloc: Global, house: &mut H, bytes: &[u8]) -> Result<(), Status>
@@ -149,12 +153,36 @@ fn work<H: House>(alloc: Global, house: &mut H, loaded: Loaded, name: &str) -> R
     ensures stops { IfErr result (λ why. StopsWriting (H.world house.old) (H.world house.new) why) }
     ensures err { LeavesErr (H.world house.old) (H.world house.new) }
 {
-    let Loaded { cart, recording, font, orders } = loaded;
-    let Recording { digest, budget, mut inputs } = recording;
+    let Loaded {
+        cart,
+        recording,
+        font,
+        orders,
+    } = loaded;
+    let Recording {
+        digest,
+        budget,
+        mut inputs,
+    } = recording;
     let mut stage = new_stage(alloc)?;
-    let scene = Scene { cart: &cart, font: font.as_slice(), budget };
-    obey_all(alloc, house, &mut stage, &scene, &mut inputs, orders.as_slice())?;
-    let edited = Recording { digest, budget, inputs };
+    let scene = Scene {
+        cart: &cart,
+        font: font.as_slice(),
+        budget,
+    };
+    obey_all(
+        alloc,
+        house,
+        &mut stage,
+        &scene,
+        &mut inputs,
+        orders.as_slice(),
+    )?;
+    let edited = Recording {
+        digest,
+        budget,
+        inputs,
+    };
     let bytes = write_recording(alloc, &edited)?;
     save(alloc, house, name, bytes.as_slice())
 }

@@ -35,7 +35,10 @@ pub fn u32_at(bytes: &[u8]) -> Option<(u32, &[u8])>
         return None;
     }
     let (front, rest) = bytes.split_at(4);
-    Some((u32::from_le_bytes([front[0], front[1], front[2], front[3]]), rest))
+    Some((
+        u32::from_le_bytes([front[0], front[1], front[2], front[3]]),
+        rest,
+    ))
 }
 
 /// The place of the first byte `mark`.

@@ -5,24 +5,29 @@ ghost use Rattle.w4_defs.specs.Script.{orders_of};
 ghost use Rattle.wasm_machine.specs.FirstCart.{first_module};
 ghost use Rattle.w4_house.specs.World.{LeavesReading};
 ghost use Rattle.w4_program.specs.Output.{
-    reading, cart_of, font_of, cart_in, recording_in, font_in, orders_in, loaded,
+  reading,
+  cart_of,
+  font_of,
+  cart_in,
+  recording_in,
+  font_in,
+  orders_in,
+  loaded,
 };
 ghost use Rattle.w4_program.specs.Reads.{Reads};
 ghost use Rattle.w4_program.specs.Recorded.{recording_view};
 ghost use Rattle.w4_program.specs.Causes.{Gives};
 ghost use Rattle.w4_program.specs.Views.{names_view, loaded_view};
 
-use std::alloc::Global;
-
-use w4_defs::Order;
-use w4_house::{House, HouseFault};
-use wasm_machine::{FirstCart, FirstRefusal, read_first};
-
 use crate::reading::read_recording;
 use crate::recording::Recording;
 use crate::script::read_script;
 use crate::status::Status;
 use crate::words::EditNames;
+use std::alloc::Global;
+use w4_defs::Order;
+use w4_house::{House, HouseFault};
+use wasm_machine::{FirstCart, FirstRefusal, read_first};
 
 /// All that an edit is given.
 #[derive(Drop)]
@@ -34,7 +39,12 @@ pub struct Loaded {
 }
 
 /// The first `most` bytes of a file, or all.
-fn read_file<H: House>(alloc: Global, house: &mut H, name: &str, most: usize) -> Result<Vec<u8>, Status>
+fn read_file<H: House>(
+    alloc: Global,
+    house: &mut H,
+    name: &str,
+    most: usize,
+) -> Result<Vec<u8>, Status>
     ensures gives { Gives (H.world house.old) (H.world house.new) (λ bytes. bytes.items) result (λ files. reading files name.now most) }
     ensures rest { LeavesReading (H.world house.old) (H.world house.new) }
 {
@@ -61,7 +71,11 @@ fn read_cart(alloc: Global, bytes: &[u8]) -> Result<FirstCart, Status>
 fn read_font(bytes: Vec<u8>) -> Result<Vec<u8>, Status>
     ensures { Reads (λ font. font.items) result (font_of bytes.items) }
 {
-    if bytes.len() == 1792 { Ok(bytes) } else { Err(Status::NotBuilt) }
+    if bytes.len() == 1792 {
+        Ok(bytes)
+    } else {
+        Err(Status::NotBuilt)
+    }
 }
 
 #[tactic(auto, unfolding(crate::specs::Output::cart_in))]
@@ -110,5 +124,10 @@ pub fn load<H: House>(alloc: Global, house: &mut H, names: EditNames<'_>) -> Res
     let recording = load_recording(alloc, house, names.recording)?;
     let font = load_font(alloc, house, names.font)?;
     let orders = load_orders(alloc, house, names.script)?;
-    Ok(Loaded { cart, recording, font, orders })
+    Ok(Loaded {
+        cart,
+        recording,
+        font,
+        orders,
+    })
 }

@@ -5,13 +5,11 @@ ghost use Rattle.w4_defs.specs.Recording.{fields_of, input_of, inputs_of};
 ghost use Rattle.w4_program.specs.Reads.{Reads};
 ghost use Rattle.w4_program.specs.Recorded.{fields_view, recording_view, plain_recording_of};
 
-use std::alloc::Global;
-
-use w4_defs::{Input, OutOfMemory};
-
 use crate::fields::{front, u16_at, u32_at};
 use crate::recording::Recording;
 use crate::status::Status;
+use std::alloc::Global;
+use w4_defs::{Input, OutOfMemory};
 
 /// The fields of a recording's bytes. The frames have nine bytes each.
 #[derive(Drop)]
@@ -44,7 +42,13 @@ fn split_fields(bytes: &[u8]) -> Option<Fields<'_>>
         && count <= 36_000
         && frames.len() == 9 * count as usize
     {
-        Some(Fields { digest, budget, disk, count, frames })
+        Some(Fields {
+            digest,
+            budget,
+            disk,
+            count,
+            frames,
+        })
     } else {
         None
     }
@@ -94,5 +98,9 @@ pub fn read_recording(alloc: Global, bytes: &[u8]) -> Result<Recording, Status>
     let inputs = inputs_at(alloc, fields.count, fields.frames)?;
     let mut digest = [0; 32];
     digest.copy_from_slice(fields.digest);
-    Ok(Recording { digest, budget: fields.budget, inputs })
+    Ok(Recording {
+        digest,
+        budget: fields.budget,
+        inputs,
+    })
 }

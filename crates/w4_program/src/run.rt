@@ -1,33 +1,51 @@
 //! The top call: all that the program does, over any house.
 
 ghost use Rattle.std.specs.Prelude.{
-    ◌≡◌, ◌⊎◌, Some, None, Ok, Err, IsOk, IsOkAnd, map, string_bytes,
+  ◌≡◌,
+  ◌⊎◌,
+  Some,
+  None,
+  Ok,
+  Err,
+  IsOk,
+  IsOkAnd,
+  map,
+  string_bytes,
 };
 ghost use Rattle.std.specs.Option.{ForSome};
 ghost use Rattle.w4_house.specs.World.{Rises, Appends, LeavesReporting};
 ghost use Rattle.w4_program.specs.Lines.{line_of};
-ghost use Rattle.w4_program.specs.Words.{form_of};
+ghost use Rattle.w4_program.specs.Forms.{form_of};
 ghost use Rattle.w4_program.specs.Output.{output, edited, NotBuilt};
 ghost use Rattle.w4_program.specs.Causes.{
-    ReadFails, Ends, IsRefusal, IsReported, Reports, LeavesErr, status_of,
+  ReadFails,
+  Ends,
+  IsRefusal,
+  IsReported,
+  Reports,
+  LeavesErr,
+  status_of,
 };
 ghost use Rattle.w4_program.specs.Views.{names_view};
-
-use std::alloc::Global;
-use std::thread::Threads;
-
-use w4_house::{House, WriteRefusal};
 
 use crate::carry::carry_out;
 use crate::load::load;
 use crate::status::{Status, line};
 use crate::words::{EditNames, edit_names};
+use std::alloc::Global;
+use std::thread::Threads;
+use w4_house::{House, WriteRefusal};
 
 /// Does all that the program does for these words, and says how it ended.
 ///
 /// The words are those after the program's name. What it makes of them and of the files is `output` of
 /// the contract. Any status may give way to `OutOfMemory`.
-pub fn w4_run<R: Threads + Sync, H: House>(_rt: &R, alloc: Global, words: &[String], house: &mut H) -> Status
+pub fn w4_run<R: Threads + Sync, H: House>(
+    _rt: &R,
+    alloc: Global,
+    words: &[String],
+    house: &mut H,
+) -> Status
     // Where it is done, standard output has got exactly the definition's bytes.
     ensures done_out { result ≡ Status.Done → ForSome (H.world house.old).files (λ files. IsOkAnd (output (map string_bytes words.now) files)
         (λ made. Appends (H.world house.old).out (H.world house.new).out made.out)) }

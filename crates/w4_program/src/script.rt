@@ -2,16 +2,23 @@
 
 ghost use Rattle.std.specs.Prelude.{◌≡◌, ◌==◌, ◌≤◌, count_by, length, nat_le};
 ghost use Rattle.w4_defs.specs.Script.{
-    value_of as value_of_digits, number_of, byte_of, coordinate_of, set_of, show_of, order_of, first_of, lines_of, orders_of,
+  value_of as value_of_digits,
+  number_of,
+  byte_of,
+  coordinate_of,
+  set_of,
+  show_of,
+  order_of,
+  first_of,
+  lines_of,
+  orders_of,
 };
 ghost use Rattle.w4_program.specs.Reads.{Reads};
 
-use std::alloc::Global;
-
-use w4_defs::{Input, Order};
-
 use crate::fields::cut;
 use crate::status::Status;
+use std::alloc::Global;
+use w4_defs::{Input, Order};
 
 /// The value of decimal digits, or None where a byte is no digit or the value is above 4,294,967,295.
 fn value_of(digits: &[u8]) -> Option<u32>
@@ -47,7 +54,11 @@ fn byte(word: &[u8]) -> Option<u8>
     ensures { result ≡ byte_of word.now }
 {
     let value = number(word)?;
-    if value <= 255 { Some(value as u8) } else { None }
+    if value <= 255 {
+        Some(value as u8)
+    } else {
+        None
+    }
 }
 
 /// A number from -32768 to 32767, a `-` directly before its digits.
@@ -59,11 +70,19 @@ fn coordinate(word: &[u8]) -> Option<i16>
         [] => None,
         [b'-', digits @ ..] => {
             let value = number(digits)?;
-            if value <= 32_768 { Some(-(value as i32) as i16) } else { None }
+            if value <= 32_768 {
+                Some(-(value as i32) as i16)
+            } else {
+                None
+            }
         }
         [_, ..] => {
             let value = number(word)?;
-            if value <= 32_767 { Some(value as i16) } else { None }
+            if value <= 32_767 {
+                Some(value as i16)
+            } else {
+                None
+            }
         }
     }
 }
@@ -89,7 +108,16 @@ fn set(words: &[u8]) -> Option<Order>
     let mouse_y = coordinate(down)?;
     let buttons = byte(rest)?;
     let pads = [pad_1, pad_2, pad_3, pad_4];
-    Some(Order::Set { k, input: Input { pads, mouse_x, mouse_y, buttons, reset: false } })
+    Some(Order::Set {
+        k,
+        input: Input {
+            pads,
+            mouse_x,
+            mouse_y,
+            buttons,
+            reset: false,
+        },
+    })
 }
 
 /// `P`.
@@ -155,7 +183,11 @@ fn orders(alloc: Global, count: usize, bytes: &[u8]) -> Result<Vec<Order>, Statu
         orders.push(order)?;
         rest = after;
     }
-    if rest.is_empty() { Ok(orders) } else { Err(Status::NotBuilt) }
+    if rest.is_empty() {
+        Ok(orders)
+    } else {
+        Err(Status::NotBuilt)
+    }
 }
 
 /// The orders of a script.

@@ -6,14 +6,12 @@ ghost use Rattle.w4_console.specs.FirstConsole.{quiet};
 ghost use Rattle.w4_program.specs.Answering.{picture};
 ghost use Rattle.w4_program.specs.Scenes.{scene_setup};
 
+use crate::scene::Scene;
 use std::alloc::Global;
 use std::sync::ledger::{Blank, Ledger};
-
 use w4_console::Console;
 use w4_defs::{Input, OutOfMemory, Steps};
-
 use w4_image::{IMAGE_LEN, image_into};
-use crate::scene::Scene;
 
 /// A console, and the image of its page.
 #[derive(Drop)]

@@ -4,7 +4,6 @@ ghost use Rattle.std.specs.Prelude.{◌≡◌};
 ghost use Rattle.w4_program.specs.Lines.{line_of, number_of_status};
 
 use std::alloc::{AllocError, AllocFailed};
-
 use w4_defs::OutOfMemory;
 
 /// How a run ended.

@@ -1,7 +1,7 @@
 //! The words that the program is called with.
 
 ghost use Rattle.std.specs.Prelude.{◌≡◌, map, option_map, string_bytes};
-ghost use Rattle.w4_program.specs.Words.{form_of};
+ghost use Rattle.w4_program.specs.Forms.{form_of};
 ghost use Rattle.w4_program.specs.Views.{form_view};
 
 /// The files of `edit CART REC FONT SCRIPT OUT`: four to read and one to write.
@@ -15,7 +15,7 @@ pub struct EditNames<'a> {
 }
 
 /// The form of the words, or None where they have none.
-#[tactic(auto, unfolding(crate::specs::Words::form_of))]
+#[tactic(auto, unfolding(crate::specs::Forms::form_of))]
 pub fn edit_names(words: &[String]) -> Option<EditNames<'_>>
     ensures { option_map form_view result ≡ form_of (map string_bytes words.now) }
 {

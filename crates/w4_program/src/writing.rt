@@ -5,11 +5,9 @@ ghost use Rattle.std.specs.List.{flat_map};
 ghost use Rattle.w4_defs.specs.Recording.{input_bytes, spelling};
 ghost use Rattle.w4_program.specs.Recorded.{recording_view};
 
-use std::alloc::Global;
-
-use w4_defs::{Input, OutOfMemory};
-
 use crate::recording::Recording;
+use std::alloc::Global;
+use w4_defs::{Input, OutOfMemory};
 
 /// Adds the nine bytes of an input.
 fn push_input(bytes: &mut Vec<u8>, input: &Input) -> Result<(), OutOfMemory>

@@ -9,4 +9,4 @@ returns-in-Err-clause-ends g c =
 pub returns-in-Ok-clause-ends : goal.returns-in-Ok-clause-ends
 returns-in-Ok-clause-ends g c =
     ends_carried (g.H.House.world c.args.house.now) (g.H.House.world c.load.new.house) (g.H.House.world c.carry_out.new.house) c.carry_out.result (names_view c.args.names)
-        (loaded_view c.in-Ok.loaded) c.in-Ok.ensures.rest c.in-Ok.ensures.gives c.carry_out.ensures.ends
+    (loaded_view c.in-Ok.loaded) c.in-Ok.ensures.rest c.in-Ok.ensures.gives c.carry_out.ensures.ends

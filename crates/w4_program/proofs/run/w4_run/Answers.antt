@@ -27,4 +27,5 @@ returns g c =
       refused_out = λ r. (laws.refused old new result step ends r).0;
       refused_files = λ r. (laws.refused old new result step ends r).1;
       line = λ r. laws.line_reported old mid new (line_of result) c.obey-status.ensures.err (c.report.ensures.line r);
-      exact = laws.exact old new result step ends }
+      exact = laws.exact old new result step ends;
+    }
