@@ -1,5 +1,5 @@
 -- Numbers in the page, little-endian: the byte at the address is the lowest (Core Specification,
--- section 4.3, storage).
+-- section 4.3.1, storage).
 use Rattle.std.specs.Prelude.{◌≡◌, ℕ, zero, suc, ◌+◌, ◌*◌, ◌/◌, ◌%◌, ◌^◌, ◌<◌, ◌≤◌, ◌⊎◌, List, length, slice_index, slice_set}
 
 -- the number in so many bytes from this address on

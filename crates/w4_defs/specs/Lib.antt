@@ -1,13 +1,44 @@
--- The definitions, one file a subject.
+-- The definitions, one file a subject, in the order in which a reader of the standards meets them.
+
+-- WebAssembly: the structure of modules
 pub mod Tree
+pub mod TreeCode
+pub mod Flattening
 pub mod Module
-pub mod Logs
-pub mod Tones
-pub mod Disk
-pub mod Words
-pub mod Traces
-pub mod State
-pub mod FrameTexts
+pub mod View
+pub mod Lookup
+-- the binary format
+pub mod BinaryText
+pub mod BinaryNumber
+pub mod BinaryType
+pub mod BinaryNumeric
+pub mod BinaryMemory
+pub mod BinaryInstruction
+pub mod BinarySection
+pub mod BinaryModule
+-- the profile
+pub mod ImportNames
+pub mod Imports
+pub mod Floats
+pub mod Profile
+-- validation
+pub mod Kinds
+pub mod OperandTypes
+pub mod Typing
+pub mod Validity
+pub mod Cart
+pub mod Shape
+-- execution
+pub mod Integers
+pub mod Bytes
+pub mod Outcome
+pub mod Program
+pub mod Control
+pub mod Effects
+pub mod Evaluation
+pub mod Resume
+pub mod Soundness
+-- The console: drawing
 pub mod Framebuffer
 pub mod Colours
 pub mod Shapes
@@ -18,23 +49,27 @@ pub mod Image
 pub mod Reading
 pub mod Recording
 pub mod Script
+-- devices
+pub mod Words
+pub mod Logs
+pub mod Tones
+pub mod Disk
+pub mod Traces
+-- runs
+pub mod State
 pub mod Entries
 pub mod Reset
 pub mod Frame
 pub mod Run
-pub mod Outcome
-pub mod ImportNames
-pub mod Program
-pub mod Kinds
-pub mod Integers
-pub mod Bytes
-pub mod Control
-pub mod Effects
-pub mod Evaluation
 pub mod Board
-pub mod Resume
-pub mod FrameCases
-pub mod Flattening
-pub mod WorkedRuns
+pub mod FrameTexts
+-- files
+pub mod Reading
+pub mod Recording
+pub mod Script
+-- worked cases and laws
 pub mod WorkedNumbers
+pub mod EmptyCart
+pub mod WorkedRuns
 pub mod RunLaws
+pub mod FrameCases

@@ -3,7 +3,8 @@
 ghost use Rattle.w4_defs.specs.Bytes.{PutIsFound, PutKeepsLength, PutKeepsOthers};
 ghost use Rattle.w4_defs.specs.Flattening.{FlatteningDetermines, FlatteningIsReadBack};
 ghost use Rattle.w4_defs.specs.Integers.{BinaryInRange, ExtendedInRange, UnaryInRange};
-ghost use Rattle.w4_defs.specs.RunLaws.{BudgetOnlyFalls, EvalTakesSteps, FaultsChangeNothing, LargeEntryTraps, ResumedTakesSteps, RunIsResumed, SpentImportsChangeNothing};
+ghost use Rattle.w4_defs.specs.RunLaws.{BudgetOnlyFalls, EvalTakesSteps, FaultsChangeNothing, GlobalsKeepTypes, LargeEntryTraps, ResumedTakesSteps, RunIsResumed, SpentImportsChangeNothing};
+ghost use Rattle.w4_defs.specs.Soundness.{PlainInstructionsAreSound};
 ghost use Rattle.w4_defs.specs.WorkedNumbers as numbers;
 ghost use Rattle.w4_defs.specs.WorkedRuns as runs;
 
@@ -74,4 +75,10 @@ pub fn run_laws<H>()
     ensures large_entry { LargeEntryTraps H }
     ensures faults { FaultsChangeNothing H }
     ensures imports { SpentImportsChangeNothing H }
+    ensures globals { GlobalsKeepTypes H }
+{}
+
+/// A memory or numeric instruction finds the operands that its type takes, and leaves those that it gives.
+pub fn plain_soundness()
+    ensures { PlainInstructionsAreSound }
 {}

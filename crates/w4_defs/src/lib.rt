@@ -7,7 +7,9 @@ pub mod console;
 pub mod console_laws;
 pub mod drawing;
 pub mod evaluation_laws;
+pub mod instruction;
 pub mod integer;
+pub mod laws_module;
 pub mod memory;
 pub mod module;
 pub mod operation;
@@ -15,17 +17,24 @@ pub mod order;
 pub mod page;
 pub mod spelled;
 pub mod picture;
+pub mod refusal;
+pub mod spelled;
 pub mod steps;
 pub mod value;
 
 pub use console::{Halt, Import, Input, Sound, TextSource, Tone, Voice};
+pub use instruction::Instr;
 pub use integer::{Binary, Compare, Unary};
 pub use memory::OutOfMemory;
-pub use module::{ExportKind, ImportKind, Locals};
+pub use module::{
+    Body, Element, Export, ExportKind, FuncType, GlobalEntry, ImportEntry, ImportKind, Locals,
+    Module, Segment,
+};
 pub use operation::Op;
 pub use order::Order;
 pub use page::PageBytes;
 pub use spelled::{recordings_are_read_back, scripts_are_read};
 pub use picture::Picture;
+pub use refusal::{CartKind, ProfileRefusal};
 pub use steps::Steps;
 pub use value::{Cause, GlobalType, Limits, Val, ValType};

@@ -1,3 +1,4 @@
+use Rattle.w4_defs.proofs.GlobalTypes.{globals_keep_types}
 use Rattle.w4_defs.proofs.Faults.{faults_change_nothing, spent_imports_change_nothing}
 use Rattle.w4_defs.proofs.Budgets.{eval_keeps}
 use Rattle.w4_defs.proofs.Unfolding.{eval_unfolds}
@@ -25,3 +26,6 @@ returns-clause-faults g c = faults_change_nothing
 
 pub returns-clause-imports : goal.returns-clause-imports
 returns-clause-imports g c = spent_imports_change_nothing
+
+pub returns-clause-globals : goal.returns-clause-globals
+returns-clause-globals g c = globals_keep_types

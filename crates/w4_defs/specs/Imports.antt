@@ -1,0 +1,40 @@
+-- The types of the functions that a cart may import (WASM-4 reference). All parameters are i32.
+use Rattle.std.specs.Prelude.{ℕ, List, [], ◌∷◌, replicate, codes}
+use Rattle.w4_defs.specs.declared.value.ValType.TheVariants.{I32}
+use Rattle.w4_defs.specs.declared.console.Import.{Import}
+use Rattle.w4_defs.specs.declared.console.Import.TheVariants.{Blit, BlitSub, Line, Hline, Vline, Oval, Rect, Text, TextUtf8, TextUtf16, Tone, Diskr, Diskw, Trace, TraceUtf8, TraceUtf16, Tracef}
+use Rattle.w4_defs.specs.Module.{Signature}
+
+-- the module of all imports, and the name of the memory
+abbrev pub env : List ℕ
+env = codes "env"
+
+abbrev pub memory : List ℕ
+memory = codes "memory"
+
+-- so many parameters, and no result
+abbrev pub takes : ℕ → Signature
+takes n = record { params = replicate n I32; results = [] }
+
+-- so many parameters, and an i32
+abbrev pub answers : ℕ → Signature
+answers n = record { params = replicate n I32; results = I32 ∷ [] }
+
+abbrev pub import_type : Import → Signature
+import_type Blit = takes 6  -- ptr, x, y, w, h, flags
+import_type BlitSub = takes 9  -- ptr, x, y, w, h, srcX, srcY, stride, flags
+import_type Line = takes 4  -- x1, y1, x2, y2
+import_type Hline = takes 3  -- x, y, len
+import_type Vline = takes 3  -- x, y, len
+import_type Oval = takes 4  -- x, y, w, h
+import_type Rect = takes 4  -- x, y, w, h
+import_type Text = takes 3  -- ptr, x, y
+import_type TextUtf8 = takes 4  -- ptr, len, x, y
+import_type TextUtf16 = takes 4  -- ptr, len, x, y
+import_type Tone = takes 4  -- frequency, duration, volume, flags
+import_type Diskr = answers 2  -- ptr, size
+import_type Diskw = answers 2  -- ptr, size
+import_type Trace = takes 1  -- ptr
+import_type TraceUtf8 = takes 2  -- ptr, len
+import_type TraceUtf16 = takes 2  -- ptr, len
+import_type Tracef = takes 2  -- ptr, args
