@@ -1,10 +1,3 @@
-pub mod ReadingLaws
-pub mod RecordingLaws
--- Lemmas about the definitions, for this crate and those above.
-pub mod PaintLaws
-pub mod RunLaws
-pub mod LogLaws
-pub mod ToneLaws
 -- Laws of the definitions, for this crate and those above.
 pub mod Budgets
 pub mod Unfolding

@@ -46,9 +46,6 @@ pub mod Blit
 pub mod Text
 pub mod MemoryMap
 pub mod Image
-pub mod Reading
-pub mod Recording
-pub mod Script
 -- devices
 pub mod Words
 pub mod Logs

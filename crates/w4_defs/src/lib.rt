@@ -15,7 +15,6 @@ pub mod module;
 pub mod operation;
 pub mod order;
 pub mod page;
-pub mod spelled;
 pub mod picture;
 pub mod refusal;
 pub mod spelled;
@@ -33,7 +32,6 @@ pub use module::{
 pub use operation::Op;
 pub use order::Order;
 pub use page::PageBytes;
-pub use spelled::{recordings_are_read_back, scripts_are_read};
 pub use picture::Picture;
 pub use refusal::{CartKind, ProfileRefusal};
 pub use steps::Steps;
