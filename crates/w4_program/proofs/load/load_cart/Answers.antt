@@ -1,0 +1,18 @@
+use Rattle.std.proofs.lemmas.Result.{err_from_is_err_and}
+use Rattle.wasm_machine.specs.FirstCart.{first_module}
+use Rattle.w4_program.specs.Output.{NotBuilt, or_refuse, reading, cart_of, cart_in}
+use Rattle.w4_program.proofs.StepLaws.{stops_first, judged_by}
+use Rattle.w4_program.proofs.load.load_cart.Goals as goal
+
+pub returns-in_err-bytes-clause-gives : goal.returns-in_err-bytes-clause-gives
+unfolding cart_in
+returns-in_err-bytes-clause-gives g c =
+    let p = err_from_is_err_and c.from_residual.result c.from_residual.ensures.1 in
+    rw (p.1, p.2) (stops_first (g.H.House.world c.args.house.now) (g.H.House.world c.read_file.new.house) c.in_err-bytes.field-0.0
+    (λ files. reading files c.args.name.now 65537) (λ files bytes. or_refuse NotBuilt (cart_of bytes)) c.in_err-bytes.ensures.gives)
+
+pub returns-clause-gives : goal.returns-clause-gives
+unfolding cart_in
+returns-clause-gives g c =
+    judged_by (g.H.House.world c.args.house.now) (g.H.House.world c.read_file.new.house) first_module c.read_cart.result cart_of 65536 c.args.name.now c.in_ok-bytes.bytes.items
+    c.in_ok-bytes.ensures.gives (rw (← c.as_slice.ensures.value) c.read_cart.ensures)

@@ -1,0 +1,199 @@
+//! The orders of an edit, one after another, and the recording left.
+
+ghost use Rattle.std.specs.Prelude.{
+  ◌≡◌,
+  ◌≤◌,
+  [],
+  length,
+  OnOk,
+  IfErr,
+  vec_len,
+};
+ghost use Rattle.w4_defs.specs.Recording.{spelling};
+ghost use Rattle.w4_house.specs.World.{Appends, Puts, LeavesPrinting, LeavesSaving};
+ghost use Rattle.w4_program.specs.Answering.{answer, answer_set, answer_show, answers};
+ghost use Rattle.w4_program.specs.Output.{answered, left};
+ghost use Rattle.w4_program.specs.Causes.{StopsWriting, Carries, LeavesErr};
+ghost use Rattle.w4_program.specs.Scenes.{scene_setup};
+ghost use Rattle.w4_program.specs.Views.{loaded_view};
+
+use crate::load::Loaded;
+use crate::recording::Recording;
+use crate::scene::Scene;
+use crate::stage::{Stage, new_stage, render, shown};
+use crate::status::Status;
+use crate::writing::write_recording;
+use std::alloc::Global;
+use std::marker::Brand;
+use std::sync::ledger::Blank;
+use w4_defs::{Input, Order};
+use w4_house::{House, WriteRefusal};
+
+/// Writes bytes to standard output.
+fn print<H: House>(alloc: Global, house: &mut H, bytes: &[u8]) -> Result<(), Status>
+    ensures out { OnOk result (Appends (H.world house.old).out (H.world house.new).out bytes.now) }
+    ensures stops { IfErr result (λ why. StopsWriting (H.world house.old) (H.world house.new) why) }
+    ensures rest { LeavesPrinting (H.world house.old) (H.world house.new) }
+{
+    match house.write_out(alloc, bytes) {
+        Ok(()) => Ok(()),
+        Err(WriteRefusal::Failed) => Err(Status::WriteFault),
+        Err(WriteRefusal::OutOfMemory) => Err(Status::OutOfMemory),
+    }
+}
+
+/// Makes a file of just these bytes.
+fn save<H: House>(alloc: Global, house: &mut H, name: &str, bytes: &[u8]) -> Result<(), Status>
+    ensures saved { OnOk result (Puts (H.world house.old).files (H.world house.new).files name.now bytes.now) }
+    ensures stops { IfErr result (λ why. StopsWriting (H.world house.old) (H.world house.new) why) }
+    ensures rest { LeavesSaving (H.world house.old) (H.world house.new) }
+{
+    match house.write_file(alloc, name, bytes) {
+        Ok(()) => Ok(()),
+        Err(WriteRefusal::Failed) => Err(Status::WriteFault),
+        Err(WriteRefusal::OutOfMemory) => Err(Status::OutOfMemory),
+    }
+}
+
+/// The image of a place on standard output, or that there is no such place.
+#[tactic(auto, unfolding(crate::specs::Answering::answer_show))]
+fn show<H: House>(
+    alloc: Global,
+    house: &mut H,
+    stage: &mut Stage,
+    scene: &Scene<'_>,
+    inputs: &[Input],
+    p: u32,
+) -> Result<(), Status>
+    requires budget { 1 ≤ scene.now.budget }
+    ensures out { OnOk result (Appends (H.world house.old).out (H.world house.new).out (answer_show (scene_setup scene.now) [] inputs.now p).out) }
+    ensures stops { IfErr result (λ why. StopsWriting (H.world house.old) (H.world house.new) why) }
+    ensures rest { LeavesPrinting (H.world house.old) (H.world house.new) }
+{
+    let place = p as usize;
+    if inputs.len() < place {
+        return print(alloc, house, b"refused no frame\n");
+    }
+    render::<Brand>(stage, scene, inputs, place, Blank::new(1));
+    print(alloc, house, shown(stage))
+}
+
+/// Another input in the place of one, or that there is no such input.
+#[tactic(auto, unfolding(crate::specs::Answering::answer_set))]
+fn set<H: House>(
+    alloc: Global,
+    house: &mut H,
+    inputs: &mut Vec<Input>,
+    k: u32,
+    input: Input,
+) -> Result<(), Status>
+    ensures out { OnOk result (Appends (H.world house.old).out (H.world house.new).out (answer_set inputs.old.items k input).out) }
+    ensures inputs { OnOk result (inputs.new.items ≡ (answer_set inputs.old.items k input).inputs) }
+    ensures len { vec_len inputs.new ≡ vec_len inputs.old }
+    ensures stops { IfErr result (λ why. StopsWriting (H.world house.old) (H.world house.new) why) }
+    ensures rest { LeavesPrinting (H.world house.old) (H.world house.new) }
+{
+    let at = k as usize;
+    let count = inputs.as_slice().len();
+    if count <= at {
+        return print(alloc, house, b"refused no frame\n");
+    }
+    inputs[at] = input;
+    Ok(())
+}
+
+/// Carries out one order.
+fn obey_order<H: House>(
+    alloc: Global,
+    house: &mut H,
+    stage: &mut Stage,
+    scene: &Scene<'_>,
+    inputs: &mut Vec<Input>,
+    order: &Order,
+) -> Result<(), Status>
+    requires budget { 1 ≤ scene.now.budget }
+    ensures out { OnOk result (Appends (H.world house.old).out (H.world house.new).out (answer (scene_setup scene.now) [] inputs.old.items order.now).out) }
+    ensures inputs { OnOk result (inputs.new.items ≡ (answer (scene_setup scene.now) [] inputs.old.items order.now).inputs) }
+    ensures len { vec_len inputs.new ≡ vec_len inputs.old }
+    ensures stops { IfErr result (λ why. StopsWriting (H.world house.old) (H.world house.new) why) }
+    ensures rest { LeavesPrinting (H.world house.old) (H.world house.new) }
+{
+    match *order {
+        Order::Set { k, input } => set(alloc, house, inputs, k, input),
+        Order::Show { p } => show(alloc, house, stage, scene, inputs.as_slice(), p),
+    }
+}
+
+/// Carries out all orders, one after another, up to the first write that fails.
+fn obey_all<H: House>(
+    alloc: Global,
+    house: &mut H,
+    stage: &mut Stage,
+    scene: &Scene<'_>,
+    inputs: &mut Vec<Input>,
+    orders: &[Order],
+) -> Result<(), Status>
+    requires budget { 1 ≤ scene.now.budget }
+    ensures out { OnOk result (Appends (H.world house.old).out (H.world house.new).out (answers (scene_setup scene.now) [] inputs.old.items orders.now).out) }
+    ensures inputs { OnOk result (inputs.new.items ≡ (answers (scene_setup scene.now) [] inputs.old.items orders.now).inputs) }
+    ensures len { vec_len inputs.new ≡ vec_len inputs.old }
+    ensures stops { IfErr result (λ why. StopsWriting (H.world house.old) (H.world house.new) why) }
+    ensures rest { LeavesPrinting (H.world house.old) (H.world house.new) }
+{
+    for order in orders {
+        obey_order(alloc, house, stage, scene, inputs, order)?;
+    }
+    Ok(())
+}
+
+/// Carries out all orders and saves the recording left.
+fn work<H: House>(alloc: Global, house: &mut H, loaded: Loaded, name: &str) -> Result<(), Status>
+    ensures out { OnOk result (Appends (H.world house.old).out (H.world house.new).out (answered (loaded_view loaded)).out) }
+    ensures saved { OnOk result (Puts (H.world house.old).files (H.world house.new).files name.now (spelling (left (loaded_view loaded)))) }
+    ensures stops { IfErr result (λ why. StopsWriting (H.world house.old) (H.world house.new) why) }
+    ensures err { LeavesErr (H.world house.old) (H.world house.new) }
+{
+    let Loaded {
+        cart,
+        recording,
+        font,
+        orders,
+    } = loaded;
+    let Recording {
+        digest,
+        budget,
+        mut inputs,
+    } = recording;
+    let mut stage = new_stage(alloc)?;
+    let scene = Scene {
+        cart: &cart,
+        font: font.as_slice(),
+        budget,
+    };
+    obey_all(
+        alloc,
+        house,
+        &mut stage,
+        &scene,
+        &mut inputs,
+        orders.as_slice(),
+    )?;
+    let edited = Recording {
+        digest,
+        budget,
+        inputs,
+    };
+    let bytes = write_recording(alloc, &edited)?;
+    save(alloc, house, name, bytes.as_slice())
+}
+
+/// The work of an edit whose files are right.
+pub fn carry_out<H: House>(alloc: Global, house: &mut H, loaded: Loaded, name: &str) -> Status
+    ensures ends { Carries (H.world house.old) (H.world house.new) result (answered (loaded_view loaded)).out name.now (spelling (left (loaded_view loaded))) }
+    ensures err { LeavesErr (H.world house.old) (H.world house.new) }
+{
+    match work(alloc, house, loaded, name) {
+        Ok(()) => Status::Done,
+        Err(status) => status,
+    }
+}

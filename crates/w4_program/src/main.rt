@@ -1,0 +1,51 @@
+//! `w4`: the WASM-4 console without a window, run on recordings that a script edits.
+//!
+//! `w4_run` does all that the program does, over a house that stands for files and streams; `main` hands it
+//! the system's. What it makes of words and files is said by the definitions of `specs/`.
+#![tactic(auto)]
+
+mod carry;
+mod fields;
+mod load;
+mod reading;
+mod recording;
+mod run;
+mod scene;
+mod script;
+mod stage;
+mod status;
+#[cfg(test)]
+mod tests;
+mod words;
+mod writing;
+
+use crate::run::w4_run;
+use crate::status::number;
+use std::process::ExitCode;
+use std::rt::Env;
+use std::{env, io};
+use w4_house::RealHouse;
+
+/// The words after the program's name.
+fn words_of<R: Env + AllocGlobal>(rt: &R) -> io::Result<Vec<String>> {
+    let mut words = Vec::new(rt.alloc());
+    for word in env::args(rt)?.skip(1) {
+        words.push(word)?;
+    }
+    Ok(words)
+}
+
+/// The same, or none where a word isn't UTF-8 or memory is refused.
+fn words_or_none<R: Env + AllocGlobal>(rt: &R) -> Vec<String> {
+    match words_of(rt) {
+        Ok(words) => words,
+        Err(_) => Vec::new(rt.alloc()),
+    }
+}
+
+fn main(rt: HostRuntime) -> ExitCode {
+    let words = words_or_none(&rt);
+    let mut house = RealHouse::new(&rt, rt.stdout(), rt.stderr());
+    let status = w4_run(&rt, rt.alloc(), words.as_slice(), &mut house);
+    ExitCode::from(number(status))
+}
