@@ -68,5 +68,6 @@ pub mod Script
 pub mod WorkedNumbers
 pub mod EmptyCart
 pub mod WorkedRuns
+pub mod WorkedBodies
 pub mod RunLaws
 pub mod FrameCases

@@ -5,6 +5,7 @@ ghost use Rattle.w4_defs.specs.Flattening.{FlatteningDetermines, FlatteningIsRea
 ghost use Rattle.w4_defs.specs.Integers.{BinaryInRange, ExtendedInRange, UnaryInRange};
 ghost use Rattle.w4_defs.specs.RunLaws.{BudgetOnlyFalls, EvalTakesSteps, FaultsChangeNothing, GlobalsKeepTypes, LargeEntryTraps, ResumedTakesSteps, RunIsResumed, SpentImportsChangeNothing};
 ghost use Rattle.w4_defs.specs.Soundness.{PlainInstructionsAreSound};
+ghost use Rattle.w4_defs.specs.WorkedBodies as bodies;
 ghost use Rattle.w4_defs.specs.WorkedNumbers as numbers;
 ghost use Rattle.w4_defs.specs.WorkedRuns as runs;
 
@@ -49,6 +50,14 @@ pub fn budget_cases()
     ensures import { runs.ImportTakesWeight }
     ensures fill { runs.FillTakesFurtherUnits }
     ensures fill_outside { runs.FillPastTheEndTraps }
+{}
+
+/// Worked bodies of small carts.
+pub fn body_cases()
+    ensures last_byte { bodies.LastByteIsLoaded }
+    ensures extended { bodies.ByteIsExtended }
+    ensures palette { bodies.PaletteIsCopied }
+    ensures copy_outside { bodies.CopyPastTheEndTraps }
 {}
 
 /// Worked cases of the page.

@@ -1,0 +1,60 @@
+-- Worked bodies of small carts, each run by computation on a page that is as short as the case allows.
+use Rattle.std.specs.Prelude.{◌≡◌, ℕ, List, [], ◌∷◌, ◌++◌, replicate, refl}
+use Rattle.w4_defs.specs.declared.value.Cause.TheVariants as cause
+use Rattle.w4_defs.specs.declared.operation.Op.TheVariants as op
+use Rattle.w4_defs.specs.Tree.{Expr}
+use Rattle.w4_defs.specs.Outcome.{Finished, Faulted}
+use Rattle.w4_defs.specs.Evaluation.{eval, eval_within}
+use Rattle.w4_defs.specs.MemoryMap.{palette}
+use Rattle.w4_defs.specs.WorkedRuns.{sequence, store_of, run}
+
+-- it loads at 65,535 plus gamepad 1: the page's last byte, or past it
+abbrev pub loading : Expr
+loading = sequence (op.I32Const 65535 ∷ op.I32Const 22 ∷ op.I32Load8U 0 0 ∷ op.I32Add ∷ op.I32Load8U 0 0 ∷ op.Drop ∷ [])
+
+-- a page that ends with gamepad 1
+abbrev pub page_to_pad : ℕ → List ℕ
+page_to_pad pad = replicate 22 0 ++ pad ∷ []
+
+abbrev pub LastByteIsLoaded : Type 0
+LastByteIsLoaded =
+    (run loading (page_to_pad 0) 6 ≡ Finished (store_of (page_to_pad 0)) 0)
+    × (run loading (page_to_pad 1) 6 ≡ Faulted cause.Memory (store_of (page_to_pad 1)))
+
+pub last_byte_is_loaded : LastByteIsLoaded
+unfolding eval eval_within
+last_byte_is_loaded = (refl, refl)
+
+-- 128 as a signed byte, stored as 32 bits
+abbrev pub ByteIsExtended : Type 0
+ByteIsExtended =
+    run (sequence (op.I32Const 0 ∷ op.I32Const 128 ∷ op.I32Extend8S ∷ op.I32Store 2 0 ∷ [])) (replicate 4 0) 4
+    ≡ Finished (store_of (128 ∷ 255 ∷ 255 ∷ 255 ∷ [])) 0
+
+pub byte_is_extended : ByteIsExtended
+unfolding eval eval_within
+byte_is_extended = refl
+
+-- three bytes from address 4 are copied over themselves to 5, so that palette entry 0 is f8 cf cf
+abbrev pub shifted_page : List ℕ
+shifted_page = 0 ∷ 0 ∷ 0 ∷ 0 ∷ 207 ∷ 207 ∷ 248 ∷ 224 ∷ []
+
+abbrev pub PaletteIsCopied : Type 0
+PaletteIsCopied =
+    (run (sequence (op.I32Const 5 ∷ op.I32Const 4 ∷ op.I32Const 3 ∷ op.MemoryCopy ∷ []))
+    (0 ∷ 0 ∷ 0 ∷ 0 ∷ 207 ∷ 248 ∷ 224 ∷ 0 ∷ []) 4 ≡ Finished (store_of shifted_page) 0)
+    × (palette shifted_page 0 ≡ 248 ∷ 207 ∷ 207 ∷ [])
+
+pub palette_is_copied : PaletteIsCopied
+unfolding eval eval_within
+palette_is_copied = (refl, refl)
+
+-- a copy of four bytes to 65,533 would pass the page's end, and changes nothing
+abbrev pub CopyPastTheEndTraps : Type 0
+CopyPastTheEndTraps =
+    run (sequence (op.I32Const 65533 ∷ op.I32Const 0 ∷ op.I32Const 4 ∷ op.MemoryCopy ∷ [])) (7 ∷ 8 ∷ []) 4
+    ≡ Faulted cause.Memory (store_of (7 ∷ 8 ∷ []))
+
+pub copy_past_the_end_traps : CopyPastTheEndTraps
+unfolding eval eval_within
+copy_past_the_end_traps = refl
