@@ -1,16 +1,16 @@
 -- How the whole ended, put together from how its steps ended; and what each status then says.
-use Rattle.std.proofs.Common.{◌≡◌, ℕ, ◌≤◌, ◌⊎◌, inl, inr, List, Option, Some, None, Result, Ok, Err, refl, sym, ap, subst, ◌∙◌}
+use Rattle.std.proofs.Common.{◌≡◌, ℕ, ◌≤◌, ◌⊎◌, inl, inr, List, Option, Some, Result, Ok, Err, refl, sym, subst, ◌∙◌}
 use Rattle.std.specs.Prelude.{IsOk, IsOkAnd}
 use Rattle.std.specs.Option.{ForSome}
 use Rattle.std.specs.FinMap.{insert}
 use Rattle.w4_defs.specs.Recording.{spelling}
-use Rattle.w4_house.specs.World.{Files, World, Rises, Appends, AppendsFront, Puts, LeavesReading, LeavesPrinting, LeavesReporting, LeavesSaving}
+use Rattle.w4_house.specs.World.{Files, World, Rises, Appends, LeavesReading, LeavesReporting}
 use Rattle.w4_house.proofs.WorldLaws.{rises_later}
 use Rattle.w4_program.specs.declared.status.Status.{Status}
 use Rattle.w4_program.specs.declared.status.Status.TheVariants as status
 use Rattle.w4_program.specs.Forms.{EditWords}
 use Rattle.w4_program.specs.Output.{Refusal, NoFile, NotBuilt, Made, Loaded, loaded, answered, left, edited}
-use Rattle.w4_program.specs.Causes.{ReadFails, Refuses, Stops, StopsWriting, Untouched, Writes, Ends, IsRefusal, IsReported, Reports, LeavesErr, Carries, status_of}
+use Rattle.w4_program.specs.Causes.{ReadFails, Refuses, Stops, StopsWriting, Untouched, Writes, Ends, IsRefusal, Reports, LeavesErr, Carries, status_of}
 use Rattle.w4_program.proofs.StepLaws.{stops_first}
 
 -- a write that stopped after other writes

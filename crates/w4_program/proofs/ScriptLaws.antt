@@ -1,10 +1,10 @@
 -- Digits and lines that are read one after another.
-use Rattle.std.proofs.Common.{◌≡◌, ℕ, zero, suc, ◌+◌, ◌-◌, ◌*◌, ◌<◌, ◌≤◌, Bool, true, false, cond, leb, List, [], ◌∷◌, ◌++◌, take, drop, Option, Some, None, refl, sym, ap, ◌∙◌, ◌&&◌, eqb, length, drop-cons, get_or, add-one, append_assoc, arith}
+use Rattle.std.proofs.Common.{◌≡◌, ℕ, suc, ◌+◌, ◌-◌, ◌*◌, ◌<◌, ◌≤◌, true, false, cond, leb, List, [], ◌∷◌, ◌++◌, drop, Option, Some, None, refl, sym, ap, ◌∙◌, ◌&&◌, eqb, length, drop-cons, get_or, add-one, append_assoc, arith}
 use Rattle.std.proofs.lemmas.List.{append-nil}
 use Rattle.std.proofs.lemmas.Bool.{lt-leb, le-leb}
 use Rattle.w4_defs.specs.declared.order.Order.{Order}
-use Rattle.w4_defs.specs.Reading.{◌>>=◌, cut_at}
-use Rattle.w4_defs.specs.Script.{at_most, digits_after, order_of, first_of, lines_of}
+use Rattle.w4_defs.specs.Reading.{◌>>=◌}
+use Rattle.w4_defs.specs.Script.{at_most, digits_after, first_of, lines_of}
 use Rattle.w4_program.specs.declared.status.Status.{Status}
 use Rattle.w4_program.specs.declared.status.Status.TheVariants.{Done, ReadFault, WriteFault, OutOfMemory, NotBuilt}
 use Rattle.w4_program.specs.Reads.{Refuses}

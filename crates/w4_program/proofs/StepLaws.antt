@@ -1,11 +1,11 @@
 -- Steps on files, one after another: why the first or a later one stopped, and what they gave.
-use Rattle.std.proofs.Common.{◌≡◌, ℕ, ◌+◌, ◌≤◌, ◌⊎◌, inl, inr, List, Option, Some, None, Result, Ok, Err, refl, sym, ◌∙◌}
+use Rattle.std.proofs.Common.{◌≡◌, ℕ, ◌+◌, inl, inr, List, Option, Result, Ok, Err, refl, sym, ◌∙◌}
 use Rattle.std.specs.Option.{ForSome}
-use Rattle.w4_house.specs.World.{Files, World, Rises, LeavesReading}
+use Rattle.w4_house.specs.World.{Files, World, LeavesReading}
 use Rattle.w4_house.proofs.WorldLaws.{rises_later}
 use Rattle.w4_program.specs.declared.status.Status.{Status}
 use Rattle.w4_program.specs.declared.status.Status.TheVariants as status
-use Rattle.w4_program.specs.Output.{Refusal, NoFile, NotBuilt, ◌>>=◌, or_refuse, reading, judged}
+use Rattle.w4_program.specs.Output.{Refusal, ◌>>=◌, reading, judged}
 use Rattle.w4_program.specs.Reads.{Reads}
 use Rattle.w4_program.specs.Causes.{Stops, Gives}
 

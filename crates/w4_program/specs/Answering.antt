@@ -2,7 +2,7 @@
 -- accepted `show P` writes the image of place P of a run from reset of the inputs as they are then. Input K
 -- is there where K is less than the number of inputs, place P where P is at most this number. A refused
 -- order writes `refused no frame` and changes nothing.
-use Rattle.std.specs.Prelude.{◌≡◌, ℕ, List, [], ◌∷◌, ◌++◌, length, slice_set, nat_lt, nat_le, codes, Option, Some, None, if◌then◌else◌}
+use Rattle.std.specs.Prelude.{ℕ, List, [], ◌∷◌, ◌++◌, length, slice_set, nat_lt, nat_le, codes, Option, Some, None, if◌then◌else◌}
 use Rattle.w4_defs.specs.declared.console.Input.{Input}
 use Rattle.w4_defs.specs.declared.order.Order.{Order}
 use Rattle.w4_defs.specs.declared.order.Order.TheVariants.{Set, Show}

@@ -1,5 +1,5 @@
 -- What each status says of the world before and after, where a step on files is what the program does.
-use Rattle.std.specs.Prelude.{◌≡◌, ◌⊎◌, List, ℕ, Option, Some, Result, Ok, Err, IsOk, IsOkAnd, ⊤}
+use Rattle.std.specs.Prelude.{◌≡◌, ◌⊎◌, List, ℕ, Some, Result, Ok, Err, IsOk, IsOkAnd, ⊤}
 use Rattle.std.specs.Option.{ForSome}
 use Rattle.w4_house.specs.World.{Files, World, Rises, Appends, AppendsFront, Puts}
 use Rattle.w4_program.specs.declared.status.Status.{Status}

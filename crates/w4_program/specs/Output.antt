@@ -8,7 +8,6 @@ use Rattle.w4_defs.specs.declared.order.Order.{Order}
 use Rattle.w4_defs.specs.Module.{WasmModule}
 use Rattle.w4_defs.specs.Recording.{Recording, spelling}
 use Rattle.w4_defs.specs.Script.{orders_of}
-use Rattle.w4_defs.specs.Reset.{Setup}
 use Rattle.w4_defs.specs.Board.{console_setup}
 use Rattle.wasm_machine.specs.FirstCart.{first_cart, first_module}
 use Rattle.w4_house.specs.World.{Files, front_of}

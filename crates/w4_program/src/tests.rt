@@ -4,6 +4,7 @@ use crate::run::w4_run;
 use crate::status::{Status, line, number};
 use std::alloc::Global;
 use std::test::Fail;
+use std::thread::Threads;
 use w4_defs::OutOfMemory;
 use w4_house::{MemoryHouse, SureHouse};
 
@@ -36,26 +37,6 @@ const FONT: [u8; 1792] = [0; 1792];
 
 const SCRIPT: &str = "set 0 27 0 0 0 0 0 0\nshow 1\n";
 
-/// What a run is given. `failing` is the number of the call that fails, 0 for none.
-#[derive(Clone, Copy)]
-struct Given<'a> {
-    cart: &'a [u8],
-    recording: &'a [u8],
-    font: &'a [u8],
-    script: Option<&'a str>,
-    failing: u64,
-}
-
-fn usual() -> Given<'static> {
-    Given {
-        cart: &CART,
-        recording: &RECORDING,
-        font: &FONT,
-        script: Some(SCRIPT),
-        failing: 0,
-    }
-}
-
 fn words(alloc: Global, text: &[&str]) -> Result<Vec<String>, OutOfMemory> {
     let mut words = Vec::new(alloc);
     for word in text {
@@ -71,17 +52,19 @@ fn edit(alloc: Global) -> Result<Vec<String>, OutOfMemory> {
     )
 }
 
-fn house_of(alloc: Global, given: Given<'_>) -> Result<MemoryHouse, OutOfMemory> {
+/// A house with these four files.
+fn house_of(
+    alloc: Global,
+    cart: &[u8],
+    recording: &[u8],
+    font: &[u8],
+    script: &str,
+) -> Result<MemoryHouse, OutOfMemory> {
     let mut house = MemoryHouse::new(alloc);
-    house.put_file("cart", given.cart)?;
-    house.put_file("recording", given.recording)?;
-    house.put_file("font", given.font)?;
-    if let Some(script) = given.script {
-        house.put_file("script", script.as_bytes())?;
-    }
-    if given.failing > 0 {
-        house.fail_at(given.failing)?;
-    }
+    house.put_file("cart", cart)?;
+    house.put_file("recording", recording)?;
+    house.put_file("font", font)?;
+    house.put_file("script", script.as_bytes())?;
     Ok(house)
 }
 
@@ -107,23 +90,16 @@ fn a_changed_input_is_shown(rt: HostRuntime) -> Result<(), Fail> {
         assert!(rt; color == [0xe0, 0xf8, 0xcf].as_slice());
     }
     let left = house.file("out").ok_or("no file was made")?;
-    assert_eq!(rt; left.len(), 65);
-    assert!(rt; &left[..47] == &RECORDING[..47]);
-    assert_eq!(rt; left[47], 0x1b);
-    assert!(rt; &left[48..] == &RECORDING[48..]);
+    let mut changed = RECORDING;
+    changed[47] = 0x1b;
+    assert!(rt; left == changed.as_slice());
     Ok(())
 }
 
 #[test]
 fn a_refused_order_changes_nothing(rt: HostRuntime) -> Result<(), Fail> {
     let script = "set 2 0 0 0 0 0 0 0\n";
-    let mut house = house_of(
-        rt.alloc(),
-        Given {
-            script: Some(script),
-            ..usual()
-        },
-    )?;
+    let mut house = house_of(rt.alloc(), &CART, &RECORDING, &FONT, script)?;
     let words = edit(rt.alloc())?;
     let status = w4_run(&rt, rt.alloc(), words.as_slice(), &mut house);
     assert_eq!(rt; status, Status::Done);
@@ -133,100 +109,78 @@ fn a_refused_order_changes_nothing(rt: HostRuntime) -> Result<(), Fail> {
     Ok(())
 }
 
+/// Whether an edit over this house ends so, with its line, and makes no file.
+fn fails_so<R: Threads + Sync>(
+    rt: &R,
+    alloc: Global,
+    mut house: MemoryHouse,
+    expected: Status,
+) -> Result<bool, OutOfMemory> {
+    let words = edit(alloc)?;
+    let status = w4_run(rt, alloc, words.as_slice(), &mut house);
+    Ok(status == expected && house.file("out").is_none() && house.err() == line(expected))
+}
+
 #[test]
-fn refusals_and_faults_leave_no_file(rt: HostRuntime) -> Result<(), Fail> {
+fn files_that_are_not_built(rt: HostRuntime) -> Result<(), Fail> {
+    let alloc = rt.alloc();
     let mut spent = RECORDING;
     spent[37] = 0;
     spent[38] = 0;
     spent[39] = 0;
+    let nops = house_of(alloc, &NOPS, &RECORDING, &FONT, SCRIPT)?;
+    assert!(rt;
+        fails_so(&rt, alloc, nops, Status::NotBuilt)?,
+        "another instruction"
+    );
+    let no_budget = house_of(alloc, &CART, &spent, &FONT, SCRIPT)?;
+    assert!(rt;
+        fails_so(&rt, alloc, no_budget, Status::NotBuilt)?,
+        "budget 0"
+    );
+    let short = house_of(alloc, &CART, &RECORDING[..64], &FONT, SCRIPT)?;
+    assert!(rt;
+        fails_so(&rt, alloc, short, Status::NotBuilt)?,
+        "a recording cut short"
+    );
+    let narrow = house_of(alloc, &CART, &RECORDING, &FONT[..1791], SCRIPT)?;
+    assert!(rt;
+        fails_so(&rt, alloc, narrow, Status::NotBuilt)?,
+        "a font cut short"
+    );
+    let unended = house_of(alloc, &CART, &RECORDING, &FONT, "show 1")?;
+    assert!(rt;
+        fails_so(&rt, alloc, unended, Status::NotBuilt)?,
+        "a line that isn't ended"
+    );
+    let spaced = house_of(alloc, &CART, &RECORDING, &FONT, "show  1\n")?;
+    assert!(rt;
+        fails_so(&rt, alloc, spaced, Status::NotBuilt)?,
+        "two spaces"
+    );
+    Ok(())
+}
+
+#[test]
+fn calls_that_fail(rt: HostRuntime) -> Result<(), Fail> {
     let cases = [
-        (
-            Given {
-                cart: &NOPS,
-                ..usual()
-            },
-            Status::NotBuilt,
-        ),
-        (
-            Given {
-                cart: &CART[..63],
-                ..usual()
-            },
-            Status::NotBuilt,
-        ),
-        (
-            Given {
-                recording: &spent,
-                ..usual()
-            },
-            Status::NotBuilt,
-        ),
-        (
-            Given {
-                recording: &RECORDING[..64],
-                ..usual()
-            },
-            Status::NotBuilt,
-        ),
-        (
-            Given {
-                font: &FONT[..1791],
-                ..usual()
-            },
-            Status::NotBuilt,
-        ),
-        (
-            Given {
-                script: Some("show 1"),
-                ..usual()
-            },
-            Status::NotBuilt,
-        ),
-        (
-            Given {
-                script: Some("set 0 27 0 0 0 0 0  0\n"),
-                ..usual()
-            },
-            Status::NotBuilt,
-        ),
-        (
-            Given {
-                script: None,
-                ..usual()
-            },
-            Status::ReadFault,
-        ),
-        (
-            Given {
-                failing: 2,
-                ..usual()
-            },
-            Status::ReadFault,
-        ),
-        (
-            Given {
-                failing: 5,
-                ..usual()
-            },
-            Status::WriteFault,
-        ),
-        (
-            Given {
-                failing: 6,
-                ..usual()
-            },
-            Status::WriteFault,
-        ),
+        (2, Status::ReadFault),
+        (5, Status::WriteFault),
+        (6, Status::WriteFault),
     ];
-    let words = edit(rt.alloc())?;
-    for (given, expected) in cases {
-        let mut house = house_of(rt.alloc(), given)?;
-        let status = w4_run(&rt, rt.alloc(), words.as_slice(), &mut house);
-        assert_eq!(rt; status, expected);
-        assert!(rt; house.file("out").is_none());
-        assert!(rt; house.err() == line(expected));
-        assert!(rt; house.out().is_empty() || given.failing == 6);
+    for (call, expected) in cases {
+        let mut house = house_of(rt.alloc(), &CART, &RECORDING, &FONT, SCRIPT)?;
+        house.fail_at(call)?;
+        assert!(rt; fails_so(&rt, rt.alloc(), house, expected)?, "call {call}");
     }
+    let mut house = MemoryHouse::new(rt.alloc());
+    house.put_file("cart", &CART)?;
+    house.put_file("recording", &RECORDING)?;
+    house.put_file("font", &FONT)?;
+    assert!(rt;
+        fails_so(&rt, rt.alloc(), house, Status::ReadFault)?,
+        "no script"
+    );
     Ok(())
 }
 
@@ -239,22 +193,13 @@ fn other_words_are_refused(rt: HostRuntime) -> Result<(), Fail> {
             rt.alloc(),
             &["edits", "cart", "recording", "font", "script", "out"],
         )?,
-        words(
-            rt.alloc(),
-            &["edit", "cart", "recording", "font", "script", "out", "out"],
-        )?,
     ];
     for words in forms {
-        let mut house = house_of(rt.alloc(), usual())?;
+        let mut house = house_of(rt.alloc(), &CART, &RECORDING, &FONT, SCRIPT)?;
         let status = w4_run(&rt, rt.alloc(), words.as_slice(), &mut house);
         assert_eq!(rt; status, Status::NotBuilt);
-        assert!(rt; house.err() == b"w4: not built\n".as_slice());
-        assert!(rt; house.file("out").is_none());
+        assert!(rt; house.out().is_empty());
     }
-    assert_eq!(rt; number(Status::Done), 0);
-    assert_eq!(rt; number(Status::ReadFault), 7);
     assert_eq!(rt; number(Status::WriteFault), 8);
-    assert_eq!(rt; number(Status::OutOfMemory), 9);
-    assert_eq!(rt; number(Status::NotBuilt), 11);
     Ok(())
 }

@@ -1,4 +1,4 @@
-use Rattle.std.proofs.Common.{◌≡◌, ◌∙◌, [], ap, sym, drop, false, pos}
+use Rattle.std.proofs.Common.{◌∙◌, [], ap, sym, drop, false, pos}
 use Rattle.w4_defs.specs.declared.order.Order.{Order}
 use Rattle.w4_defs.specs.declared.order.Order.TheVariants.{Set}
 use Rattle.w4_house.proofs.WorldLaws.{printing_then}

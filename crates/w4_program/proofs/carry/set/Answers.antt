@@ -1,4 +1,3 @@
-use Rattle.std.proofs.Common.{arith}
 use Rattle.w4_program.proofs.AnswerLaws.{answer_set-past}
 use Rattle.w4_program.proofs.carry.set.Goals as goal
 

@@ -3,7 +3,7 @@ use Rattle.std.proofs.Common.{Ok}
 use Rattle.std.proofs.lemmas.Result.{err_from_is_err_and}
 use Rattle.wasm_machine.specs.FirstCart.{first_module}
 use Rattle.w4_program.specs.Recorded.{recording_view}
-use Rattle.w4_program.specs.Output.{◌>>=◌, cart_in, recording_in, font_in, orders_in, Loaded, loaded}
+use Rattle.w4_program.specs.Output.{◌>>=◌, cart_in, recording_in, font_in, orders_in, loaded}
 use Rattle.w4_program.proofs.StepLaws.{stops_first, stops_later}
 use Rattle.w4_program.proofs.load.load.Goals as goal
 

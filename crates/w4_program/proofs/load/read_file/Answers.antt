@@ -1,5 +1,4 @@
-use Rattle.std.proofs.Common.{◌≡◌, inr, refl}
-use Rattle.w4_program.specs.Output.{reading}
+use Rattle.std.proofs.Common.{inr, refl}
 use Rattle.w4_program.proofs.load.read_file.Goals as goal
 
 pub returns-in-Err-Absent-clause-gives : goal.returns-in-Err-Absent-clause-gives

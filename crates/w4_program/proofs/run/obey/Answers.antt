@@ -1,4 +1,3 @@
-use Rattle.std.proofs.Common.{map, refl, sym}
 use Rattle.w4_program.specs.Output.{output}
 use Rattle.w4_program.proofs.run.obey.Goals as goal
 

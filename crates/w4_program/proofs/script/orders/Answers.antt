@@ -1,7 +1,7 @@
-use Rattle.std.proofs.Common.{◌≡◌, ◌+◌, ◌-◌, ◌∷◌, [], ◌++◌, length, sym, ◌∙◌, arith}
+use Rattle.std.proofs.Common.{sym, ◌∙◌}
 use Rattle.std.proofs.lemmas.Result.{err_from_is_err_and}
 use Rattle.w4_defs.specs.Script.{lines_of}
-use Rattle.w4_program.proofs.ScriptLaws.{with_front, lines_of-step, lines_of-stops, lines_of-end, lines_of-left}
+use Rattle.w4_program.proofs.ScriptLaws.{lines_of-step, lines_of-stops, lines_of-end, lines_of-left}
 use Rattle.w4_program.proofs.script.orders.Goals as goal
 
 pub returns-in_err-order : goal.returns-in_err-order
