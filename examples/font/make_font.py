@@ -1,6 +1,6 @@
 #!/usr/bin/env python3
 """Turns glyphs.txt into a font: 1,792 bytes, eight for each code from 32 to 255, one a row, the
-highest bit leftmost.
+highest bit leftmost. A 0 bit is ink, which the console paints in colour 1, a 1 bit is ground.
 
     python3 make_font.py glyphs.txt font.bin
 """
@@ -15,7 +15,7 @@ def glyphs(lines):
         if line.startswith("code "):
             rows = rows_of.setdefault(int(line.split()[1]), [])
         elif rows is not None and line and set(line) <= {"#", "."}:
-            rows.append(int(line.replace(".", "0").replace("#", "1"), 2))
+            rows.append(int(line.replace("#", "0").replace(".", "1"), 2))
     return rows_of
 
 
