@@ -7,7 +7,8 @@ use crate::{hline, line, oval, rect, vline};
 use std::boxed::Box;
 use w4_defs::PageBytes;
 
-/// A call and its numbers: two for a place, two for a size or the other end, a length and no other number.
+/// The calls. Each is tried at a place, with a size or, for a line, the other end. A length is the width or
+/// the height of the size.
 #[derive(Clone, Copy)]
 enum Shape {
     Hline,
@@ -175,8 +176,8 @@ fn scatter(page: &mut PageBytes) {
     }
 }
 
-/// Colour 1 or 2 in the two lowest bits of one pixel, by a shift and a mask; a transparent colour changes
-/// nothing.
+/// One pixel in the colour of a nibble, by a shift and a mask; nothing where it is off the screen or the
+/// nibble is 0.
 fn plain_point(page: &mut PageBytes, x: i64, y: i64, nibble: u16) {
     if nibble != 0 && 0 <= x && x < 160 && 0 <= y && y < 160 {
         let (x, y) = (x as usize, y as usize);
