@@ -1,0 +1,128 @@
+-- Tests of boxes of cells.
+use Rattle.std.proofs.Common.{◌≡◌, ℕ, ◌+◌, ◌<◌, ◌≤◌, List, length, Bool, true, false, ◌&&◌, ◌||◌, Option, Some, None, refl, sym, ◌∙◌, ap, arith}
+use Rattle.std.specs.Prelude.{◌==◌, nat_le, nat_lt, ℤ, pos, ◌+ℤ◌, ◌-ℤ◌, ◌<ℤ◌, ◌≤ℤ◌, int_le, int_lt}
+use Rattle.std.specs.Option.{option_or}
+use Rattle.std.proofs.lemmas.Bool.Decides.{nat_tests}
+use Rattle.std.proofs.lemmas.Int.{ints}
+use Rattle.w4_defs.specs.Framebuffer.{Painter, paint, over}
+use Rattle.w4_defs.proofs.PaintLaws.{paint-paint, paint_step}
+use Rattle.w4_defs.specs.Shapes.{only_if, is_at, is_inside, span_painter, column_painter, box_painter, outline_painter}
+use Rattle.w4_shapes.specs.Painted.{rows_painter}
+
+-- the same entry, where one test or the other holds
+pub union : (s t : Bool) (o : Option ℕ) → option_or (only_if s o) (only_if t o) ≡ only_if (s || t) o
+union true true None = refl
+union true false None = refl
+union true t (Some n) = refl
+union false t o = refl
+
+shared : (a b c d : Bool) → ((a && b && c) || ((a && b) && d)) ≡ ((a && b) && (d || c))
+shared false b c d = refl
+shared true false c d = refl
+shared true true false false = refl
+shared true true false true = refl
+shared true true true false = refl
+shared true true true true = refl
+
+at_row : (row v : ℕ) → is_at (pos row) v ≡ (v == row)
+at_row row v = grind (arith, ints, nat_tests)
+
+-- one more row
+pub rows_more : (left right : ℤ) (top row u v : ℕ) (entry : Option ℕ) → top ≤ row
+    → option_or (span_painter left right (pos row) entry u v) (rows_painter left right top row entry u v) ≡ rows_painter left right top (row + 1) entry u v
+rows_more left right top row u v entry h =
+    let next : (nat_le top v && nat_lt v (row + 1)) ≡ ((nat_le top v && nat_lt v row) || v == row) = grind (arith, nat_tests) in
+    let line : (nat_le top v && nat_lt v (row + 1)) ≡ ((nat_le top v && nat_lt v row) || is_at (pos row) v) =
+    next ∙ sym (ap (λ t. (nat_le top v && nat_lt v row) || t) (at_row row v)) in
+    union _ _ entry ∙ ap (λ t. only_if t entry)
+    (shared (int_le left (pos u)) (int_lt (pos u) right) (is_at (pos row) v) (nat_le top v && nat_lt v row) ∙ ap (λ t. (int_le left (pos u) && int_lt (pos u) right) && t) (sym line))
+
+-- rows of the screen are the rows of the coordinates
+pub rows_all : (left right top bottom : ℤ) (first end u v : ℕ) (entry : Option ℕ)
+    → nat_le first v ≡ int_le top (pos v) → nat_le end v ≡ int_le bottom (pos v)
+    → rows_painter left right first end entry u v ≡ box_painter left right top bottom entry u v
+rows_all left right top bottom first end u v entry hf he =
+    let stop : nat_lt v end ≡ int_lt (pos v) bottom = grind (arith, ints, nat_tests) in
+    rw (hf, stop) refl
+
+-- the test of one coordinate, as a box has it
+one_from : (z : ℤ) (u : ℕ) → int_lt (pos u) (z +ℤ pos 1) ≡ int_le (pos u) z
+one_from z u = grind (arith, ints)
+
+one_before : (z : ℤ) (u : ℕ) → int_lt (pos u) z ≡ int_le (pos u) (z -ℤ pos 1)
+one_before z u = grind (arith, ints)
+
+three : (a b c : Bool) → (a && (b && c)) ≡ ((a && b) && c)
+three false b c = refl
+three true b c = refl
+
+-- a box of one row is a span, one of one column a column
+pub row_box : (x0 x1 y : ℤ) (u v : ℕ) (entry : Option ℕ) → box_painter x0 x1 y (y +ℤ pos 1) entry u v ≡ span_painter x0 x1 y entry u v
+row_box x0 x1 y u v entry = rw (one_from y v) refl
+
+pub column_box : (x y0 y1 : ℤ) (u v : ℕ) (entry : Option ℕ) → box_painter x (x +ℤ pos 1) y0 y1 entry u v ≡ column_painter x y0 y1 entry u v
+column_box x y0 y1 u v entry = rw (one_from x u) (ap (λ t. only_if t entry) (three (is_at x u) (int_le y0 (pos v)) (int_lt (pos v) y1)))
+
+-- the four sides together, where each side's cells are in the box
+sides : (columns rows left right top bottom : Bool) → (left && columns) ≡ left → (right && columns) ≡ right → (top && rows) ≡ top → (bottom && rows) ≡ bottom
+    → ((right && rows) || ((left && rows) || ((columns && bottom) || (columns && top)))) ≡ ((columns && rows) && (left || right || top || bottom))
+sides columns rows left right top bottom hl hr ht hb = grind arith
+
+-- a first or last column or row is in the box
+first_in : (first end : ℤ) (u : ℕ) → first <ℤ end → (is_at first u && (int_le first (pos u) && int_lt (pos u) end)) ≡ is_at first u
+first_in first end u h = grind (arith, ints)
+
+last_in : (first end : ℤ) (u : ℕ) → first <ℤ end → (is_at (end -ℤ pos 1) u && (int_le first (pos u) && int_lt (pos u) end)) ≡ is_at (end -ℤ pos 1) u
+last_in first end u h = grind (arith, ints)
+
+-- the four sides of a box, painted one after the other, are its outline
+pub four_sides : (left right top bottom : ℤ) (u v : ℕ) (entry : Option ℕ) → left <ℤ right → top <ℤ bottom
+    → option_or (box_painter (right -ℤ pos 1) right top bottom entry u v) (option_or (box_painter left (left +ℤ pos 1) top bottom entry u v)
+    (option_or (box_painter left right (bottom -ℤ pos 1) bottom entry u v) (box_painter left right top (top +ℤ pos 1) entry u v)))
+    ≡ outline_painter left right top bottom entry u v
+four_sides left right top bottom u v entry wide high =
+    let columns : Bool = int_le left (pos u) && int_lt (pos u) right in
+    let rows : Bool = int_le top (pos v) && int_lt (pos v) bottom in
+    let all = sides columns rows (is_at left u) (is_at (right -ℤ pos 1) u) (is_at top v) (is_at (bottom -ℤ pos 1) v)
+    (first_in left right u wide) (last_in left right u wide) (first_in top bottom v high) (last_in top bottom v high) in
+    let third : Bool = columns && is_at (bottom -ℤ pos 1) v in
+    let fourth : Bool = columns && is_at top v in
+    let second : Bool = is_at left u && rows in
+    let first : Bool = is_at (right -ℤ pos 1) u && rows in
+    let two : option_or (only_if third entry) (only_if fourth entry) ≡ only_if (third || fourth) entry = union third fourth entry in
+    let more : option_or (only_if second entry) (only_if (third || fourth) entry) ≡ only_if (second || (third || fourth)) entry = union second (third || fourth) entry in
+    let most : option_or (only_if first entry) (only_if (second || (third || fourth)) entry) ≡ only_if (first || (second || (third || fourth))) entry = union first (second || (third || fourth)) entry in
+    let ends = ap (λ (t : Bool). only_if t entry) all in
+    let last_column : box_painter (right -ℤ pos 1) right top bottom entry u v ≡ only_if first entry = rw (one_before right u) refl in
+    let first_column : box_painter left (left +ℤ pos 1) top bottom entry u v ≡ only_if second entry = rw (one_from left u) refl in
+    let last_row : box_painter left right (bottom -ℤ pos 1) bottom entry u v ≡ only_if third entry = rw (one_before bottom v) refl in
+    let first_row : box_painter left right top (top +ℤ pos 1) entry u v ≡ only_if fourth entry = rw (one_from top v) refl in
+    rw (last_column, first_column, last_row, first_row, two, more, most) ends
+
+-- no column or no row, no cell
+empty_from : (z count : ℤ) (u : ℕ) → count ≤ℤ pos 0 → (int_le z (pos u) && int_lt (pos u) (z +ℤ count)) ≡ false
+empty_from z count u h = grind (arith, ints)
+
+and_false : (a : Bool) → (a && false) ≡ false
+and_false true = refl
+and_false false = refl
+
+pub no_columns : (x y w h : ℤ) (u v : ℕ) → w ≤ℤ pos 0 → is_inside x (x +ℤ w) y (y +ℤ h) u v ≡ false
+no_columns x y w h u v none = ap (λ t. t && (int_le y (pos v) && int_lt (pos v) (y +ℤ h))) (empty_from x w u none)
+
+pub no_rows : (x y w h : ℤ) (u v : ℕ) → h ≤ℤ pos 0 → is_inside x (x +ℤ w) y (y +ℤ h) u v ≡ false
+no_rows x y w h u v none =
+    ap (λ t. (int_le x (pos u) && int_lt (pos u) (x +ℤ w)) && t) (empty_from y h v none) ∙ and_false (int_le x (pos u) && int_lt (pos u) (x +ℤ w))
+
+-- outside the box a rectangle paints nothing
+pub outside_box : (inside edge : Bool) (o p : Option ℕ) → inside ≡ false → option_or (only_if (inside && edge) o) (only_if inside p) ≡ None
+outside_box true edge o p e = absurd (cc)
+outside_box false edge o p e = refl
+
+-- four paintings, one after the other
+pub four_painted : (page : List ℕ) (a b c d all : Painter) → length page ≡ 65536
+    → ((u v : ℕ) → u < 160 → v < 160 → option_or (d u v) (option_or (c u v) (option_or (b u v) (a u v))) ≡ all u v)
+    → paint (paint (paint (paint page a) b) c) d ≡ paint page all
+four_painted page a b c d all len same =
+    ap (λ p. paint (paint p c) d) (paint-paint page a b len) ∙ ap (λ p. paint p d) (paint-paint page (over b a) c len)
+    ∙ paint_step page (over c (over b a)) d all len same

@@ -1,0 +1,58 @@
+-- Which pixels are cells of a box.
+use Rattle.std.proofs.Common.{◌≡◌, ℕ, Bool, true, false, ◌&&◌, Option, None, refl, arith}
+use Rattle.std.specs.Prelude.{ℤ, pos, negsuc, unsigned_abs, ◌<ℤ◌, ◌≤ℤ◌, int_le, int_lt}
+use Rattle.std.proofs.lemmas.Int.{ints}
+use Rattle.w4_defs.specs.Shapes.{only_if, is_inside}
+
+pub kept : (test : Bool) (o : Option ℕ) → test ≡ true → o ≡ only_if test o
+kept true o e = refl
+kept false o e = absurd (cc)
+
+pub gone : (test : Bool) (o : Option ℕ) → test ≡ false → None ≡ only_if test o
+gone true o e = absurd (cc)
+gone false o e = refl
+
+both : (a b : Bool) → a ≡ true → b ≡ true → (a && b) ≡ true
+both true b e f = f
+both false b e f = absurd (cc)
+
+first_fails : (a b : Bool) → a ≡ false → (a && b) ≡ false
+first_fails true b e = absurd (cc)
+first_fails false b e = refl
+
+second_fails : (a b : Bool) → b ≡ false → (a && b) ≡ false
+second_fails true b e = e
+second_fails false b e = refl
+
+within : (z0 z1 : ℤ) (u : ℕ) → z0 ≤ℤ pos u → pos u <ℤ z1 → (int_le z0 (pos u) && int_lt (pos u) z1) ≡ true
+within z0 z1 u h g = grind (arith, ints)
+
+before : (z0 z1 : ℤ) (u : ℕ) → pos u <ℤ z0 → (int_le z0 (pos u) && int_lt (pos u) z1) ≡ false
+before z0 z1 u h = grind (arith, ints)
+
+after : (z0 z1 : ℤ) (u : ℕ) → z1 ≤ℤ pos u → (int_le z0 (pos u) && int_lt (pos u) z1) ≡ false
+after z0 z1 u h = grind (arith, ints)
+
+pub is_cell : (x0 x1 y0 y1 : ℤ) (u v : ℕ) → x0 ≤ℤ pos u → pos u <ℤ x1 → y0 ≤ℤ pos v → pos v <ℤ y1 → is_inside x0 x1 y0 y1 u v ≡ true
+is_cell x0 x1 y0 y1 u v a b c d = both _ _ (within x0 x1 u a b) (within y0 y1 v c d)
+
+pub is_left : (x0 x1 y0 y1 : ℤ) (u v : ℕ) → pos u <ℤ x0 → is_inside x0 x1 y0 y1 u v ≡ false
+is_left x0 x1 y0 y1 u v h = first_fails _ _ (before x0 x1 u h)
+
+pub is_right : (x0 x1 y0 y1 : ℤ) (u v : ℕ) → x1 ≤ℤ pos u → is_inside x0 x1 y0 y1 u v ≡ false
+is_right x0 x1 y0 y1 u v h = first_fails _ _ (after x0 x1 u h)
+
+pub is_above : (x0 x1 y0 y1 : ℤ) (u v : ℕ) → pos v <ℤ y0 → is_inside x0 x1 y0 y1 u v ≡ false
+is_above x0 x1 y0 y1 u v h = second_fails _ _ (before y0 y1 v h)
+
+pub is_below : (x0 x1 y0 y1 : ℤ) (u v : ℕ) → y1 ≤ℤ pos v → is_inside x0 x1 y0 y1 u v ≡ false
+is_below x0 x1 y0 y1 u v h = second_fails _ _ (after y0 y1 v h)
+
+pub kept_once : (test : Bool) (o : Option ℕ) → only_if test (only_if test o) ≡ only_if test o
+kept_once true o = refl
+kept_once false o = refl
+
+-- a positive number, as so many cells
+pub as_natural : (z : ℤ) → pos 0 <ℤ z → pos (unsigned_abs z) ≡ z
+as_natural (pos n) h = refl
+as_natural (negsuc n) h = absurd (omega (arith, ints))

@@ -1,0 +1,4 @@
+-- Lemmas of the shapes.
+mod StepLaws
+mod BoxTests
+mod CellTests

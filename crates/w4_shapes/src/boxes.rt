@@ -1,0 +1,73 @@
+//! Horizontal and vertical lines and rectangles, by spans of the rows that are on the screen.
+
+ghost use Rattle.std.specs.Option.{ForSome};
+ghost use Rattle.std.specs.Prelude.{◌+ℤ◌, ◌<◌, ◌<ℤ◌, ◌≡◌, ◌≤◌, Some};
+ghost use Rattle.w4_defs.specs.Framebuffer.{paint};
+ghost use Rattle.w4_defs.specs.Shapes.{box_painter, hline_painter, outline_painter, rect_painter, vline_painter};
+ghost use Rattle.w4_shapes.specs.Painted.{rows_painter};
+
+use w4_defs::PageBytes;
+use w4_pixels::{entry_of, on_screen, span};
+
+/// Paints `len` pixels in colour 1 from (x, y) to the right; none where `len` is below 1.
+pub fn hline(page: &mut PageBytes, colors: u16, x: i32, y: i32, len: i32)
+    ensures { page.new ≡ paint page.old (hline_painter colors x y len) }
+{
+    let (x, y) = (i64::from(x), i64::from(y));
+    fill(page, x, x + i64::from(len), y, y + 1, entry_of(colors, 1));
+}
+
+/// Paints `len` pixels in colour 1 from (x, y) down; none where `len` is below 1.
+pub fn vline(page: &mut PageBytes, colors: u16, x: i32, y: i32, len: i32)
+    ensures { page.new ≡ paint page.old (vline_painter colors x y len) }
+{
+    let (x, y) = (i64::from(x), i64::from(y));
+    fill(page, x, x + 1, y, y + i64::from(len), entry_of(colors, 1));
+}
+
+/// Fills `w` by `h` pixels from (x, y) on in colour 1, then paints their first and last columns and rows
+/// in colour 2; nothing where a side is below 1.
+pub fn rect(page: &mut PageBytes, colors: u16, x: i32, y: i32, w: i32, h: i32)
+    ensures { page.new ≡ paint page.old (rect_painter colors x y w h) }
+{
+    if 0 < w && 0 < h {
+        let (left, top) = (i64::from(x), i64::from(y));
+        let (right, bottom) = (left + i64::from(w), top + i64::from(h));
+        fill(page, left, right, top, bottom, entry_of(colors, 1));
+        outline(page, left, right, top, bottom, entry_of(colors, 2));
+    }
+}
+
+/// Paints the columns from `left` up to `right` of the rows from `top` up to `bottom`.
+fn fill(page: &mut PageBytes, left: i64, right: i64, top: i64, bottom: i64, entry: Option<u8>)
+    requires { ForSome entry (λ e. e < 4) }
+    ensures { page.new ≡ paint page.old (box_painter left right top bottom entry) }
+{
+    if let Some(entry) = entry {
+        fill_rows(page, left, right, on_screen(top), on_screen(bottom), entry);
+    }
+}
+
+/// Fills rows of the screen.
+fn fill_rows(page: &mut PageBytes, left: i64, right: i64, top: usize, bottom: usize, entry: u8)
+    requires rows { bottom ≤ 160 }
+    requires entry { entry < 4 }
+    ensures { page.new ≡ paint page.old (rows_painter left right top bottom (Some entry)) }
+{
+    for row in top..bottom {
+        span(page, left, right, row as i64, entry);
+    }
+}
+
+/// Paints the first and last columns and rows of a box of cells.
+fn outline(page: &mut PageBytes, left: i64, right: i64, top: i64, bottom: i64, entry: Option<u8>)
+    requires small { ForSome entry (λ e. e < 4) }
+    requires wide { left <ℤ right }
+    requires high { top <ℤ bottom }
+    ensures { page.new ≡ paint page.old (outline_painter left right top bottom entry) }
+{
+    fill(page, left, right, top, top + 1, entry);
+    fill(page, left, right, bottom - 1, bottom, entry);
+    fill(page, left, left + 1, top, bottom, entry);
+    fill(page, right - 1, right, top, bottom, entry);
+}

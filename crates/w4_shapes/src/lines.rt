@@ -1,0 +1,101 @@
+//! Lines, step by step from the first that can be on the screen to the last.
+
+ghost use Rattle.std.specs.Option.{ForSome};
+ghost use Rattle.std.specs.Prelude.{◌+◌, ◌<◌, ◌≡◌, ◌≤◌, max};
+ghost use Rattle.w4_defs.specs.Framebuffer.{paint};
+ghost use Rattle.w4_defs.specs.Shapes.{apart, line_from, line_painter, minor_step, moved, point_painter, toward};
+
+use crate::steps::line_steps;
+use w4_defs::PageBytes;
+use w4_pixels::{entry_of, point};
+
+/// Paints the line from (x1, y1) to (x2, y2) in colour 1. It starts at the end with the smaller y, at a
+/// tie at the first.
+pub fn line(page: &mut PageBytes, colors: u16, x1: i32, y1: i32, x2: i32, y2: i32)
+    ensures { page.new ≡ paint page.old (line_painter colors x1 y1 x2 y2) }
+{
+    let entry = entry_of(colors, 1);
+    if y2 < y1 {
+        line_from(page, x2, y2, x1, y1, entry);
+    } else {
+        line_from(page, x1, y1, x2, y2, entry);
+    }
+}
+
+/// Paints a line that starts at its first end.
+fn line_from(page: &mut PageBytes, x1: i32, y1: i32, x2: i32, y2: i32, entry: Option<u8>)
+    requires { ForSome entry (λ e. e < 4) }
+    ensures { page.new ≡ paint page.old (line_from x1 y1 x2 y2 entry) }
+{
+    let (wide, high) = (distance(x1, x2), distance(y1, y2));
+    let (first, end) = line_steps(x1, y1, x2, y2);
+    for step in first..end {
+        let x = axis_at(x1, x2, wide, high, step);
+        let y = axis_at(y1, y2, high, wide, step);
+        dot(page, x, y, entry);
+    }
+}
+
+fn dot(page: &mut PageBytes, x: i64, y: i64, entry: Option<u8>)
+    requires { ForSome entry (λ e. e < 4) }
+    ensures { page.new ≡ paint page.old (point_painter x y entry) }
+{
+    if let Some(entry) = entry {
+        point(page, x, y, entry);
+    }
+}
+
+/// How far two coordinates are apart.
+pub(crate) fn distance(a: i32, b: i32) -> u64
+    ensures value { result ≡ apart a b }
+    ensures bound { result < 4294967296 }
+{
+    (i64::from(b) - i64::from(a)).unsigned_abs()
+}
+
+/// Where an axis from `a` to `b` stands after so many steps, by its own distance and the other axis's.
+fn axis_at(a: i32, b: i32, own: u64, other: u64, step: u64) -> i64
+    requires own { own < 4294967296 }
+    requires other { other < 4294967296 }
+    requires step { step ≤ max own other }
+    ensures { result ≡ toward a b (moved own other step) }
+{
+    toward(a, b, moved(own, other, step))
+}
+
+fn toward(a: i32, b: i32, far: u64) -> i64
+    requires { far < 4294967296 }
+    ensures { result ≡ toward a b far }
+{
+    if a <= b {
+        i64::from(a) + far as i64
+    } else {
+        i64::from(a) - far as i64
+    }
+}
+
+/// How far an axis has moved after so many steps.
+fn moved(own: u64, other: u64, step: u64) -> u64
+    requires own { own < 4294967296 }
+    requires other { other < 4294967296 }
+    requires step { step ≤ max own other }
+    ensures value { result ≡ moved own other step }
+    ensures bound { result ≤ own }
+{
+    if other <= own {
+        step
+    } else {
+        minor_step(step, own, other)
+    }
+}
+
+/// How far the axis of the lesser distance has moved after so many of `most` steps.
+fn minor_step(step: u64, less: u64, most: u64) -> u64
+    requires there { step ≤ most }
+    requires less { less < most }
+    requires small { most < 4294967296 }
+    ensures value { result ≡ minor_step step less most }
+    ensures bound { result ≤ less }
+{
+    (step * less + (most - 1) / 2) / most
+}
