@@ -15,6 +15,7 @@ use w4_pixels::{cell, entry_of, on_screen};
 
 /// The codes that have a glyph: the first, and the end, which is left out.
 const FIRST_CODE: u16 = 32;
+
 const CODES_END: u16 = 256;
 
 /// A code with its colours and its place.

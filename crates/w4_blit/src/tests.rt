@@ -204,11 +204,11 @@ fn plain_glyph(page: &mut PageBytes, font: &[u8; 1792], colors: u16, code: u16, 
 {
     let first = 8 * (code as usize - 32);
     for row in 0..8 {
-        for column in 0..8 {
-            let value = font[first + row] >> (7 - column as u32) & 1;
+        for column in 0..8u32 {
+            let value = font[first + row] >> (7 - column) & 1;
             plain_value(
                 page,
-                x.wrapping_add(column as i64),
+                x.wrapping_add(i64::from(column)),
                 y.wrapping_add(row as i64),
                 colors,
                 value,
@@ -231,6 +231,14 @@ fn plain_text(page: &mut PageBytes, font: &[u8; 1792], colors: u16, codes: &[u16
             across = across.wrapping_add(8);
         }
     }
+}
+
+/// The texts that the test paints.
+fn write_texts(page: &mut PageBytes) {
+    write(page, 160, b"FRAMEBUFFER\n\xff");
+    write(page, 7000, b"A\nBy\x01C\x1fD\xff");
+    write(page, 8000, &[65, 0, 44, 1, 10, 0, 66, 0, 10, 10, 67]);
+    write(page, 65533, b"EN\n");
 }
 
 fn cstr(ptr: u32) -> TextSource {
@@ -263,12 +271,8 @@ fn texts_paint_their_codes(rt: HostRuntime) {
         bytes[i] = (i * 41 % 253) as u8;
     }
     let font = Font::new(&bytes).ok().expect(&rt, "a font");
-    for target in [&mut page, &mut plain] {
-        write(target, 160, b"FRAMEBUFFER\n\xff");
-        write(target, 7000, b"A\nBy\x01C\x1fD\xff");
-        write(target, 8000, &[65, 0, 44, 1, 10, 0, 66, 0, 10, 10, 67]);
-        write(target, 65533, b"EN\n");
-    }
+    write_texts(&mut page);
+    write_texts(&mut plain);
     let cases: [(TextSource, &[u16], i32, i32); 9] = [
         (
             utf8(160, 13),

@@ -1,10 +1,11 @@
-use Rattle.std.proofs.Common.{◌≡◌, ◌+◌, ◌∙◌, arith, w32, to_z, of_z, pos, ap}
+use Rattle.std.proofs.Common.{◌≡◌, ◌∙◌, arith, w32, to_z, of_z, pos, ap}
 use Rattle.std.specs.Prelude.{◌+ℤ◌, int_le}
 use Rattle.std.proofs.lemmas.Bool.Decides.{nat_tests}
 use Rattle.std.proofs.lemmas.Int.{to_z-of_z}
 use Rattle.w4_defs.specs.Blit.{wide, high}
 use Rattle.w4_defs.proofs.PaintLaws.{paint_off, paint_step, paint_ext}
 use Rattle.w4_pixels.proofs.BoxLaws.{row_more, boxed_down, boxed_all}
+use Rattle.w4_pixels.specs.Boxes.{boxed}
 use Rattle.w4_blit.specs.Seen.{with_seen}
 use Rattle.w4_blit.specs.Unboxed.{cells_painter}
 use Rattle.w4_blit.proofs.SeenLaws.{with_seen-paint}
@@ -17,8 +18,8 @@ pub loop-v-preserved : goal.loop-v-preserved
 loop-v-preserved c =
     let page = c.args.page.now in
     let seen = c.args.seen.now in
-    let same : with_seen c.loop-v.page seen ≡ with_seen page seen = rw c.loop-v.invariant.0 (with_seen-paint page seen _) in
-    let f = cells_painter (with_seen page seen) c.args.picture.now (to_z w32 (of_z w32 c.args.x)) (to_z w32 (of_z w32 c.args.y)) in (
+    let f = cells_painter (with_seen page seen) c.args.picture.now (to_z w32 (of_z w32 c.args.x)) (to_z w32 (of_z w32 c.args.y)) in
+    let same : with_seen c.loop-v.page seen ≡ with_seen page seen = rw c.loop-v.invariant.0 (with_seen-paint page seen (boxed f c.screen_part-left.result.0 c.screen_part-left.result.1 c.screen_part-top.result.0 c.loop-v.v)) in (
       rw (c.blit_row.ensures, same, c.loop-v.invariant.0)
           (paint_step page _ _ _ c.told-page
           (λ a b ha hb. row_more f c.screen_part-left.result.0 c.screen_part-left.result.1 c.screen_part-top.result.0 c.loop-v.v a b c.loop-v.auto.v)),

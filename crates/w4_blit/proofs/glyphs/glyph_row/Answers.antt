@@ -1,4 +1,4 @@
-use Rattle.std.proofs.Common.{◌+◌, ◌∙◌, arith}
+use Rattle.std.proofs.Common.{arith}
 use Rattle.std.proofs.lemmas.Bool.Decides.{nat_tests}
 use Rattle.w4_defs.proofs.PaintLaws.{paint_off, paint_step}
 use Rattle.w4_pixels.proofs.BoxLaws.{cell_more}

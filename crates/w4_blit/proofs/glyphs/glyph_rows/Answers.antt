@@ -1,4 +1,4 @@
-use Rattle.std.proofs.Common.{◌+◌, ◌∙◌, ◌≡◌, ap, w64, to_z, of_z, pos, arith}
+use Rattle.std.proofs.Common.{◌∙◌, ◌≡◌, ap, w64, to_z, of_z, pos, arith}
 use Rattle.std.proofs.lemmas.Int.{ints}
 use Rattle.std.specs.Prelude.{◌+ℤ◌, int_le}
 use Rattle.std.proofs.lemmas.Bool.Decides.{nat_tests}

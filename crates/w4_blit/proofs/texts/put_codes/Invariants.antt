@@ -1,4 +1,4 @@
-use Rattle.std.proofs.Common.{◌≡◌, ◌+◌, ◌*◌, ℤ, pos, ◌≤ℤ◌, drop}
+use Rattle.std.proofs.Common.{◌≡◌, ◌+◌, ◌*◌, pos, ◌≤ℤ◌, drop}
 use Rattle.w4_defs.specs.Framebuffer.{Painter, paint}
 use Rattle.w4_defs.specs.Text.{codes_painter, text_codes}
 use Rattle.w4_blit.specs.Seen.{with_seen}
