@@ -1,0 +1,4 @@
+-- Lemmas of blits and text.
+mod CodeLaws
+mod SeenLaws
+mod TextLaws

@@ -1,0 +1,18 @@
+use Rattle.std.proofs.Common.{arith}
+use Rattle.std.proofs.lemmas.Bool.Decides.{nat_tests}
+use Rattle.w4_defs.proofs.PaintLaws.{paint_off, paint_step}
+use Rattle.w4_pixels.proofs.BoxLaws.{cell_more}
+use Rattle.w4_blit.specs.Unboxed.{bits_painter}
+use Rattle.w4_blit.proofs.glyphs.glyph_row.Goals as goal
+
+pub loop-u-init : goal.loop-u-init
+loop-u-init c = (paint_off c.args.page.now _ c.told-page c.fits-page (λ a b ha hb. grind (arith, nat_tests)), omega arith)
+
+pub loop-u-preserved : goal.loop-u-preserved
+loop-u-preserved c =
+    let g = c.args.glyph in
+    let f = bits_painter c.args.font.now g.colors g.code g.x g.y in (
+      rw (c.cell.ensures, c.bit_entry-entry.ensures.value, c.loop-u.invariant.0)
+          (paint_step c.args.page.now _ _ _ c.told-page (λ a b ha hb. cell_more f c.args.left c.loop-u.u c.args.v a b c.loop-u.auto.u)),
+      omega arith,
+    )

@@ -1,0 +1,20 @@
+//! Blits, the font and text on the framebuffer (WASM-4 reference; own rules where the definitions say so).
+//! Every call's contract is the painted page, for every argument. Each byte that a call reads is the one at
+//! its entry, also where it lies in the framebuffer; no call does more work than the screen has room for,
+//! or the text has codes.
+#![tactic(auto)]
+
+pub mod blit;
+mod cells;
+mod codes;
+pub mod font;
+mod glyphs;
+mod source;
+pub mod texts;
+
+pub use blit::blit_sub;
+pub use font::{Font, FontLength};
+pub use texts::text;
+
+#[cfg(test)]
+mod tests;

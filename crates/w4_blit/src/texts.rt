@@ -1,0 +1,84 @@
+//! Text, code by code.
+
+ghost use Rattle.std.specs.Prelude.{◌+ℤ◌, ◌==◌, ◌≡◌, ◌≤ℤ◌, if◌then◌else◌, pos};
+ghost use Rattle.w4_blit.specs.Seen.{with_seen};
+ghost use Rattle.w4_defs.specs.Framebuffer.{paint};
+ghost use Rattle.w4_defs.specs.Text.{text_codes, text_painter};
+
+use crate::codes::{code_at, code_count};
+use crate::font::Font;
+use crate::glyphs::{Glyph, put_glyph};
+use crate::source::{Seen, framebuffer};
+use w4_defs::{PageBytes, TextSource};
+
+/// Where the next code's cells begin.
+#[derive(Clone, Copy)]
+struct Pen {
+    x: i64,
+    y: i64,
+}
+
+/// Paints a text from (x, y) on. Code 10 goes to column `x`, 8 further down; every other code moves 8 to the
+/// right, and those from 32 to 255 paint 8 by 8 cells, a bit 0 of the font in colour 1, a bit 1 in colour 2.
+pub fn text(page: &mut PageBytes, font: &Font, colors: u16, source: TextSource, x: i32, y: i32)
+    ensures { page.new ≡ paint page.old (text_painter font.now colors (text_codes page.old source) x y) }
+{
+    let seen = framebuffer(page);
+    put_codes(
+        page,
+        &seen,
+        font,
+        colors,
+        source,
+        i64::from(x),
+        i64::from(y),
+    );
+}
+
+fn put_codes(
+    page: &mut PageBytes,
+    seen: &Seen,
+    font: &Font,
+    colors: u16,
+    source: TextSource,
+    x: i64,
+    y: i64,
+)
+    requires column { x ≤ℤ pos 2147483648 }
+    requires row { y ≤ℤ pos 2147483648 }
+    ensures { page.new ≡ paint page.old (text_painter font.now colors (text_codes (with_seen page.old seen.now) source) x y) }
+{
+    let mut pen = Pen { x, y };
+    let count = code_count(page, seen, source);
+    for k in 0..count {
+        let code = code_at(page, seen, source, k);
+        let glyph = Glyph {
+            colors,
+            code,
+            x: pen.x,
+            y: pen.y,
+        };
+        put_glyph(page, font, glyph);
+        pen = moved(pen, code, x);
+    }
+}
+
+/// Where the pen stands after a code, where lines begin at column `left`.
+fn moved(pen: Pen, code: u16, left: i64) -> Pen
+    requires column { pen.x ≤ℤ pos 4294967296 }
+    requires row { pen.y ≤ℤ pos 4294967296 }
+    ensures column { result.x ≡ (if code == 10 then left else pen.x +ℤ pos 8) }
+    ensures row { result.y ≡ (if code == 10 then pen.y +ℤ pos 8 else pen.y) }
+{
+    if code == 10 {
+        Pen {
+            x: left,
+            y: pen.y + 8,
+        }
+    } else {
+        Pen {
+            x: pen.x + 8,
+            y: pen.y,
+        }
+    }
+}
