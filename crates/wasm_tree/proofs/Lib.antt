@@ -1,0 +1,4 @@
+-- Lemmas of the flat lists.
+pub mod PoolLaws
+pub mod ShiftLaws
+pub mod LayoutLaws
