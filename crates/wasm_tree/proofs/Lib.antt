@@ -1,4 +1,5 @@
 -- Lemmas of the flat lists.
 pub mod PoolLaws
 pub mod ShiftLaws
+pub mod ExpressionLaws
 pub mod LayoutLaws

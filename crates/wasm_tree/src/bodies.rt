@@ -127,7 +127,7 @@ fn appended(marks: Marks, body: &Marks) -> Result<Marks, OutOfMemory>
     let start = marks.len();
     let mut marks = marks;
     for place in 0..body.len() {
-        let op = op_after(body.op(place), start).ok_or(OutOfMemory)?;
+        let op = op_after(body.op(place), start)?;
         marks = marks.with(op, body.labels(place))?;
     }
     Ok(marks)

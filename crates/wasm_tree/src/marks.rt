@@ -1,6 +1,6 @@
 //! Operations with their labels in three flat lists.
 
-ghost use Rattle.std.specs.Prelude.{◌++◌, ◌<◌, ◌≡◌, ◌∷◌, IfOk, Some, [], get_or, length, option_map, slice_get, slice_set};
+ghost use Rattle.std.specs.Prelude.{◌+◌, ◌++◌, ◌<◌, ◌≡◌, ◌≤◌, ◌∷◌, IfOk, Some, [], get_or, length, option_map, slice_get, slice_index, slice_range, slice_set};
 ghost use Rattle.wasm_tree.specs.Pool.{label_begins, operations_of, pool_of};
 
 use std::alloc::Global;
@@ -83,7 +83,7 @@ impl Marks {
         requires { place < length self.now }
         ensures { option_map (λ m. m.1) (slice_get self.now place) ≡ Some result.now }
     {
-        &self.pool[self.begins[place]..self.begins[place + 1]]
+        stretch(&self.pool, &self.begins, place)
     }
 
     /// All operations.
@@ -106,4 +106,14 @@ impl Marks {
     {
         &self.begins
     }
+}
+
+/// The part of the pool from the place that stands in the list to the next.
+fn stretch<'a>(pool: &'a [u32], begins: &[usize], place: usize) -> &'a [u32]
+    requires next { place + 1 < length begins.now }
+    requires rises { slice_index begins.now place ≤ slice_index begins.now (place + 1) }
+    requires within { slice_index begins.now (place + 1) ≤ length pool.now }
+    ensures { result.now ≡ slice_range pool.now (slice_index begins.now place) (slice_index begins.now (place + 1)) }
+{
+    &pool[begins[place]..begins[place + 1]]
 }

@@ -1,9 +1,9 @@
 //! The places of the matching else and end, moved along.
 
-ghost use Rattle.std.specs.Prelude.{◌+◌, ◌-◌, ◌≡◌, IfSome, option_map};
+ghost use Rattle.std.specs.Prelude.{◌+◌, ◌-◌, ◌≡◌, IfOk, IfSome, option_map};
 ghost use Rattle.wasm_tree.specs.Shifting.{FlatteningIsShifted, op_after, op_within};
 
-use w4_defs::Op;
+use w4_defs::{Op, OutOfMemory};
 
 /// Entries that stand after others are those of their own flattening, with all places moved along.
 pub fn flattening_is_shifted()
@@ -41,8 +41,18 @@ fn place_within(place: Option<usize>, start: usize) -> Option<usize>
     }
 }
 
-/// An entry as it stands after `start` others; None where its places can't be counted.
-pub fn op_after(op: Op, start: usize) -> Option<Op>
+/// An entry as it stands after `start` others.
+pub fn op_after(op: Op, start: usize) -> Result<Op, OutOfMemory>
+    ensures { IfOk result (λ r. r ≡ op_after start op) }
+{
+    match op_counted_after(op, start) {
+        Some(op) => Ok(op),
+        None => Err(OutOfMemory),
+    }
+}
+
+/// None where a place would pass the greatest number, more than any memory holds.
+fn op_counted_after(op: Op, start: usize) -> Option<Op>
     ensures { IfSome result (λ r. r ≡ op_after start op) }
 {
     Some(match op {
