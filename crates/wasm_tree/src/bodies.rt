@@ -1,17 +1,17 @@
 //! The bodies of all own functions in one list.
 
-ghost use Rattle.std.specs.Prelude.{◌++◌, ◌<◌, ◌≡◌, ◌∷◌, All, IfOk, Some, [], length, map, option_map, slice_get, take};
+ghost use Rattle.std.specs.Prelude.{◌+◌, ◌++◌, ◌<◌, ◌≡◌, ◌∷◌, All, IfOk, Some, [], length, map, option_map, slice_get, take};
 ghost use Rattle.w4_defs.specs.Flattening.{IsProper};
 ghost use Rattle.w4_defs.specs.Tree.{flat};
-ghost use Rattle.wasm_tree.specs.Layout.{StandsAt, laid_from, starts_from};
+ghost use Rattle.wasm_tree.specs.Layout.{StandsAt, entry_of, laid_from, size_with, starts_from};
 ghost use Rattle.wasm_tree.specs.Shifting.{after};
 
 use crate::marks::Marks;
 use crate::parts::FlatBody;
-use crate::places::op_after;
+use crate::places::{op_after, op_within};
 use std::alloc::Global;
 use std::marker::Model;
-use w4_defs::{Locals, OutOfMemory};
+use w4_defs::{Locals, Op, OutOfMemory};
 
 /// Where a body stands in the one list, how many entries it has, and its runs of locals.
 #[derive(Debug, Drop)]
@@ -118,6 +118,28 @@ impl Bodies {
     {
         &self.places[func].runs
     }
+
+    /// The entry of a body at a place that counts from the body's first.
+    pub fn op(&self, func: usize, place: usize) -> Op
+        requires { place < size_with (slice_get self.now func) }
+        ensures { option_map (λ m. m.0) (entry_of (slice_get self.now func) place) ≡ Some result }
+    {
+        let start = self.start(func);
+        let marks = self.marks();
+        let at = place_among(marks.ops(), start, place);
+        op_within(marks.op(at), start)
+    }
+
+    /// The labels of the entry of a body at a place that counts from the body's first.
+    pub fn labels(&self, func: usize, place: usize) -> &[u32]
+        requires { place < size_with (slice_get self.now func) }
+        ensures { option_map (λ m. m.1) (entry_of (slice_get self.now func) place) ≡ Some result.now }
+    {
+        let start = self.start(func);
+        let marks = self.marks();
+        let at = place_among(marks.ops(), start, place);
+        marks.labels(at)
+    }
 }
 
 /// The entries with those of a body after them.
@@ -131,4 +153,12 @@ fn appended(marks: Marks, body: &Marks) -> Result<Marks, OutOfMemory>
         marks = marks.with(op, body.labels(place))?;
     }
     Ok(marks)
+}
+
+/// A place of one body among those of all operations.
+fn place_among(operations: &[Op], start: usize, place: usize) -> usize
+    requires { start + place < length operations.now }
+    ensures { result ≡ start + place }
+{
+    start + place
 }

@@ -1,13 +1,13 @@
 //! A module in flat lists.
 
-ghost use Rattle.std.specs.Prelude.{◌<◌, ◌≡◌, Some, length, option_map, slice_get};
+ghost use Rattle.std.specs.Prelude.{◌<◌, ◌≡◌, All, IfSome, Some, length, option_map, slice_get};
+ghost use Rattle.w4_defs.specs.Flattening.{IsProper};
 ghost use Rattle.w4_defs.specs.Tree.{flat};
-ghost use Rattle.wasm_tree.specs.Layout.{IsProperModule, StandsAt, body_size, body_starts, entries, entry_in};
+ghost use Rattle.wasm_tree.specs.Layout.{StandsAt, body_size, body_starts, entries, entry_in};
 ghost use Rattle.wasm_tree.specs.Pool.{label_begins, operations_of, pool_of};
 
 use crate::bodies::Bodies;
 use crate::parts::{FlatElement, FlatGlobal, FlatSegment};
-use crate::places::op_within;
 use std::marker::Model;
 use w4_defs::{Export, FuncType, GlobalType, ImportEntry, Limits, Locals, Op};
 
@@ -94,11 +94,6 @@ impl Code {
     {
         self.start
     }
-
-    /// Every expression is one of instructions alone: no plain one of its tree opens or ends a list.
-    pub fn is_proper(&self)
-        ensures { IsProperModule self.now }
-    {}
 }
 
 /// Own globals.
@@ -119,7 +114,8 @@ impl Code {
     /// The flattening of the first value.
     pub fn global_first(&self, i: usize) -> &[Op]
         requires { i < length self.now.globals }
-        ensures { option_map (λ g. operations_of (flat g.first)) (slice_get self.now.globals i) ≡ Some result.now }
+        ensures value { option_map (λ g. operations_of (flat g.first)) (slice_get self.now.globals i) ≡ Some result.now }
+        ensures proper { IfSome (slice_get self.now.globals i) (λ g. IsProper g.first) }
     {
         self.globals[i].first.ops()
     }
@@ -144,7 +140,8 @@ impl Code {
     /// The flattening of the offset.
     pub fn element_offset(&self, i: usize) -> &[Op]
         requires { i < length self.now.elements }
-        ensures { option_map (λ s. operations_of (flat s.offset)) (slice_get self.now.elements i) ≡ Some result.now }
+        ensures value { option_map (λ s. operations_of (flat s.offset)) (slice_get self.now.elements i) ≡ Some result.now }
+        ensures proper { IfSome (slice_get self.now.elements i) (λ s. IsProper s.offset) }
     {
         self.elements[i].offset.ops()
     }
@@ -177,7 +174,8 @@ impl Code {
     /// The flattening of the offset.
     pub fn segment_offset(&self, i: usize) -> &[Op]
         requires { i < length self.now.segments }
-        ensures { option_map (λ s. operations_of (flat s.offset)) (slice_get self.now.segments i) ≡ Some result.now }
+        ensures value { option_map (λ s. operations_of (flat s.offset)) (slice_get self.now.segments i) ≡ Some result.now }
+        ensures proper { IfSome (slice_get self.now.segments i) (λ s. IsProper s.offset) }
     {
         self.segments[i].offset.ops()
     }
@@ -213,8 +211,7 @@ impl Code {
         requires { place < body_size self.now func }
         ensures { option_map (λ m. m.0) (entry_in self.now func place) ≡ Some result }
     {
-        let start = self.bodies.start(func);
-        op_within(self.bodies.marks().op(start + place), start)
+        self.bodies.op(func, place)
     }
 
     /// The labels of the entry at a place: those of a br_table, the default last; none at any other.
@@ -222,8 +219,7 @@ impl Code {
         requires { place < body_size self.now func }
         ensures { option_map (λ m. m.1) (entry_in self.now func place) ≡ Some result.now }
     {
-        let start = self.bodies.start(func);
-        self.bodies.marks().labels(start + place)
+        self.bodies.labels(func, place)
     }
 }
 
@@ -231,7 +227,8 @@ impl Code {
 impl Code {
     /// The operations of all bodies.
     pub fn operations(&self) -> &[Op]
-        ensures { result.now ≡ operations_of (entries self.now) }
+        ensures value { result.now ≡ operations_of (entries self.now) }
+        ensures proper { All (λ f. IsProper f.list) self.now.bodies }
     {
         self.bodies.marks().ops()
     }

@@ -52,7 +52,8 @@ impl FlatExpression {
 
     /// The operations of the flattening.
     pub fn ops(&self) -> &[Op]
-        ensures { result.now ≡ operations_of (flat self.now) }
+        ensures value { result.now ≡ operations_of (flat self.now) }
+        ensures proper { IsProper self.now }
     {
         self.marks().ops()
     }
