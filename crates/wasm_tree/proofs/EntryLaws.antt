@@ -5,8 +5,7 @@ use Rattle.std.proofs.lemmas.List.{length-map, length-drop}
 use Rattle.std.proofs.lemmas.List.Elements.{All-head, All-tail}
 use Rattle.std.proofs.lemmas.Option.{slice_get-map, same_Some}
 use Rattle.w4_defs.specs.declared.operation.Op.{Op}
-use Rattle.w4_defs.specs.declared.operation.Op.TheVariants.{End}
-use Rattle.w4_defs.specs.Tree.{Mark, Expr, flat_at, flat}
+use Rattle.w4_defs.specs.Tree.{Mark, flat}
 use Rattle.w4_defs.specs.Flattening.{IsProper}
 use Rattle.w4_defs.specs.Module.{Function}
 use Rattle.wasm_tree.specs.Shifting.{op_after, op_within, after}

@@ -1,7 +1,5 @@
 -- Entries that are a flattening, by the tree that they show.
-use Rattle.std.proofs.Common.{◌≡◌, ℕ, zero, suc, ◌+◌, List, [], ◌∷◌, ◌++◌, map, take, Some, refl, sym, subst, ◌∙◌, ap, arith}
-use Rattle.std.specs.Prelude.{slice_get, option_map}
-use Rattle.w4_defs.specs.declared.operation.Op.{Op}
+use Rattle.std.proofs.Common.{◌≡◌, List, sym, subst, ◌∙◌, ap}
 use Rattle.w4_defs.specs.Tree.{Mark, Expr, flat}
 use Rattle.w4_defs.specs.Flattening.{IsProper, read_flat}
 use Rattle.w4_defs.proofs.ReadBack.{flattening_read_back}

@@ -1,15 +1,15 @@
 -- Each body stands where its place says, and the functions are read back from there.
-use Rattle.std.proofs.Common.{◌≡◌, ℕ, zero, suc, ◌+◌, ◌-◌, ◌<◌, ◌≤◌, List, [], ◌∷◌, ◌++◌, length, map, take, drop, get_or, Some, None, refl, sym, subst, ◌∙◌, ap, append_assoc, append-nil, length-append, arith}
-use Rattle.std.specs.Prelude.{slice_get, option_map, All}
+use Rattle.std.proofs.Common.{◌≡◌, ℕ, zero, suc, ◌+◌, ◌<◌, List, [], ◌∷◌, ◌++◌, length, map, take, drop, get_or, Some, refl, sym, subst, ◌∙◌, ap, append_assoc, append-nil, length-append, arith}
+use Rattle.std.specs.Prelude.{slice_get, option_map}
 use Rattle.std.proofs.Math.Seq.{drop-append_seam, take-append_seam}
 use Rattle.std.proofs.lemmas.List.Elements.{All-tail, All-push}
 use Rattle.w4_defs.specs.declared.operation.Op.TheVariants.{End}
-use Rattle.w4_defs.specs.Tree.{Mark, Expr, span, flat_at, flat}
+use Rattle.w4_defs.specs.Tree.{Mark, Expr, flat_at, flat}
 use Rattle.w4_defs.specs.Flattening.{IsProper, read_flat}
 use Rattle.w4_defs.specs.Module.{Function}
 use Rattle.w4_defs.proofs.ReadBack.{flattening_read_back}
 use Rattle.wasm_tree.specs.Shifting.{after, within}
-use Rattle.wasm_tree.specs.Layout.{Placed, size_of, laid_from, placed_from, starts_from, function_at, functions_of, AreProper, AreLaid, StandsAt, entry_of, size_with}
+use Rattle.wasm_tree.specs.Layout.{Placed, size_of, laid_from, placed_from, starts_from, function_at, functions_of, AreProper, AreLaid, StandsAt}
 use Rattle.wasm_tree.proofs.ShiftLaws.{flattening_shifted, all_back, length_flat}
 
 -- where one list stands between two others
@@ -79,10 +79,11 @@ pub more : (ms ms' : List Mark) (ps ps' : List Placed) (fs : List Function) (f :
     → AreProper (fs ++ f ∷ []) × (ms' ≡ laid_from 0 (fs ++ f ∷ [])) × (ps' ≡ placed_from 0 (fs ++ f ∷ []))
 more ms ms' ps ps' fs f start count h p es ec em ep =
     let here : start ≡ 0 + length (laid_from 0 fs) = omega (arith, es, ap length h.1) in
-    let size : count ≡ size_of f = ec ∙ sym (size_right 0 f) in
-    (All-push (λ g. IsProper g.list) fs f h.0 p,
-    em ∙ ap (λ n. ms ++ map (after n) (flat f.list)) (sym es) ∙ ap (λ xs. ms ++ xs) (sym (flattening_shifted start f.list p)) ∙ ap (λ xs. xs ++ flat_at End start f.list) h.1 ∙ sym (laid_more 0 fs f start here),
-    ep ∙ ap (λ n. ps ++ record { start = start; count = n; runs = f.runs } ∷ []) size ∙ ap (λ xs. xs ++ record { start = start; count = size_of f; runs = f.runs } ∷ []) h.2 ∙ sym (placed_more 0 fs f start here))
+    let size : count ≡ size_of f = ec ∙ sym (size_right 0 f) in (
+      All-push (λ g. IsProper g.list) fs f h.0 p,
+      em ∙ ap (λ n. ms ++ map (after n) (flat f.list)) (sym es) ∙ ap (λ xs. ms ++ xs) (sym (flattening_shifted start f.list p)) ∙ ap (λ xs. xs ++ flat_at End start f.list) h.1 ∙ sym (laid_more 0 fs f start here),
+      ep ∙ ap (λ n. ps ++ record { start = start; count = n; runs = f.runs } ∷ []) size ∙ ap (λ xs. xs ++ record { start = start; count = size_of f; runs = f.runs } ∷ []) h.2 ∙ sym (placed_more 0 fs f start here),
+    )
 
 -- what the place of one body says of it
 pub record FactsFrom (ms : List Mark) (at : ℕ) (fs : List Function) (func : ℕ) (p : Placed) : Type 0 where

@@ -3,12 +3,11 @@ use Rattle.std.proofs.Common.{◌≡◌, ℕ, zero, suc, take, append_assoc, ◌
 use Rattle.std.specs.Prelude.{option_map, slice_get}
 use Rattle.std.proofs.lemmas.List.{map-append}
 use Rattle.std.proofs.lemmas.Option.{same_Some}
-use Rattle.w4_defs.specs.declared.value.ValType.{ValType}
 use Rattle.w4_defs.specs.declared.operation.Op.{Op}
 use Rattle.w4_defs.specs.declared.operation.Op.TheVariants.{Block, Loop, If, Else, End}
-use Rattle.w4_defs.specs.Tree.{Mark, mark, Expr, done, plain, block, loop, if_then, if_else, span, flat_at, flat}
+use Rattle.w4_defs.specs.Tree.{Mark, mark, Expr, done, plain, block, loop, if_then, if_else, span, flat_at}
 use Rattle.w4_defs.specs.Flattening.{IsLeaf, IsProper}
-use Rattle.wasm_tree.specs.Shifting.{with_places, op_after, op_within, after, within, FlatteningIsShifted}
+use Rattle.wasm_tree.specs.Shifting.{op_after, op_within, after, within, FlatteningIsShifted}
 
 leaf_after : (start : ℕ) (op : Op) → IsLeaf op → op ≡ op_after start op
 leaf_after start (Block r m) h = absurd h

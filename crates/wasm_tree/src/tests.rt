@@ -4,12 +4,14 @@ ghost use Rattle.std.specs.Prelude.{◌≡◌, ◌∷◌, IfOk, Some, None, [], 
 ghost use Rattle.w4_defs.specs.Tree.{block, done, if_else, plain};
 ghost use Rattle.w4_defs.specs.declared.operation.Op.TheVariants.{BrTable, I32Const};
 
-use crate::{Bodies, Code, FlatBody, FlatElement, FlatExpression, FlatGlobal, FlatSegment, Host, Marks};
 use crate::places::{flattening_is_shifted, op_after, op_within};
+use crate::{
+    Bodies, Code, FlatBody, FlatElement, FlatExpression, FlatGlobal, FlatSegment, Host, Marks,
+};
 use std::alloc::Global;
 use w4_defs::{
-    Export, ExportKind, FuncType, GlobalType, Import, ImportEntry, ImportKind, Limits, Locals, Op, OutOfMemory,
-    PageBytes, ValType,
+    Export, ExportKind, FuncType, GlobalType, Import, ImportEntry, ImportKind, Limits, Locals, Op,
+    OutOfMemory, PageBytes, ValType,
 };
 
 /// `i32.const value`.
@@ -27,7 +29,13 @@ fn table(alloc: Global) -> Result<FlatExpression, OutOfMemory>
     ensures { IfOk result (λ e. e ≡ block None (plain (BrTable, 0 ∷ 1 ∷ []) done) done) }
 {
     let marks = Marks::new(alloc)?
-        .with(Op::Block { result: None, end: 2 }, &[])?
+        .with(
+            Op::Block {
+                result: None,
+                end: 2,
+            },
+            &[],
+        )?
         .with(Op::BrTable, &[0, 1])?
         .with(Op::End, &[])?
         .with(Op::End, &[])?;
@@ -39,7 +47,14 @@ fn choice(alloc: Global) -> Result<FlatExpression, OutOfMemory>
     ensures { IfOk result (λ e. e ≡ if_else None (plain (BrTable, 1 ∷ []) done) done done) }
 {
     let marks = Marks::new(alloc)?
-        .with(Op::If { result: None, other: Some(2), end: 3 }, &[])?
+        .with(
+            Op::If {
+                result: None,
+                other: Some(2),
+                end: 3,
+            },
+            &[],
+        )?
         .with(Op::BrTable, &[1])?
         .with(Op::Else, &[])?
         .with(Op::End, &[])?
@@ -52,9 +67,18 @@ fn two_bodies(alloc: Global) -> Result<Bodies, OutOfMemory>
     ensures { IfOk result (λ b. length b ≡ 2) }
 {
     let mut runs = Vec::new(alloc);
-    runs.push(Locals { count: 3, kind: ValType::I64 })?;
-    let first = FlatBody { runs: Vec::new(alloc), list: table(alloc)? };
-    let second = FlatBody { runs, list: choice(alloc)? };
+    runs.push(Locals {
+        count: 3,
+        kind: ValType::I64,
+    })?;
+    let first = FlatBody {
+        runs: Vec::new(alloc),
+        list: table(alloc)?,
+    };
+    let second = FlatBody {
+        runs,
+        list: choice(alloc)?,
+    };
     Bodies::new(alloc)?.with(first)?.with(second)
 }
 
@@ -65,10 +89,19 @@ fn small(alloc: Global) -> Result<Code, OutOfMemory>
     ensures elements { IfOk result (λ c. length c.elements ≡ 1) }
     ensures segments { IfOk result (λ c. length c.segments ≡ 1) }
 {
-    let limits = Limits { least: 1, greatest: None };
-    let global = GlobalType { value: ValType::I32, mutable: true };
+    let limits = Limits {
+        least: 1,
+        greatest: None,
+    };
+    let global = GlobalType {
+        value: ValType::I32,
+        mutable: true,
+    };
     let mut types = Vec::new(alloc);
-    types.push(FuncType { params: Vec::new(alloc), results: Vec::new(alloc) })?;
+    types.push(FuncType {
+        params: Vec::new(alloc),
+        results: Vec::new(alloc),
+    })?;
     let mut imports = Vec::new(alloc);
     imports.push(ImportEntry {
         module: Vec::from_slice(alloc, b"env")?,
@@ -76,13 +109,28 @@ fn small(alloc: Global) -> Result<Code, OutOfMemory>
         kind: ImportKind::Memory { limits },
     })?;
     let mut exports = Vec::new(alloc);
-    exports.push(Export { name: Vec::from_slice(alloc, b"update")?, kind: ExportKind::Func, index: 1 })?;
+    exports.push(Export {
+        name: Vec::from_slice(alloc, b"update")?,
+        kind: ExportKind::Func,
+        index: 1,
+    })?;
     let mut globals = Vec::new(alloc);
-    globals.push(FlatGlobal { global, first: constant(alloc, 6560)? })?;
+    globals.push(FlatGlobal {
+        global,
+        first: constant(alloc, 6560)?,
+    })?;
     let mut elements = Vec::new(alloc);
-    elements.push(FlatElement { table: 0, offset: constant(alloc, 4)?, functions: Vec::from_slice(alloc, &[1, 0])? })?;
+    elements.push(FlatElement {
+        table: 0,
+        offset: constant(alloc, 4)?,
+        functions: Vec::from_slice(alloc, &[1, 0])?,
+    })?;
     let mut segments = Vec::new(alloc);
-    segments.push(FlatSegment { memory: 0, offset: constant(alloc, 9)?, bytes: Vec::from_slice(alloc, b"ab")? })?;
+    segments.push(FlatSegment {
+        memory: 0,
+        offset: constant(alloc, 9)?,
+        bytes: Vec::from_slice(alloc, b"ab")?,
+    })?;
     Ok(Code {
         types,
         imports,
@@ -101,11 +149,32 @@ fn small(alloc: Global) -> Result<Code, OutOfMemory>
 #[test]
 fn readers_answer_the_parts_of_a_module(rt: HostRuntime) {
     let code = small(rt.alloc()).expect(&rt, "memory");
-    assert_eq!(rt; (code.types().len(), code.imports().len(), code.exports().len()), (1, 1, 1));
+    assert_eq!(rt;
+        (
+            code.types().len(),
+            code.imports().len(),
+            code.exports().len()
+        ),
+        (1, 1, 1)
+    );
     assert!(rt; code.functions() == [0, 0].as_slice() && code.memories().is_empty());
-    assert!(rt; code.tables() == [Limits { least: 1, greatest: None }].as_slice());
+    assert!(rt;
+        code.tables()
+            == [Limits {
+                least: 1,
+                greatest: None
+            }]
+            .as_slice()
+    );
     assert_eq!(rt; code.start(), Some(0));
-    assert_eq!(rt; (code.global_count(), code.element_count(), code.segment_count()), (1, 1, 1));
+    assert_eq!(rt;
+        (
+            code.global_count(),
+            code.element_count(),
+            code.segment_count()
+        ),
+        (1, 1, 1)
+    );
     assert!(rt; code.global_type(0).mutable);
     assert!(rt; code.global_first(0) == [Op::I32Const { value: 6560 }, Op::End].as_slice());
     assert_eq!(rt; (code.element_table(0), code.segment_memory(0)), (0, 0));
@@ -118,15 +187,38 @@ fn readers_answer_the_parts_of_a_module(rt: HostRuntime) {
 #[test]
 fn second_body_stands_after_the_first(rt: HostRuntime) {
     let bodies = two_bodies(rt.alloc()).expect(&rt, "memory");
-    assert_eq!(rt; (bodies.start(0), bodies.start(1), bodies.count(0), bodies.count(1)), (0, 4, 4, 5));
-    assert!(rt; bodies.runs(0).is_empty() && bodies.runs(1) == [Locals { count: 3, kind: ValType::I64 }].as_slice());
+    assert_eq!(rt;
+        (
+            bodies.start(0),
+            bodies.start(1),
+            bodies.count(0),
+            bodies.count(1)
+        ),
+        (0, 4, 4, 5)
+    );
+    assert!(rt;
+        bodies.runs(0).is_empty()
+            && bodies.runs(1)
+                == [Locals {
+                    count: 3,
+                    kind: ValType::I64
+                }]
+                .as_slice()
+    );
     let marks = bodies.marks();
     let all = [
-        Op::Block { result: None, end: 2 },
+        Op::Block {
+            result: None,
+            end: 2,
+        },
         Op::BrTable,
         Op::End,
         Op::End,
-        Op::If { result: None, other: Some(6), end: 7 },
+        Op::If {
+            result: None,
+            other: Some(6),
+            end: 7,
+        },
         Op::BrTable,
         Op::Else,
         Op::End,
@@ -142,9 +234,21 @@ fn places_count_from_each_body(rt: HostRuntime) {
     let code = small(rt.alloc()).expect(&rt, "memory");
     assert!(rt; code.functions().len() == 2 && code.runs(0).is_empty());
     let start = code.body_start(1);
-    assert_eq!(rt; (start, code.operations().len(), code.pool().len(), code.label_begins().len()), (4, 9, 3, 10));
+    assert_eq!(rt;
+        (
+            start,
+            code.operations().len(),
+            code.pool().len(),
+            code.label_begins().len()
+        ),
+        (4, 9, 3, 10)
+    );
     if code.len(1) == 5 {
-        let choice = Op::If { result: None, other: Some(2), end: 3 };
+        let choice = Op::If {
+            result: None,
+            other: Some(2),
+            end: 3,
+        };
         assert!(rt; code.op(1, 0) == choice);
         assert!(rt; code.op(1, 2) == Op::Else);
         assert!(rt; code.labels(1, 1) == [1].as_slice() && code.labels(1, 0).is_empty());
@@ -154,4 +258,3 @@ fn places_count_from_each_body(rt: HostRuntime) {
     }
     flattening_is_shifted();
 }
-

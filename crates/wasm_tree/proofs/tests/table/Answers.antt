@@ -1,6 +1,6 @@
 use Rattle.std.proofs.Common.{◌≡◌, ◌∙◌, ap, refl, [], ◌∷◌, None}
-use Rattle.w4_defs.specs.declared.operation.Op.TheVariants.{BrTable, I32Const}
-use Rattle.w4_defs.specs.Tree.{Expr, flat, plain, block, if_else, done}
+use Rattle.w4_defs.specs.declared.operation.Op.TheVariants.{BrTable}
+use Rattle.w4_defs.specs.Tree.{flat, plain, block, done}
 use Rattle.w4_defs.specs.Flattening.{read_flat}
 use Rattle.wasm_tree.proofs.tests.table.Goals as goal
 

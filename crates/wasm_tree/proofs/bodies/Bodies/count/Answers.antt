@@ -1,4 +1,4 @@
-use Rattle.std.proofs.Common.{arith, sym, ap, Some, length, get_or, ◌∙◌, subst}
+use Rattle.std.proofs.Common.{arith, sym, ap, Some, length, get_or, ◌∙◌}
 use Rattle.wasm_tree.proofs.LayoutLaws.{shown, placed_length, facts}
 use Rattle.wasm_tree.proofs.bodies.Bodies.count.Goals as goal
 

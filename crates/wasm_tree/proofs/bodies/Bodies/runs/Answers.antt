@@ -1,5 +1,5 @@
-use Rattle.std.proofs.Common.{arith, ap, length, get_or, ◌∙◌, subst}
-use Rattle.wasm_tree.proofs.LayoutLaws.{shown, placed_length, facts}
+use Rattle.std.proofs.Common.{arith, ap, length}
+use Rattle.wasm_tree.proofs.LayoutLaws.{shown, placed_length}
 use Rattle.wasm_tree.proofs.bodies.Bodies.runs.Goals as goal
 
 pub index-requires : goal.index-requires

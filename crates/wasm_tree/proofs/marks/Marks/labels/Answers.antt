@@ -1,7 +1,7 @@
-use Rattle.std.proofs.Common.{◌≡◌, ◌≤◌, ◌+◌, ℕ, List, length, get_or, arith, ap, sym, ◌∙◌, subst}
+use Rattle.std.proofs.Common.{◌+◌, get_or, arith, ap, sym, ◌∙◌}
 use Rattle.std.specs.Prelude.{slice_range, Some}
-use Rattle.wasm_tree.proofs.PoolLaws.{shown, length_begins, Stretch, stretch}
-use Rattle.wasm_tree.specs.Pool.{label_begins, pool_of}
+use Rattle.wasm_tree.proofs.PoolLaws.{shown, length_begins, stretch}
+use Rattle.wasm_tree.specs.Pool.{pool_of}
 use Rattle.wasm_tree.proofs.marks.Marks.labels.Goals as goal
 
 pub stretch-requires-clause-next : goal.stretch-requires-clause-next
