@@ -1,16 +1,19 @@
 -- The entry of a body at a place, among the entries of all bodies.
-use Rattle.std.proofs.Common.{◌≡◌, ℕ, zero, suc, ◌+◌, ◌<◌, List, [], ◌∷◌, ◌++◌, length, map, drop, Some, None, refl, sym, ◌∙◌, ap, arith, length-append}
+use Rattle.std.proofs.Common.{◌≡◌, ℕ, zero, suc, ◌+◌, ◌<◌, List, [], ◌∷◌, ◌++◌, ◌≤◌, length, map, take, drop, Some, None, refl, sym, ◌∙◌, ap, arith, length-append}
 use Rattle.std.specs.Prelude.{slice_get, option_map, All, IfSome, Option}
-use Rattle.std.proofs.lemmas.List.{length-map, length-drop}
+use Rattle.std.proofs.Math.Seq.{take-append_seam}
+use Rattle.std.proofs.lemmas.List.{length-map, length-drop, map-append, drop-map}
 use Rattle.std.proofs.lemmas.List.Elements.{All-head, All-tail}
 use Rattle.std.proofs.lemmas.Option.{slice_get-map, same_Some}
 use Rattle.w4_defs.specs.declared.operation.Op.{Op}
-use Rattle.w4_defs.specs.Tree.{Mark, flat}
+use Rattle.w4_defs.specs.declared.operation.Op.TheVariants.{End}
+use Rattle.w4_defs.specs.Tree.{Mark, span, flat_at, flat}
 use Rattle.w4_defs.specs.Flattening.{IsProper}
 use Rattle.w4_defs.specs.Module.{Function}
 use Rattle.wasm_tree.specs.Shifting.{op_after, op_within, after}
-use Rattle.wasm_tree.specs.Layout.{StandsAt, entry_of, size_with}
-use Rattle.wasm_tree.proofs.ShiftLaws.{flattening_shifted, op_back}
+use Rattle.wasm_tree.specs.Pool.{operations_of}
+use Rattle.wasm_tree.specs.Layout.{StandsAt, IsBody, entry_of, size_with}
+use Rattle.wasm_tree.proofs.ShiftLaws.{flattening_shifted, op_back, length_flat}
 
 got_first : {X : Type 0} (xs ys : List X) (k : ℕ) → k < length xs → slice_get (xs ++ ys) k ≡ slice_get xs k
 got_first [] ys k h = absurd (omega (arith, h))
@@ -28,7 +31,7 @@ got_within [] k h = absurd (omega (arith, h))
 got_within (x ∷ xs) zero h = (x, refl)
 got_within (x ∷ xs) (suc k) h = got_within xs k (omega (arith, h))
 
-got_all : {X : Type 0} (P : X → Type 0) (xs : List X) (k : ℕ) → All P xs → IfSome (slice_get xs k) P
+pub got_all : {X : Type 0} (P : X → Type 0) (xs : List X) (k : ℕ) → All P xs → IfSome (slice_get xs k) P
 got_all P [] k h = tt
 got_all P (x ∷ xs) zero h = All-head P x xs h
 got_all P (x ∷ xs) (suc k) h = got_all P xs k (All-tail P x xs h)
@@ -76,3 +79,16 @@ pub index_small : (fs : List Function) (func place : ℕ) → place < size_with 
 index_small [] func place h = absurd (omega (arith, h))
 index_small (f ∷ fs) zero place h = omega arith
 index_small (f ∷ fs) (suc func) place h = omega (arith, index_small fs func place h)
+
+-- a body's operations are the part of all that its place names
+pub body_part : (ms : List Mark) (ops part : List Op) (start count : ℕ) (f : Option Function) → ops ≡ operations_of ms → StandsAt ms start f
+    → option_map (λ g. length (flat g.list)) f ≡ Some count → (start + count ≤ length ops) × (part ≡ take count (drop start ops) → IsBody f part)
+body_part ms ops part start count None e h n = absurd h
+body_part ms ops part start count (Some f) e h n =
+    let front : List Mark = flat_at End start f.list in
+    let some : count ≡ span f.list + 1 = sym (same_Some _ _ n) ∙ length_flat End 0 f.list in
+    let size : count ≡ length (operations_of front) = some ∙ sym (length_flat End start f.list) ∙ sym (length-map front (λ m. m.0)) in
+    let there : drop start ops ≡ operations_of front ++ operations_of h.0 =
+    ap (drop start) e ∙ drop-map (λ m. m.0) start ms ∙ ap operations_of h.1 ∙ map-append (λ m. m.0) front h.0 in
+    (omega (arith, some, size, ap length there, length-append (operations_of front) (operations_of h.0), length-drop start ops),
+    λ is. (start, is ∙ ap (take count) there ∙ ap (λ k. take k (operations_of front ++ operations_of h.0)) size ∙ take-append_seam (operations_of front) (operations_of h.0)))

@@ -1,9 +1,9 @@
 //! The bodies of all own functions in one list.
 
-ghost use Rattle.std.specs.Prelude.{◌+◌, ◌++◌, ◌<◌, ◌≡◌, ◌∷◌, All, IfOk, Some, [], length, map, option_map, slice_get, take};
+ghost use Rattle.std.specs.Prelude.{◌+◌, ◌++◌, ◌<◌, ◌≡◌, ◌≤◌, ◌∷◌, All, IfOk, IfSome, Some, [], length, map, option_map, slice_get, take, drop};
 ghost use Rattle.w4_defs.specs.Flattening.{IsProper};
 ghost use Rattle.w4_defs.specs.Tree.{flat};
-ghost use Rattle.wasm_tree.specs.Layout.{StandsAt, entry_of, laid_from, size_with, starts_from};
+ghost use Rattle.wasm_tree.specs.Layout.{IsBody, StandsAt, entry_of, laid_from, size_with, starts_from};
 ghost use Rattle.wasm_tree.specs.Shifting.{after};
 
 use crate::marks::Marks;
@@ -111,6 +111,15 @@ impl Bodies {
         self.places[func].count
     }
 
+    /// The operations of a body, with places that count from the first entry of all bodies.
+    pub fn operations(&self, func: usize) -> &[Op]
+        requires { func < length self.now }
+        ensures value { IsBody (slice_get self.now func) result.now }
+        ensures proper { IfSome (slice_get self.now func) (λ f. IsProper f.list) }
+    {
+        part(self.marks().ops(), self.start(func), self.count(func))
+    }
+
     /// The runs of locals of a body.
     pub fn runs(&self, func: usize) -> &[Locals]
         requires { func < length self.now }
@@ -161,4 +170,11 @@ fn place_among(operations: &[Op], start: usize, place: usize) -> usize
     ensures { result ≡ start + place }
 {
     start + place
+}
+
+fn part(operations: &[Op], start: usize, count: usize) -> &[Op]
+    requires { start + count ≤ length operations.now }
+    ensures { result.now ≡ take count (drop start operations.now) }
+{
+    &operations[start..start + count]
 }

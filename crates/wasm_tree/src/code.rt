@@ -3,7 +3,7 @@
 ghost use Rattle.std.specs.Prelude.{◌<◌, ◌≡◌, All, IfSome, Some, length, option_map, slice_get};
 ghost use Rattle.w4_defs.specs.Flattening.{IsProper};
 ghost use Rattle.w4_defs.specs.Tree.{flat};
-ghost use Rattle.wasm_tree.specs.Layout.{StandsAt, body_size, body_starts, entries, entry_in};
+ghost use Rattle.wasm_tree.specs.Layout.{IsBody, StandsAt, body_size, body_starts, entries, entry_in};
 ghost use Rattle.wasm_tree.specs.Pool.{label_begins, operations_of, pool_of};
 
 use crate::bodies::Bodies;
@@ -98,6 +98,12 @@ impl Code {
 
 /// Own globals.
 impl Code {
+    pub fn globals(&self) -> &[FlatGlobal]
+        ensures { result.now ≡ self.now.globals }
+    {
+        &self.globals
+    }
+
     pub fn global_count(&self) -> usize
         ensures { result ≡ length self.now.globals }
     {
@@ -123,6 +129,12 @@ impl Code {
 
 /// Element segments.
 impl Code {
+    pub fn elements(&self) -> &[FlatElement]
+        ensures { result.now ≡ self.now.elements }
+    {
+        &self.elements
+    }
+
     pub fn element_count(&self) -> usize
         ensures { result ≡ length self.now.elements }
     {
@@ -157,6 +169,12 @@ impl Code {
 
 /// Data segments.
 impl Code {
+    pub fn segments(&self) -> &[FlatSegment]
+        ensures { result.now ≡ self.now.segments }
+    {
+        &self.segments
+    }
+
     pub fn segment_count(&self) -> usize
         ensures { result ≡ length self.now.segments }
     {
@@ -192,7 +210,7 @@ impl Code {
 impl Code {
     /// The runs of locals, as they are written.
     pub fn runs(&self, func: usize) -> &[Locals]
-        requires { func < length self.now.functions }
+        requires { func < length self.now.bodies }
         ensures { option_map (λ f. f.runs) (slice_get self.now.bodies func) ≡ Some result.now }
     {
         self.bodies.runs(func)
@@ -200,7 +218,7 @@ impl Code {
 
     /// How many entries the flattening has.
     pub fn len(&self, func: usize) -> usize
-        requires { func < length self.now.functions }
+        requires { func < length self.now.bodies }
         ensures { result ≡ body_size self.now func }
     {
         self.bodies.count(func)
@@ -249,10 +267,19 @@ impl Code {
 
     /// The place of the first entry of an own function.
     pub fn body_start(&self, func: usize) -> usize
-        requires { func < length self.now.functions }
+        requires { func < length self.now.bodies }
         ensures start { slice_get (body_starts self.now) func ≡ Some result }
         ensures stands { StandsAt (entries self.now) result (slice_get self.now.bodies func) }
     {
         self.bodies.start(func)
+    }
+
+    /// The operations of one body, a part of the operations of all.
+    pub fn body(&self, func: usize) -> &[Op]
+        requires { func < length self.now.bodies }
+        ensures value { IsBody (slice_get self.now.bodies func) result.now }
+        ensures proper { IfSome (slice_get self.now.bodies func) (λ f. IsProper f.list) }
+    {
+        self.bodies.operations(func)
     }
 }
