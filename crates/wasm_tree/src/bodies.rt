@@ -1,0 +1,180 @@
+//! The bodies of all own functions in one list.
+
+ghost use Rattle.std.specs.Prelude.{◌+◌, ◌++◌, ◌<◌, ◌≡◌, ◌≤◌, ◌∷◌, All, IfOk, IfSome, Some, [], length, map, option_map, slice_get, take, drop};
+ghost use Rattle.w4_defs.specs.Flattening.{IsProper};
+ghost use Rattle.w4_defs.specs.Tree.{flat};
+ghost use Rattle.wasm_tree.specs.Layout.{IsBody, StandsAt, entry_of, laid_from, size_with, starts_from};
+ghost use Rattle.wasm_tree.specs.Shifting.{after};
+
+use crate::marks::Marks;
+use crate::parts::FlatBody;
+use crate::places::{op_after, op_within};
+use std::alloc::Global;
+use std::marker::Model;
+use w4_defs::{Locals, Op, OutOfMemory};
+
+/// Where a body stands in the one list, how many entries it has, and its runs of locals.
+#[derive(Debug, Drop)]
+struct BodyPlace {
+    start: usize,
+    count: usize,
+    runs: Vec<Locals>,
+}
+
+impl Model for BodyPlace {
+    ghost use Rattle.wasm_tree.specs.Layout.{Placed};
+
+    ghost Value = { Placed };
+
+    ghost view = { λ p. record { start = p.start; count = p.count; runs = p.runs.items } };
+}
+
+/// The bodies of all own functions, one after the other. Places count from the first entry of all. A
+/// clause sees the list of the functions.
+#[derive(Debug, Drop)]
+pub struct Bodies {
+    marks: Marks,
+    places: Vec<BodyPlace>,
+}
+
+impl Model for Bodies {
+    ghost use Rattle.std.specs.Prelude.{List};
+    ghost use Rattle.w4_defs.specs.Module.{Function};
+
+    ghost Value = { List Function };
+
+    ghost use Rattle.std.specs.Coded.{codes};
+    ghost use Rattle.w4_defs.specs.TreeCode.{tree_code};
+
+    ghost coded = { Prim.hlevel (codes, tree_code) };
+
+    ghost use Rattle.wasm_tree.specs.Layout.{AreLaid, functions_of};
+
+    ghost view = { λ b. functions_of b.marks b.places.items };
+
+    ghost invariant = { λ b. AreLaid b.marks b.places.items };
+}
+
+impl Bodies {
+    /// No bodies.
+    pub fn new(alloc: Global) -> Result<Bodies, OutOfMemory>
+        ensures { IfOk result (λ b. b ≡ []) }
+    {
+        Ok(Bodies {
+            marks: Marks::new(alloc)?,
+            places: Vec::new(alloc),
+        })
+    }
+
+    /// One more body at the end.
+    pub fn with(self, body: FlatBody) -> Result<Bodies, OutOfMemory>
+        ensures { IfOk result (λ b. b ≡ self ++ body ∷ []) }
+    {
+        let Bodies { marks, mut places } = self;
+        let FlatBody { runs, list } = body;
+        let start = marks.len();
+        let entries = list.marks();
+        let count = entries.len();
+        let marks = appended(marks, entries)?;
+        places.push(BodyPlace { start, count, runs })?;
+        Ok(Bodies { marks, places })
+    }
+
+    pub fn len(&self) -> usize
+        ensures { result ≡ length self.now }
+    {
+        self.places.len()
+    }
+
+    /// The entries of all bodies.
+    pub fn marks(&self) -> &Marks
+        ensures entries { result.now ≡ laid_from 0 self.now }
+        ensures proper { All (λ f. IsProper f.list) self.now }
+    {
+        &self.marks
+    }
+
+    /// The place of the first entry of a body.
+    pub fn start(&self, func: usize) -> usize
+        requires { func < length self.now }
+        ensures start { slice_get (starts_from 0 self.now) func ≡ Some result }
+        ensures stands { StandsAt (laid_from 0 self.now) result (slice_get self.now func) }
+    {
+        self.places[func].start
+    }
+
+    /// How many entries a body has.
+    pub fn count(&self, func: usize) -> usize
+        requires { func < length self.now }
+        ensures { option_map (λ f. length (flat f.list)) (slice_get self.now func) ≡ Some result }
+    {
+        self.places[func].count
+    }
+
+    /// The operations of a body, with places that count from the first entry of all bodies.
+    pub fn operations(&self, func: usize) -> &[Op]
+        requires { func < length self.now }
+        ensures value { IsBody (slice_get self.now func) result.now }
+        ensures proper { IfSome (slice_get self.now func) (λ f. IsProper f.list) }
+    {
+        part(self.marks().ops(), self.start(func), self.count(func))
+    }
+
+    /// The runs of locals of a body.
+    pub fn runs(&self, func: usize) -> &[Locals]
+        requires { func < length self.now }
+        ensures { option_map (λ f. f.runs) (slice_get self.now func) ≡ Some result.now }
+    {
+        &self.places[func].runs
+    }
+
+    /// The entry of a body at a place that counts from the body's first.
+    pub fn op(&self, func: usize, place: usize) -> Op
+        requires { place < size_with (slice_get self.now func) }
+        ensures { option_map (λ m. m.0) (entry_of (slice_get self.now func) place) ≡ Some result }
+    {
+        let start = self.start(func);
+        let marks = self.marks();
+        let at = place_among(marks.ops(), start, place);
+        op_within(marks.op(at), start)
+    }
+
+    /// The labels of the entry of a body at a place that counts from the body's first.
+    pub fn labels(&self, func: usize, place: usize) -> &[u32]
+        requires { place < size_with (slice_get self.now func) }
+        ensures { option_map (λ m. m.1) (entry_of (slice_get self.now func) place) ≡ Some result.now }
+    {
+        let start = self.start(func);
+        let marks = self.marks();
+        let at = place_among(marks.ops(), start, place);
+        marks.labels(at)
+    }
+}
+
+/// The entries with those of a body after them.
+fn appended(marks: Marks, body: &Marks) -> Result<Marks, OutOfMemory>
+    ensures { IfOk result (λ m. m ≡ marks ++ map (after (length marks)) body.now) }
+{
+    let start = marks.len();
+    let mut marks = marks;
+    for place in 0..body.len() {
+        let op = op_after(body.op(place), start)?;
+        marks = marks.with(op, body.labels(place))?;
+    }
+    Ok(marks)
+}
+
+/// A place of one body among those of all operations.
+fn place_among(operations: &[Op], start: usize, place: usize) -> usize
+    requires { start + place < length operations.now }
+    ensures { result ≡ start + place }
+{
+    start + place
+}
+
+fn part(operations: &[Op], start: usize, count: usize) -> &[Op]
+    requires { start + count ≤ length operations.now }
+    ensures { result.now ≡ take count (drop start operations.now) }
+{
+    &operations[start..start + count]
+}
