@@ -1,2 +1,0 @@
--- What the contracts of this crate cite besides the profile's definition.
-pub mod Judging
