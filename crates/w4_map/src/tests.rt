@@ -1,7 +1,8 @@
 use crate::{State, draw_colors, palette, put_input, system_flags};
 use std::test::Fail;
 use w4_defs::{Halt, Input, Val};
-use w4_tone::Channels;
+use w4_devices::{FrameRecord, schedule_text};
+use w4_tone::{Channels, decode};
 use wasm_page::Page;
 
 /// Inputs, and the bytes 0x15 to 0x1f of a page of 0xaa after each.
@@ -64,5 +65,29 @@ fn a_new_state_is_blank(rt: HostRuntime) -> Result<(), Fail> {
     assert_eq!(rt; state.channels, Channels::new());
     assert_eq!(rt; state.disk.bytes().len(), 0);
     assert_eq!(rt; state.halt, Halt::Running);
+    Ok(())
+}
+
+/// 65 tones in one frame, with first frequencies 1 to 65, each at level 100 for a frame: 64 are listed, one
+/// is dropped, and the dropped one sounds.
+#[test]
+fn a_dropped_tone_still_sounds(rt: HostRuntime) -> Result<(), Fail> {
+    let mut channels = Channels::new();
+    let mut made = FrameRecord::new();
+    let mut want = Vec::from_slice(rt.alloc(), b"frame 1\n")?;
+    for frequency in 1..66u32 {
+        let tone = decode(frequency, 1, 100, 0);
+        channels.play(tone);
+        made.tones.add(tone);
+        if frequency < 65 {
+            let line = format!(in rt.alloc(); "tone 0 {frequency} 0 0 0 1 0 100 100 0 0 0\n")?;
+            want.extend_from_slice(line.as_bytes())?;
+        }
+    }
+    made.sounds = channels.sounds(0);
+    want.extend_from_slice(b"dropped 1\nsound 0 100 65\n")?;
+    let mut text = Vec::new(rt.alloc());
+    schedule_text(rt.alloc(), 1, &made, &mut text)?;
+    assert_eq!(rt; text.as_slice(), want.as_slice());
     Ok(())
 }
