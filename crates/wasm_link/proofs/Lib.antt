@@ -1,0 +1,6 @@
+-- Lemmas of the profile.
+mod ListSteps
+mod FloatLaws
+mod SegmentLaws
+mod SignatureLaws
+mod ProfileLaws

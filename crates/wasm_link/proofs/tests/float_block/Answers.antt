@@ -1,0 +1,16 @@
+use Rattle.std.proofs.Common.{◌≡◌, ◌∙◌, ap, refl, [], Some}
+use Rattle.w4_defs.specs.declared.value.ValType.TheVariants.{F32}
+use Rattle.w4_defs.specs.declared.operation.Op.TheVariants.{F64Const, I32Const}
+use Rattle.w4_defs.specs.Tree.{flat, plain, block, done}
+use Rattle.w4_defs.specs.Flattening.{read_flat}
+use Rattle.wasm_link.proofs.tests.float_block.Goals as goal
+
+pub new-requires-2 : goal.new-requires-2
+new-requires-2 c =
+    let e : c.in_ok-marks.marks ≡ flat (block (Some F32) done done) = rw (c.in_ok-marks.ensures, c.in_ok-with-2.ensures, c.in_ok-with.ensures, c.in_ok-new.ensures) refl in
+    (block (Some F32) done done, (tt, tt), e)
+
+pub returns : goal.returns
+returns c =
+    let e : c.in_ok-marks.marks ≡ flat (block (Some F32) done done) = rw (c.in_ok-marks.ensures, c.in_ok-with-2.ensures, c.in_ok-with.ensures, c.in_ok-new.ensures) refl in
+    c.new-2.ensures ∙ ap read_flat e

@@ -1,0 +1,15 @@
+pub mod Basics
+pub mod NumberBounds
+pub mod NumberLaws
+pub mod CombineLaws
+pub mod TypeLaws
+pub mod RowLaws
+pub mod OperationSound
+pub mod OperationLaws
+pub mod EntryLaws
+pub mod Passes
+pub mod ExpressionLaws
+pub mod LoopLaws
+pub mod SectionLaws
+pub mod PartLaws
+pub mod ModuleLaws

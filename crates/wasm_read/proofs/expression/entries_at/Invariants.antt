@@ -1,0 +1,10 @@
+use Rattle.std.proofs.Common.{◌≡◌, ◌≤◌, ◌+◌, ◌-◌, length}
+use Rattle.wasm_read.specs.Combine.{after_items}
+use Rattle.wasm_read.specs.ReadExpression.{entries_at}
+use Rattle.wasm_read.proofs.expression.entries_at.Given as goal
+
+abbrev pub invariant-loop : goal.invariant-loop
+invariant-loop l = record {
+  few : l.depth ≤ l.counter + 1;
+  more : after_items l.marks (entries_at (length l.bytes - l.counter) l.depth l.rest) ≡ entries_at (length l.bytes) 1 l.bytes;
+}

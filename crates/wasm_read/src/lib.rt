@@ -1,0 +1,20 @@
+//! The binary reader (Core Specification, chapter 5): the module that bytes spell, or the answer that
+//! they spell none. Each reader answers exactly what its definition in w4_defs reads.
+#![tactic(auto)]
+
+pub mod brackets;
+pub mod expression;
+pub mod item;
+pub mod module;
+pub mod number;
+pub mod operation;
+pub mod part;
+pub mod refusal;
+pub mod section;
+pub mod table;
+#[cfg(test)]
+mod tests;
+pub mod value_type;
+
+pub use module::{at_most_one, read_module};
+pub use refusal::ReadRefusal;
