@@ -89,6 +89,7 @@ body_part ms ops part start count (Some f) e h n =
     let some : count ≡ span f.list + 1 = sym (same_Some _ _ n) ∙ length_flat End 0 f.list in
     let size : count ≡ length (operations_of front) = some ∙ sym (length_flat End start f.list) ∙ sym (length-map front (λ m. m.0)) in
     let there : drop start ops ≡ operations_of front ++ operations_of h.0 =
-    ap (drop start) e ∙ drop-map (λ m. m.0) start ms ∙ ap operations_of h.1 ∙ map-append (λ m. m.0) front h.0 in
-    (omega (arith, some, size, ap length there, length-append (operations_of front) (operations_of h.0), length-drop start ops),
-    λ is. (start, is ∙ ap (take count) there ∙ ap (λ k. take k (operations_of front ++ operations_of h.0)) size ∙ take-append_seam (operations_of front) (operations_of h.0)))
+    ap (drop start) e ∙ drop-map (λ m. m.0) start ms ∙ ap operations_of h.1 ∙ map-append (λ m. m.0) front h.0 in (
+      omega (arith, some, size, ap length there, length-append (operations_of front) (operations_of h.0), length-drop start ops),
+      λ is. (start, is ∙ ap (take count) there ∙ ap (λ k. take k (operations_of front ++ operations_of h.0)) size ∙ take-append_seam (operations_of front) (operations_of h.0)),
+    )
