@@ -156,15 +156,19 @@ fn locals(alloc: Global, runs: &[Locals]) -> Result<Result<(), ProfileRefusal>, 
     Ok(check_profile(&cart_with(alloc, runs, nothing(alloc)?)?))
 }
 
-/// The answer for a cart with one more import.
+/// The answer for a cart with one more import, behind which `update` has this index.
 fn imported(
     alloc: Global,
     module: &[u8],
     name: &[u8],
     kind: ImportKind,
+    update: u32,
 ) -> Result<Result<(), ProfileRefusal>, OutOfMemory> {
     let mut code = cart(alloc)?;
     code.imports.push(import(alloc, module, name, kind)?)?;
+    code.exports.clear();
+    code.exports
+        .push(export(alloc, b"update", ExportKind::Func, update)?)?;
     Ok(check_profile(&code))
 }
 
@@ -226,6 +230,10 @@ fn locals_and_sizes_at_their_bounds(rt: HostRuntime) {
         Ok(Err(ProfileRefusal::TableTooLarge))
     );
     assert_eq!(rt;
+        placed(alloc, 4294967295, 0, 0),
+        Ok(Err(ProfileRefusal::TableTooLarge))
+    );
+    assert_eq!(rt;
         placed(alloc, 65536, 65534, 65534),
         Ok(Err(ProfileRefusal::SegmentOutside(1)))
     );
@@ -244,49 +252,28 @@ fn imports_are_right_by_name_and_type(rt: HostRuntime) {
     let alloc = rt.alloc();
     let unknown = Ok(Err(ProfileRefusal::UnknownImport(1)));
     let wrong = Ok(Err(ProfileRefusal::WrongImport(1)));
-    for (origin, name, kind, want) in [
+    let (env, memory) = (b"env".as_slice(), b"memory".as_slice());
+    let (diskr, trace) = (b"diskr".as_slice(), b"trace".as_slice());
+    for (origin, name, kind, update, want) in [
+        (env, trace, of_type(1), 1, Ok(Ok(()))),
+        (env, diskr, of_type(2), 1, Ok(Ok(()))),
         (
-            b"env".as_slice(),
-            b"trace".as_slice(),
-            of_type(1),
-            Ok(Ok(())),
-        ),
-        (
-            b"env".as_slice(),
-            b"diskr".as_slice(),
+            env,
+            diskr,
             of_type(2),
-            Ok(Ok(())),
+            0,
+            Ok(Err(ProfileRefusal::WrongEntry)),
         ),
-        (b"env".as_slice(), b"diskr".as_slice(), of_type(1), wrong),
-        (b"env".as_slice(), b"trace".as_slice(), of_type(3), wrong),
-        (
-            b"env".as_slice(),
-            b"trace".as_slice(),
-            pages(0, None),
-            wrong,
-        ),
-        (b"env".as_slice(), b"traces".as_slice(), of_type(1), unknown),
-        (b"wasi".as_slice(), b"trace".as_slice(), of_type(1), unknown),
-        (
-            b"env".as_slice(),
-            b"memory".as_slice(),
-            pages(1, Some(1)),
-            Ok(Ok(())),
-        ),
-        (
-            b"env".as_slice(),
-            b"memory".as_slice(),
-            pages(0, Some(0)),
-            wrong,
-        ),
-        (
-            b"env".as_slice(),
-            b"memory".as_slice(),
-            pages(2, None),
-            wrong,
-        ),
+        (env, diskr, of_type(1), 1, wrong),
+        (env, trace, of_type(3), 1, wrong),
+        (env, trace, pages(0, None), 0, wrong),
+        (env, b"traces".as_slice(), of_type(1), 1, unknown),
+        (b"wasi".as_slice(), trace, of_type(1), 1, unknown),
+        (env, memory, pages(1, Some(1)), 0, Ok(Ok(()))),
+        (env, memory, pages(0, Some(0)), 0, wrong),
+        (env, memory, pages(2, None), 0, wrong),
     ] {
-        assert_eq!(rt; imported(alloc, origin, name, kind), want);
+        assert_eq!(rt; imported(alloc, origin, name, kind, update), want);
     }
 }
 
@@ -372,7 +359,7 @@ fn floats(alloc: Global) -> Result<[Result<(), ProfileRefusal>; 9], OutOfMemory>
     };
     Ok([
         typed(alloc, ValType::F32)?,
-        imported(alloc, b"env", b"x", kind)?,
+        imported(alloc, b"env", b"x", kind, 0)?,
         global(alloc, ValType::F64, constant(alloc, 0)?)?,
         global(alloc, ValType::I32, float(alloc)?)?,
         element_at(alloc, float(alloc)?)?,
@@ -403,8 +390,37 @@ fn floats_are_seen_wherever_they_stand(rt: HostRuntime) {
     }
 }
 
+/// The answer for a cart whose one export is this function.
+fn only_export(alloc: Global, name: &[u8]) -> Result<Result<(), ProfileRefusal>, OutOfMemory> {
+    let mut code = cart(alloc)?;
+    code.exports.clear();
+    code.exports
+        .push(export(alloc, name, ExportKind::Func, 0)?)?;
+    Ok(check_profile(&code))
+}
+
+/// The answer for a cart whose one import is this function.
+fn only_import(alloc: Global, name: &[u8]) -> Result<Result<(), ProfileRefusal>, OutOfMemory> {
+    let mut code = cart(alloc)?;
+    code.imports.clear();
+    code.imports.push(import(alloc, b"env", name, of_type(1))?)?;
+    code.exports.clear();
+    code.exports
+        .push(export(alloc, b"update", ExportKind::Func, 1)?)?;
+    Ok(check_profile(&code))
+}
+
 #[test]
 fn memory_and_update_are_wanted(rt: HostRuntime) {
+    assert_eq!(rt; only_export(rt.alloc(), b"update"), Ok(Ok(())));
+    assert_eq!(rt;
+        only_export(rt.alloc(), b"start"),
+        Ok(Err(ProfileRefusal::NoUpdate))
+    );
+    assert_eq!(rt;
+        only_import(rt.alloc(), b"trace"),
+        Ok(Err(ProfileRefusal::NoMemory))
+    );
     let mut code = cart(rt.alloc()).expect(&rt, "memory");
     code.exports.clear();
     assert_eq!(rt; check_profile(&code), Err(ProfileRefusal::NoUpdate));
