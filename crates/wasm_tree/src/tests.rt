@@ -9,6 +9,7 @@ use crate::{
     Bodies, Code, FlatBody, FlatElement, FlatExpression, FlatGlobal, FlatSegment, Host, Marks,
 };
 use std::alloc::Global;
+use std::boxed::Box;
 use w4_defs::{
     Export, ExportKind, FuncType, GlobalType, Import, ImportEntry, ImportKind, Limits, Locals, Op,
     OutOfMemory, PageBytes, ValType,
@@ -205,6 +206,7 @@ fn second_body_stands_after_the_first(rt: HostRuntime) {
                 }]
                 .as_slice()
     );
+    assert!(rt; bodies.operations(0).len() == 4 && bodies.operations(1).get(2) == Some(&Op::Else));
     let marks = bodies.marks();
     let all = [
         Op::Block {
@@ -233,6 +235,15 @@ fn second_body_stands_after_the_first(rt: HostRuntime) {
 fn places_count_from_each_body(rt: HostRuntime) {
     let code = small(rt.alloc()).expect(&rt, "memory");
     assert!(rt; code.functions().len() == 2 && code.runs(0).is_empty());
+    assert!(rt; code.body(1).get(3) == Some(&Op::End) && code.body(0).len() == 4);
+    assert_eq!(rt;
+        (
+            code.globals().len(),
+            code.elements().len(),
+            code.segments().len()
+        ),
+        (1, 1, 1)
+    );
     let start = code.body_start(1);
     assert_eq!(rt;
         (
@@ -257,4 +268,55 @@ fn places_count_from_each_body(rt: HostRuntime) {
         assert!(rt; false, "five entries");
     }
     flattening_is_shifted();
+}
+
+/// A host whose calls change nothing; each weighs as much as it has arguments.
+#[derive(Drop)]
+struct Still;
+
+impl Host for Still {
+    ghost use Rattle.std.specs.Prelude.{None, Some, if◌then◌else◌, length, nat_eq};
+    ghost use Rattle.w4_defs.specs.Imports.{import_type};
+
+    ghost weight = { λ _ name args page. length args };
+
+    ghost effect = { λ host name args page. record { page = page; host = host; answer = (if nat_eq (length (import_type name).results) 1 then Some 0 else None) } };
+
+    fn weight(&self, _name: Import, args: &[u32], _page: &PageBytes) -> u64 {
+        args.len() as u64
+    }
+
+    fn call(&mut self, name: Import, _args: &[u32], _page: &mut PageBytes) -> Option<u32> {
+        match name {
+            Import::Blit => None,
+            Import::BlitSub => None,
+            Import::Line => None,
+            Import::Hline => None,
+            Import::Vline => None,
+            Import::Oval => None,
+            Import::Rect => None,
+            Import::Text => None,
+            Import::TextUtf8 => None,
+            Import::TextUtf16 => None,
+            Import::Tone => None,
+            Import::Diskr => Some(0),
+            Import::Diskw => Some(0),
+            Import::Trace => None,
+            Import::TraceUtf8 => None,
+            Import::TraceUtf16 => None,
+            Import::Tracef => None,
+        }
+    }
+}
+
+fn reads_disk<H: Host>(host: &mut H, page: &mut PageBytes) -> (u64, Option<u32>) {
+    let args = [0, 8];
+    let weight = host.weight(Import::Diskr, &args, page);
+    (weight, host.call(Import::Diskr, &args, page))
+}
+
+#[test]
+fn host_is_asked_through_its_bound(rt: HostRuntime) {
+    let mut page = Box::new(rt.alloc(), [0u8; 65536]).expect(&rt, "memory");
+    assert_eq!(rt; reads_disk(&mut Still, &mut page), (2, Some(0)));
 }
