@@ -1,8 +1,9 @@
 -- Steps of a reader taken apart.
-use Rattle.std.proofs.Common.{◌≡◌, ℕ, Bool, true, false, if◌then◌else◌, ◌⊎◌, inl, inr, List, ◌++◌, Option, Some, None, refl, ap, subst}
+use Rattle.std.proofs.Common.{◌≡◌, ◌≢◌, ℕ, Bool, true, false, ◌&&◌, eqb, if◌then◌else◌, ◌⊎◌, inl, inr, List, Option, Some, None, refl, ap, subst, arith}
+use Rattle.std.proofs.lemmas.Bool.Decides.{nat_tests}
 use Rattle.w4_defs.specs.BinaryText.{Texts}
 use Rattle.w4_defs.specs.Reading.{◌>>=◌}
-use Rattle.wasm_read.specs.Reader.{Reader, read_as, Takes}
+use Rattle.wasm_read.specs.Reader.{read_as, Takes}
 
 pub bind_some : {A B : Type 0} (o : Option A) (f : A → Option B) (y : B) → (o >>= f) ≡ Some y → (x : A) × (o ≡ Some x) × (f x ≡ Some y)
 bind_some (Some x) f y e = (x, refl, e)
@@ -27,3 +28,13 @@ moved {A} spelled bytes x y r s t e =
     let P : A → Type 0 = λ z. Takes spelled bytes z r in
     let Q : List ℕ → Type 0 = λ z. Takes spelled bytes y z in
     subst Q same.1 (subst P same.0 t)
+
+pub and_true : (a b : Bool) → (a && b) ≡ true → (a ≡ true) × (b ≡ true)
+and_true true b e = (refl, e)
+and_true false b e = absurd cc
+
+pub differs : (a b : ℕ) → eqb a b ≡ false → a ≢ b
+differs a b e = grind (arith, nat_tests)
+
+pub differs_tested : (a b : ℕ) → a ≢ b → eqb a b ≡ false
+differs_tested a b h = grind (arith, nat_tests)

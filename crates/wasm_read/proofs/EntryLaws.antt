@@ -1,5 +1,5 @@
 -- An entry of a flattening is read exactly, but for the places, which are 0 at first.
-use Rattle.std.proofs.Common.{◌≡◌, ℕ, zero, suc, ◌≤◌, eqb, if◌then◌else◌, ◌⊎◌, inl, inr, List, [], ◌∷◌, ◌++◌, length, Option, Some, None, refl, ap, sym, ◌∙◌, subst, append_assoc, arith}
+use Rattle.std.proofs.Common.{◌≡◌, ℕ, ◌≤◌, eqb, if◌then◌else◌, ◌⊎◌, inl, inr, List, [], ◌∷◌, ◌++◌, length, Option, Some, None, refl, ap, sym, ◌∙◌, arith}
 use Rattle.std.proofs.lemmas.Bool.{eqb-true}
 use Rattle.std.proofs.lemmas.List.{length-append}
 use Rattle.w4_defs.specs.declared.value.ValType.{ValType}
@@ -8,17 +8,16 @@ use Rattle.w4_defs.specs.declared.operation.Op.TheVariants.{Block, Loop, If, Els
 use Rattle.w4_defs.specs.BinaryText.{Texts, ◌then◌, provided, byte, items}
 use Rattle.w4_defs.specs.BinaryNumber.{unsigned}
 use Rattle.w4_defs.specs.BinaryType.{vector, block_type}
-use Rattle.w4_defs.specs.BinaryInstruction.{operation, table_labels, with_labels, instruction}
+use Rattle.w4_defs.specs.BinaryInstruction.{operation, table_labels, with_labels}
 use Rattle.w4_defs.specs.Tree.{Mark, mark}
 use Rattle.w4_defs.specs.Flattening.{IsLeaf}
-use Rattle.w4_defs.specs.Reading.{◌>>=◌}
-use Rattle.wasm_read.specs.Reader.{Reader, read_as, Takes, Reads}
+use Rattle.wasm_read.specs.Reader.{read_as, Takes, Reads}
 use Rattle.wasm_read.specs.ReadNumber.{unsigned_at}
-use Rattle.wasm_read.specs.Combine.{both_at, mapped_at, headed_at, vector_at}
+use Rattle.wasm_read.specs.Combine.{both_at, mapped_at, vector_at}
 use Rattle.wasm_read.specs.ReadType.{block_type_at}
 use Rattle.wasm_read.specs.ReadOperation.{first_some, operation_at}
-use Rattle.wasm_read.specs.ReadExpression.{block_of, loop_of, if_of, bracket_after, bracket_at, unlabelled_at, with_last, table_at, table_mark, entry_at}
-use Rattle.wasm_read.proofs.Basics.{bind_some, split_if, if_some, same_read, moved}
+use Rattle.wasm_read.specs.ReadExpression.{block_of, loop_of, if_of, bracket_at, unlabelled_at, with_last, table_at, table_mark, entry_at}
+use Rattle.wasm_read.proofs.Basics.{bind_some, split_if, if_some, moved}
 use Rattle.wasm_read.proofs.NumberLaws.{unsigned_reads}
 use Rattle.wasm_read.proofs.CombineLaws.{both_reads, vector_reads}
 use Rattle.wasm_read.proofs.TypeLaws.{block_type_reads}

@@ -1,24 +1,24 @@
 -- What the second pass makes of entries are the flattenings of trees that the bytes spell.
-use Rattle.std.proofs.Common.{◌≡◌, ℕ, ◌+◌, ◌≤◌, true, false, Bool, if◌then◌else◌, List, [], ◌∷◌, ◌++◌, length, Option, Some, None, refl, ap, sym, ◌∙◌, subst, append_assoc, append-nil, arith}
+use Rattle.std.proofs.Common.{◌≡◌, ℕ, ◌+◌, ◌≤◌, true, if◌then◌else◌, List, [], ◌∷◌, ◌++◌, length, Option, Some, None, refl, ap, sym, ◌∙◌, subst, append_assoc, append-nil, arith}
 use Rattle.std.proofs.lemmas.List.{length-append}
 use Rattle.w4_defs.specs.declared.value.ValType.{ValType}
 use Rattle.w4_defs.specs.declared.operation.Op.{Op}
 use Rattle.w4_defs.specs.declared.operation.Op.TheVariants.{Block, Loop, If, Else, End}
 use Rattle.w4_defs.specs.BinaryText.{Texts, ◌then◌, byte, items}
 use Rattle.w4_defs.specs.BinaryType.{block_type}
-use Rattle.w4_defs.specs.BinaryInstruction.{with_labels, instruction, list, expression}
+use Rattle.w4_defs.specs.BinaryInstruction.{instruction, list, expression}
 use Rattle.w4_defs.specs.Tree.{Mark, mark, Expr, done, plain, block, loop, if_then, if_else, span, flat_at, flat}
-use Rattle.w4_defs.specs.Flattening.{IsProper, read_flat}
+use Rattle.w4_defs.specs.Flattening.{read_flat}
 use Rattle.w4_defs.specs.Reading.{◌>>=◌}
 use Rattle.w4_defs.proofs.ReadBack.{flattening_read_back}
 use Rattle.wasm_tree.specs.Expressions.{IsFlat}
 use Rattle.wasm_read.specs.declared.brackets.Close.{Close}
 use Rattle.wasm_read.specs.declared.brackets.Close.TheVariants.{Ends, Parts}
-use Rattle.wasm_read.specs.Reader.{read_as, Takes, Reads}
-use Rattle.wasm_read.specs.ReadExpression.{entries_at, ended_by, placed, filled, is_one_end, matched, flattening_at, expression_at}
-use Rattle.wasm_read.proofs.Basics.{bind_some, if_some, same_read, moved}
+use Rattle.wasm_read.specs.Reader.{read_as, Reads}
+use Rattle.wasm_read.specs.ReadExpression.{entries_at, placed, filled, is_one_end, matched, flattening_at, expression_at}
+use Rattle.wasm_read.proofs.Basics.{bind_some, if_some, moved}
 use Rattle.wasm_read.proofs.EntryLaws.{entry_of, entry, entries_long}
-use Rattle.wasm_read.proofs.Passes.{raw, list_proper, raw_spelled, end_spelled, whole_walks, entries_found, entries_sound, filled_raw}
+use Rattle.wasm_read.proofs.Passes.{filled_as, raw, list_proper, raw_spelled, end_spelled, whole_walks, entries_found, entries_sound, filled_raw}
 
 abbrev place_of : Close → ℕ
 place_of (Ends place) = place
@@ -39,11 +39,8 @@ Forest at (c ∷ cs) text ms =
     (e : Expr) × (next : ℕ) × (a b : List ℕ) × (more : List Mark) × (next ≡ at + span e + 1) × (next ≡ place_of c + 1)
     × (text ≡ a ++ b) × list (byte_of c) e a × (ms ≡ flat_at (op_of c) at e ++ more) × Forest next cs b more
 
-abbrev placed_as : Op → List Close → Option (Op × List Close)
+abbrev pub placed_as : Op → List Close → Option (Op × List Close)
 placed_as op cs = Some (op, cs)
-
-abbrev filled_as : List Mark → List Close → Option (List Mark × List Close)
-filled_as ms cs = Some (ms, cs)
 
 forest_moved : (at : ℕ) (text : List ℕ) (labels : List ℕ) (ms : List Mark) (x y : Op) (cs ds : List Close)
     → placed_as x cs ≡ placed_as y ds → Forest at cs text ((x, labels) ∷ ms) → Forest at ds text ((y, labels) ∷ ms)

@@ -1,11 +1,10 @@
 -- One turn of each loop.
-use Rattle.std.proofs.Common.{◌≡◌, ◌≢◌, ℕ, zero, suc, ◌+◌, ◌^◌, ◌<◌, ◌≤◌, nat_lt, eqb, Bool, true, false, if◌then◌else◌, List, [], ◌∷◌, ◌++◌, length, take, drop, reverse, get_or, set, Option, Some, None, option_map, slice_get, slice_set, refl, ap, sym, ◌∙◌, subst, append_assoc, arith, add-one}
+use Rattle.std.proofs.Common.{◌≡◌, ◌≢◌, ℕ, zero, suc, ◌+◌, ◌^◌, ◌<◌, ◌≤◌, nat_lt, eqb, true, false, if◌then◌else◌, List, [], ◌∷◌, ◌++◌, length, take, drop, reverse, get_or, Option, Some, None, option_map, slice_get, slice_set, refl, ap, sym, ◌∙◌, subst, append_assoc, arith, add-one}
 use Rattle.std.proofs.Math.ListN.{drop_of_length-le}
 use Rattle.std.proofs.Math.Seq.{drop-cons}
 use Rattle.std.proofs.lemmas.Bool.{eq-eqb, lt-ltb}
-use Rattle.std.proofs.lemmas.Bool.Decides.{nat_tests}
 use Rattle.std.proofs.lemmas.List.{length-take-le, length-reverse, get_or-take, drop-set, take-set, length-set, take-append-drop}
-use Rattle.std.proofs.lemmas.Option.{get_or_from_slice_get, slice_get-get_or}
+use Rattle.std.proofs.lemmas.Option.{slice_get-get_or}
 use Rattle.w4_defs.specs.declared.operation.Op.{Op}
 use Rattle.w4_defs.specs.declared.operation.Op.TheVariants.{Block, Loop, If, End}
 use Rattle.w4_defs.specs.declared.module.Locals.{Locals}
@@ -18,6 +17,9 @@ use Rattle.wasm_read.specs.declared.refusal.ReadRefusal.{ReadRefusal}
 use Rattle.wasm_read.specs.declared.refusal.ReadRefusal.TheVariants.{Malformed, OutOfMemory}
 use Rattle.wasm_read.specs.Reader.{Reader, read_as, Refused}
 use Rattle.wasm_read.specs.Combine.{items_at, after_items}
+use Rattle.wasm_read.proofs.Passes.{filled_as}
+use Rattle.wasm_read.proofs.ExpressionLaws.{placed_as}
+use Rattle.wasm_read.proofs.Basics.{differs_tested}
 use Rattle.wasm_read.specs.ReadExpression.{entry_at, depth_after, entries_at, placed, filled, is_one_end, matched}
 
 pub refused : (M N : Type 0) → (M → N) → (e : ReadRefusal) → Refused M e → Refused N e
@@ -43,9 +45,6 @@ items_none p xs n m bytes all inv e h =
     sym inv ∙ ap (λ k. after_items xs (items_at p k bytes)) e ∙ step
 
 -- entries of an expression
-not_zero : (n : ℕ) → n ≢ 0 → eqb n 0 ≡ false
-not_zero n h = grind (arith, nat_tests)
-
 pub depth_at_most : (op : Op) (depth : ℕ) → depth_after op depth ≤ depth + 1
 depth_at_most (Block r end) depth = omega arith
 depth_at_most (Loop r end) depth = omega arith
@@ -57,7 +56,7 @@ pub entries_more : (ms : List Mark) (m : Mark) (depth n k : ℕ) (bytes after : 
     → after_items ms (entries_at n depth bytes) ≡ all → n ≡ suc k → entry_at bytes ≡ Some (m, after) → depth_after m.0 depth ≢ 0
     → after_items (ms ++ m ∷ []) (entries_at k (depth_after m.0 depth) after) ≡ all
 entries_more ms m depth n k bytes after all inv e h open_left =
-    let test : eqb (depth_after m.0 depth) 0 ≡ false = not_zero (depth_after m.0 depth) open_left in
+    let test : eqb (depth_after m.0 depth) 0 ≡ false = differs_tested (depth_after m.0 depth) 0 open_left in
     let step : after_items ms (entries_at (suc k) depth bytes) ≡ after_items ms (entries_at k (depth_after m.0 depth) after >>= λ y. read_as (m ∷ y.0) y.1) = rw (h, test) refl in
     sym (after_more ms m (entries_at k (depth_after m.0 depth) after)) ∙ sym step ∙ ap (λ i. after_items ms (entries_at i depth bytes)) (sym e) ∙ inv
 
@@ -80,12 +79,6 @@ pub entries_over : (ms : List Mark) (depth n : ℕ) (bytes : List ℕ) (all : Op
 entries_over ms depth n bytes all inv e = sym inv ∙ ap (λ i. after_items ms (entries_at i depth bytes)) e
 
 -- the places, from the last entry to the first
-abbrev pub filled_as : List Mark → List Close → Option (List Mark × List Close)
-filled_as ms cs = Some (ms, cs)
-
-abbrev pub placed_as : Op → List Close → Option (Op × List Close)
-placed_as op cs = Some (op, cs)
-
 take_fewer : (i : ℕ) (xs : List Mark) → take i (take (suc i) xs) ≡ take i xs
 take_fewer zero xs = refl
 take_fewer (suc i) [] = refl

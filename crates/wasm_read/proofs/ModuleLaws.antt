@@ -1,12 +1,12 @@
 -- A module is read exactly.
-use Rattle.std.proofs.Common.{◌≡◌, ℕ, ◌≤◌, eqb, if◌then◌else◌, ◌&&◌, Bool, true, false, List, [], ◌∷◌, ◌++◌, length, Option, Some, None, Result, Ok, Err, refl, ap, sym, ◌∙◌, subst, arith, eq-eqb}
+use Rattle.std.proofs.Common.{◌≡◌, ℕ, eqb, if◌then◌else◌, ◌&&◌, true, List, [], ◌∷◌, ◌++◌, length, Option, Some, None, Result, Ok, Err, refl, ap, sym, ◌∙◌, subst, arith, eq-eqb}
 use Rattle.std.proofs.lemmas.Bool.{eqb-true}
 use Rattle.w4_defs.specs.Module.{WasmModule}
-use Rattle.w4_defs.specs.BinaryText.{Texts, items}
+use Rattle.w4_defs.specs.BinaryText.{Texts}
 use Rattle.w4_defs.specs.BinaryNumber.{unsigned}
 use Rattle.w4_defs.specs.BinaryType.{vector, func_type, limits, table_type}
-use Rattle.w4_defs.specs.BinarySection.{Section, section, Rises, contents, Part, Alone, Counted}
-use Rattle.w4_defs.specs.BinaryModule.{preamble, imported, global, exported, element, body, segment, Collects, SpellsModule}
+use Rattle.w4_defs.specs.BinarySection.{contents, Part, Alone, Counted}
+use Rattle.w4_defs.specs.BinaryModule.{preamble, imported, global, exported, element, body, segment, SpellsModule}
 use Rattle.w4_defs.specs.Reading.{◌>>=◌}
 use Rattle.wasm_read.specs.declared.refusal.ReadRefusal.{ReadRefusal}
 use Rattle.wasm_read.specs.Reader.{Reader, Reads, Answers}
@@ -14,10 +14,10 @@ use Rattle.wasm_read.specs.ReadNumber.{unsigned_at}
 use Rattle.wasm_read.specs.Combine.{vector_at, whole_at}
 use Rattle.wasm_read.specs.ReadType.{limits_at, table_type_at, func_type_at}
 use Rattle.wasm_read.specs.ReadPart.{import_at, global_at, export_at, element_at, body_at, segment_at}
-use Rattle.wasm_read.specs.ReadSection.{ordered_at, contents_at, part_at, alone_at, is_number, is_counted}
+use Rattle.wasm_read.specs.ReadSection.{ordered_at, part_at, alone_at, is_number, is_counted}
 use Rattle.wasm_read.specs.ReadModule.{both_some, Contents, Front, front_of, Middle, middle_of, Back, back_of, module_of, collected, contents_in, sections_at, after_these, module_at}
 use Rattle.wasm_read.specs.Unique.{AtMostOneModule}
-use Rattle.wasm_read.proofs.Basics.{bind_some, if_some}
+use Rattle.wasm_read.proofs.Basics.{bind_some, if_some, and_true}
 use Rattle.wasm_read.proofs.NumberLaws.{unsigned_reads}
 use Rattle.wasm_read.proofs.CombineLaws.{vector_reads, whole_reads}
 use Rattle.wasm_read.proofs.TypeLaws.{limits_reads, table_type_reads, func_type_reads}
@@ -90,10 +90,6 @@ record Gathers (c : Contents) (m : WasmModule) : Type 0 where
   bodies : Part body (c 10) m.bodies
   segments : Part segment (c 11) m.segments
   as_many : length m.functions ≡ length m.bodies
-
-and_true : (a b : Bool) → (a && b) ≡ true → (a ≡ true) × (b ≡ true)
-and_true true b e = (refl, e)
-and_true false b e = absurd cc
 
 gathered : (c : Contents) (f : Front) (k : Middle) (b : Back) → front_of c ≡ Some f → middle_of c ≡ Some k → back_of c ≡ Some b
     → length f.1.1.0 ≡ length b.1.0 → Counted (c 12) (length b.1.1) → Gathers c (module_of f k b)

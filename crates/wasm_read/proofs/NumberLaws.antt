@@ -1,11 +1,10 @@
 -- Numbers are read exactly.
-use Rattle.std.proofs.Common.{◌≡◌, ℕ, ◌+◌, ◌-◌, ◌*◌, ◌^◌, ◌<◌, ◌≤◌, Bool, true, false, if◌then◌else◌, nat_lt, nat_le, ◌⊎◌, inl, inr, List, [], ◌∷◌, ◌++◌, Option, Some, None, refl, ap, sym, ◌∙◌, arith}
+use Rattle.std.proofs.Common.{◌≡◌, ℕ, ◌+◌, ◌-◌, ◌*◌, ◌^◌, ◌<◌, ◌≤◌, true, false, if◌then◌else◌, nat_lt, nat_le, inl, inr, List, [], ◌∷◌, ◌++◌, Option, Some, None, refl, ap, sym, ◌∙◌, arith}
 use Rattle.std.proofs.lemmas.Bool.{ltb-true, lt-ltb, le-leb, leb-true, le-ltb}
 use Rattle.std.proofs.lemmas.Bool.Decides.{nat_tests}
-use Rattle.w4_defs.specs.BinaryText.{Texts}
 use Rattle.w4_defs.specs.Reading.{◌>>=◌}
 use Rattle.w4_defs.specs.BinaryNumber.{leb, LastUnsigned, LastSigned, unsigned, signed}
-use Rattle.wasm_read.specs.Reader.{Reader, read_as, Takes, Reads}
+use Rattle.wasm_read.specs.Reader.{read_as, Takes, Reads}
 use Rattle.wasm_read.specs.ReadNumber.{last_unsigned, last_signed, joined, leb_at, unsigned_at, signed_at}
 use Rattle.wasm_read.proofs.Basics.{bind_some, split_if, if_some, same_read}
 

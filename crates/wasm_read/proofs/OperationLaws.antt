@@ -1,5 +1,5 @@
 -- Every spelling of an instruction is read.
-use Rattle.std.proofs.Common.{◌≡◌, ℕ, ◌≤◌, Bool, true, false, ◌&&◌, ◌||◌, nat_le, ◌⊎◌, inl, inr, List, [], ◌∷◌, ◌++◌, Option, Some, None, refl, ap, sym, ◌∙◌, subst, append_assoc}
+use Rattle.std.proofs.Common.{◌≡◌, ℕ, ◌≤◌, Bool, true, false, ◌||◌, nat_le, inl, inr, List, [], ◌∷◌, ◌++◌, Some, refl, ap, sym, ◌∙◌, subst, append_assoc}
 use Rattle.std.specs.Int.{w32, w64}
 use Rattle.std.proofs.lemmas.Bool.{le-leb}
 use Rattle.w4_defs.specs.declared.operation.Op.{Op}
@@ -10,7 +10,7 @@ use Rattle.w4_defs.specs.BinaryNumeric.{IsFloatCode}
 use Rattle.w4_defs.specs.BinaryMemory.{immediate, IsFloatAccess}
 use Rattle.w4_defs.specs.BinaryInstruction.{operation}
 use Rattle.w4_defs.specs.Reading.{◌>>=◌, number_at}
-use Rattle.wasm_read.specs.Reader.{Reader, read_as, Takes, Reads, row_of}
+use Rattle.wasm_read.specs.Reader.{Reader, read_as, Reads, row_of}
 use Rattle.wasm_read.specs.ReadNumber.{unsigned_at, signed_at}
 use Rattle.wasm_read.specs.Combine.{mapped_at}
 use Rattle.wasm_read.specs.Rows.{index_rows}

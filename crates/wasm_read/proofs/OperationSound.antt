@@ -1,27 +1,26 @@
 -- An instruction that is read is spelled by the bytes that were taken.
-use Rattle.std.proofs.Common.{◌≡◌, ◌≢◌, ℕ, ◌≤◌, Bool, true, false, ◌&&◌, ◌||◌, eqb, nat_le, ltb, if◌then◌else◌, ◌⊎◌, inl, inr, List, [], ◌∷◌, ◌++◌, length, take, drop, Option, Some, None, refl, ap, sym, ◌∙◌, subst, append_assoc, append-nil, arith}
+use Rattle.std.proofs.Common.{◌≡◌, ℕ, ◌≤◌, Bool, true, false, ◌||◌, eqb, nat_le, ltb, if◌then◌else◌, ◌⊎◌, inl, inr, List, [], ◌∷◌, ◌++◌, length, take, drop, Option, Some, None, refl, ap, sym, ◌∙◌, subst, append_assoc, append-nil, arith}
 use Rattle.std.specs.Int.{Width, w32, w64, byte_len, from_le_bytes}
 use Rattle.std.proofs.lemmas.Bool.{eqb-true, leb-true}
 use Rattle.std.proofs.lemmas.Bool.Decides.{nat_tests}
 use Rattle.std.proofs.lemmas.List.{length-take-le, take-append-drop}
 use Rattle.w4_defs.specs.declared.operation.Op.{Op}
-use Rattle.w4_defs.specs.declared.operation.Op.TheVariants.{CallIndirect, I32Const, I64Const, F32Const, F64Const, FloatPlain, FloatCut, MemorySize, MemoryGrow, MemoryCopy, MemoryFill}
-use Rattle.w4_defs.specs.BinaryText.{Texts, ◌then◌, byte}
+use Rattle.w4_defs.specs.declared.operation.Op.TheVariants.{I32Const, I64Const, F32Const, F64Const, FloatPlain, FloatCut, MemorySize, MemoryGrow, MemoryCopy, MemoryFill}
+use Rattle.w4_defs.specs.BinaryText.{Texts, ◌then◌}
 use Rattle.w4_defs.specs.BinaryNumber.{unsigned, signed, little_endian}
 use Rattle.w4_defs.specs.BinaryNumeric.{IsFloatCode}
-use Rattle.w4_defs.specs.BinaryMemory.{immediate}
 use Rattle.w4_defs.specs.BinaryInstruction.{operation}
 use Rattle.w4_defs.specs.Reading.{◌>>=◌, number_at}
 use Rattle.w4_defs.proofs.ReadingLaws.{number_again}
 use Rattle.wasm_read.specs.Reader.{Reader, read_as, Takes, Reads, row_of}
 use Rattle.wasm_read.specs.ReadNumber.{unsigned_at, signed_at}
-use Rattle.wasm_read.specs.Combine.{both_at, mapped_at, headed_at}
+use Rattle.wasm_read.specs.Combine.{mapped_at, headed_at}
 use Rattle.wasm_read.specs.Rows.{index_rows}
 use Rattle.wasm_read.specs.ReadOperation.{always_at, is_between, is_float_code, has_index, plain_of, access_of, indexed_at, indices_at, access_at, indirect_of, constant_at, prefixed_of, prefixed_at, special_after, operation_after, operation_at}
-use Rattle.wasm_read.proofs.Basics.{bind_some, split_if, if_some, same_read, moved}
+use Rattle.wasm_read.proofs.Basics.{bind_some, split_if, if_some, same_read, moved, and_true, differs}
 use Rattle.wasm_read.proofs.NumberLaws.{unsigned_reads, signed_reads}
 use Rattle.wasm_read.proofs.CombineLaws.{both_reads}
-use Rattle.wasm_read.proofs.RowLaws.{headed, no_bytes, plain_spelled, indexed_spelled, access_spelled}
+use Rattle.wasm_read.proofs.RowLaws.{headed, plain_spelled, indexed_spelled, access_spelled}
 
 number_sound : (w : Width) (bytes : List ℕ) (n : ℕ) (rest : List ℕ) → number_at w bytes ≡ Some (n, rest) → Takes (little_endian w) bytes n rest
 number_sound w bytes n rest e =
@@ -150,10 +149,6 @@ special_sound code bs op rest e =
       ]
     ]
 
-and_true : (a b : Bool) → (a && b) ≡ true → (a ≡ true) × (b ≡ true)
-and_true true b e = (refl, e)
-and_true false b e = absurd cc
-
 or_true : (a b : Bool) → (a || b) ≡ true → (a ≡ true) ⊎ (b ≡ true)
 or_true true b e = inl refl
 or_true false b e = inr e
@@ -175,9 +170,6 @@ is_float code e =
         ]
       ]
     ]
-
-differs : (a b : ℕ) → eqb a b ≡ false → a ≢ b
-differs a b e = grind (arith, nat_tests)
 
 -- the fourth of the constants' codes
 last_constant : (code : ℕ) → is_between 0x41 0x44 code ≡ true → eqb code 0x41 ≡ false → eqb code 0x42 ≡ false → eqb code 0x43 ≡ false → code ≡ 0x44

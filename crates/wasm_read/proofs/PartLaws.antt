@@ -1,5 +1,5 @@
 -- What the sections hold is read exactly.
-use Rattle.std.proofs.Common.{◌≡◌, ℕ, ◌^◌, ◌<◌, eqb, nat_lt, if◌then◌else◌, Bool, true, false, ◌⊎◌, inl, inr, List, [], ◌∷◌, ◌++◌, Option, Some, None, refl, ap, sym, ◌∙◌, subst}
+use Rattle.std.proofs.Common.{◌≡◌, ℕ, ◌^◌, ◌<◌, eqb, nat_lt, if◌then◌else◌, inl, inr, List, [], ◌∷◌, ◌++◌, Option, Some, None, refl, ap, ◌∙◌}
 use Rattle.std.proofs.lemmas.Bool.{eqb-true, ltb-true, lt-ltb}
 use Rattle.w4_defs.specs.declared.value.ValType.{ValType}
 use Rattle.w4_defs.specs.declared.value.GlobalType.{GlobalType}
@@ -9,7 +9,7 @@ use Rattle.w4_defs.specs.declared.module.ExportKind.{ExportKind}
 use Rattle.w4_defs.specs.declared.module.ExportKind.TheVariants as exports
 use Rattle.w4_defs.specs.declared.module.Locals.{Locals}
 use Rattle.w4_defs.specs.Lookup.{local_count}
-use Rattle.w4_defs.specs.Module.{Imported, Exported, Global, ElementSegment, DataSegment, Function}
+use Rattle.w4_defs.specs.Module.{Function}
 use Rattle.w4_defs.specs.Tree.{Expr}
 use Rattle.w4_defs.specs.BinaryText.{Texts, ◌then◌, byte}
 use Rattle.w4_defs.specs.BinaryNumber.{unsigned}
@@ -17,12 +17,12 @@ use Rattle.w4_defs.specs.BinaryType.{vector, bytes, name, value_type, limits, ta
 use Rattle.w4_defs.specs.BinaryInstruction.{expression}
 use Rattle.w4_defs.specs.BinaryModule.{import_kind, imported, global, export_kind, exported, element, run, function, body, segment}
 use Rattle.w4_defs.specs.Reading.{◌>>=◌}
-use Rattle.wasm_read.specs.Reader.{Reader, read_as, Takes, Reads, row_of, coded_at}
+use Rattle.wasm_read.specs.Reader.{Reader, read_as, Takes, Reads, row_of}
 use Rattle.wasm_read.specs.ReadNumber.{unsigned_at}
 use Rattle.wasm_read.specs.Combine.{both_at, mapped_at, vector_at, whole_at, cut_at}
 use Rattle.wasm_read.specs.ReadType.{name_at, value_type_at, limits_at, table_type_at, global_type_at}
 use Rattle.wasm_read.specs.ReadExpression.{expression_at}
-use Rattle.wasm_read.specs.ReadPart.{import_kind_after, import_kind_at, imported_of, import_at, global_of, global_at, export_kinds, export_kind_at, exported_of, export_at, element_of, element_at, locals_of, run_at, function_of, function_at, body_at, segment_of, segment_at}
+use Rattle.wasm_read.specs.ReadPart.{import_kind_at, imported_of, import_at, global_of, global_at, export_kinds, export_kind_at, exported_of, export_at, element_of, element_at, locals_of, run_at, function_of, function_at, body_at, segment_of, segment_at}
 use Rattle.wasm_read.proofs.Basics.{bind_some, split_if, if_some, moved}
 use Rattle.wasm_read.proofs.NumberLaws.{unsigned_reads}
 use Rattle.wasm_read.proofs.CombineLaws.{both_reads, mapped_reads, tested_reads, vector_reads, whole_reads, cut_reads, sized_reads, coded_reads}

@@ -1,21 +1,19 @@
 -- The entries of a tree, before their places are known, and what the two passes make of them.
-use Rattle.std.proofs.Common.{◌≡◌, ◌≢◌, ℕ, zero, suc, ◌+◌, ◌-◌, ◌≤◌, eqb, Bool, true, false, if◌then◌else◌, ◌⊎◌, inl, inr, List, [], ◌∷◌, ◌++◌, length, Option, Some, None, refl, ap, sym, ◌∙◌, subst, append_assoc, append-nil, arith}
-use Rattle.std.proofs.lemmas.Bool.{eqb-true, eq-eqb}
-use Rattle.std.proofs.lemmas.Bool.Decides.{nat_tests}
-use Rattle.std.proofs.lemmas.List.{length-append}
+use Rattle.std.proofs.Common.{◌≡◌, ◌≢◌, ℕ, zero, suc, ◌+◌, ◌-◌, ◌≤◌, eqb, true, false, if◌then◌else◌, ◌⊎◌, inl, inr, List, [], ◌∷◌, ◌++◌, length, Option, Some, None, refl, ap, sym, ◌∙◌, subst, append_assoc, append-nil, arith}
+use Rattle.std.proofs.lemmas.Bool.{eq-eqb}
 use Rattle.w4_defs.specs.declared.operation.Op.{Op}
 use Rattle.w4_defs.specs.declared.operation.Op.TheVariants.{Block, Loop, If, Else, End}
 use Rattle.w4_defs.specs.BinaryText.{Texts, ◌then◌, byte, items}
 use Rattle.w4_defs.specs.BinaryType.{block_type}
-use Rattle.w4_defs.specs.BinaryInstruction.{instruction, list}
-use Rattle.w4_defs.specs.Tree.{Mark, mark, Expr, done, plain, block, loop, if_then, if_else, span, flat_at, flat}
+use Rattle.w4_defs.specs.BinaryInstruction.{list}
+use Rattle.w4_defs.specs.Tree.{Mark, mark, Expr, done, plain, block, loop, if_then, if_else, span, flat_at}
 use Rattle.w4_defs.specs.Flattening.{IsLeaf, IsProper}
 use Rattle.w4_defs.specs.Reading.{◌>>=◌}
 use Rattle.wasm_read.specs.declared.brackets.Close.{Close}
 use Rattle.wasm_read.specs.declared.brackets.Close.TheVariants.{Ends, Parts}
-use Rattle.wasm_read.specs.Reader.{Takes, Reads}
-use Rattle.wasm_read.specs.ReadExpression.{entry_at, depth_after, entries_at, ended_by, placed, filled}
-use Rattle.wasm_read.proofs.Basics.{bind_some, split_if, same_read, moved}
+use Rattle.wasm_read.specs.Reader.{Takes}
+use Rattle.wasm_read.specs.ReadExpression.{entry_at, depth_after, entries_at, placed, filled}
+use Rattle.wasm_read.proofs.Basics.{bind_some, split_if, moved, differs_tested}
 use Rattle.wasm_read.proofs.EntryLaws.{entry_of, entry, instruction_entry, instruction_leaf, entry_reads}
 
 abbrev pub raw : Op → Expr → List Mark
@@ -152,9 +150,6 @@ whole_walks e h =
     let P : List Mark → Type 0 = λ ms. Walks 1 ms in
     subst P (append-nil (raw End e)) (walks End 0 [] (inl (refl, refl)) e h)
 
-not_zero : (n : ℕ) → n ≢ 0 → eqb n 0 ≡ false
-not_zero n h = grind (arith, nat_tests)
-
 abbrev only_as : Mark → List ℕ → Option (List Mark × List ℕ)
 only_as m rest = Some (m ∷ [], rest)
 
@@ -179,7 +174,7 @@ entries_found (suc turns) depth (m ∷ ms) text rest h (inl (zero_left, none)) f
     ∙ (rw (e, test) (ap (λ t. only_as m (t ++ rest)) empty ∙ ap (λ xs. all_as m xs rest) (sym none)))
 entries_found (suc turns) depth (m ∷ ms) text rest h (inr (open_left, w)) few =
     let e = entry_reads.complete h.0 (h.1 ++ rest) m h.3 in
-    let test : eqb (depth_after m.0 depth) 0 ≡ false = not_zero (depth_after m.0 depth) open_left in
+    let test : eqb (depth_after m.0 depth) 0 ≡ false = differs_tested (depth_after m.0 depth) 0 open_left in
     let others = entries_found turns (depth_after m.0 depth) ms h.1 rest h.4 w (omega arith) in
     ap (entries_at (suc turns) depth) (ap (λ t. t ++ rest) h.2 ∙ append_assoc h.0 h.1 rest) ∙ (rw (e, test, others) refl)
 
@@ -207,7 +202,7 @@ leaf_placed at Else c cs h = absurd h
 leaf_placed at End c cs h = absurd h
 leaf_placed at op c cs h = refl
 
-abbrev filled_as : List Mark → List Close → Option (List Mark × List Close)
+abbrev pub filled_as : List Mark → List Close → Option (List Mark × List Close)
 filled_as ms cs = Some (ms, cs)
 
 abbrev Closing : Op → (ℕ → Close) → Type 0

@@ -1,5 +1,5 @@
 -- Every row of the instruction table is spelled by its code and what stands after it.
-use Rattle.std.proofs.Common.{◌≡◌, ℕ, ◌⊎◌, inl, inr, eqb, List, [], ◌∷◌, Option, Some, None, refl, ap, sym, subst}
+use Rattle.std.proofs.Common.{◌≡◌, ℕ, inl, inr, eqb, List, [], ◌∷◌, Option, Some, None, refl, ap, sym, subst}
 use Rattle.std.proofs.lemmas.Bool.{eqb-true}
 use Rattle.w4_defs.specs.declared.operation.Op.{Op}
 use Rattle.w4_defs.specs.BinaryText.{Texts, ◌then◌, byte}

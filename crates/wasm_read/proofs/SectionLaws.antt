@@ -1,5 +1,5 @@
 -- Names as text, and sections in order.
-use Rattle.std.proofs.Common.{◌≡◌, ◌≢◌, ℕ, zero, suc, ◌+◌, ◌<◌, ◌≤◌, eqb, nat_le, nat_lt, Bool, true, false, if◌then◌else◌, ◌⊎◌, inl, inr, List, [], ◌∷◌, ◌++◌, length, Option, Some, None, Result, Ok, Err, MatchResult, refl, ap, sym, ◌∙◌, subst, append-nil, append_assoc, arith, eq-eqb}
+use Rattle.std.proofs.Common.{◌≡◌, ◌≢◌, ℕ, zero, suc, ◌<◌, ◌≤◌, eqb, nat_le, nat_lt, Bool, true, false, if◌then◌else◌, ◌⊎◌, inl, inr, List, [], ◌∷◌, ◌++◌, length, Option, Some, None, Result, Ok, Err, MatchResult, refl, ap, sym, ◌∙◌, subst, arith, eq-eqb}
 use Rattle.std.specs.Prelude.{IsUtf8}
 use Rattle.std.specs.Str.{is_utf8}
 use Rattle.std.specs.Result.{is_ok}
@@ -7,15 +7,15 @@ use Rattle.std.proofs.lemmas.Str.{IsUtf8-from_is_utf8, is_utf8-from_IsUtf8}
 use Rattle.std.proofs.lemmas.Bool.{eqb-true, ltb-true, leb-true, lt-ltb, le-leb}
 use Rattle.std.proofs.lemmas.Bool.Decides.{nat_tests}
 use Rattle.std.proofs.lemmas.List.{length-append}
-use Rattle.w4_defs.specs.BinaryText.{Texts, ◌then◌, byte, items}
-use Rattle.w4_defs.specs.BinaryType.{bytes, name}
+use Rattle.w4_defs.specs.BinaryText.{◌then◌, byte, items}
+use Rattle.w4_defs.specs.BinaryType.{bytes}
 use Rattle.w4_defs.specs.BinarySection.{Section, section, BeginsWithName, rank, Rises, contents}
 use Rattle.w4_defs.specs.Reading.{◌>>=◌}
-use Rattle.wasm_read.specs.Reader.{Reader, read_as, Takes, Reads}
+use Rattle.wasm_read.specs.Reader.{read_as, Takes, Reads}
 use Rattle.wasm_read.specs.Combine.{cut_at}
 use Rattle.wasm_read.specs.ReadType.{name_at}
 use Rattle.wasm_read.specs.ReadSection.{any_at, section_at, rank_after, ordered_at, contents_at}
-use Rattle.wasm_read.proofs.Basics.{bind_some, split_if, if_some, same_read, moved}
+use Rattle.wasm_read.proofs.Basics.{bind_some, split_if, if_some, moved, differs}
 use Rattle.wasm_read.proofs.CombineLaws.{both_reads, cut_reads}
 use Rattle.wasm_read.proofs.TypeLaws.{name_reads}
 
@@ -61,9 +61,6 @@ ordered_more n m last r (b ∷ bs) after s all inv e some h k =
 abbrev Next : ℕ → Section → ℕ → Type 0
 Next last s r =
     ((s.0 ≡ 0) × BeginsWithName s.1 × (r ≡ last)) ⊎ ((s.0 ≢ 0) × (s.0 ≤ 12) × (last < rank s.0) × (r ≡ rank s.0))
-
-differs : (a b : ℕ) → eqb a b ≡ false → a ≢ b
-differs a b e = grind (arith, nat_tests)
 
 rank_sound : (last : ℕ) (s : Section) (r : ℕ) → rank_after last s ≡ Some r → Next last s r
 unfolding rank_after

@@ -1,5 +1,5 @@
 -- Names and types are read exactly.
-use Rattle.std.proofs.Common.{◌≡◌, ℕ, ◌≤◌, Bool, Decides, true, false, eqb, if◌then◌else◌, nat_le, ◌⊎◌, inl, inr, List, [], ◌∷◌, ◌++◌, length, Option, Some, None, refl, ap, sym, ◌∙◌, subst}
+use Rattle.std.proofs.Common.{◌≡◌, ℕ, ◌≤◌, Bool, true, false, eqb, if◌then◌else◌, nat_le, inl, inr, List, [], ◌∷◌, ◌++◌, length, Option, Some, None, refl, ap, sym, ◌∙◌, subst}
 use Rattle.std.specs.Prelude.{IsUtf8}
 use Rattle.std.specs.Str.{is_utf8}
 use Rattle.std.proofs.lemmas.Bool.{eqb-true, leb-true, le-leb}
@@ -7,16 +7,15 @@ use Rattle.std.proofs.lemmas.Str.{IsUtf8-from_is_utf8, is_utf8-from_IsUtf8}
 use Rattle.w4_defs.specs.declared.value.ValType.{ValType}
 use Rattle.w4_defs.specs.declared.value.ValType.TheVariants.{I32, I64, F32, F64}
 use Rattle.w4_defs.specs.declared.value.Limits.{Limits}
-use Rattle.w4_defs.specs.declared.value.GlobalType.{GlobalType}
 use Rattle.w4_defs.specs.Module.{Signature}
-use Rattle.w4_defs.specs.BinaryText.{Texts, ◌then◌, provided, byte}
+use Rattle.w4_defs.specs.BinaryText.{Texts, ◌then◌, byte}
 use Rattle.w4_defs.specs.BinaryNumber.{unsigned}
-use Rattle.w4_defs.specs.BinaryType.{vector, sized, utf8, name, value_type, func_type, sizes, limits, table_type, mutability, global_type, block_type}
-use Rattle.wasm_read.specs.Reader.{Reader, read_as, Takes, Reads, ReadsWhole, row_of, coded_at}
+use Rattle.w4_defs.specs.BinaryType.{vector, utf8, name, value_type, func_type, sizes, limits, table_type, mutability, global_type, block_type}
+use Rattle.wasm_read.specs.Reader.{read_as, Takes, Reads, ReadsWhole, row_of, coded_at}
 use Rattle.wasm_read.specs.ReadNumber.{unsigned_at}
-use Rattle.wasm_read.specs.Combine.{both_at, mapped_at, tested_at, headed_at, vector_at, sized_at}
+use Rattle.wasm_read.specs.Combine.{both_at, mapped_at, headed_at, vector_at}
 use Rattle.wasm_read.specs.ReadType.{utf8_at, name_at, value_types, value_type_at, block_types, block_type_at, mutabilities, global_of, global_type_at, open_limits, closed_limits, limits_at, table_type_at, signature_of, func_type_at}
-use Rattle.wasm_read.proofs.Basics.{bind_some, split_if, if_some, same_read, moved}
+use Rattle.wasm_read.proofs.Basics.{bind_some, split_if, if_some, moved}
 use Rattle.wasm_read.proofs.NumberLaws.{unsigned_reads}
 use Rattle.wasm_read.proofs.CombineLaws.{both_reads, mapped_reads, tested_reads, headed_reads, vector_reads, sized_reads, coded_reads}
 

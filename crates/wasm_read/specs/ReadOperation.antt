@@ -1,6 +1,6 @@
 -- Reading of an instruction that holds no list and has no labels (Core Specification, section 5.4): its
 -- code tells what follows.
-use Rattle.std.specs.Prelude.{ℕ, ◌==◌, ◌||◌, ◌&&◌, nat_le, Bool, if◌then◌else◌, List, [], ◌∷◌, Option, Some, None}
+use Rattle.std.specs.Prelude.{ℕ, ◌==◌, ◌||◌, ◌&&◌, nat_le, Bool, if◌then◌else◌, [], ◌∷◌, Option, Some, None}
 use Rattle.std.specs.Int.{w32, w64}
 use Rattle.w4_defs.specs.declared.operation.Op.{Op}
 use Rattle.w4_defs.specs.declared.operation.Op.TheVariants.{CallIndirect, I32Const, I64Const, F32Const, F64Const, FloatPlain, FloatCut, MemorySize, MemoryGrow, MemoryCopy, MemoryFill}

@@ -1,5 +1,5 @@
 -- Reading of what the sections hold (Core Specification, section 5.5).
-use Rattle.std.specs.Prelude.{ℕ, ◌==◌, ◌^◌, nat_lt, if◌then◌else◌, List, [], ◌∷◌, Option, Some, None}
+use Rattle.std.specs.Prelude.{ℕ, ◌==◌, ◌^◌, nat_lt, if◌then◌else◌, List, [], ◌∷◌, None}
 use Rattle.w4_defs.specs.declared.value.ValType.{ValType}
 use Rattle.w4_defs.specs.declared.value.GlobalType.{GlobalType}
 use Rattle.w4_defs.specs.declared.module.ImportKind.{ImportKind}
@@ -10,7 +10,6 @@ use Rattle.w4_defs.specs.declared.module.Locals.{Locals}
 use Rattle.w4_defs.specs.Lookup.{local_count}
 use Rattle.w4_defs.specs.Module.{Imported, Exported, Global, ElementSegment, DataSegment, Function}
 use Rattle.w4_defs.specs.Tree.{Expr}
-use Rattle.w4_defs.specs.Reading.{◌>>=◌}
 use Rattle.wasm_read.specs.Reader.{Reader, coded_at}
 use Rattle.wasm_read.specs.ReadNumber.{unsigned_at}
 use Rattle.wasm_read.specs.Combine.{both_at, mapped_at, tested_at, vector_at, whole_at, cut_at, sized_at}

@@ -1,6 +1,6 @@
 -- Reading from the front of bytes: a reader answers a value and the bytes after it, or None. It is
 -- exact where it answers a value just where the bytes begin with a text of that value.
-use Rattle.std.specs.Prelude.{◌≡◌, ℕ, ◌==◌, Bool, if◌then◌else◌, List, [], ◌∷◌, ◌++◌, Option, Some, None, Result, Ok, Err}
+use Rattle.std.specs.Prelude.{◌≡◌, ℕ, ◌==◌, if◌then◌else◌, List, [], ◌∷◌, ◌++◌, Option, Some, None, Result, Ok, Err}
 use Rattle.w4_defs.specs.BinaryText.{Texts}
 use Rattle.w4_defs.specs.Reading.{◌>>=◌}
 use Rattle.wasm_read.specs.declared.refusal.ReadRefusal.{ReadRefusal}

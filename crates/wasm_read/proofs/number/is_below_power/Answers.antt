@@ -1,4 +1,3 @@
-use Rattle.std.proofs.Common.{arith}
 use Rattle.wasm_read.proofs.NumberBounds.{below_any}
 use Rattle.wasm_read.proofs.number.is_below_power.Goals as goal
 

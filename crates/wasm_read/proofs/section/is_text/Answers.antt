@@ -1,4 +1,4 @@
-use Rattle.std.proofs.Common.{◌≡◌, ◌∙◌}
+use Rattle.std.proofs.Common.{◌∙◌}
 use Rattle.wasm_read.proofs.SectionLaws.{text_tested}
 use Rattle.wasm_read.proofs.section.is_text.Goals as goal
 
