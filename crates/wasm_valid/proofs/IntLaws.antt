@@ -1,0 +1,228 @@
+-- No float comes to a shape from a context without floats.
+use Rattle.std.proofs.Common.{◌≡◌, Bool, true, false, ◌&&◌, cond, nat_le, nat_lt, ℕ, zero, suc, ◌^◌, length, List, [], ◌∷◌, ◌++◌, map, reverse, Option, Some, None, option_and_then, refl, sym, subst}
+use Rattle.std.specs.Prelude.{All, IfSome, slice_get}
+use Rattle.std.proofs.lemmas.Bool.{and_from, and_parts}
+use Rattle.std.proofs.lemmas.List.{reverse-append}
+use Rattle.std.proofs.lemmas.List.Elements.{All-cons}
+use Rattle.wasm_tree.proofs.EntryLaws.{got_all}
+use Rattle.w4_defs.specs.declared.value.ValType.{ValType}
+use Rattle.w4_defs.specs.declared.value.ValType.TheVariants.{I32, I64, F32, F64}
+use Rattle.w4_defs.specs.declared.value.GlobalType.{GlobalType}
+use Rattle.w4_defs.specs.declared.operation.Op.{Op}
+use Rattle.w4_defs.specs.declared.operation.Op.TheVariants as op
+use Rattle.w4_defs.specs.Kinds.{same_type}
+use Rattle.w4_defs.specs.Module.{WasmModule}
+use Rattle.w4_defs.specs.Lookup.{signature_of, global_types, tables_of, memories_of, function_indices}
+use Rattle.w4_defs.specs.Floats.{is_float_result}
+use Rattle.w4_defs.specs.OperandTypes.{Arrow, arrow_if, numeric_type, memory_type, gives, unary}
+use Rattle.w4_defs.specs.Typing.{Context, with_label, result_types, IsInt, AreInt, only_type, consumes, sets, branches, calls, calls_indirectly}
+use Rattle.w4_defs.specs.Shape.{Kind, agrees, agree, below, below_all, topmost, common_kind}
+use Rattle.wasm_valid.specs.ShapeLaw.{HasNoFloat, IsIntKind, AreIntKinds}
+use Rattle.wasm_valid.proofs.KindLaws.{then_some, if_some}
+
+-- ---- lists of types
+
+pub joined_int : (a b : List ValType) → AreInt a → AreInt b → AreInt (a ++ b)
+joined_int [] b h g = g
+joined_int (t ∷ a) b h g = (h.0, joined_int a b h.1 g)
+
+pub left_int : (a b : List ValType) → AreInt (a ++ b) → AreInt a
+left_int [] b h = tt
+left_int (t ∷ a) b h = (h.0, left_int a b h.1)
+
+pub right_int : (a b : List ValType) → AreInt (a ++ b) → AreInt b
+right_int [] b h = h
+right_int (t ∷ a) b h = right_int a b h.1
+
+pub reversed_int : (ts : List ValType) → AreInt ts → AreInt (reverse ts)
+reversed_int [] h = tt
+reversed_int (t ∷ ts) h =
+    subst AreInt (sym (reverse-append (t ∷ []) ts)) (joined_int (reverse ts) (t ∷ []) (reversed_int ts h.1) (h.0, tt))
+
+pub result_int : (r : Option ValType) → is_float_result r ≡ false → AreInt (result_types r)
+result_int None h = tt
+result_int (Some I32) h = (tt, tt)
+result_int (Some I64) h = (tt, tt)
+result_int (Some F32) h = absurd (cc h)
+result_int (Some F64) h = absurd (cc h)
+
+pub got_int : (ts : List ValType) (k : ℕ) → AreInt ts → IfSome (slice_get ts k) IsInt
+got_int [] k h = tt
+got_int (t ∷ ts) zero h = h.0
+got_int (t ∷ ts) (suc k) h = got_int ts k h.1
+
+pub if_some_is : {A : Type 0} (P : A → Type 0) (o : Option A) (x : A) → IfSome o P → o ≡ Some x → P x
+if_some_is P None x h e = absurd (cc e)
+if_some_is P (Some y) x h e = subst P (cc e) h
+
+-- ---- lists of kinds
+
+pub joined_kinds : (a b : List Kind) → AreIntKinds a → AreIntKinds b → AreIntKinds (a ++ b)
+joined_kinds [] b h g = g
+joined_kinds (k ∷ a) b h g = (h.0, joined_kinds a b h.1 g)
+
+pub known_int : (ts : List ValType) → AreInt ts → AreIntKinds (map Some ts)
+known_int [] h = tt
+known_int (t ∷ ts) h = (h.0, known_int ts h.1)
+
+pub below_int : (t : ValType) (marked : Bool) (ks rest : List Kind) → AreIntKinds ks → below t marked ks ≡ Some rest → AreIntKinds rest
+below_int t true [] rest i h = let e : [] ≡ rest = cc h in subst AreIntKinds e tt
+below_int t false [] rest i h = absurd (cc h)
+below_int t true (k ∷ ks) rest i h = subst AreIntKinds (if_some (agrees k t) ks rest h).1 i.1
+below_int t false (k ∷ ks) rest i h = subst AreIntKinds (if_some (agrees k t) ks rest h).1 i.1
+
+pub all_below_int : (us : List ValType) (marked : Bool) (ks rest : List Kind) → AreIntKinds ks → below_all us marked ks ≡ Some rest → AreIntKinds rest
+all_below_int [] marked ks rest i h = let e : ks ≡ rest = cc h in subst AreIntKinds e i
+all_below_int (u ∷ us) marked ks rest i h =
+    let p = then_some (below_all us marked) (below u marked ks) rest h in
+    all_below_int us marked p.0 rest (below_int u marked ks p.0 i p.1) p.2
+
+pub top_int : (marked : Bool) (ks : List Kind) (top : Kind × List Kind) → AreIntKinds ks → topmost marked ks ≡ Some top → IsIntKind top.0 × AreIntKinds top.1
+top_int true [] top i h = let e : (None, []) ≡ top = cc h in subst (λ x. IsIntKind x.0 × AreIntKinds x.1) e (tt, tt)
+top_int false [] top i h = absurd (cc h)
+top_int true (k ∷ ks) top i h = let e : (k, ks) ≡ top = cc h in subst (λ x. IsIntKind x.0 × AreIntKinds x.1) e i
+top_int false (k ∷ ks) top i h = let e : (k, ks) ≡ top = cc h in subst (λ x. IsIntKind x.0 × AreIntKinds x.1) e i
+
+pub common_int : (j k both : Kind) → IsIntKind j → IsIntKind k → common_kind j k ≡ Some both → IsIntKind both
+common_int None k both i l h = let e : k ≡ both = cc h in subst IsIntKind e l
+common_int (Some u) None both i l h = let e : Some u ≡ both = cc h in subst IsIntKind e i
+common_int (Some u) (Some v) both i l h = subst IsIntKind (if_some (same_type u v) (Some u) both h).1 i
+
+-- an int type for a kind
+pub some_type : (k : Kind) → IsIntKind k → (t : ValType) × IsInt t × (agrees k t ≡ true)
+some_type None i = (I32, tt, refl)
+some_type (Some I32) i = (I32, tt, refl)
+some_type (Some I64) i = (I64, tt, refl)
+some_type (Some F32) i = absurd i
+some_type (Some F64) i = absurd i
+
+-- some int types for which kinds stand
+pub some_types : (ks : List Kind) (marked : Bool) → AreIntKinds ks → (ts : List ValType) × AreInt ts × (agree ks marked ts ≡ true)
+some_types [] marked i = ([], tt, refl)
+some_types (k ∷ ks) marked i =
+    let p = some_type k i.0 in
+    let q = some_types ks marked i.1 in
+    (p.0 ∷ q.0, (p.1, q.1), and_from (agrees k p.0) (agree ks marked q.0) p.2 q.2)
+
+-- ---- the arrows of operations
+
+abbrev pub IsIntArrow : Option Arrow → Type 0
+IsIntArrow None = Unit {0}
+IsIntArrow (Some arrow) = AreInt arrow.0 × AreInt arrow.1
+
+are_int : List ValType → Bool
+are_int [] = true
+are_int (I32 ∷ ts) = are_int ts
+are_int (I64 ∷ ts) = are_int ts
+are_int (F32 ∷ ts) = false
+are_int (F64 ∷ ts) = false
+
+is_int_arrow : Option Arrow → Bool
+is_int_arrow None = true
+is_int_arrow (Some arrow) = are_int arrow.0 && are_int arrow.1
+
+tested_int : (ts : List ValType) → are_int ts ≡ true → AreInt ts
+unfolding are_int
+tested_int [] h = tt
+tested_int (I32 ∷ ts) h = (tt, tested_int ts h)
+tested_int (I64 ∷ ts) h = (tt, tested_int ts h)
+tested_int (F32 ∷ ts) h = absurd (cc h)
+tested_int (F64 ∷ ts) h = absurd (cc h)
+
+tested_arrow : (o : Option Arrow) → is_int_arrow o ≡ true → IsIntArrow o
+unfolding is_int_arrow
+tested_arrow None h = tt
+tested_arrow (Some arrow) h =
+    let p = and_parts (are_int arrow.0) (are_int arrow.1) h in (tested_int arrow.0 p.0, tested_int arrow.1 p.1)
+
+numeric_tested : (o : Op) → is_int_arrow (numeric_type o) ≡ true
+unfolding is_int_arrow are_int
+numeric_tested op.I32Eqz = refl
+numeric_tested _ = refl
+
+numeric_int : (o : Op) → IsIntArrow (numeric_type o)
+numeric_int o = tested_arrow (numeric_type o) (numeric_tested o)
+
+int_if : (b : Bool) (taken given : List ValType) → AreInt taken → AreInt given → IsIntArrow (arrow_if b taken given)
+int_if true taken given h g = (h, g)
+int_if false taken given h g = tt
+
+pub memory_int : (has : Bool) (o : Op) → IsIntArrow (memory_type has o)
+memory_int has (op.I32Load align offset) = int_if (has && nat_le (2 ^ align) 4) (I32 ∷ []) (I32 ∷ []) (tt, tt) (tt, tt)
+memory_int has (op.I64Load align offset) = int_if (has && nat_le (2 ^ align) 8) (I32 ∷ []) (I64 ∷ []) (tt, tt) (tt, tt)
+memory_int has (op.I32Load8S align offset) = int_if (has && nat_le (2 ^ align) 1) (I32 ∷ []) (I32 ∷ []) (tt, tt) (tt, tt)
+memory_int has (op.I32Load8U align offset) = int_if (has && nat_le (2 ^ align) 1) (I32 ∷ []) (I32 ∷ []) (tt, tt) (tt, tt)
+memory_int has (op.I32Load16S align offset) = int_if (has && nat_le (2 ^ align) 2) (I32 ∷ []) (I32 ∷ []) (tt, tt) (tt, tt)
+memory_int has (op.I32Load16U align offset) = int_if (has && nat_le (2 ^ align) 2) (I32 ∷ []) (I32 ∷ []) (tt, tt) (tt, tt)
+memory_int has (op.I64Load8S align offset) = int_if (has && nat_le (2 ^ align) 1) (I32 ∷ []) (I64 ∷ []) (tt, tt) (tt, tt)
+memory_int has (op.I64Load8U align offset) = int_if (has && nat_le (2 ^ align) 1) (I32 ∷ []) (I64 ∷ []) (tt, tt) (tt, tt)
+memory_int has (op.I64Load16S align offset) = int_if (has && nat_le (2 ^ align) 2) (I32 ∷ []) (I64 ∷ []) (tt, tt) (tt, tt)
+memory_int has (op.I64Load16U align offset) = int_if (has && nat_le (2 ^ align) 2) (I32 ∷ []) (I64 ∷ []) (tt, tt) (tt, tt)
+memory_int has (op.I64Load32S align offset) = int_if (has && nat_le (2 ^ align) 4) (I32 ∷ []) (I64 ∷ []) (tt, tt) (tt, tt)
+memory_int has (op.I64Load32U align offset) = int_if (has && nat_le (2 ^ align) 4) (I32 ∷ []) (I64 ∷ []) (tt, tt) (tt, tt)
+memory_int has (op.I32Store align offset) = int_if (has && nat_le (2 ^ align) 4) (I32 ∷ I32 ∷ []) [] (tt, (tt, tt)) tt
+memory_int has (op.I64Store align offset) = int_if (has && nat_le (2 ^ align) 8) (I32 ∷ I64 ∷ []) [] (tt, (tt, tt)) tt
+memory_int has (op.I32Store8 align offset) = int_if (has && nat_le (2 ^ align) 1) (I32 ∷ I32 ∷ []) [] (tt, (tt, tt)) tt
+memory_int has (op.I32Store16 align offset) = int_if (has && nat_le (2 ^ align) 2) (I32 ∷ I32 ∷ []) [] (tt, (tt, tt)) tt
+memory_int has (op.I64Store8 align offset) = int_if (has && nat_le (2 ^ align) 1) (I32 ∷ I64 ∷ []) [] (tt, (tt, tt)) tt
+memory_int has (op.I64Store16 align offset) = int_if (has && nat_le (2 ^ align) 2) (I32 ∷ I64 ∷ []) [] (tt, (tt, tt)) tt
+memory_int has (op.I64Store32 align offset) = int_if (has && nat_le (2 ^ align) 4) (I32 ∷ I64 ∷ []) [] (tt, (tt, tt)) tt
+memory_int has op.MemorySize = int_if has [] (I32 ∷ []) tt (tt, tt)
+memory_int has op.MemoryGrow = int_if has (I32 ∷ []) (I32 ∷ []) (tt, tt) (tt, tt)
+memory_int has op.MemoryCopy = int_if has (I32 ∷ I32 ∷ I32 ∷ []) [] (tt, (tt, (tt, tt))) tt
+memory_int has op.MemoryFill = int_if has (I32 ∷ I32 ∷ I32 ∷ []) [] (tt, (tt, (tt, tt))) tt
+memory_int has o = numeric_int o
+
+-- an arrow of what an index names
+named_int : {A : Type 0} (P : A → Type 0) (f : A → Option Arrow) (o : Option A) → IfSome o P → ((x : A) → P x → IsIntArrow (f x)) → IsIntArrow (option_and_then f o)
+named_int P f None h g = tt
+named_int P f (Some x) h g = g x h
+
+branches_int : (label : List ValType) → AreInt label → IsIntArrow (branches label)
+branches_int label h = (joined_int label (I32 ∷ []) h (tt, tt), h)
+
+signature_int : (m : WasmModule) (o : Option ℕ) → All (λ s. AreInt s.params × AreInt s.results) m.types
+    → IfSome (option_and_then (λ index. slice_get m.types index) o) (λ s. AreInt s.params × AreInt s.results)
+signature_int m None h = tt
+signature_int m (Some index) h = got_all (λ s. AreInt s.params × AreInt s.results) m.types index h
+
+int_when : (b : Bool) (o : Option Arrow) → IsIntArrow o → IsIntArrow (cond b o None)
+int_when true o h = h
+int_when false o h = tt
+
+sets_int : (g : GlobalType) → IsInt g.value → IsIntArrow (sets g)
+sets_int g h = int_if g.mutable (g.value ∷ []) [] (h, tt) tt
+
+pub arrow_int : (c : Context) (o : Op) → HasNoFloat c → IsIntArrow (only_type c o)
+arrow_int c op.Nop n = (tt, tt)
+arrow_int c (op.BrIf label) n = named_int AreInt branches (slice_get c.labels label) (got_all AreInt c.labels label n.labels) branches_int
+arrow_int c (op.Call func) n =
+    named_int (λ s. AreInt s.params × AreInt s.results) calls (signature_of c.within func)
+    (signature_int c.within (slice_get (function_indices c.within) func) n.signatures) (λ s h. h)
+arrow_int c (op.CallIndirect signature table) n =
+    int_when (nat_lt table (length (tables_of c.within))) (option_and_then calls_indirectly (slice_get c.within.types signature))
+    (named_int (λ s. AreInt s.params × AreInt s.results) calls_indirectly (slice_get c.within.types signature)
+    (got_all (λ s. AreInt s.params × AreInt s.results) c.within.types signature n.signatures)
+    (λ s h. (joined_int s.params (I32 ∷ []) h.0 (tt, tt), h.1)))
+arrow_int c (op.LocalGet index) n = named_int IsInt gives (slice_get c.locals index) (got_int c.locals index n.locals) (λ t h. (tt, (h, tt)))
+arrow_int c (op.LocalSet index) n = named_int IsInt consumes (slice_get c.locals index) (got_int c.locals index n.locals) (λ t h. ((h, tt), tt))
+arrow_int c (op.LocalTee index) n = named_int IsInt unary (slice_get c.locals index) (got_int c.locals index n.locals) (λ t h. ((h, tt), (h, tt)))
+arrow_int c (op.GlobalGet index) n =
+    named_int (λ g. IsInt g.value) (λ g. gives g.value) (slice_get (global_types c.within) index)
+    (got_all (λ g. IsInt g.value) (global_types c.within) index n.globals) (λ g h. (tt, (h, tt)))
+arrow_int c (op.GlobalSet index) n =
+    named_int (λ g. IsInt g.value) sets (slice_get (global_types c.within) index)
+    (got_all (λ g. IsInt g.value) (global_types c.within) index n.globals) sets_int
+arrow_int c o n = memory_int (nat_lt 0 (length (memories_of c.within))) o
+
+pub inside : (c : Context) (label : List ValType) → AreInt label → HasNoFloat c → HasNoFloat (with_label label c)
+inside c label h n = record {
+  locals = n.locals;
+  labels = All-cons AreInt label c.labels h n.labels;
+  results = n.results;
+  signatures = n.signatures;
+  globals = n.globals;
+}
+
+pub arrow_ints : (o : Option Arrow) (arrow : Arrow) → IsIntArrow o → o ≡ Some arrow → AreInt arrow.0 × AreInt arrow.1
+arrow_ints o arrow h e = subst IsIntArrow e h
