@@ -6,7 +6,7 @@ use w4_defs::{Import, PageBytes};
 
 /// A host: the weight and the effect of each import, given its arguments and the page.
 pub trait Host {
-    ghost use Rattle.std.specs.Prelude.{List, ℕ};
+    ghost use Rattle.std.specs.Prelude.{List, ℕ, ◌≡◌, IsSome, length};
     ghost use Rattle.w4_defs.specs.Imports.{import_type};
     ghost use Rattle.w4_defs.specs.Outcome.{Called};
     ghost use Rattle.w4_defs.specs.declared.console.Import.{Import};
@@ -29,4 +29,7 @@ pub trait Host {
         ensures page { page.new ≡ (effect self.old name args.now page.old).page }
         ensures answer { result ≡ (effect self.old name args.now page.old).answer }
         ensures answers { IsSome result ↔ (length (import_type name).results ≡ 1) };
+
+    /// An import answers exactly where its type has a result, whatever the arguments and the page.
+    ghost answers_by_type: { (host : Self) (name : Import) (args page : List ℕ) → IsSome (effect host name args page).answer ↔ (length (import_type name).results ≡ 1) };
 }

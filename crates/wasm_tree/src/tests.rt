@@ -275,6 +275,7 @@ fn places_count_from_each_body(rt: HostRuntime) {
 struct Still;
 
 impl Host for Still {
+    ghost use Rattle.std.proofs.Common.{rules};
     ghost use Rattle.std.specs.Prelude.{None, Some, if◌then◌else◌, length, nat_eq};
     ghost use Rattle.w4_defs.specs.Imports.{import_type};
 
@@ -307,6 +308,8 @@ impl Host for Still {
             Import::Tracef => None,
         }
     }
+
+    ghost answers_by_type = { λ host name args page. Prim.search rules };
 }
 
 fn reads_disk<H: Host>(host: &mut H, page: &mut PageBytes) -> (u64, Option<u32>) {
