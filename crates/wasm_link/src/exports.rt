@@ -67,8 +67,9 @@ fn takes_nothing(signature: Option<&FuncType>) -> bool
     }
 }
 
-/// The type of a function, which counts imports first.
-fn signature_of(code: &Code, func: u32) -> Option<&FuncType>
+/// The type of a function, which counts imports first; None where there is no such function, or its type
+/// index names no type. It takes no memory.
+pub fn signature_of(code: &Code, func: u32) -> Option<&FuncType>
     ensures { option_map (λ s. s.now) result ≡ signature_of code.now func }
 {
     match type_index(code, func) {

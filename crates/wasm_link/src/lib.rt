@@ -12,6 +12,8 @@ mod profile;
 mod segments;
 mod signature;
 
+pub use exports::signature_of;
+pub use names::import_named;
 pub use profile::check_profile;
 
 #[cfg(test)]

@@ -5,7 +5,7 @@ ghost use Rattle.w4_defs.specs.ImportNames.{import_named, import_names, named_in
 
 use w4_defs::Import;
 
-/// The import that is written with this module's name and this name.
+/// The import that is written with this module's name and this name; None where there is none.
 pub fn import_named(origin: &[u8], name: &[u8]) -> Option<Import>
     ensures { result ≡ import_named origin.now name.now }
 {
