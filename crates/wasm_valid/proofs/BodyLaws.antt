@@ -21,7 +21,7 @@ none_all p P [] g h = All-nil P
 none_all p P (x ∷ xs) g h =
     let q = or_parts (p x) (list_any p xs) h in All-cons P x xs (g x q.0) (none_all p P xs g q.1)
 
-none_at : {A : Type 0} (p : A → Bool) (xs : List A) (k : ℕ) (x : A) → list_any p xs ≡ false → slice_get xs k ≡ Some x → p x ≡ false
+pub none_at : {A : Type 0} (p : A → Bool) (xs : List A) (k : ℕ) (x : A) → list_any p xs ≡ false → slice_get xs k ≡ Some x → p x ≡ false
 none_at p [] k x h e = absurd (cc e)
 none_at p (y ∷ xs) zero x h e =
     let same : y ≡ x = cc e in subst (λ z. p z ≡ false) same (or_parts (p y) (list_any p xs) h).0
@@ -52,12 +52,12 @@ locals_int (run ∷ runs) h =
     joined_int (replicate run.count run.kind) (local_types runs) (repeated_int run.count run.kind (int_type run.kind q.0)) (locals_int runs q.1)
 
 -- the three parts of a module that typing looks at
-record Free (m : WasmModule) : Type 0 where
+pub record Free (m : WasmModule) : Type 0 where
   pub types : list_any signature_has_float m.types ≡ false
   pub globals : list_any (λ g. is_float g.value) (global_types m) ≡ false
   pub bodies : list_any function_has_float m.bodies ≡ false
 
-free : (m : WasmModule) → module_has_float m ≡ false → Free m
+pub free : (m : WasmModule) → module_has_float m ≡ false → Free m
 free m h =
     let types = list_any signature_has_float m.types in
     let globals = list_any (λ g. is_float g.value) (global_types m) in

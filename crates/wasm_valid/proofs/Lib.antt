@@ -6,3 +6,31 @@ mod StepLaws
 mod ShapeLaws
 mod BodyLaws
 mod PassLaws
+mod TypedValues
+mod TypedLists
+mod TypedCalls
+mod TypedInstructions
+mod TypedSteps
+mod TypedImports
+mod TypedModules
+pub mod NeverStuck
+mod NoneLaws
+mod ProfileFacts
+mod CartLaws
+mod ConstantLaws
+mod CountLaws
+mod DecideLaws
+mod ApartLaws
+mod ListMaps
+mod GlobalLaws
+mod TableLaws
+mod TypeLaws
+mod InstructionLaws
+mod CallLaws
+pub mod FrameLaws
+pub mod OperandLaws
+pub mod ProfileLaws
+pub mod RowLaws
+pub mod BlockLaws
+pub mod TurnLaws
+pub mod EntryLaws

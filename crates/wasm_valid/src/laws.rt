@@ -1,5 +1,6 @@
 //! Laws of the definition of typing, which the pass over a body stands on.
 
+ghost use Rattle.wasm_valid.specs.Instructions.{InstructionsAreCounted};
 ghost use Rattle.wasm_valid.specs.Pass.{PassDecidesBodies};
 ghost use Rattle.wasm_valid.specs.ShapeLaw.{ShapeDecides, ShapeDecidesBodies, ShapeDecidesFrom};
 
@@ -20,4 +21,9 @@ pub fn shape_decides_bodies()
 /// exactly where the body's shape stands for the function's results.
 pub fn pass_decides_bodies()
     ensures { PassDecidesBodies }
+{}
+
+/// The entries of a flattening besides each `else` and each `end` are as many as the instructions of its tree.
+pub fn instructions_are_counted()
+    ensures { InstructionsAreCounted }
 {}

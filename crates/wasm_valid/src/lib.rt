@@ -1,7 +1,46 @@
-//! Laws on which the validation of a module stands (Core Specification, chapter 3): a pass over the entries
-//! of a body, which makes no choice, decides whether the body has its type.
+//! Validation of a module (Core Specification, chapter 3). The layer above makes a `Cart` by `validate`, and
+//! relies on it: its module is valid and within the console's profile, and its functions are ready to be called.
 #![tactic(auto)]
 
+mod arrows;
+mod blocks;
+mod body;
+mod call;
+mod calls;
+mod cart;
+mod constant;
+mod counts;
+mod entry;
+mod exports;
+mod frames;
+mod functions;
+mod globals;
+mod labels;
 mod laws;
+mod limits;
+mod module_rules;
+mod operands;
+mod refusal;
+mod rule;
+mod scope;
+mod segments;
+mod signature;
+mod soundness;
+mod table;
+mod turns;
+mod validation;
 
-pub use laws::{pass_decides_bodies, shape_decides, shape_decides_bodies};
+pub use call::Call;
+pub use cart::Cart;
+pub use entry::Entry;
+pub use laws::{
+    instructions_are_counted, pass_decides_bodies, shape_decides, shape_decides_bodies,
+};
+pub use refusal::ValidRefusal;
+pub use soundness::{hosted_runs_are_sound, runs_are_sound};
+pub use validation::validate;
+
+#[cfg(test)]
+mod test_modules;
+#[cfg(test)]
+mod tests;

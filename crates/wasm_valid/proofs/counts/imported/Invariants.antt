@@ -1,0 +1,9 @@
+use Rattle.std.proofs.Common.{take}
+use Rattle.wasm_valid.specs.Counting.{CountKinds, FitKinds}
+use Rattle.wasm_valid.proofs.counts.imported.Given as goal
+
+abbrev pub invariant-loop-i : goal.invariant-loop-i
+invariant-loop-i l = record {
+  kinds : CountKinds l.counts (take l.i l.imports);
+  fit : FitKinds l.counts l.i;
+}

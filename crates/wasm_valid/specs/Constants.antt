@@ -1,0 +1,33 @@
+-- Constants by the operations of a flattening (own rule): a single constant is one operation before the end.
+use Rattle.std.specs.Prelude.{ℕ, List, [], ◌∷◌, Option, None}
+use Rattle.w4_defs.specs.declared.operation.Op.{Op}
+use Rattle.w4_defs.specs.declared.operation.Op.TheVariants.{I32Const, I64Const}
+use Rattle.w4_defs.specs.declared.value.Val.{Val}
+use Rattle.w4_defs.specs.declared.value.Val.TheVariants as val
+use Rattle.w4_defs.specs.declared.value.ValType.{ValType}
+use Rattle.w4_defs.specs.Validity.{constant_type}
+
+abbrev pub number32 : Op → ℕ
+number32 (I32Const value) = value
+number32 _ = 0
+
+-- the number of a first operation that is an i32.const; 0 of any other
+abbrev pub first_number32 : List Op → ℕ
+first_number32 [] = 0
+first_number32 (op ∷ ops) = number32 op
+
+-- the type of the one constant before the end
+abbrev pub only_constant : List Op → Option ValType
+only_constant (op ∷ (last ∷ [])) = constant_type op
+only_constant _ = None
+
+-- the value of a constant; 0 of any other operation
+abbrev pub constant_value : Op → Val
+constant_value (I32Const value) = val.I32 value
+constant_value (I64Const value) = val.I64 value
+constant_value _ = val.I32 0
+
+-- the value of a first operation that is a constant
+abbrev pub first_value : List Op → Val
+first_value [] = val.I32 0
+first_value (op ∷ ops) = constant_value op

@@ -1,0 +1,74 @@
+//! Turns of the pass that open, part and close lists.
+
+ghost use Rattle.std.specs.Prelude.{◌≡◌, IfOk, true};
+ghost use Rattle.wasm_valid.specs.OpenLists.{Becomes, bare, begun, chosen_on, closed_on, finishes, on_top, parted};
+
+use crate::arrows::one;
+use crate::frames::Frames;
+use w4_defs::{OutOfMemory, ValType};
+
+/// An answer says whether the lists allow the turn; where they don't, they are of no further use.
+impl<'a> Frames<'a> {
+    /// A block or loop: its list is opened.
+    pub fn begin(
+        &mut self,
+        label: &'a [ValType],
+        results: &'a [ValType],
+    ) -> Result<bool, OutOfMemory>
+        ensures { IfOk result (λ went. Becomes went self.new (begun label.now results.now self.old)) }
+    {
+        if !self.is_open() {
+            return Ok(false);
+        }
+        self.enter(label, results)?;
+        Ok(true)
+    }
+
+    /// An `if`: its condition is taken, and its first list is opened.
+    pub fn choose(&mut self, results: &'a [ValType]) -> Result<bool, OutOfMemory>
+        ensures { IfOk result (λ went. Becomes went self.new (chosen_on results.now self.old)) }
+    {
+        if !self.take_all(one(ValType::I32)) {
+            return Ok(false);
+        }
+        self.enter(results, results)?;
+        Ok(true)
+    }
+
+    /// Whether the innermost list has just what its results are; all its kinds are taken then.
+    fn finish(&mut self) -> bool
+        ensures value { result ≡ finishes self.old }
+        ensures taken { result ≡ true → self.new ≡ on_top (λ s. bare s.marked s) self.old }
+    {
+        match self.results() {
+            Some(results) => self.take_all(results) && self.is_bare(),
+            None => false,
+        }
+    }
+
+    /// An `else`: the first list of an `if` is closed, and the second is opened.
+    pub fn part(&mut self) -> bool
+        ensures { Becomes result self.new (parted self.old) }
+    {
+        if !self.finish() {
+            return false;
+        }
+        self.restart(false);
+        true
+    }
+
+    /// An `end`: the innermost list is closed, and its results go to the next.
+    pub fn close(&mut self) -> Result<bool, OutOfMemory>
+        ensures { IfOk result (λ went. Becomes went self.new (closed_on self.old)) }
+    {
+        let Some(results) = self.results() else {
+            return Ok(false);
+        };
+        if !self.finish() {
+            return Ok(false);
+        }
+        self.leave();
+        self.give_all(results)?;
+        Ok(true)
+    }
+}
