@@ -1,0 +1,2 @@
+-- A law of the console's imports.
+pub mod Answers
