@@ -1,46 +1,46 @@
--- The laws of a first cart's reset and frame.
-use Rattle.std.proofs.Common.{◌≡◌, ℕ, true, false, List, Some, refl, ◌∙◌, ap}
-use Rattle.std.specs.Option.{option_map, option_and_then}
+-- How a frame and a reset are put together of their parts.
+use Rattle.std.proofs.Common.{◌≡◌, ℕ, List, Option, Some, None, refl, sym, ◌∙◌, ap}
+use Rattle.std.specs.Option.{option_and_then, option_map}
 use Rattle.w4_defs.specs.declared.console.Halt.{Halt}
 use Rattle.w4_defs.specs.declared.console.Halt.TheVariants.{Running, Trapped, Spent}
 use Rattle.w4_defs.specs.declared.console.Input.{Input}
-use Rattle.w4_defs.specs.State.{State}
-use Rattle.w4_defs.specs.Reset.{reset, start, start_page, first_page, underway, recorded}
-use Rattle.w4_defs.specs.Frame.{frame, update}
-use Rattle.wasm_machine.specs.declared.first_cart.FirstOp.{FirstOp}
-use Rattle.w4_console.specs.FirstConsole.{first_state, first_setup, quiet, ResetsTo, StartsTo, FramesTo, UpdatesTo}
+use Rattle.w4_defs.specs.Board.{console_setup}
+use Rattle.w4_defs.specs.Entries.{update_entry}
+use Rattle.w4_defs.specs.Frame.{begun, call_update, frame, update, update_from}
+use Rattle.w4_defs.specs.Module.{WasmModule}
+use Rattle.w4_defs.specs.Reset.{recorded, reset, Setup, start, underway}
+use Rattle.w4_defs.specs.State.{empty_record, FrameRecord, Moment, State, Underway}
+use Rattle.w4_devices.specs.declared.frame_record.FrameRecord.{FrameRecord as Made}
+use Rattle.w4_devices.specs.Records.{record_of}
+use Rattle.w4_console.specs.UnderWay.{gone_on, IsCalled, so_far}
+use Rattle.w4_console.proofs.CallLaws.{at_end}
 
--- a first cart has no data segments, and no function that a reset calls
-pub starts : (page : List ℕ) (halt : Halt) → StartsTo (first_state page halt) (first_state first_page Running)
-unfolding start start_page
-starts page halt cart outside font budget = refl
+-- a halted cart is left as it is
+pub halted : (setup : Setup) (input : Input) (now : Underway) (halt : Halt) → (halt ≡ Running → ⊥) → update_from setup input now halt ≡ Some now
+halted setup input now Running out = absurd (out refl)
+halted setup input now (Trapped cause) out = refl
+halted setup input now Spent out = refl
 
-pub resets : ResetsTo (first_state first_page Running)
+-- `update` is the last call of a frame
+pub updated : (cart : WasmModule) (font : List ℕ) (function budget : ℕ) (now next : Underway) (rest : Option ℕ)
+    → IsCalled cart font function now budget rest next
+    → call_update (console_setup cart font budget) (Some function) now ≡ Some next
+updated cart font function budget now next rest is = is (λ now rest. Some now) ∙ at_end rest next
+
+pub framed : (setup : Setup) (state : State) (input : Input) (first next : Underway) (moment : Moment)
+    → begun setup state input ≡ Some first → update setup input first ≡ Some next → moment ≡ recorded next
+    → frame setup state input ≡ Some moment
+unfolding frame
+framed setup state input first next moment b u r =
+    ap (λ o. option_map recorded (option_and_then (update setup input) o)) b ∙ ap (option_map recorded) u ∙ ap Some (sym r)
+
+pub was_reset : (setup : Setup) (disk : List ℕ) (next : Underway) (moment : Moment) → start setup disk ≡ Some next → moment ≡ recorded next
+    → reset setup disk ≡ Some moment
 unfolding reset
-resets cart outside font budget = ap (option_map recorded) (starts first_page Running cart outside font budget)
+was_reset setup disk next moment s r = ap (option_map recorded) s ∙ ap Some (sym r)
 
--- a halted console is left as it is
-pub updates-halted : (cart : List FirstOp) (input : Input) (budget : ℕ) (page : List ℕ) (halt : Halt) → (halt ≡ Running → ⊥)
-    → UpdatesTo cart input budget (first_state page halt) (first_state page halt)
-updates-halted cart input budget page Running out outside font = absurd (out refl)
-updates-halted cart input budget page (Trapped cause) out outside font = refl
-updates-halted cart input budget page Spent out outside font = refl
-
--- the record that is taken has nothing in it, and no channel ages
-recorded-quiet : (next : State) (page : List ℕ) (halt : Halt) → next ≡ first_state page halt → recorded (underway next) ≡ quiet next
-recorded-quiet next page halt e = rw e refl
-
-pub frames-on : (cart : List FirstOp) (input : Input) (budget : ℕ) (state next : State) → input.reset ≡ false
-    → next ≡ first_state next.page next.halt → UpdatesTo cart input budget state next → FramesTo cart input budget state next
-unfolding frame
-frames-on cart input budget state next r first u outside font =
-    rw r (ap (option_map recorded) (u outside font) ∙ ap Some (recorded-quiet next next.page next.halt first))
-
-pub frames-anew : (cart : List FirstOp) (input : Input) (budget : ℕ) (state fresh next : State) → input.reset ≡ true
-    → StartsTo state fresh → next ≡ first_state next.page next.halt → UpdatesTo cart input budget fresh next
-    → FramesTo cart input budget state next
-unfolding frame
-frames-anew cart input budget state fresh next r s first u outside font =
-    let setup = first_setup cart outside font budget in
-    rw r (ap (λ b. option_map recorded (option_and_then (update setup input) b)) (s cart outside font budget)
-    ∙ ap (option_map recorded) (u outside font) ∙ ap Some (recorded-quiet next next.page next.halt first))
+-- an empty record is that of a start or a frame that begins
+pub begins : (state first : State) (made : Made) → state ≡ first → record_of made ≡ empty_record → so_far state made ≡ underway first
+begins state first made s r =
+    ap (λ (t : State). so_far t made) s
+    ∙ ap (λ (m : FrameRecord). record { state = first; tones = m.tones; traces = m.traces }) r

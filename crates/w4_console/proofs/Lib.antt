@@ -1,2 +1,5 @@
-pub mod FrameLaws
-pub mod PageLaws
+-- Lemmas of resets and frames.
+mod CallLaws
+mod FrameLaws
+mod GlobalLaws
+mod SegmentLaws

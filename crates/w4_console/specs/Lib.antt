@@ -1,2 +1,3 @@
--- What a console with first carts stands for.
-pub mod FirstConsole
+-- What a reset or a frame of the console has come to.
+pub mod Lending
+pub mod UnderWay

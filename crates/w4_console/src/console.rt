@@ -1,23 +1,30 @@
 //! The console.
 
-ghost use Rattle.std.specs.Prelude.{◌≡◌, ◌+◌, ◌≤◌, length, IfOk, []};
+ghost use Rattle.std.specs.Prelude.{◌≡◌, ◌+◌, ◌≤◌, IfOk, length, Some};
+ghost use Rattle.w4_defs.specs.Board.{console_setup};
+ghost use Rattle.w4_defs.specs.Entries.{first_globals};
+ghost use Rattle.w4_defs.specs.Frame.{frame};
+ghost use Rattle.w4_defs.specs.Reset.{reset};
 ghost use Rattle.w4_defs.specs.State.{blank_state};
-ghost use Rattle.w4_console.specs.FirstConsole.{halt_after};
+ghost use Rattle.w4_console.specs.UnderWay.{HasGlobals, moment};
 
-use crate::page::{put_first_page, put_input_page};
+use crate::frames::{begin, record, update};
+use crate::start::{first_globals, start};
 use std::alloc::Global;
 use std::marker::Model;
 use std::sync::ledger::Ledger;
-use w4_defs::{Halt, Input, OutOfMemory, PageBytes, Steps};
-use wasm_machine::{Ending, FirstCart, Machine};
+use w4_blit::Font;
+use w4_defs::{Input, OutOfMemory, Steps};
+use w4_devices::{Disk, FrameRecord};
+use w4_map::State;
+use wasm_machine::Machine;
+use wasm_valid::Cart;
 
-/// A console that runs first carts. It is seen as its state, which has no globals, silent channels and an
-/// empty disk.
+/// A console with all the memory that resets and frames need. A contract sees its state.
 #[derive(Drop)]
 pub struct Console {
     machine: Machine,
-    page: Box<PageBytes>,
-    halt: Halt,
+    state: State,
 }
 
 impl Model for Console {
@@ -25,95 +32,83 @@ impl Model for Console {
 
     ghost Value = { State };
 
-    ghost use Rattle.w4_console.specs.FirstConsole.{first_state};
-
-    ghost view = { λ c. first_state c.page.value c.halt };
+    ghost view = { λ c. c.state };
 }
 
 impl Console {
-    ghost use Rattle.w4_console.specs.FirstConsole.{first_state, ResetsTo, StartsTo, FramesTo, UpdatesTo};
+    ghost use Rattle.std.specs.Borrow.{sem};
+    ghost use Rattle.w4_console.specs.Lending.{LendsState};
 
-    /// A console with a page of zeros, before any reset. Takes all the memory that it ever needs.
-    pub fn new(alloc: Global) -> Result<Console, OutOfMemory>
-        ensures blank { IfOk result (λ c. c ≡ blank_state []) }
+    /// A console before any reset, whose globals are a cart's.
+    pub fn new(alloc: Global, cart: &Cart) -> Result<Console, OutOfMemory>
+        ensures blank { IfOk result (λ console. console ≡ blank_state (first_globals cart.now)) }
+        ensures globals { IfOk result (λ console. HasGlobals cart.now console) }
     {
         Ok(Console {
             machine: Machine::new(alloc)?,
-            page: Box::new(alloc, [0; 65536])?,
-            halt: Halt::Running,
+            state: State::new(alloc, first_globals(cart))?,
         })
     }
 
-    /// Starts any first cart anew. Such a cart has no function that a reset calls.
-    pub fn reset(&mut self)
-        ensures state { ResetsTo self.new }
-        ensures start { StartsTo self.old self.new }
-        ensures running { self.new.halt ≡ Halt.Running }
+    /// Starts a cart with this disk, of at most 1,024 bytes, under a budget of at least one unit. `made` gets
+    /// what the start functions left, and the sounds before the channels age.
+    pub fn reset(
+        &mut self,
+        cart: &Cart,
+        font: &Font,
+        disk: &[u8],
+        budget: u32,
+        made: &mut FrameRecord,
+    )
+        requires disk { length disk.now ≤ 1024 }
+        requires budget { 1 ≤ budget }
+        requires globals { HasGlobals cart.now self.old }
+        ensures reset { reset (console_setup cart.now font.now budget) disk.now ≡ Some (moment self.new made.new) }
+        ensures globals { HasGlobals cart.now self.new }
     {
-        put_first_page(&mut self.page);
-        self.halt = Halt::Running;
+        let (machine, state) = (&mut self.machine, &mut self.state);
+        state.disk = Disk::new(disk);
+        start(machine, state, cart, font, budget, made);
+        record(state, made);
     }
 
-    /// Runs one frame under a budget of units, and ticks once. An input with a reset starts anew first. A
-    /// halted console is left as it is.
+    /// Runs one frame under a budget of at least one unit, and ticks once. An input with a reset starts the
+    /// cart anew first, with the disk that the state has. A halted console only ages its channels. `made`
+    /// gets the frame's tones and lines, and the sounds before the channels age.
     pub fn frame<L: Ledger>(
         &mut self,
-        cart: &FirstCart,
+        cart: &Cart,
+        font: &Font,
         input: &Input,
         budget: u32,
+        made: &mut FrameRecord,
         steps: &mut Steps<L>,
     )
-        requires { 1 ≤ budget }
-        ensures state { FramesTo cart.now input.now budget self.old self.new }
+        requires budget { 1 ≤ budget }
+        requires globals { HasGlobals cart.now self.old }
+        ensures frame { frame (console_setup cart.now font.now budget) self.old input.now ≡ Some (moment self.new made.new) }
+        ensures globals { HasGlobals cart.now self.new }
         ensures ticks { steps.new ≡ steps.old + 1 }
     {
         steps.tick();
-        if input.reset {
-            self.reset();
-            self.update(cart, input, budget);
-        } else if let Halt::Running = self.halt {
-            self.update(cart, input, budget);
-        }
+        let (machine, state) = (&mut self.machine, &mut self.state);
+        begin(machine, state, cart, font, input, budget, made);
+        update(machine, state, cart, font, input, budget, made);
+        record(state, made);
     }
 
-    /// The input, and the cart's `update` with the whole budget.
-    fn update(&mut self, cart: &FirstCart, input: &Input, budget: u32)
-        requires { self.old.halt ≡ Halt.Running }
-        ensures state { UpdatesTo cart.now input.now budget self.old self.new }
-        ensures first { self.new ≡ first_state self.new.page self.new.halt }
+    /// The state, to be read.
+    pub fn state(&self) -> &State
+        ensures { result.now ≡ self.now }
     {
-        put_input_page(&mut self.page, input);
-        self.halt = halt_after(self.machine.run_first(cart, &mut self.page, budget));
+        &self.state
     }
 
-    /// The page.
-    pub fn page(&self) -> &PageBytes
-        ensures page { result.now ≡ self.now.page }
-        ensures len { length self.now.page ≡ 65536 }
+    /// The state, to be written: what it is when the borrow ends is the console's.
+    pub fn state_mut(&mut self) -> &mut State
+        ensures* writes_back { sem 𝓛 (LendsState self.entry result) }
+        ensures value { result.now ≡ self.old }
     {
-        length_of(&self.page);
-        &self.page
-    }
-
-    /// Whether the cart still runs.
-    pub fn halt(&self) -> Halt
-        ensures halt { result ≡ self.now.halt }
-    {
-        self.halt
-    }
-}
-
-/// A page has 65,536 bytes, as each parameter of its type tells a proof.
-fn length_of(page: &PageBytes)
-    ensures { length page.now ≡ 65536 }
-{}
-
-fn halt_after(ending: Ending) -> Halt
-    ensures { result ≡ halt_after ending }
-{
-    match ending {
-        Ending::Done { rest: _ } => Halt::Running,
-        Ending::Trap(cause) => Halt::Trapped(cause),
-        Ending::Spent => Halt::Spent,
+        &mut self.state
     }
 }

@@ -1,10 +1,13 @@
-//! A console without a window that runs first carts, frame by frame (WASM-4 reference; the order of
-//! events is an own rule). The layer above relies on each reset and each frame being exactly those of the
-//! definitions.
+//! The console without a window: resets and frames of a cart (WASM-4 reference; the order of events, and
+//! what follows a trap or a spent budget, are own rules). The layers above rely on this: the state and the
+//! record that a reset or a frame leaves are exactly those of the definitions.
 #![tactic(auto)]
 
+mod calls;
 pub mod console;
+mod frames;
 mod page;
+mod start;
 
 pub use console::Console;
 

@@ -1,12 +1,45 @@
-//! What a console itself writes to the page (WASM-4 memory map).
+//! What the console itself writes to the page (WASM-4 memory map).
 
-ghost use Rattle.std.specs.Prelude.{◌≡◌, ◌+◌, ◌≤◌, IsTrue, length};
+ghost use Rattle.std.specs.Prelude.{◌≡◌, ◌+◌, ◌≤◌, length};
 ghost use Rattle.w4_defs.specs.Frame.{cleared, input_page};
-ghost use Rattle.w4_defs.specs.MemoryMap.{input_bytes, put_input, keeps_framebuffer};
-ghost use Rattle.w4_defs.specs.Reset.{first_page, written};
+ghost use Rattle.w4_defs.specs.Reset.{first_page, start_page, written};
 ghost use Rattle.w4_defs.specs.State.{zero_page};
 
 use w4_defs::{Input, PageBytes};
+use w4_map::{put_input, system_flags};
+use wasm_valid::Cart;
+
+/// Blue, green, red and 0 of the four palette entries e0f8cf, 86c06c, 306850 and 071821.
+const PALETTE: [u8; 16] = [
+    0xcf, 0xf8, 0xe0, 0, 0x6c, 0xc0, 0x86, 0, 0x50, 0x68, 0x30, 0, 0x21, 0x18, 0x07, 0,
+];
+
+/// The page before a cart's first call: the registers' first values, then its data segments.
+pub(crate) fn put_start_page(page: &mut PageBytes, cart: &Cart)
+    ensures { page.new ≡ start_page cart.now }
+{
+    put_first_page(page);
+    for i in 0..cart.segment_count() {
+        let (at, bytes) = cart.segment(i);
+        write(page, at as usize, bytes);
+    }
+}
+
+/// Zeros, and the first values of the palette, of DRAW_COLORS and of the mouse.
+fn put_first_page(page: &mut PageBytes)
+    ensures { page.new ≡ first_page }
+{
+    wipe(page);
+    write(page, 0x04, &PALETTE);
+    write(page, 0x14, &[0x03, 0x12]);
+    write(page, 0x1a, &[0xff, 0x7f, 0xff, 0x7f]);
+}
+
+fn wipe(page: &mut PageBytes)
+    ensures { page.new ≡ zero_page }
+{
+    page.fill(0);
+}
 
 /// Writes bytes from an address on.
 fn write(page: &mut PageBytes, at: usize, bytes: &[u8])
@@ -16,64 +49,19 @@ fn write(page: &mut PageBytes, at: usize, bytes: &[u8])
     page[at..at + bytes.len()].copy_from_slice(bytes);
 }
 
-/// Writes zeros everywhere.
-fn wipe(page: &mut PageBytes)
-    ensures { page.new ≡ zero_page }
-{
-    page.fill(0);
-}
-
-/// The page before a cart's first run: zeros, and the first values of the palette, of DRAW_COLORS and of
-/// the mouse.
-pub(crate) fn put_first_page(page: &mut PageBytes)
-    ensures { page.new ≡ first_page }
-{
-    wipe(page);
-    write(
-        page,
-        0x04,
-        &[
-            0xcf, 0xf8, 0xe0, 0x00, 0x6c, 0xc0, 0x86, 0x00, 0x50, 0x68, 0x30, 0x00, 0x21, 0x18,
-            0x07, 0x00,
-        ],
-    );
-    write(page, 0x14, &[0x03, 0x12]);
-    write(page, 0x1a, &[0xff, 0x7f, 0xff, 0x7f]);
-}
-
-/// The bytes of an input's registers.
-fn register_bytes(input: &Input) -> [u8; 9]
-    ensures { result ≡ input_bytes input.now }
-{
-    let [one, two, three, four] = input.pads;
-    let (x, y) = (input.mouse_x.cast_unsigned(), input.mouse_y.cast_unsigned());
-    [
-        one,
-        two,
-        three,
-        four,
-        (x % 256) as u8,
-        (x / 256) as u8,
-        (y % 256) as u8,
-        (y / 256) as u8,
-        input.buttons,
-    ]
-}
-
-/// Makes all pixels 0.
-fn clear(page: &mut PageBytes)
-    ensures { page.new ≡ cleared page.old }
-{
-    page[160..6560].fill(0);
-}
-
-/// The page as `update` finds it: the input is written to its registers, and the framebuffer cleared
-/// unless system flag 1 keeps it.
+/// The page as `update` finds it: the input is in its registers, and the framebuffer is cleared unless
+/// system flag 1 keeps it.
 pub(crate) fn put_input_page(page: &mut PageBytes, input: &Input)
     ensures { page.new ≡ input_page page.old input.now }
 {
-    write(page, 0x16, &register_bytes(input));
-    if page[0x1f] % 2 == 0 {
-        clear(page);
+    put_input(page, input);
+    if system_flags(page) % 2 == 0 {
+        clear_framebuffer(page);
     }
+}
+
+fn clear_framebuffer(page: &mut PageBytes)
+    ensures { page.new ≡ cleared page.old }
+{
+    w4_pixels::clear(page);
 }

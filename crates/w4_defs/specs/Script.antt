@@ -1,12 +1,12 @@
 -- A first script (own rule): at most 1,048,576 bytes, lines each ended by a byte 10. A line is
--- `set K P1 P2 P3 P4 X Y B` or `show P`, its words parted by one space each. A number has 1 to 10 decimal
+-- `set K P1 P2 P3 P4 X Y B`, `show P` or `state P`, its words parted by one space each. A number has 1 to 10 decimal
 -- digits, leading zeros among them, and is at most 4,294,967,295. Pads and B are 0 to 255, X and Y -32768 to
 -- 32767 with a `-` directly before the digits, of 0 too.
 use Rattle.std.specs.Prelude.{◌≡◌, ℕ, zero, suc, ◌+◌, ◌-◌, ◌*◌, ◌==◌, ◌&&◌, List, [], ◌∷◌, ◌++◌, length, Option, Some, None, false, nat_le, count_by, codes, if◌then◌else◌, refl, ℤ, pos, neg_ℤ}
 use Rattle.std.specs.Str.{bytes_eq}
 use Rattle.w4_defs.specs.declared.console.Input.{Input}
 use Rattle.w4_defs.specs.declared.order.Order.{Order}
-use Rattle.w4_defs.specs.declared.order.Order.TheVariants.{Set, Show}
+use Rattle.w4_defs.specs.declared.order.Order.TheVariants.{Set, Show, StateAt}
 use Rattle.w4_defs.specs.Reading.{◌>>=◌, cut_at}
 
 -- a value that a limit lets through
@@ -59,12 +59,17 @@ set_of words = do
 unfoldable pub show_of : List ℕ → Option Order
 show_of words = number_of words >>= λ p. Some (Show p)
 
+-- `P`
+unfoldable pub state_of : List ℕ → Option Order
+state_of words = number_of words >>= λ p. Some (StateAt p)
+
 -- the order of a line
 unfoldable pub order_of : List ℕ → Option Order
 order_of line = do
   name ← cut_at 32 line
   if bytes_eq name.0 (codes "set") then set_of name.1
       else if bytes_eq name.0 (codes "show") then show_of name.1
+      else if bytes_eq name.0 (codes "state") then state_of name.1
       else None
 
 -- the order of the first line, and the bytes after the line
@@ -86,14 +91,15 @@ lines_of (suc count) bytes = do
 unfoldable pub orders_of : List ℕ → Option (List Order)
 orders_of bytes = if nat_le (length bytes) 1048576 then lines_of (count_by (λ b. b == 10) bytes) bytes else None
 
--- two lines, a line that isn't ended, and a number that is too large
+-- three lines, a line that isn't ended, and a number that is too large
 abbrev pub ScriptCase : Type 0
 ScriptCase =
     let input : Input = record { pads = 27 ∷ 0 ∷ 0 ∷ 0 ∷ []; mouse_x = neg_ℤ (pos 5); mouse_y = pos 0; buttons = 4; reset = false } in
-    (lines_of 2 (codes "set 0 27 0 0 0 -5 -0 4" ++ 10 ∷ codes "show 01" ++ 10 ∷ []) ≡ Some (Set 0 input ∷ Show 1 ∷ []))
+    (lines_of 3 (codes "set 0 27 0 0 0 -5 -0 4" ++ 10 ∷ codes "show 01" ++ 10 ∷ codes "state 9" ++ 10 ∷ [])
+    ≡ Some (Set 0 input ∷ Show 1 ∷ StateAt 9 ∷ []))
     × (lines_of 0 (codes "show 1") ≡ None)
     × (lines_of 1 (codes "show 4294967296" ++ 10 ∷ []) ≡ None)
 
 pub script-case : ScriptCase
-unfolding lines_of first_of order_of show_of set_of coordinate_of byte_of number_of
+unfolding lines_of first_of order_of show_of state_of set_of coordinate_of byte_of number_of
 script-case = (refl, refl, refl)

@@ -9,4 +9,6 @@ pub enum Order {
     Set { k: u32, input: Input },
     /// The frame at place `p` is shown.
     Show { p: u32 },
+    /// The state at place `p` is told in one line.
+    StateAt { p: u32 },
 }

@@ -1,146 +1,159 @@
 -- How the whole ended, put together from how its steps ended; and what each status then says.
-use Rattle.std.proofs.Common.{◌≡◌, ℕ, ◌≤◌, ◌⊎◌, inl, inr, List, Option, Some, Result, Ok, Err, refl, sym, subst, ◌∙◌}
-use Rattle.std.specs.Prelude.{IsOk, IsOkAnd}
+use Rattle.std.proofs.Common.{◌≡◌, ℕ, ◌≤◌, ◌⊎◌, inl, inr, List, [], ◌∷◌, ◌++◌, codes, Option, Some, Result, Ok, Err, refl, sym, ap, subst, ◌∙◌}
 use Rattle.std.specs.Option.{ForSome}
-use Rattle.std.specs.FinMap.{insert}
+use Rattle.w4_defs.specs.declared.refusal.CartKind.{CartKind}
+use Rattle.w4_defs.specs.Module.{WasmModule}
 use Rattle.w4_defs.specs.Recording.{spelling}
-use Rattle.w4_house.specs.World.{Files, World, Rises, Appends, LeavesReading, LeavesReporting}
+use Rattle.w4_house.specs.World.{Files, World, Rises, Appends, LeavesReading, LeavesPrinting, LeavesReporting}
 use Rattle.w4_house.proofs.WorldLaws.{rises_later}
 use Rattle.w4_program.specs.declared.status.Status.{Status}
 use Rattle.w4_program.specs.declared.status.Status.TheVariants as status
+use Rattle.w4_program.specs.Refusals.{Refusal, Usage, NoFile, CartRefused, NotBuilt, Manner, Finished, Formless, ReadFailed, WriteFailed, NoMemory, Refused, manner_of, status_of_refusal}
 use Rattle.w4_program.specs.Forms.{EditWords}
-use Rattle.w4_program.specs.Output.{Refusal, NoFile, NotBuilt, Made, Loaded, loaded, answered, left, edited}
-use Rattle.w4_program.specs.Causes.{ReadFails, Refuses, Stops, StopsWriting, Untouched, Writes, Ends, IsRefusal, Reports, LeavesErr, Carries, status_of}
+use Rattle.w4_program.specs.Output.{◌>>=◌, Made, Loaded, loaded, answered, left, printed, saved, edited, CartIn, OverCart}
+use Rattle.w4_program.specs.Causes.{Does, ReadFails, Refuses, Stops, StopsWriting, Untouched, Writes, Ends, IsExact, IsRefusal, Reports, LeavesErr, Carries, Prints, status_of}
 use Rattle.w4_program.proofs.StepLaws.{stops_first}
 
 -- a write that stopped after other writes
-pub stops_writing_later : (first second third : World) (why : Status) → first.write_faults ≤ second.write_faults → StopsWriting second third why → StopsWriting first third why
-stops_writing_later first second third status.Done le h = h
-stops_writing_later first second third status.ReadFault le h = h
-stops_writing_later first second third status.WriteFault le h = rises_later first.write_faults second.write_faults third.write_faults le h
-stops_writing_later first second third status.OutOfMemory le h = tt
-stops_writing_later first second third status.NotBuilt le h = h
+pub stops_writing_later : (first second third : World) (why : Manner) → first.write_faults ≤ second.write_faults → StopsWriting second third why → StopsWriting first third why
+stops_writing_later first second third Finished le h = h
+stops_writing_later first second third Formless le h = h
+stops_writing_later first second third ReadFailed le h = h
+stops_writing_later first second third WriteFailed le h = rises_later first.write_faults second.write_faults third.write_faults le h
+stops_writing_later first second third NoMemory le h = tt
+stops_writing_later first second third (Refused refusal) le h = h
 
-pub carries_stopped : (old new : World) (why : Status) (out name bytes : List ℕ) → StopsWriting old new why → Carries old new why out name bytes
-carries_stopped old new status.Done out name bytes h = absurd h
-carries_stopped old new status.ReadFault out name bytes h = h
-carries_stopped old new status.WriteFault out name bytes h = h
-carries_stopped old new status.OutOfMemory out name bytes h = tt
-carries_stopped old new status.NotBuilt out name bytes h = h
+pub carries_stopped : (old new : World) (why : Manner) (out name bytes : List ℕ) → StopsWriting old new why → Carries old new why out name bytes
+carries_stopped old new Finished out name bytes h = absurd h
+carries_stopped old new Formless out name bytes h = h
+carries_stopped old new ReadFailed out name bytes h = h
+carries_stopped old new WriteFailed out name bytes h = h
+carries_stopped old new NoMemory out name bytes h = tt
+carries_stopped old new (Refused refusal) out name bytes h = h
 
--- the files weren't right
-pub ends_unloaded : (old new : World) (why : Status) (words : EditWords) → LeavesReading old new → Stops old new why (λ files. loaded words files) → Ends old new why (λ files. edited words files)
-unfolding edited
-ends_unloaded old new status.Done words leaves h = absurd h
-ends_unloaded old new status.ReadFault words leaves h = (
-  stops_first old new status.ReadFault (λ files. loaded words files) (λ files l. Ok (record { out = (answered l).out; files = insert files words.out (spelling (left l)) })) h,
-  (leaves.out, leaves.files),
+pub prints_stopped : (old new : World) (why : Manner) (out : List ℕ) → StopsWriting old new why → Prints old new why out
+prints_stopped old new Finished out h = absurd h
+prints_stopped old new Formless out h = h
+prints_stopped old new ReadFailed out h = h
+prints_stopped old new WriteFailed out h = h
+prints_stopped old new NoMemory out h = tt
+prints_stopped old new (Refused refusal) out h = h
+
+-- only words are refused as such
+pub stops_formed : {Y : Type 0} (old new : World) (why : Status) (step : Files → Result Y Refusal → Type 0) → Stops old new (manner_of why) step → why ≡ status.Usage → ⊥
+stops_formed old new why step h e = subst (λ s. Stops old new (manner_of s) step) e h
+
+pub carries_formed : (old new : World) (why : Status) (out name bytes : List ℕ) → Carries old new (manner_of why) out name bytes → why ≡ status.Usage → ⊥
+carries_formed old new why out name bytes h e = subst (λ s. Carries old new (manner_of s) out name bytes) e h
+
+pub prints_formed : (old new : World) (why : Status) (out : List ℕ) → Prints old new (manner_of why) out → why ≡ status.Usage → ⊥
+prints_formed old new why out h e = subst (λ s. Prints old new (manner_of s) out) e h
+
+-- the cart wasn't read or is none
+pub ends_unjudged : (old new : World) (why : Manner) (name : List ℕ) (make : WasmModule → Files → Result Made Refusal) → LeavesReading old new
+    → Stops old new why (λ files cart. CartIn name files cart) → Ends old new why (λ files made. OverCart name make files made)
+ends_unjudged old new Finished name make leaves h = absurd h
+ends_unjudged old new Formless name make leaves h = absurd h
+ends_unjudged old new ReadFailed name make leaves (inl rise) = (inl rise, (leaves.out, leaves.files))
+ends_unjudged old new ReadFailed name make leaves (inr (files, told, none)) = (inr (files, told, (Err NoFile, none, refl)), (leaves.out, leaves.files))
+ends_unjudged old new WriteFailed name make leaves h = absurd h
+ends_unjudged old new NoMemory name make leaves h = tt
+ends_unjudged old new (Refused refusal) name make leaves h = ((λ files told. (Err refusal, h files told, refl)), (leaves.out, leaves.files))
+
+-- the cart was judged, and the rest ended so
+pub ends_judged : (first second third : World) (why : Manner) (name : List ℕ) (m : WasmModule) (make : WasmModule → Files → Result Made Refusal) → LeavesReading first second
+    → ForSome first.files (λ files. CartIn name files (Ok m)) → Ends second third why (Does (λ files. make m files)) → Ends first third why (λ files made. OverCart name make files made)
+ends_judged first second third Finished name m make leaves given h = λ files told.
+    let made = h files (leaves.files ∙ told) in
+    (made.0, (Ok m, given files told, made.1), ((λ before t. made.2.0 before (leaves.out ∙ t)), made.2.1))
+ends_judged first second third Formless name m make leaves given h =
+    ((λ files told. (Ok m, given files told, h.0 files (leaves.files ∙ told))), (h.1.0 ∙ leaves.out, h.1.1 ∙ leaves.files))
+ends_judged first second third ReadFailed name m make leaves given (inl rise, same) =
+    (inl (rises_later first.read_faults second.read_faults third.read_faults leaves.later rise), (same.0 ∙ leaves.out, same.1 ∙ leaves.files))
+ends_judged first second third ReadFailed name m make leaves given (inr (files, told, none), same) =
+    (inr (files, sym leaves.files ∙ told, (Ok m, given files (sym leaves.files ∙ told), none)), (same.0 ∙ leaves.out, same.1 ∙ leaves.files))
+ends_judged first second third WriteFailed name m make leaves given h = (
+  subst (λ n. Rises n third.write_faults) leaves.writes h.0,
+  λ files told. let made = h.1 files (leaves.files ∙ told) in (made.0, (Ok m, given files told, made.1)),
 )
-ends_unloaded old new status.WriteFault words leaves h = absurd h
-ends_unloaded old new status.OutOfMemory words leaves h = tt
-ends_unloaded old new status.NotBuilt words leaves h = (
-  stops_first old new status.NotBuilt (λ files. loaded words files) (λ files l. Ok (record { out = (answered l).out; files = insert files words.out (spelling (left l)) })) h,
-  (leaves.out, leaves.files),
+ends_judged first second third NoMemory name m make leaves given h = tt
+ends_judged first second third (Refused refusal) name m make leaves given h =
+    ((λ files told. (Ok m, given files told, h.0 files (leaves.files ∙ told))), (h.1.0 ∙ leaves.out, h.1.1 ∙ leaves.files))
+
+-- what was to be read wasn't right
+pub ends_untold : {G : Type 0} (old new : World) (why : Manner) (step : Files → Result G Refusal) (make : Files → G → Made) → LeavesReading old new
+    → Stops old new why (Does step) → Ends old new why (Does (λ files. step files >>= λ g. Ok (make files g)))
+ends_untold old new Finished step make leaves h = absurd h
+ends_untold old new Formless step make leaves h = absurd h
+ends_untold old new ReadFailed step make leaves h =
+    (stops_first old new ReadFailed step (λ files g. Ok (make files g)) h, (leaves.out, leaves.files))
+ends_untold old new WriteFailed step make leaves h = absurd h
+ends_untold old new NoMemory step make leaves h = tt
+ends_untold old new (Refused refusal) step make leaves h =
+    (stops_first old new (Refused refusal) step (λ files g. Ok (make files g)) h, (leaves.out, leaves.files))
+
+-- it was, and bytes were written to standard output
+pub ends_printed : (old new : World) (why : Manner) (out : List ℕ) → new.files ≡ old.files → Prints old new why out
+    → Ends old new why (Does (λ files. Ok (printed out files)))
+ends_printed old new Finished out same h = λ files told. (printed out files, refl, (h, same ∙ told))
+ends_printed old new Formless out same h = absurd h
+ends_printed old new ReadFailed out same h = absurd h
+ends_printed old new WriteFailed out same h = (h, λ files told. (printed out files, refl))
+ends_printed old new NoMemory out same h = tt
+ends_printed old new (Refused refusal) out same h = absurd h
+
+pub ends_told : {G : Type 0} (first second third : World) (why : Manner) (step : Files → Result G Refusal) (g : G) (out : G → List ℕ) → LeavesReading first second
+    → LeavesPrinting second third → ForSome first.files (λ files. step files ≡ Ok g) → Prints second third why (out g)
+    → Ends first third why (Does (λ files. step files >>= λ g. Ok (printed (out g) files)))
+ends_told first second third Finished step g out leaves rest given h = λ files told. (
+  printed (out g) files,
+  rw (given files told) refl,
+  ((λ before t. h before (leaves.out ∙ t)), rest.files ∙ (leaves.files ∙ told)),
 )
+ends_told first second third Formless step g out leaves rest given h = absurd h
+ends_told first second third ReadFailed step g out leaves rest given h = absurd h
+ends_told first second third WriteFailed step g out leaves rest given h =
+    (subst (λ n. Rises n third.write_faults) leaves.writes h, λ files told. (printed (out g) files, rw (given files told) refl))
+ends_told first second third NoMemory step g out leaves rest given h = tt
+ends_told first second third (Refused refusal) step g out leaves rest given h = absurd h
 
--- the files were right, and the work on them ended so
-pub ends_carried : (first second third : World) (why : Status) (words : EditWords) (l : Loaded) → LeavesReading first second → ForSome first.files (λ files. loaded words files ≡ Ok l)
-    → Carries second third why (answered l).out words.out (spelling (left l)) → Ends first third why (λ files. edited words files)
+-- it was, and an edit was carried out
+pub ends_carried : (first second third : World) (why : Manner) (words : EditWords) (m : WasmModule) (l : Loaded) → LeavesReading first second
+    → ForSome first.files (λ files. loaded words files ≡ Ok l)
+    → Carries second third why (answered m l).out words.out (spelling (left m l)) → Ends first third why (Does (λ files. edited words m files))
 unfolding edited
-ends_carried first second third status.Done words l leaves given h = λ files told.
-    rw (given files told) ((λ before t. h.0 before (leaves.out ∙ t)), h.1 files (leaves.files ∙ told))
-ends_carried first second third status.ReadFault words l leaves given h = absurd h
-ends_carried first second third status.WriteFault words l leaves given h =
-    (subst (λ n. Rises n third.write_faults) leaves.writes h, λ files told. rw (given files told) refl)
-ends_carried first second third status.OutOfMemory words l leaves given h = tt
-ends_carried first second third status.NotBuilt words l leaves given h = absurd h
+ends_carried first second third Finished words m l leaves given h = λ files told. (
+  saved m l words.out files,
+  rw (given files told) refl,
+  ((λ before t. h.0 before (leaves.out ∙ t)), h.1 files (leaves.files ∙ told)),
+)
+ends_carried first second third Formless words m l leaves given h = absurd h
+ends_carried first second third ReadFailed words m l leaves given h = absurd h
+ends_carried first second third WriteFailed words m l leaves given h =
+    (subst (λ n. Rises n third.write_faults) leaves.writes h, λ files told. (saved m l words.out files, rw (given files told) refl))
+ends_carried first second third NoMemory words m l leaves given h = tt
+ends_carried first second third (Refused refusal) words m l leaves given h = absurd h
 
-writes_reported : (old mid new : World) (made : Result Made Refusal) → LeavesReporting mid new → Writes old mid made → Writes old new made
-writes_reported old mid new (Ok m) leaves h = ((λ before told. leaves.out ∙ h.0 before told), leaves.files ∙ h.1)
-writes_reported old mid new (Err refusal) leaves h = absurd h
+writes_reported : (old mid new : World) (made : Made) → LeavesReporting mid new → Writes old mid made → Writes old new made
+writes_reported old mid new made leaves h = ((λ before told. leaves.out ∙ h.0 before told), leaves.files ∙ h.1)
 
-read_fails_reported : (old mid new : World) (step : Files → Result Made Refusal) → LeavesReporting mid new → ReadFails old mid step → ReadFails old new step
+untouched_reported : (old mid new : World) → LeavesReporting mid new → Untouched old mid → Untouched old new
+untouched_reported old mid new leaves h = (leaves.out ∙ h.0, leaves.files ∙ h.1)
+
+read_fails_reported : (old mid new : World) (step : Files → Result Made Refusal → Type 0) → LeavesReporting mid new → ReadFails old mid step → ReadFails old new step
 read_fails_reported old mid new step leaves (inl rise) = inl (subst (λ n. Rises old.read_faults n) (sym leaves.reads) rise)
 read_fails_reported old mid new step leaves (inr absent) = inr absent
 
-ends_kept : (old mid new : World) (why : Status) (step : Files → Result Made Refusal) → LeavesReporting mid new → Ends old mid why step → Ends old new why step
-ends_kept old mid new status.Done step leaves h = λ files told. writes_reported old mid new (step files) leaves (h files told)
-ends_kept old mid new status.ReadFault step leaves h = (read_fails_reported old mid new step leaves h.0, (leaves.out ∙ h.1.0, leaves.files ∙ h.1.1))
-ends_kept old mid new status.WriteFault step leaves h = (subst (λ n. Rises old.write_faults n) (sym leaves.writes) h.0, h.1)
-ends_kept old mid new status.OutOfMemory step leaves h = tt
-ends_kept old mid new status.NotBuilt step leaves h = (h.0, (leaves.out ∙ h.1.0, leaves.files ∙ h.1.1))
+ends_kept : (old mid new : World) (why : Manner) (step : Files → Result Made Refusal → Type 0) → LeavesReporting mid new → Ends old mid why step → Ends old new why step
+ends_kept old mid new Finished step leaves h = λ files told. let made = h files told in (made.0, made.1, writes_reported old mid new made.0 leaves made.2)
+ends_kept old mid new Formless step leaves h = (h.0, untouched_reported old mid new leaves h.1)
+ends_kept old mid new ReadFailed step leaves h = (read_fails_reported old mid new step leaves h.0, untouched_reported old mid new leaves h.1)
+ends_kept old mid new WriteFailed step leaves h = (subst (λ n. Rises old.write_faults n) (sym leaves.writes) h.0, h.1)
+ends_kept old mid new NoMemory step leaves h = tt
+ends_kept old mid new (Refused refusal) step leaves h = (h.0, untouched_reported old mid new leaves h.1)
 
 -- after the report, too
-pub ends_reported : (old mid new : World) (why result : Status) (step : Files → Result Made Refusal) → LeavesReporting mid new → (result ≡ why) ⊎ (result ≡ status.OutOfMemory)
-    → Ends old mid why step → Ends old new result step
-ends_reported old mid new why result step leaves (inl e) h = subst (λ s. Ends old new s step) (sym e) (ends_kept old mid new why step leaves h)
-ends_reported old mid new why result step leaves (inr e) h = subst (λ s. Ends old new s step) (sym e) tt
-
--- what each status says
-
-made_out : (old new : World) (made : Result Made Refusal) → Writes old new made → IsOkAnd made (λ m. Appends old.out new.out m.out)
-made_out old new (Ok m) h = h.0
-made_out old new (Err refusal) h = absurd h
-
-made_files : (old new : World) (made : Result Made Refusal) → Writes old new made → IsOkAnd made (λ m. new.files ≡ Some m.files)
-made_files old new (Ok m) h = h.1
-made_files old new (Err refusal) h = absurd h
-
-pub done_out : (old new : World) (result : Status) (step : Files → Result Made Refusal) → Ends old new result step → result ≡ status.Done
-    → ForSome old.files (λ files. IsOkAnd (step files) (λ m. Appends old.out new.out m.out))
-done_out old new result step h e = λ files told. made_out old new (step files) (subst (λ s. Ends old new s step) e h files told)
-
-pub done_files : (old new : World) (result : Status) (step : Files → Result Made Refusal) → Ends old new result step → result ≡ status.Done
-    → ForSome old.files (λ files. IsOkAnd (step files) (λ m. new.files ≡ Some m.files))
-done_files old new result step h e = λ files told. made_files old new (step files) (subst (λ s. Ends old new s step) e h files told)
-
-pub write_fault : (old new : World) (result : Status) (step : Files → Result Made Refusal) → Ends old new result step → result ≡ status.WriteFault
-    → Rises old.write_faults new.write_faults × ForSome old.files (λ files. IsOk (step files))
-write_fault old new result step h e = subst (λ s. Ends old new s step) e h
-
-pub read_fault : (old new : World) (result : Status) (step : Files → Result Made Refusal) → Ends old new result step → result ≡ status.ReadFault → ReadFails old new step
-read_fault old new result step h e = (subst (λ s. Ends old new s step) e h).0
-
-pub not_built : (old new : World) (result : Status) (step : Files → Result Made Refusal) → Ends old new result step → result ≡ status.NotBuilt → Refuses old NotBuilt step
-not_built old new result step h e = (subst (λ s. Ends old new s step) e h).0
-
-pub refused : (old new : World) (result : Status) (step : Files → Result Made Refusal) → Ends old new result step → IsRefusal result → Untouched old new
-refused old new status.Done step h r = absurd r
-refused old new status.ReadFault step h r = h.1
-refused old new status.WriteFault step h r = absurd r
-refused old new status.OutOfMemory step h r = absurd r
-refused old new status.NotBuilt step h r = h.1
-
-pub line_reported : (old mid new : World) (line : List ℕ) → LeavesErr old mid → Reports mid new line → Reports old new line
-line_reported old mid new line leaves (inl all) = inl (λ before told. all before (leaves.0 ∙ told))
-line_reported old mid new line leaves (inr (rise, (count, front))) =
-    inr (subst (λ n. Rises n new.err_faults) leaves.1 rise, (count, λ before told. front before (leaves.0 ∙ told)))
-
-done_status : (old new : World) (made : Result Made Refusal) → Writes old new made → status.Done ≡ status_of made
-done_status old new (Ok m) h = refl
-done_status old new (Err refusal) h = absurd h
-
-abbrev some_files : Files → Option Files
-some_files files = Some files
-
-some_is : (a b : Files) → some_files a ≡ some_files b → a ≡ b
-some_is a b e = cc
-
-absent_status : (step : Files → Result Made Refusal) (told files : Files) → told ≡ files → step told ≡ Err NoFile → status.ReadFault ≡ status_of (step files)
-absent_status step told files e absent = rw (← e, absent) refl
-
--- where no count has risen, it is the definition's status, or memory ran out
-pub exact : (old new : World) (result : Status) (step : Files → Result Made Refusal) → Ends old new result step
-    → ForSome old.files (λ files. ¬ Rises old.read_faults new.read_faults → ¬ Rises old.write_faults new.write_faults → (result ≡ status_of (step files)) ⊎ (result ≡ status.OutOfMemory))
-exact old new status.Done step h = λ files told reads writes. inl (done_status old new (step files) (h files told))
-exact old new status.ReadFault step (inl rise, same) = λ files told reads writes. absurd (reads rise)
-exact old new status.ReadFault step (inr (found, known, absent), same) = λ files told reads writes.
-    inl (absent_status step found files (some_is found files (sym known ∙ told)) absent)
-exact old new status.WriteFault step h = λ files told reads writes. absurd (writes h.0)
-exact old new status.OutOfMemory step h = λ files told reads writes. inr refl
-exact old new status.NotBuilt step h = λ files told reads writes. inl (rw (h.0 files told) refl)
-
--- a status that stands, or memory that ran out while it was reported
-pub told_or_memory : (told why result : Status) → told ≡ why → (result ≡ told) ⊎ (result ≡ status.OutOfMemory) → (result ≡ why) ⊎ (result ≡ status.OutOfMemory)
-told_or_memory told why result e (inl same) = inl (same ∙ e)
-told_or_memory told why result e (inr memory) = inr memory
+pub ends_reported : (old mid new : World) (why result : Status) (step : Files → Result Made Refusal → Type 0) → LeavesReporting mid new → (result ≡ why) ⊎ (result ≡ status.OutOfMemory)
+    → Ends old mid (manner_of why) step → Ends old new (manner_of result) step
+ends_reported old mid new why result step leaves (inl e) h = subst (λ s. Ends old new (manner_of s) step) (sym e) (ends_kept old mid new (manner_of why) step leaves h)
+ends_reported old mid new why result step leaves (inr e) h = subst (λ s. Ends old new (manner_of s) step) (sym e) tt

@@ -5,9 +5,8 @@ use Rattle.std.proofs.lemmas.Bool.{lt-leb, le-leb}
 use Rattle.w4_defs.specs.declared.order.Order.{Order}
 use Rattle.w4_defs.specs.Reading.{◌>>=◌}
 use Rattle.w4_defs.specs.Script.{at_most, digits_after, first_of, lines_of}
-use Rattle.w4_program.specs.declared.status.Status.{Status}
-use Rattle.w4_program.specs.declared.status.Status.TheVariants.{Done, ReadFault, WriteFault, OutOfMemory, NotBuilt}
-use Rattle.w4_program.specs.Reads.{Refuses}
+use Rattle.w4_program.specs.Refusals.{Refusal, Manner, Finished, Formless, ReadFailed, WriteFailed, NoMemory, Refused}
+use Rattle.w4_program.specs.Reads.{Unread}
 
 -- digits never make a value smaller
 pub too_large : (n : ℕ) (ds : List ℕ) → 4294967295 < n → (digits_after n ds >>= at_most 4294967295) ≡ None
@@ -43,17 +42,18 @@ lines_of-step front count i bytes after order whole lt first so_far =
     = rw (k, first) (regroup front order (lines_of (count - (i + 1)) after)) in
     sym one ∙ so_far
 
-pub lines_of-stops : (status : Status) (front : List Order) (count i : ℕ) (bytes : List ℕ) (whole : Option (List Order)) → i < count → Refuses status (first_of bytes)
-    → with_front front (lines_of (count - i) bytes) ≡ whole → Refuses status whole
+pub lines_of-stops : (refusal : Refusal) (why : Manner) (front : List Order) (count i : ℕ) (bytes : List ℕ) (whole : Option (List Order)) → i < count → Unread refusal why (first_of bytes)
+    → with_front front (lines_of (count - i) bytes) ≡ whole → Unread refusal why whole
 unfolding lines_of
-lines_of-stops Done front count i bytes whole lt stops so_far = stops
-lines_of-stops ReadFault front count i bytes whole lt stops so_far = stops
-lines_of-stops WriteFault front count i bytes whole lt stops so_far = stops
-lines_of-stops OutOfMemory front count i bytes whole lt stops so_far = tt
-lines_of-stops NotBuilt front count i bytes whole lt stops so_far =
+lines_of-stops refusal Finished front count i bytes whole lt stops so_far = stops
+lines_of-stops refusal Formless front count i bytes whole lt stops so_far = stops
+lines_of-stops refusal ReadFailed front count i bytes whole lt stops so_far = stops
+lines_of-stops refusal WriteFailed front count i bytes whole lt stops so_far = stops
+lines_of-stops refusal NoMemory front count i bytes whole lt stops so_far = tt
+lines_of-stops refusal (Refused why) front count i bytes whole lt stops so_far =
     let k : count - i ≡ suc (count - (i + 1)) = omega arith in
-    let one : with_front front (lines_of (count - i) bytes) ≡ None = rw (k, stops) refl in
-    sym so_far ∙ one
+    let one : with_front front (lines_of (count - i) bytes) ≡ None = rw (k, stops.1) refl in
+    (stops.0, sym so_far ∙ one)
 
 pub lines_of-end : (front : List Order) (count i : ℕ) (bytes : List ℕ) (whole : Option (List Order)) → count ≤ i → eqb (length bytes) 0 ≡ true → with_front front (lines_of (count - i) bytes) ≡ whole → whole ≡ Some front
 unfolding lines_of

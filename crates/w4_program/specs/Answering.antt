@@ -1,15 +1,15 @@
 -- The answers of a script's orders (own rule). An accepted `set` changes one input and writes nothing. An
 -- accepted `show P` writes the image of place P of a run from reset of the inputs as they are then. Input K
--- is there where K is less than the number of inputs, place P where P is at most this number. A refused
--- order writes `refused no frame` and changes nothing.
-use Rattle.std.specs.Prelude.{ℕ, List, [], ◌∷◌, ◌++◌, length, slice_set, nat_lt, nat_le, codes, Option, Some, None, if◌then◌else◌}
+-- is there where K is less than the number of inputs, place P where P is at most this number. An accepted
+-- `state P` writes the line of the state there, place 0 being the one kept place. A refused order writes
+-- `refused no frame` and changes nothing.
+use Rattle.std.specs.Prelude.{ℕ, List, [], ◌∷◌, ◌++◌, length, slice_set, nat_lt, nat_le, codes, if◌then◌else◌}
 use Rattle.w4_defs.specs.declared.console.Input.{Input}
 use Rattle.w4_defs.specs.declared.order.Order.{Order}
-use Rattle.w4_defs.specs.declared.order.Order.TheVariants.{Set, Show}
-use Rattle.w4_defs.specs.Image.{image}
-use Rattle.w4_defs.specs.State.{Moment}
+use Rattle.w4_defs.specs.declared.order.Order.TheVariants.{Set, Show, StateAt}
 use Rattle.w4_defs.specs.Reset.{Setup}
 use Rattle.w4_defs.specs.Run.{run}
+use Rattle.w4_program.specs.Texts.{picture, told_state}
 
 -- what was written, and the inputs that are left
 pub record Answered : Type 0 where
@@ -25,11 +25,6 @@ no_frame = codes "refused no frame" ++ 10 ∷ []
 abbrev pub refused : List Input → Answered
 refused inputs = record { out = no_frame; inputs = inputs }
 
--- a run of an accepted cart always comes to a moment
-abbrev pub picture : Option Moment → List ℕ
-picture (Some moment) = image moment.state.page
-picture None = []
-
 unfoldable pub answer_set : List Input → ℕ → Input → Answered
 answer_set inputs k input = if nat_lt k (length inputs) then silent (slice_set inputs k input) else refused inputs
 
@@ -38,10 +33,16 @@ answer_show setup disk inputs p = if nat_le p (length inputs)
     then record { out = picture (run setup disk inputs p); inputs = inputs }
     else refused inputs
 
+unfoldable pub answer_state : Setup → List ℕ → List Input → ℕ → Answered
+answer_state setup disk inputs p = if nat_le p (length inputs)
+    then record { out = told_state p (length inputs) (run setup disk inputs p); inputs = inputs }
+    else refused inputs
+
 -- the answer of one order, over the inputs as they are
 abbrev pub answer : Setup → List ℕ → List Input → Order → Answered
 answer setup disk inputs (Set k input) = answer_set inputs k input
 answer setup disk inputs (Show p) = answer_show setup disk inputs p
+answer setup disk inputs (StateAt p) = answer_state setup disk inputs p
 
 -- all answers in order
 unfoldable pub answers : Setup → List ℕ → List Input → List Order → Answered

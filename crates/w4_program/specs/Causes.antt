@@ -1,72 +1,79 @@
--- What each status says of the world before and after, where a step on files is what the program does.
-use Rattle.std.specs.Prelude.{◌≡◌, ◌⊎◌, List, ℕ, Some, Result, Ok, Err, IsOk, IsOkAnd, ⊤}
+-- What each status says of the world before and after, where a step on files is what the program does. A
+-- step says which results the files allow.
+use Rattle.std.specs.Prelude.{◌≡◌, ◌⊎◌, List, ℕ, Some, Result, Ok, Err, ⊤}
 use Rattle.std.specs.Option.{ForSome}
 use Rattle.w4_house.specs.World.{Files, World, Rises, Appends, AppendsFront, Puts}
 use Rattle.w4_program.specs.declared.status.Status.{Status}
 use Rattle.w4_program.specs.declared.status.Status.TheVariants as status
-use Rattle.w4_program.specs.Output.{Refusal, NoFile, NotBuilt, Made}
+use Rattle.w4_program.specs.Refusals.{Refusal, Usage, NoFile, Manner, Finished, Formless, ReadFailed, WriteFailed, NoMemory, Refused, manner_of, status_of_refusal}
+use Rattle.w4_program.specs.Output.{Made}
+
+-- a step that is a function of the files
+abbrev pub Does : {Y : Type 0} → (Files → Result Y Refusal) → Files → Result Y Refusal → Type 0
+Does step files result = step files ≡ result
 
 -- a read failed, or a file whose turn came isn't among those that the house tells
-abbrev pub ReadFails : {Y : Type 0} → World → World → (Files → Result Y Refusal) → Type 0
+abbrev pub ReadFails : {Y : Type 0} → World → World → (Files → Result Y Refusal → Type 0) → Type 0
 ReadFails old new step = Rises old.read_faults new.read_faults
-    ⊎ ((files : Files) × (old.files ≡ Some files) × (step files ≡ Err NoFile))
+    ⊎ ((files : Files) × (old.files ≡ Some files) × step files (Err NoFile))
 
 -- where the house tells its files, the step is refused so
-abbrev pub Refuses : {Y : Type 0} → World → Refusal → (Files → Result Y Refusal) → Type 0
-Refuses old refusal step = ForSome old.files (λ files. step files ≡ Err refusal)
+abbrev pub Refuses : {Y : Type 0} → World → Refusal → (Files → Result Y Refusal → Type 0) → Type 0
+Refuses old refusal step = ForSome old.files (λ files. step files (Err refusal))
 
 -- why a step that only reads stopped
-abbrev pub Stops : {Y : Type 0} → World → World → Status → (Files → Result Y Refusal) → Type 0
-Stops old new status.Done step = ⊥
-Stops old new status.ReadFault step = ReadFails old new step
-Stops old new status.WriteFault step = ⊥
-Stops old new status.OutOfMemory step = ⊤
-Stops old new status.NotBuilt step = Refuses old NotBuilt step
+abbrev pub Stops : {Y : Type 0} → World → World → Manner → (Files → Result Y Refusal → Type 0) → Type 0
+Stops old new Finished step = ⊥
+Stops old new Formless step = ⊥
+Stops old new ReadFailed step = ReadFails old new step
+Stops old new WriteFailed step = ⊥
+Stops old new NoMemory step = ⊤
+Stops old new (Refused refusal) step = Refuses old refusal step
 
 -- what such a step gave
-abbrev pub Gives : {X Y : Type 0} → World → World → (X → Y) → Result X Status → (Files → Result Y Refusal) → Type 0
-Gives old new view (Ok x) step = ForSome old.files (λ files. step files ≡ Ok (view x))
-Gives old new view (Err why) step = Stops old new why step
+abbrev pub Gives : {X Y : Type 0} → World → World → (X → Y) → Result X Status → (Files → Result Y Refusal → Type 0) → Type 0
+Gives old new view (Ok x) step = ForSome old.files (λ files. step files (Ok (view x)))
+Gives old new view (Err why) step = Stops old new (manner_of why) step
 
 -- why a step that only writes stopped
-abbrev pub StopsWriting : World → World → Status → Type 0
-StopsWriting old new status.Done = ⊥
-StopsWriting old new status.ReadFault = ⊥
-StopsWriting old new status.WriteFault = Rises old.write_faults new.write_faults
-StopsWriting old new status.OutOfMemory = ⊤
-StopsWriting old new status.NotBuilt = ⊥
+abbrev pub StopsWriting : World → World → Manner → Type 0
+StopsWriting old new Finished = ⊥
+StopsWriting old new Formless = ⊥
+StopsWriting old new ReadFailed = ⊥
+StopsWriting old new WriteFailed = Rises old.write_faults new.write_faults
+StopsWriting old new NoMemory = ⊤
+StopsWriting old new (Refused refusal) = ⊥
 
 -- standard output and all files are as before
 abbrev pub Untouched : World → World → Type 0
 Untouched old new = (new.out ≡ old.out) × (new.files ≡ old.files)
 
--- where told, all that the step makes has been written, and no other file has changed
-abbrev pub Writes : World → World → Result Made Refusal → Type 0
-Writes old new made = IsOkAnd made (λ m. Appends old.out new.out m.out × (new.files ≡ Some m.files))
+-- where told, all that was to be made has been written, and no other file has changed
+abbrev pub Writes : World → World → Made → Type 0
+Writes old new made = Appends old.out new.out made.out × (new.files ≡ Some made.files)
 
 -- how a whole step ended
-abbrev pub Ends : World → World → Status → (Files → Result Made Refusal) → Type 0
-Ends old new status.Done step = ForSome old.files (λ files. Writes old new (step files))
-Ends old new status.ReadFault step = ReadFails old new step × Untouched old new
-Ends old new status.WriteFault step = Rises old.write_faults new.write_faults × ForSome old.files (λ files. IsOk (step files))
-Ends old new status.OutOfMemory step = ⊤
-Ends old new status.NotBuilt step = Refuses old NotBuilt step × Untouched old new
+abbrev pub Ends : World → World → Manner → (Files → Result Made Refusal → Type 0) → Type 0
+Ends old new Finished step = ForSome old.files (λ files. (made : Made) × step files (Ok made) × Writes old new made)
+Ends old new Formless step = Refuses old Usage step × Untouched old new
+Ends old new ReadFailed step = ReadFails old new step × Untouched old new
+Ends old new WriteFailed step =
+    Rises old.write_faults new.write_faults × ForSome old.files (λ files. (made : Made) × step files (Ok made))
+Ends old new NoMemory step = ⊤
+Ends old new (Refused refusal) step = Refuses old refusal step × Untouched old new
 
--- statuses that leave standard output and all files as they were
+-- a refusal or a failed read, which leaves standard output and all files as they were
 abbrev pub IsRefusal : Status → Type 0
 IsRefusal status.Done = ⊥
-IsRefusal status.ReadFault = ⊤
 IsRefusal status.WriteFault = ⊥
 IsRefusal status.OutOfMemory = ⊥
-IsRefusal status.NotBuilt = ⊤
+IsRefusal other = ⊤
 
 -- statuses whose line is on standard error
 abbrev pub IsReported : Status → Type 0
 IsReported status.Done = ⊥
-IsReported status.ReadFault = ⊤
-IsReported status.WriteFault = ⊤
 IsReported status.OutOfMemory = ⊥
-IsReported status.NotBuilt = ⊤
+IsReported other = ⊤
 
 -- where told, standard error has got the line, or a first part of it where a write to it failed
 abbrev pub Reports : World → World → List ℕ → Type 0
@@ -76,17 +83,30 @@ Reports old new line = Appends old.err new.err line
 -- the status of what the program makes
 abbrev pub status_of : Result Made Refusal → Status
 status_of (Ok made) = status.Done
-status_of (Err NoFile) = status.ReadFault
-status_of (Err NotBuilt) = status.NotBuilt
+status_of (Err refusal) = status_of_refusal refusal
+
+-- memory ran out, or the status is that of a result which the step allows
+abbrev pub IsExact : Status → (Result Made Refusal → Type 0) → Type 0
+IsExact result step = (result ≡ status.OutOfMemory) ⊎ ((made : Result Made Refusal) × step made × (result ≡ status_of made))
 
 -- nothing was written to standard error
 abbrev pub LeavesErr : World → World → Type 0
 LeavesErr old new = (new.err ≡ old.err) × (new.err_faults ≡ old.err_faults)
 
 -- how work that only writes ended: standard output gets these bytes, and the file of this name those
-abbrev pub Carries : World → World → Status → List ℕ → List ℕ → List ℕ → Type 0
-Carries old new status.Done out name bytes = Appends old.out new.out out × Puts old.files new.files name bytes
-Carries old new status.ReadFault out name bytes = ⊥
-Carries old new status.WriteFault out name bytes = Rises old.write_faults new.write_faults
-Carries old new status.OutOfMemory out name bytes = ⊤
-Carries old new status.NotBuilt out name bytes = ⊥
+abbrev pub Carries : World → World → Manner → List ℕ → List ℕ → List ℕ → Type 0
+Carries old new Finished out name bytes = Appends old.out new.out out × Puts old.files new.files name bytes
+Carries old new Formless out name bytes = ⊥
+Carries old new ReadFailed out name bytes = ⊥
+Carries old new WriteFailed out name bytes = Rises old.write_faults new.write_faults
+Carries old new NoMemory out name bytes = ⊤
+Carries old new (Refused refusal) out name bytes = ⊥
+
+-- how work that only writes to standard output ended
+abbrev pub Prints : World → World → Manner → List ℕ → Type 0
+Prints old new Finished out = Appends old.out new.out out
+Prints old new Formless out = ⊥
+Prints old new ReadFailed out = ⊥
+Prints old new WriteFailed out = Rises old.write_faults new.write_faults
+Prints old new NoMemory out = ⊤
+Prints old new (Refused refusal) out = ⊥

@@ -1,8 +1,22 @@
--- A scene, as the definitions see it.
+-- A scene as the definitions see it, and a stage that stands at a place of its run.
+use Rattle.std.specs.Prelude.{◌≡◌, ℕ, List, Some}
+use Rattle.w4_defs.specs.declared.console.Input.{Input}
+use Rattle.w4_defs.specs.Module.{WasmModule}
 use Rattle.w4_defs.specs.Reset.{Setup}
 use Rattle.w4_defs.specs.Board.{console_setup}
-use Rattle.wasm_machine.specs.FirstCart.{first_module}
+use Rattle.w4_defs.specs.Run.{run}
+use Rattle.w4_defs.specs.State.{Moment}
+use Rattle.w4_console.specs.UnderWay.{HasGlobals, moment}
 use Rattle.w4_program.specs.declared.scene.Scene.{Scene}
+use Rattle.w4_program.specs.declared.stage.Stage.{Stage}
 
 abbrev pub scene_setup : Scene → Setup
-scene_setup s = console_setup (first_module s.cart.now) s.font.now s.budget
+scene_setup s = console_setup s.cart.now s.font.now s.budget
+
+-- the state and the record that the stage holds
+abbrev pub shown : Stage → Moment
+shown stage = moment stage.console stage.made
+
+abbrev pub StandsAt : Scene → List Input → ℕ → Stage → Type 0
+StandsAt scene inputs place stage =
+    (run (scene_setup scene) scene.disk.now inputs place ≡ Some (shown stage)) × HasGlobals scene.cart.now stage.console

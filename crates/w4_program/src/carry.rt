@@ -3,49 +3,44 @@
 ghost use Rattle.std.specs.Prelude.{
   ◌≡◌,
   ◌≤◌,
-  [],
   length,
   OnOk,
   IfErr,
   vec_len,
 };
 ghost use Rattle.w4_defs.specs.Recording.{spelling};
+ghost use Rattle.w4_console.specs.UnderWay.{HasGlobals};
 ghost use Rattle.w4_house.specs.World.{Appends, Puts, LeavesPrinting, LeavesSaving};
-ghost use Rattle.w4_program.specs.Answering.{answer, answer_set, answer_show, answers};
+ghost use Rattle.w4_program.specs.Answering.{
+  answer,
+  answer_set,
+  answer_show,
+  answer_state,
+  answers,
+};
+ghost use Rattle.w4_program.specs.Refusals.{manner_of};
 ghost use Rattle.w4_program.specs.Output.{answered, left};
 ghost use Rattle.w4_program.specs.Causes.{StopsWriting, Carries, LeavesErr};
 ghost use Rattle.w4_program.specs.Scenes.{scene_setup};
 ghost use Rattle.w4_program.specs.Views.{loaded_view};
 
-use crate::load::Loaded;
+use crate::load::{Loaded, Played};
+use crate::printing::print;
 use crate::recording::Recording;
 use crate::scene::Scene;
-use crate::stage::{Stage, new_stage, render, shown};
+use crate::stage::{Stage, new_stage, run_to, state_text};
 use crate::status::Status;
+use crate::telling::{Telling, tell_place};
 use crate::writing::write_recording;
 use std::alloc::Global;
-use std::marker::Brand;
-use std::sync::ledger::Blank;
 use w4_defs::{Input, Order};
 use w4_house::{House, WriteRefusal};
-
-/// Writes bytes to standard output.
-fn print<H: House>(alloc: Global, house: &mut H, bytes: &[u8]) -> Result<(), Status>
-    ensures out { OnOk result (Appends (H.world house.old).out (H.world house.new).out bytes.now) }
-    ensures stops { IfErr result (λ why. StopsWriting (H.world house.old) (H.world house.new) why) }
-    ensures rest { LeavesPrinting (H.world house.old) (H.world house.new) }
-{
-    match house.write_out(alloc, bytes) {
-        Ok(()) => Ok(()),
-        Err(WriteRefusal::Failed) => Err(Status::WriteFault),
-        Err(WriteRefusal::OutOfMemory) => Err(Status::OutOfMemory),
-    }
-}
+use wasm_valid::Cart;
 
 /// Makes a file of just these bytes.
 fn save<H: House>(alloc: Global, house: &mut H, name: &str, bytes: &[u8]) -> Result<(), Status>
     ensures saved { OnOk result (Puts (H.world house.old).files (H.world house.new).files name.now bytes.now) }
-    ensures stops { IfErr result (λ why. StopsWriting (H.world house.old) (H.world house.new) why) }
+    ensures stops { IfErr result (λ why. StopsWriting (H.world house.old) (H.world house.new) (manner_of why)) }
     ensures rest { LeavesSaving (H.world house.old) (H.world house.new) }
 {
     match house.write_file(alloc, name, bytes) {
@@ -65,17 +60,47 @@ fn show<H: House>(
     inputs: &[Input],
     p: u32,
 ) -> Result<(), Status>
+    requires disk { length scene.now.disk.now ≤ 1024 }
     requires budget { 1 ≤ scene.now.budget }
-    ensures out { OnOk result (Appends (H.world house.old).out (H.world house.new).out (answer_show (scene_setup scene.now) [] inputs.now p).out) }
-    ensures stops { IfErr result (λ why. StopsWriting (H.world house.old) (H.world house.new) why) }
+    requires globals { HasGlobals scene.now.cart.now stage.old.console }
+    ensures out { OnOk result (Appends (H.world house.old).out (H.world house.new).out (answer_show (scene_setup scene.now) scene.now.disk.now inputs.now p).out) }
+    ensures globals { HasGlobals scene.now.cart.now stage.new.console }
+    ensures stops { IfErr result (λ why. StopsWriting (H.world house.old) (H.world house.new) (manner_of why)) }
     ensures rest { LeavesPrinting (H.world house.old) (H.world house.new) }
 {
     let place = p as usize;
     if inputs.len() < place {
         return print(alloc, house, b"refused no frame\n");
     }
-    render::<Brand>(stage, scene, inputs, place, Blank::new(1));
-    print(alloc, house, shown(stage))
+    run_to(stage, scene, inputs, place);
+    tell_place(alloc, house, stage, Telling::Image, place)
+}
+
+/// The line of the state at a place, or that there is no such place.
+#[tactic(auto, unfolding(crate::specs::Answering::answer_state))]
+fn tell<H: House>(
+    alloc: Global,
+    house: &mut H,
+    stage: &mut Stage,
+    scene: &Scene<'_>,
+    inputs: &[Input],
+    p: u32,
+) -> Result<(), Status>
+    requires disk { length scene.now.disk.now ≤ 1024 }
+    requires budget { 1 ≤ scene.now.budget }
+    requires globals { HasGlobals scene.now.cart.now stage.old.console }
+    ensures out { OnOk result (Appends (H.world house.old).out (H.world house.new).out (answer_state (scene_setup scene.now) scene.now.disk.now inputs.now p).out) }
+    ensures globals { HasGlobals scene.now.cart.now stage.new.console }
+    ensures stops { IfErr result (λ why. StopsWriting (H.world house.old) (H.world house.new) (manner_of why)) }
+    ensures rest { LeavesPrinting (H.world house.old) (H.world house.new) }
+{
+    let place = p as usize;
+    if place > inputs.len() {
+        return print(alloc, house, b"refused no frame\n");
+    }
+    run_to(stage, scene, inputs, place);
+    let text = state_text(alloc, stage, place, inputs.len())?;
+    print(alloc, house, text.as_slice())
 }
 
 /// Another input in the place of one, or that there is no such input.
@@ -90,7 +115,7 @@ fn set<H: House>(
     ensures out { OnOk result (Appends (H.world house.old).out (H.world house.new).out (answer_set inputs.old.items k input).out) }
     ensures inputs { OnOk result (inputs.new.items ≡ (answer_set inputs.old.items k input).inputs) }
     ensures len { vec_len inputs.new ≡ vec_len inputs.old }
-    ensures stops { IfErr result (λ why. StopsWriting (H.world house.old) (H.world house.new) why) }
+    ensures stops { IfErr result (λ why. StopsWriting (H.world house.old) (H.world house.new) (manner_of why)) }
     ensures rest { LeavesPrinting (H.world house.old) (H.world house.new) }
 {
     let at = k as usize;
@@ -111,16 +136,20 @@ fn obey_order<H: House>(
     inputs: &mut Vec<Input>,
     order: &Order,
 ) -> Result<(), Status>
+    requires disk { length scene.now.disk.now ≤ 1024 }
     requires budget { 1 ≤ scene.now.budget }
-    ensures out { OnOk result (Appends (H.world house.old).out (H.world house.new).out (answer (scene_setup scene.now) [] inputs.old.items order.now).out) }
-    ensures inputs { OnOk result (inputs.new.items ≡ (answer (scene_setup scene.now) [] inputs.old.items order.now).inputs) }
+    requires globals { HasGlobals scene.now.cart.now stage.old.console }
+    ensures out { OnOk result (Appends (H.world house.old).out (H.world house.new).out (answer (scene_setup scene.now) scene.now.disk.now inputs.old.items order.now).out) }
+    ensures inputs { OnOk result (inputs.new.items ≡ (answer (scene_setup scene.now) scene.now.disk.now inputs.old.items order.now).inputs) }
     ensures len { vec_len inputs.new ≡ vec_len inputs.old }
-    ensures stops { IfErr result (λ why. StopsWriting (H.world house.old) (H.world house.new) why) }
+    ensures globals { HasGlobals scene.now.cart.now stage.new.console }
+    ensures stops { IfErr result (λ why. StopsWriting (H.world house.old) (H.world house.new) (manner_of why)) }
     ensures rest { LeavesPrinting (H.world house.old) (H.world house.new) }
 {
     match *order {
         Order::Set { k, input } => set(alloc, house, inputs, k, input),
         Order::Show { p } => show(alloc, house, stage, scene, inputs.as_slice(), p),
+        Order::StateAt { p } => tell(alloc, house, stage, scene, inputs.as_slice(), p),
     }
 }
 
@@ -133,11 +162,13 @@ fn obey_all<H: House>(
     inputs: &mut Vec<Input>,
     orders: &[Order],
 ) -> Result<(), Status>
+    requires disk { length scene.now.disk.now ≤ 1024 }
     requires budget { 1 ≤ scene.now.budget }
-    ensures out { OnOk result (Appends (H.world house.old).out (H.world house.new).out (answers (scene_setup scene.now) [] inputs.old.items orders.now).out) }
-    ensures inputs { OnOk result (inputs.new.items ≡ (answers (scene_setup scene.now) [] inputs.old.items orders.now).inputs) }
+    requires globals { HasGlobals scene.now.cart.now stage.old.console }
+    ensures out { OnOk result (Appends (H.world house.old).out (H.world house.new).out (answers (scene_setup scene.now) scene.now.disk.now inputs.old.items orders.now).out) }
+    ensures inputs { OnOk result (inputs.new.items ≡ (answers (scene_setup scene.now) scene.now.disk.now inputs.old.items orders.now).inputs) }
     ensures len { vec_len inputs.new ≡ vec_len inputs.old }
-    ensures stops { IfErr result (λ why. StopsWriting (H.world house.old) (H.world house.new) why) }
+    ensures stops { IfErr result (λ why. StopsWriting (H.world house.old) (H.world house.new) (manner_of why)) }
     ensures rest { LeavesPrinting (H.world house.old) (H.world house.new) }
 {
     for order in orders {
@@ -147,27 +178,31 @@ fn obey_all<H: House>(
 }
 
 /// Carries out all orders and saves the recording left.
-fn work<H: House>(alloc: Global, house: &mut H, loaded: Loaded, name: &str) -> Result<(), Status>
-    ensures out { OnOk result (Appends (H.world house.old).out (H.world house.new).out (answered (loaded_view loaded)).out) }
-    ensures saved { OnOk result (Puts (H.world house.old).files (H.world house.new).files name.now (spelling (left (loaded_view loaded)))) }
-    ensures stops { IfErr result (λ why. StopsWriting (H.world house.old) (H.world house.new) why) }
+fn work<H: House>(
+    alloc: Global,
+    house: &mut H,
+    cart: &Cart,
+    loaded: Loaded,
+    name: &str,
+) -> Result<(), Status>
+    ensures out { OnOk result (Appends (H.world house.old).out (H.world house.new).out (answered cart.now (loaded_view loaded)).out) }
+    ensures saved { OnOk result (Puts (H.world house.old).files (H.world house.new).files name.now (spelling (left cart.now (loaded_view loaded)))) }
+    ensures stops { IfErr result (λ why. StopsWriting (H.world house.old) (H.world house.new) (manner_of why)) }
     ensures err { LeavesErr (H.world house.old) (H.world house.new) }
 {
-    let Loaded {
-        cart,
-        recording,
-        font,
-        orders,
-    } = loaded;
+    let Loaded { run, orders } = loaded;
+    let Played { recording, font } = run;
     let Recording {
         digest,
         budget,
+        disk,
         mut inputs,
     } = recording;
-    let mut stage = new_stage(alloc)?;
+    let mut stage = new_stage(alloc, cart)?;
     let scene = Scene {
-        cart: &cart,
-        font: font.as_slice(),
+        cart,
+        font: &font,
+        disk: disk.as_slice(),
         budget,
     };
     obey_all(
@@ -181,6 +216,7 @@ fn work<H: House>(alloc: Global, house: &mut H, loaded: Loaded, name: &str) -> R
     let edited = Recording {
         digest,
         budget,
+        disk,
         inputs,
     };
     let bytes = write_recording(alloc, &edited)?;
@@ -188,11 +224,17 @@ fn work<H: House>(alloc: Global, house: &mut H, loaded: Loaded, name: &str) -> R
 }
 
 /// The work of an edit whose files are right.
-pub fn carry_out<H: House>(alloc: Global, house: &mut H, loaded: Loaded, name: &str) -> Status
-    ensures ends { Carries (H.world house.old) (H.world house.new) result (answered (loaded_view loaded)).out name.now (spelling (left (loaded_view loaded))) }
+pub fn carry_out<H: House>(
+    alloc: Global,
+    house: &mut H,
+    cart: &Cart,
+    loaded: Loaded,
+    name: &str,
+) -> Status
+    ensures ends { Carries (H.world house.old) (H.world house.new) (manner_of result) (answered cart.now (loaded_view loaded)).out name.now (spelling (left cart.now (loaded_view loaded))) }
     ensures err { LeavesErr (H.world house.old) (H.world house.new) }
 {
-    match work(alloc, house, loaded, name) {
+    match work(alloc, house, cart, loaded, name) {
         Ok(()) => Status::Done,
         Err(status) => status,
     }

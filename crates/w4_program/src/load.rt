@@ -1,40 +1,49 @@
-//! The files of an edit, each judged before the next is read.
+//! Files, each judged before the next is read. Nothing is written.
 
-ghost use Rattle.std.specs.Prelude.{◌≡◌, ◌+◌, Result, Ok, Err};
+ghost use Rattle.std.specs.Prelude.{◌≡◌, ◌+◌, ◌≤◌, length, Result, Ok, Err, IfOk};
+ghost use Rattle.std.specs.Option.{ForSome};
 ghost use Rattle.w4_defs.specs.Script.{orders_of};
-ghost use Rattle.wasm_machine.specs.FirstCart.{first_module};
 ghost use Rattle.w4_house.specs.World.{LeavesReading};
 ghost use Rattle.w4_program.specs.Output.{
-  reading,
-  cart_of,
-  font_of,
-  cart_in,
-  recording_in,
+  CartIn,
   font_in,
-  orders_in,
+  font_of,
   loaded,
+  orders_in,
+  played,
+  played_to,
+  reading,
+  recording_in,
 };
 ghost use Rattle.w4_program.specs.Reads.{Reads};
 ghost use Rattle.w4_program.specs.Recorded.{recording_view};
-ghost use Rattle.w4_program.specs.Causes.{Gives};
-ghost use Rattle.w4_program.specs.Views.{names_view, loaded_view};
+ghost use Rattle.w4_program.specs.Refusals.{FontRefused};
+ghost use Rattle.w4_program.specs.Causes.{Does, Gives};
+ghost use Rattle.w4_program.specs.Views.{edit_view, loaded_view, played_view, run_view};
 
+use crate::cart::{CartRefusal, accept};
 use crate::reading::read_recording;
 use crate::recording::Recording;
 use crate::script::read_script;
 use crate::status::Status;
-use crate::words::EditNames;
+use crate::words::{EditNames, RunNames};
 use std::alloc::Global;
+use w4_blit::{Font, FontLength};
 use w4_defs::Order;
 use w4_house::{House, HouseFault};
-use wasm_machine::{FirstCart, FirstRefusal, read_first};
+use wasm_valid::Cart;
 
-/// All that an edit is given.
+/// What a run is made of besides the cart.
+#[derive(Drop)]
+pub struct Played {
+    pub recording: Recording,
+    pub font: Font,
+}
+
+/// What an edit is made of besides the cart.
 #[derive(Drop)]
 pub struct Loaded {
-    pub cart: FirstCart,
-    pub recording: Recording,
-    pub font: Vec<u8>,
+    pub run: Played,
     pub orders: Vec<Order>,
 }
 
@@ -45,7 +54,7 @@ fn read_file<H: House>(
     name: &str,
     most: usize,
 ) -> Result<Vec<u8>, Status>
-    ensures gives { Gives (H.world house.old) (H.world house.new) (λ bytes. bytes.items) result (λ files. reading files name.now most) }
+    ensures gives { Gives (H.world house.old) (H.world house.new) (λ bytes. bytes.items) result (Does (λ files. reading files name.now most)) }
     ensures rest { LeavesReading (H.world house.old) (H.world house.new) }
 {
     match house.read_front(alloc, name, most) {
@@ -56,40 +65,32 @@ fn read_file<H: House>(
     }
 }
 
-/// The first cart that the bytes are.
-fn read_cart(alloc: Global, bytes: &[u8]) -> Result<FirstCart, Status>
-    ensures { Reads first_module result (cart_of bytes.now) }
+/// Reads and judges a cart.
+pub fn load_cart<H: House>(alloc: Global, house: &mut H, name: &str) -> Result<Cart, Status>
+    ensures gives { Gives (H.world house.old) (H.world house.new) (λ cart. cart) result (λ files cart. CartIn name.now files cart) }
+    ensures rest { LeavesReading (H.world house.old) (H.world house.new) }
 {
-    match read_first(alloc, bytes) {
+    let bytes = read_file(alloc, house, name, 65_537)?;
+    match accept(alloc, bytes.as_slice()) {
         Ok(cart) => Ok(cart),
-        Err(FirstRefusal::NotBuilt) => Err(Status::NotBuilt),
-        Err(FirstRefusal::OutOfMemory) => Err(Status::OutOfMemory),
+        Err(CartRefusal::Kind(kind)) => Err(Status::CartRefused(kind)),
+        Err(CartRefusal::OutOfMemory) => Err(Status::OutOfMemory),
     }
 }
 
 /// The font, where the bytes are one.
-fn read_font(bytes: Vec<u8>) -> Result<Vec<u8>, Status>
-    ensures { Reads (λ font. font.items) result (font_of bytes.items) }
+fn read_font(bytes: &[u8]) -> Result<Font, Status>
+    ensures { Reads FontRefused (λ font. font) result (font_of bytes.now) }
 {
-    if bytes.len() == 1792 {
-        Ok(bytes)
-    } else {
-        Err(Status::NotBuilt)
+    match Font::new(bytes) {
+        Ok(font) => Ok(font),
+        Err(FontLength) => Err(Status::FontRefused),
     }
-}
-
-#[tactic(auto, unfolding(crate::specs::Output::cart_in))]
-fn load_cart<H: House>(alloc: Global, house: &mut H, name: &str) -> Result<FirstCart, Status>
-    ensures gives { Gives (H.world house.old) (H.world house.new) first_module result (λ files. cart_in files name.now) }
-    ensures rest { LeavesReading (H.world house.old) (H.world house.new) }
-{
-    let bytes = read_file(alloc, house, name, 65_537)?;
-    read_cart(alloc, bytes.as_slice())
 }
 
 #[tactic(auto, unfolding(crate::specs::Output::recording_in))]
 fn load_recording<H: House>(alloc: Global, house: &mut H, name: &str) -> Result<Recording, Status>
-    ensures gives { Gives (H.world house.old) (H.world house.new) recording_view result (λ files. recording_in files name.now) }
+    ensures gives { Gives (H.world house.old) (H.world house.new) recording_view result (Does (λ files. recording_in files name.now)) }
     ensures rest { LeavesReading (H.world house.old) (H.world house.new) }
 {
     let bytes = read_file(alloc, house, name, 325_072)?;
@@ -97,37 +98,69 @@ fn load_recording<H: House>(alloc: Global, house: &mut H, name: &str) -> Result<
 }
 
 #[tactic(auto, unfolding(crate::specs::Output::font_in))]
-fn load_font<H: House>(alloc: Global, house: &mut H, name: &str) -> Result<Vec<u8>, Status>
-    ensures gives { Gives (H.world house.old) (H.world house.new) (λ font. font.items) result (λ files. font_in files name.now) }
+fn load_font<H: House>(alloc: Global, house: &mut H, name: &str) -> Result<Font, Status>
+    ensures gives { Gives (H.world house.old) (H.world house.new) (λ font. font) result (Does (λ files. font_in files name.now)) }
     ensures rest { LeavesReading (H.world house.old) (H.world house.new) }
 {
     let bytes = read_file(alloc, house, name, 1793)?;
-    read_font(bytes)
+    read_font(bytes.as_slice())
 }
 
 #[tactic(auto, unfolding(crate::specs::Output::orders_in))]
 fn load_orders<H: House>(alloc: Global, house: &mut H, name: &str) -> Result<Vec<Order>, Status>
-    ensures gives { Gives (H.world house.old) (H.world house.new) (λ orders. orders.items) result (λ files. orders_in files name.now) }
+    ensures gives { Gives (H.world house.old) (H.world house.new) (λ orders. orders.items) result (Does (λ files. orders_in files name.now)) }
     ensures rest { LeavesReading (H.world house.old) (H.world house.new) }
 {
     let bytes = read_file(alloc, house, name, 1_048_577)?;
     read_script(alloc, bytes.as_slice())
 }
 
-/// All files of an edit. Nothing is written.
-#[tactic(auto, unfolding(crate::specs::Output::loaded))]
-pub fn load<H: House>(alloc: Global, house: &mut H, names: EditNames<'_>) -> Result<Loaded, Status>
-    ensures gives { Gives (H.world house.old) (H.world house.new) loaded_view result (λ files. loaded (names_view names.entry) files) }
+/// Reads what a run is made of.
+#[tactic(auto, unfolding(crate::specs::Output::played))]
+pub fn load_run<H: House>(
+    alloc: Global,
+    house: &mut H,
+    names: RunNames<'_>,
+) -> Result<Played, Status>
+    ensures gives { Gives (H.world house.old) (H.world house.new) played_view result (Does (λ files. played (run_view names.entry) files)) }
     ensures rest { LeavesReading (H.world house.old) (H.world house.new) }
 {
-    let cart = load_cart(alloc, house, names.cart)?;
     let recording = load_recording(alloc, house, names.recording)?;
     let font = load_font(alloc, house, names.font)?;
+    Ok(Played { recording, font })
+}
+
+/// Reads what a run is made of, which has to have this place.
+#[tactic(auto, unfolding(crate::specs::Output::played_to))]
+pub fn load_run_to<H: House>(
+    alloc: Global,
+    house: &mut H,
+    names: RunNames<'_>,
+    place: u32,
+) -> Result<Played, Status>
+    ensures gives { Gives (H.world house.old) (H.world house.new) played_view result (Does (λ files. played_to (run_view names.entry) place files)) }
+    ensures place { IfOk result (λ run. place ≤ length run.recording.inputs.items) }
+    ensures rest { LeavesReading (H.world house.old) (H.world house.new) }
+{
+    let run = load_run(alloc, house, names)?;
+    let n = run.recording.inputs.len();
+    if place as usize > n {
+        return Err(Status::FrameRefused { number: place, n });
+    }
+    Ok(run)
+}
+
+/// Reads what an edit is made of.
+#[tactic(auto, unfolding(crate::specs::Output::loaded))]
+pub fn load_edit<H: House>(
+    alloc: Global,
+    house: &mut H,
+    names: EditNames<'_>,
+) -> Result<Loaded, Status>
+    ensures gives { Gives (H.world house.old) (H.world house.new) loaded_view result (Does (λ files. loaded (edit_view names.entry) files)) }
+    ensures rest { LeavesReading (H.world house.old) (H.world house.new) }
+{
+    let run = load_run(alloc, house, names.run)?;
     let orders = load_orders(alloc, house, names.script)?;
-    Ok(Loaded {
-        cart,
-        recording,
-        font,
-        orders,
-    })
+    Ok(Loaded { run, orders })
 }

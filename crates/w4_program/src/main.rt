@@ -5,17 +5,25 @@
 #![tactic(auto)]
 
 mod carry;
+mod cart;
+mod commands;
 mod fields;
+mod line;
 mod load;
+mod places;
+mod printing;
 mod reading;
 mod recording;
 mod run;
 mod scene;
 mod script;
 mod stage;
+mod state_line;
 mod status;
+mod telling;
 #[cfg(test)]
 mod tests;
+mod text;
 mod words;
 mod writing;
 

@@ -1,9 +1,10 @@
 //! Reading of recordings, version 1.
 
 ghost use Rattle.std.specs.Prelude.{◌≡◌, ◌*◌, ◌≤◌, length, IfOk, IfSome, option_map, vec_len};
-ghost use Rattle.w4_defs.specs.Recording.{fields_of, input_of, inputs_of};
+ghost use Rattle.w4_defs.specs.Recording.{fields_of, input_of, inputs_of, recording_of};
 ghost use Rattle.w4_program.specs.Reads.{Reads};
-ghost use Rattle.w4_program.specs.Recorded.{fields_view, recording_view, plain_recording_of};
+ghost use Rattle.w4_program.specs.Recorded.{fields_view, recording_view};
+ghost use Rattle.w4_program.specs.Refusals.{NotBuilt};
 
 use crate::fields::{front, u16_at, u32_at};
 use crate::recording::Recording;
@@ -27,6 +28,7 @@ fn split_fields(bytes: &[u8]) -> Option<Fields<'_>>
     ensures fields { option_map fields_view result ≡ fields_of bytes.now }
     ensures digest { IfSome result (λ fields. length fields.digest.now ≡ 32) }
     ensures budget { IfSome result (λ fields. 1 ≤ fields.budget) }
+    ensures disk { IfSome result (λ fields. length fields.disk.now ≤ 1024) }
     ensures count { IfSome result (λ fields. fields.count ≤ 36000) }
     ensures frames { IfSome result (λ fields. length fields.frames.now ≡ 9 * fields.count) }
 {
@@ -85,22 +87,21 @@ fn inputs_at(alloc: Global, count: u32, frames: &[u8]) -> Result<Vec<Input>, Out
 }
 
 /// The recording that the bytes spell.
-#[tactic(auto, unfolding(w4_defs::specs::Recording::recording_of, crate::specs::Recorded::plain_recording_of))]
+#[tactic(auto, unfolding(w4_defs::specs::Recording::recording_of))]
 pub fn read_recording(alloc: Global, bytes: &[u8]) -> Result<Recording, Status>
-    ensures { Reads recording_view result (plain_recording_of bytes.now) }
+    ensures { Reads NotBuilt recording_view result (recording_of bytes.now) }
 {
     let Some(fields) = split_fields(bytes) else {
         return Err(Status::NotBuilt);
     };
-    if !fields.disk.is_empty() {
-        return Err(Status::NotBuilt);
-    }
+    let disk = Vec::from_slice(alloc, fields.disk)?;
     let inputs = inputs_at(alloc, fields.count, fields.frames)?;
     let mut digest = [0; 32];
     digest.copy_from_slice(fields.digest);
     Ok(Recording {
         digest,
         budget: fields.budget,
+        disk,
         inputs,
     })
 }

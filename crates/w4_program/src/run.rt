@@ -1,44 +1,45 @@
 //! The top call: all that the program does, over any house.
 
 ghost use Rattle.std.specs.Prelude.{
+  ℕ,
   ◌≡◌,
   ◌⊎◌,
-  Some,
   None,
   Ok,
   Err,
-  IsOk,
-  IsOkAnd,
   map,
   string_bytes,
 };
 ghost use Rattle.std.specs.Option.{ForSome};
+ghost use Rattle.w4_defs.specs.declared.refusal.CartKind.{CartKind};
 ghost use Rattle.w4_house.specs.World.{Rises, Appends, LeavesReporting};
 ghost use Rattle.w4_program.specs.Lines.{line_of};
 ghost use Rattle.w4_program.specs.Forms.{form_of};
-ghost use Rattle.w4_program.specs.Output.{output, edited, NotBuilt};
+ghost use Rattle.w4_program.specs.Refusals.{CartRefused, FontRefused, FrameRefused, NotBuilt, manner_of};
+ghost use Rattle.w4_program.specs.Output.{Made, Outputs};
+ghost use Rattle.w4_program.specs.OneOutput.{AtMostOneOutput};
 ghost use Rattle.w4_program.specs.Causes.{
   ReadFails,
   Ends,
+  IsExact,
   IsRefusal,
   IsReported,
   Reports,
   LeavesErr,
-  status_of,
 };
-ghost use Rattle.w4_program.specs.Views.{names_view};
 
-use crate::carry::carry_out;
-use crate::load::load;
-use crate::status::{Status, line};
-use crate::words::{EditNames, edit_names};
+use crate::commands::run_form;
+use crate::line::line;
+use crate::status::Status;
+use crate::words::form_of_words;
 use std::alloc::Global;
 use std::thread::Threads;
 use w4_house::{House, WriteRefusal};
+use wasm_read::at_most_one;
 
 /// Does all that the program does for these words, and says how it ended.
 ///
-/// The words are those after the program's name. What it makes of them and of the files is `output` of
+/// The words are those after the program's name. What it makes of them and of the files is `Outputs` of
 /// the contract. Any status may give way to `OutOfMemory`.
 pub fn w4_run<R: Threads + Sync, H: House>(
     _rt: &R,
@@ -47,20 +48,27 @@ pub fn w4_run<R: Threads + Sync, H: House>(
     house: &mut H,
 ) -> Status
     // Where it is done, standard output has got exactly the definition's bytes.
-    ensures done_out { result ≡ Status.Done → ForSome (H.world house.old).files (λ files. IsOkAnd (output (map string_bytes words.now) files)
-        (λ made. Appends (H.world house.old).out (H.world house.new).out made.out)) }
+    ensures done_out { result ≡ Status.Done → ForSome (H.world house.old).files (λ files.
+        (made : Made) × Outputs (map string_bytes words.now) files (Ok made) × Appends (H.world house.old).out (H.world house.new).out made.out) }
     // And the files are the definition's: OUT is the recording left, and no other file has changed.
-    ensures done_files { result ≡ Status.Done → ForSome (H.world house.old).files (λ files. IsOkAnd (output (map string_bytes words.now) files)
-        (λ made. (H.world house.new).files ≡ Some made.files)) }
+    ensures done_files { result ≡ Status.Done → ForSome (H.world house.old).files (λ files.
+        (made : Made) × Outputs (map string_bytes words.now) files (Ok made) × ((H.world house.new).files ≡ Some made.files)) }
     ensures done_err { result ≡ Status.Done → (H.world house.new).err ≡ (H.world house.old).err }
+    // Words that have no form are refused over every house, and no others are.
+    ensures usage { result ≡ Status.Usage → form_of (map string_bytes words.now) ≡ None }
+    ensures no_form { form_of (map string_bytes words.now) ≡ None → (result ≡ Status.Usage) ⊎ (result ≡ Status.OutOfMemory) }
+    ensures cart_refused { (kind : CartKind) → result ≡ Status.CartRefused kind →
+        ForSome (H.world house.old).files (λ files. Outputs (map string_bytes words.now) files (Err (CartRefused kind))) }
+    ensures font_refused { result ≡ Status.FontRefused → ForSome (H.world house.old).files (λ files. Outputs (map string_bytes words.now) files (Err FontRefused)) }
+    ensures frame_refused { (number n : ℕ) → result ≡ Status.FrameRefused number n →
+        ForSome (H.world house.old).files (λ files. Outputs (map string_bytes words.now) files (Err (FrameRefused number n))) }
+    ensures not_built { result ≡ Status.NotBuilt → ForSome (H.world house.old).files (λ files. Outputs (map string_bytes words.now) files (Err NotBuilt)) }
+    // A read failed, or a file whose turn came is absent.
+    ensures read_fault { result ≡ Status.ReadFault → ReadFails (H.world house.old) (H.world house.new) (λ files made. Outputs (map string_bytes words.now) files made) }
     // A write failed only where the definition asks for one.
     ensures write_fault { result ≡ Status.WriteFault → Rises (H.world house.old).write_faults (H.world house.new).write_faults }
-    ensures write_fault_made { result ≡ Status.WriteFault → ForSome (H.world house.old).files (λ files. IsOk (output (map string_bytes words.now) files)) }
-    // A read failed, or a file whose turn came is absent.
-    ensures read_fault { result ≡ Status.ReadFault → ReadFails (H.world house.old) (H.world house.new) (λ files. output (map string_bytes words.now) files) }
-    ensures not_built { result ≡ Status.NotBuilt → ForSome (H.world house.old).files (λ files. output (map string_bytes words.now) files ≡ Err NotBuilt) }
-    // Words that have no form are refused over every house.
-    ensures no_form { form_of (map string_bytes words.now) ≡ None → (result ≡ Status.NotBuilt) ⊎ (result ≡ Status.OutOfMemory) }
+    ensures write_fault_made { result ≡ Status.WriteFault → ForSome (H.world house.old).files (λ files.
+        (made : Made) × Outputs (map string_bytes words.now) files (Ok made)) }
     // A refusal leaves standard output and all files.
     ensures refused_out { IsRefusal result → (H.world house.new).out ≡ (H.world house.old).out }
     ensures refused_files { IsRefusal result → (H.world house.new).files ≡ (H.world house.old).files }
@@ -69,34 +77,22 @@ pub fn w4_run<R: Threads + Sync, H: House>(
     // Where no count has risen, it is the definition's answer, or memory ran out.
     ensures exact { ForSome (H.world house.old).files (λ files. ¬ Rises (H.world house.old).read_faults (H.world house.new).read_faults →
         ¬ Rises (H.world house.old).write_faults (H.world house.new).write_faults →
-        (result ≡ status_of (output (map string_bytes words.now) files)) ⊎ (result ≡ Status.OutOfMemory)) }
+        IsExact result (λ made. Outputs (map string_bytes words.now) files made)) }
 {
     let status = obey(alloc, words, house);
     report(alloc, house, status)
 }
 
 /// What the words ask for. Nothing is written to standard error.
-#[tactic(auto, unfolding(crate::specs::Output::output))]
 fn obey<H: House>(alloc: Global, words: &[String], house: &mut H) -> Status
-    ensures ends { Ends (H.world house.old) (H.world house.new) result (λ files. output (map string_bytes words.now) files) }
-    ensures no_form { form_of (map string_bytes words.now) ≡ None → result ≡ Status.NotBuilt }
+    ensures ends { Ends (H.world house.old) (H.world house.new) (manner_of result) (λ files made. Outputs (map string_bytes words.now) files made) }
+    ensures usage { result ≡ Status.Usage → form_of (map string_bytes words.now) ≡ None }
+    ensures no_form { form_of (map string_bytes words.now) ≡ None → result ≡ Status.Usage }
     ensures err { LeavesErr (H.world house.old) (H.world house.new) }
 {
-    match edit_names(words) {
-        Some(names) => edit(alloc, house, names),
-        None => Status::NotBuilt,
-    }
-}
-
-/// `edit CART REC FONT SCRIPT OUT`.
-#[tactic(auto, unfolding(crate::specs::Output::edited))]
-fn edit<H: House>(alloc: Global, house: &mut H, names: EditNames<'_>) -> Status
-    ensures ends { Ends (H.world house.old) (H.world house.new) result (λ files. edited (names_view names.entry) files) }
-    ensures err { LeavesErr (H.world house.old) (H.world house.new) }
-{
-    match load(alloc, house, names) {
-        Ok(loaded) => carry_out(alloc, house, loaded, names.out),
-        Err(status) => status,
+    match form_of_words(words) {
+        Some(form) => run_form(alloc, house, form),
+        None => Status::Usage,
     }
 }
 
@@ -110,9 +106,20 @@ fn report<H: House>(alloc: Global, house: &mut H, status: Status) -> Status
     if status == Status::Done {
         return status;
     }
-    match house.write_err(alloc, line(status)) {
+    let Ok(line) = line(alloc, status) else {
+        return Status::OutOfMemory;
+    };
+    match house.write_err(alloc, line.as_slice()) {
         Ok(()) => status,
         Err(WriteRefusal::Failed) => status,
         Err(WriteRefusal::OutOfMemory) => Status::OutOfMemory,
     }
+}
+
+/// What the program makes of given words and files is one thing, so each status comes exactly where the
+/// definition has it.
+pub fn one_output()
+    ensures { AtMostOneOutput }
+{
+    at_most_one();
 }

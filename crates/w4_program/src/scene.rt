@@ -1,11 +1,13 @@
-//! A cart, a font and a budget on the console: what a run reads and doesn't change.
+//! What a run reads and doesn't change.
 
-use wasm_machine::FirstCart;
+use w4_blit::Font;
+use wasm_valid::Cart;
 
-/// What a run reads and doesn't change. The budget is at least 1. No cart of today shows the font.
+/// What a run reads and doesn't change. The budget is at least 1, and the disk has at most 1,024 bytes.
 #[derive(Clone, Copy)]
 pub struct Scene<'a> {
-    pub cart: &'a FirstCart,
-    pub font: &'a [u8],
+    pub cart: &'a Cart,
+    pub font: &'a Font,
+    pub disk: &'a [u8],
     pub budget: u32,
 }

@@ -8,12 +8,14 @@ ghost use Rattle.w4_defs.specs.Script.{
   coordinate_of,
   set_of,
   show_of,
+  state_of,
   order_of,
   first_of,
   lines_of,
   orders_of,
 };
 ghost use Rattle.w4_program.specs.Reads.{Reads};
+ghost use Rattle.w4_program.specs.Refusals.{NotBuilt};
 
 use crate::fields::cut;
 use crate::status::Status;
@@ -39,7 +41,7 @@ fn value_of(digits: &[u8]) -> Option<u32>
 
 /// A number of 1 to 10 digits.
 #[tactic(auto, unfolding(w4_defs::specs::Script::number_of))]
-fn number(word: &[u8]) -> Option<u32>
+pub fn number(word: &[u8]) -> Option<u32>
     ensures { result ≡ number_of word.now }
 {
     if word.is_empty() || word.len() > 10 {
@@ -129,6 +131,15 @@ fn show(words: &[u8]) -> Option<Order>
     Some(Order::Show { p })
 }
 
+/// `P`.
+#[tactic(auto, unfolding(w4_defs::specs::Script::state_of))]
+fn state(words: &[u8]) -> Option<Order>
+    ensures { result ≡ state_of words.now }
+{
+    let p = number(words)?;
+    Some(Order::StateAt { p })
+}
+
 /// The order of a line.
 #[tactic(auto, unfolding(w4_defs::specs::Script::order_of))]
 fn order(line: &[u8]) -> Option<Order>
@@ -139,6 +150,8 @@ fn order(line: &[u8]) -> Option<Order>
         set(words)
     } else if name == b"show".as_slice() {
         show(words)
+    } else if name == b"state".as_slice() {
+        state(words)
     } else {
         None
     }
@@ -161,7 +174,7 @@ fn is_short(bytes: &[u8]) -> bool
 /// The order of the first line, and the bytes after it.
 #[tactic(auto, unfolding(w4_defs::specs::Script::first_of))]
 fn first_order(bytes: &[u8]) -> Result<(Order, &[u8]), Status>
-    ensures { Reads (λ p. (p.0, p.1.now)) result (first_of bytes.now) }
+    ensures { Reads NotBuilt (λ p. (p.0, p.1.now)) result (first_of bytes.now) }
 {
     let Some((line, rest)) = cut(bytes, b'\n') else {
         return Err(Status::NotBuilt);
@@ -174,7 +187,7 @@ fn first_order(bytes: &[u8]) -> Result<(Order, &[u8]), Status>
 
 /// The orders of so many lines, which are all of the bytes.
 fn orders(alloc: Global, count: usize, bytes: &[u8]) -> Result<Vec<Order>, Status>
-    ensures { Reads (λ orders. orders.items) result (lines_of count bytes.now) }
+    ensures { Reads NotBuilt (λ orders. orders.items) result (lines_of count bytes.now) }
 {
     let mut orders = Vec::new(alloc);
     let mut rest = bytes;
@@ -193,7 +206,7 @@ fn orders(alloc: Global, count: usize, bytes: &[u8]) -> Result<Vec<Order>, Statu
 /// The orders of a script.
 #[tactic(auto, unfolding(w4_defs::specs::Script::orders_of))]
 pub fn read_script(alloc: Global, bytes: &[u8]) -> Result<Vec<Order>, Status>
-    ensures { Reads (λ orders. orders.items) result (orders_of bytes.now) }
+    ensures { Reads NotBuilt (λ orders. orders.items) result (orders_of bytes.now) }
 {
     if !is_short(bytes) {
         return Err(Status::NotBuilt);

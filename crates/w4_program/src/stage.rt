@@ -1,75 +1,156 @@
-//! A console and the buffer of its image.
+//! A console, the record of its last frame, and the buffer of its image.
 
-ghost use Rattle.std.specs.Prelude.{◌≡◌, ◌+◌, ◌≤◌, ◌<◌, [], Some, length};
-ghost use Rattle.w4_defs.specs.Run.{run};
-ghost use Rattle.w4_console.specs.FirstConsole.{quiet};
-ghost use Rattle.w4_program.specs.Answering.{picture};
-ghost use Rattle.w4_program.specs.Scenes.{scene_setup};
+ghost use Rattle.std.specs.Prelude.{◌≡◌, ◌+◌, ◌≤◌, ◌<◌, ◌∷◌, [], Some, length, IfOk};
+ghost use Rattle.w4_console.specs.UnderWay.{HasGlobals};
+ghost use Rattle.w4_defs.specs.Frame.{frame};
+ghost use Rattle.w4_program.specs.Scenes.{StandsAt, scene_setup, shown};
+ghost use Rattle.w4_defs.specs.FrameTexts.{schedule_text, state_line, trace_text};
+ghost use Rattle.w4_defs.specs.Image.{image};
 
 use crate::scene::Scene;
+use crate::state_line::state_line;
 use std::alloc::Global;
+use std::marker::Brand;
 use std::sync::ledger::{Blank, Ledger};
 use w4_console::Console;
+use w4_defs::console_laws::runs_in_parts;
 use w4_defs::{Input, OutOfMemory, Steps};
-use w4_image::{IMAGE_LEN, image_into};
+use w4_devices::{FrameRecord, schedule_text, trace_text};
+use w4_image::{IMAGE_LEN, ppm_into};
+use wasm_valid::Cart;
 
-/// A console, and the image of its page.
+/// A console, what its last reset or frame left behind, and the image of its page.
 #[derive(Drop)]
 pub struct Stage {
     console: Console,
+    made: FrameRecord,
     image: Box<[u8; IMAGE_LEN]>,
 }
 
-/// A stage that shows nothing yet. Takes all the memory that showing needs.
-pub fn new_stage(alloc: Global) -> Result<Stage, OutOfMemory> {
-    let console = Console::new(alloc)?;
-    let image = Box::new(alloc, [0; IMAGE_LEN])?;
-    Ok(Stage { console, image })
-}
-
-/// Runs the first `place` inputs from a reset, one frame each.
-fn run_to<L: Ledger>(
-    console: &mut Console,
-    scene: &Scene<'_>,
-    inputs: &[Input],
-    place: usize,
-    steps: &mut Steps<L>,
-)
-    requires place { place ≤ length inputs.now }
-    requires budget { 1 ≤ scene.now.budget }
-    ensures played { run (scene_setup scene.now) [] inputs.now place ≡ Some (quiet console.new) }
-    ensures ticks { steps.new ≡ steps.old + place }
+/// A stage before any reset. Takes all the memory that running needs.
+pub fn new_stage(alloc: Global, cart: &Cart) -> Result<Stage, OutOfMemory>
+    ensures { IfOk result (λ stage. HasGlobals cart.now stage.console) }
 {
-    console.reset();
-    let played = &inputs[..place];
-    for input in played {
-        console.frame(scene.cart, input, scene.budget, steps);
-    }
+    let console = Console::new(alloc, cart)?;
+    let made = FrameRecord::new();
+    let image = Box::new(alloc, [0; IMAGE_LEN])?;
+    Ok(Stage {
+        console,
+        made,
+        image,
+    })
 }
 
-/// Puts the image of a place into the stage, in as many frames as the place's number.
-pub fn render<L: Ledger>(
-    stage: &mut Stage,
-    scene: &Scene<'_>,
-    inputs: &[Input],
-    place: usize,
-    blank: Blank,
-)
+/// Starts the run anew.
+fn begin(stage: &mut Stage, scene: &Scene<'_>, inputs: &[Input])
+    requires disk { length scene.now.disk.now ≤ 1024 }
+    requires budget { 1 ≤ scene.now.budget }
+    requires globals { HasGlobals scene.now.cart.now stage.old.console }
+    ensures { StandsAt scene.now inputs.now 0 stage.new }
+{
+    let made = &mut stage.made;
+    stage
+        .console
+        .reset(scene.cart, scene.font, scene.disk, scene.budget, made);
+}
+
+/// One frame, under a count of its own.
+fn play<L: Ledger>(stage: &mut Stage, scene: &Scene<'_>, input: &Input, blank: Blank)
     requires name { blank.name ≡ L.name }
     requires parts { blank.parts ≡ L.parts }
     requires some { 0 < L.parts }
-    requires place { place ≤ length inputs.now }
     requires budget { 1 ≤ scene.now.budget }
-    ensures { stage.new.image.value ≡ picture (run (scene_setup scene.now) [] inputs.now place) }
+    requires globals { HasGlobals scene.now.cart.now stage.old.console }
+    ensures frame { frame (scene_setup scene.now) stage.old.console input.now ≡ Some (shown stage.new) }
+    ensures globals { HasGlobals scene.now.cart.now stage.new.console }
 {
     let mut steps: Steps<L> = Steps::new(blank);
-    run_to(&mut stage.console, scene, inputs, place, &mut steps);
-    image_into(stage.console.page(), &mut stage.image);
+    let made = &mut stage.made;
+    stage.console.frame(
+        scene.cart,
+        scene.font,
+        input,
+        scene.budget,
+        made,
+        &mut steps,
+    );
+}
+
+/// Goes on to the next place.
+pub fn step(stage: &mut Stage, scene: &Scene<'_>, inputs: &[Input], place: usize)
+    requires place { place < length inputs.now }
+    requires budget { 1 ≤ scene.now.budget }
+    requires here { StandsAt scene.now inputs.now place stage.old }
+    ensures { StandsAt scene.now inputs.now (place + 1) stage.new }
+{
+    runs_in_parts();
+    play::<Brand>(stage, scene, &inputs[place], Blank::new(1));
+}
+
+/// Runs from a reset up to a place, in as many frames as its number.
+pub fn run_to(stage: &mut Stage, scene: &Scene<'_>, inputs: &[Input], place: usize)
+    requires place { place ≤ length inputs.now }
+    requires disk { length scene.now.disk.now ≤ 1024 }
+    requires budget { 1 ≤ scene.now.budget }
+    requires globals { HasGlobals scene.now.cart.now stage.old.console }
+    ensures { StandsAt scene.now inputs.now place stage.new }
+{
+    begin(stage, scene, inputs);
+    for passed in 0..place {
+        step(stage, scene, inputs, passed);
+    }
+}
+
+/// Puts the image of the page into the stage.
+pub fn paint(stage: &mut Stage)
+    ensures image { stage.new.image.value ≡ image stage.old.console.page }
+    ensures console { stage.new.console ≡ stage.old.console }
+    ensures made { stage.new.made ≡ stage.old.made }
+{
+    ppm_into(stage.console.state(), &mut stage.image);
 }
 
 /// The image in the stage.
-pub fn shown(stage: &Stage) -> &[u8]
+pub fn painted(stage: &Stage) -> &[u8]
     ensures { result.now ≡ stage.now.image.value }
 {
     stage.image.as_slice()
+}
+
+/// The bytes on the disk.
+pub fn disk(stage: &Stage) -> &[u8]
+    ensures { result.now ≡ stage.now.console.disk }
+{
+    stage.console.state().disk.bytes()
+}
+
+/// The schedule of the frame that led to this place.
+pub fn schedule(alloc: Global, stage: &Stage, place: usize) -> Result<Vec<u8>, OutOfMemory>
+    ensures { IfOk result (λ text. text.items ≡ schedule_text place (shown stage.now).made) }
+{
+    let mut text = Vec::new(alloc);
+    schedule_text(alloc, place, &stage.made, &mut text)?;
+    Ok(text)
+}
+
+/// The trace lines of the frame that led to this place.
+pub fn traces(alloc: Global, stage: &Stage, place: usize) -> Result<Vec<u8>, OutOfMemory>
+    ensures { IfOk result (λ text. text.items ≡ trace_text place (shown stage.now).made) }
+{
+    let mut text = Vec::new(alloc);
+    trace_text(alloc, place, &stage.made, &mut text)?;
+    Ok(text)
+}
+
+/// The line of the state at a place of `count` inputs.
+pub fn state_text(
+    alloc: Global,
+    stage: &Stage,
+    place: usize,
+    count: usize,
+) -> Result<Vec<u8>, OutOfMemory>
+    ensures { IfOk result (λ text. text.items ≡ state_line place count stage.now.console (0 ∷ [])) }
+{
+    let state = stage.console.state();
+    state_line(alloc, place, count, state.halt, state.disk.bytes().len())
 }

@@ -1,22 +1,30 @@
-//! How a run ends: its statuses, their numbers and their lines.
+//! How a run ends: its statuses and their numbers.
 
 ghost use Rattle.std.specs.Prelude.{◌≡◌};
-ghost use Rattle.w4_program.specs.Lines.{line_of, number_of_status};
+ghost use Rattle.w4_program.specs.Lines.{number_of_status};
 
 use std::alloc::{AllocError, AllocFailed};
-use w4_defs::OutOfMemory;
+use w4_defs::{CartKind, OutOfMemory};
 
 /// How a run ended.
 #[derive(Clone, Copy, PartialEq, Eq, Debug)]
 pub enum Status {
     /// All was written.
     Done,
+    /// The words have none of the forms.
+    Usage,
+    /// The bytes of the cart's file are no cart, by the first cause that holds.
+    CartRefused(CartKind),
+    /// The font hasn't 1,792 bytes.
+    FontRefused,
     /// A file couldn't be read, or isn't there.
     ReadFault,
     /// Standard output or a file couldn't be written.
     WriteFault,
     /// Memory was refused.
     OutOfMemory,
+    /// The words name a place past the last, `n`.
+    FrameRefused { number: u32, n: usize },
     /// The words or a file ask for what isn't built yet.
     NotBuilt,
 }
@@ -57,22 +65,13 @@ pub fn number(status: Status) -> u8
 {
     match status {
         Status::Done => 0,
+        Status::Usage => 2,
+        Status::CartRefused(_) => 3,
+        Status::FontRefused => 5,
         Status::ReadFault => 7,
         Status::WriteFault => 8,
         Status::OutOfMemory => 9,
+        Status::FrameRefused { number: _, n: _ } => 10,
         Status::NotBuilt => 11,
-    }
-}
-
-/// The line that standard error gets; after success none.
-pub fn line(status: Status) -> &'static [u8]
-    ensures { result.now ≡ line_of status }
-{
-    match status {
-        Status::Done => b"",
-        Status::ReadFault => b"w4: cannot read\n",
-        Status::WriteFault => b"w4: cannot write\n",
-        Status::OutOfMemory => b"w4: out of memory\n",
-        Status::NotBuilt => b"w4: not built\n",
     }
 }

@@ -1,12 +1,18 @@
 //! What no clause says: that the clauses mean these bytes, and that a run can be done.
 
+mod bodies;
+mod carts;
+mod edits;
+mod forms;
+mod runs;
+
+ghost use Rattle.std.specs.Prelude.{◌≤◌};
+
 use crate::run::w4_run;
-use crate::status::{Status, line, number};
 use std::alloc::Global;
-use std::test::Fail;
 use std::thread::Threads;
 use w4_defs::OutOfMemory;
-use w4_house::{MemoryHouse, SureHouse};
+use w4_house::SureHouse;
 
 /// It stores pad 1 into the first byte of the framebuffer.
 const CART: [u8; 64] = [
@@ -16,27 +22,6 @@ const CART: [u8; 64] = [
     0x0f, 0x01, 0x0d, 0x00, 0x41, 0xa0, 0x01, 0x41, 0x16, 0x2d, 0x00, 0x00, 0x3a, 0x00, 0x00, 0x0b,
 ];
 
-/// It does nothing three times, by an instruction that a first cart doesn't have.
-const NOPS: [u8; 56] = [
-    0x00, 0x61, 0x73, 0x6d, 0x01, 0x00, 0x00, 0x00, 0x01, 0x04, 0x01, 0x60, 0x00, 0x00, 0x02, 0x0f,
-    0x01, 0x03, 0x65, 0x6e, 0x76, 0x06, 0x6d, 0x65, 0x6d, 0x6f, 0x72, 0x79, 0x02, 0x00, 0x01, 0x03,
-    0x02, 0x01, 0x00, 0x07, 0x0a, 0x01, 0x06, 0x75, 0x70, 0x64, 0x61, 0x74, 0x65, 0x00, 0x00, 0x0a,
-    0x07, 0x01, 0x05, 0x00, 0x01, 0x01, 0x01, 0x0b,
-];
-
-/// Two frames of zeros with a budget of 100,000, of the first cart.
-const RECORDING: [u8; 65] = [
-    0x57, 0x34, 0x52, 0x43, 0x01, 0xcd, 0xfa, 0xdf, 0x8a, 0xd2, 0x7d, 0x9c, 0xb2, 0xa2, 0x3a, 0xe7,
-    0xa6, 0x84, 0x74, 0xdd, 0x63, 0x34, 0x52, 0xaa, 0xa1, 0x6a, 0xac, 0xdd, 0x25, 0x92, 0x7c, 0x00,
-    0xd5, 0x9a, 0x33, 0x52, 0xfc, 0xa0, 0x86, 0x01, 0x00, 0x00, 0x00, 0x02, 0x00, 0x00, 0x00, 0x00,
-    0x00, 0x00, 0x00, 0x00, 0x00, 0x00, 0x00, 0x00, 0x00, 0x00, 0x00, 0x00, 0x00, 0x00, 0x00, 0x00,
-    0x00,
-];
-
-const FONT: [u8; 1792] = [0; 1792];
-
-const SCRIPT: &str = "set 0 27 0 0 0 0 0 0\nshow 1\n";
-
 fn words(alloc: Global, text: &[&str]) -> Result<Vec<String>, OutOfMemory> {
     let mut words = Vec::new(alloc);
     for word in text {
@@ -45,161 +30,82 @@ fn words(alloc: Global, text: &[&str]) -> Result<Vec<String>, OutOfMemory> {
     Ok(words)
 }
 
-fn edit(alloc: Global) -> Result<Vec<String>, OutOfMemory> {
-    words(
-        alloc,
-        &["edit", "cart", "recording", "font", "script", "out"],
-    )
+/// The value of a hexadecimal digit, and 0 of any other byte.
+fn digit(byte: u8) -> u8
+    ensures { result ≤ 15 }
+{
+    match byte {
+        b'0'..=b'9' => byte - b'0',
+        b'a'..=b'f' => byte - b'a' + 10,
+        _ => 0,
+    }
 }
 
-/// A house with these four files.
-fn house_of(
+/// The bytes of a text of two hexadecimal digits each, parted by spaces.
+fn hex(alloc: Global, text: &str) -> Result<Vec<u8>, OutOfMemory> {
+    let mut bytes = Vec::new(alloc);
+    for pair in text.as_bytes().chunks(3) {
+        if let [high, low, ..] = pair {
+            bytes.push(16 * digit(*high) + digit(*low))?;
+        }
+    }
+    Ok(bytes)
+}
+
+/// What `check` writes of a cart with these bytes, to standard output or to standard error.
+fn verdict<R: Threads + Sync>(rt: &R, alloc: Global, bytes: &[u8]) -> Result<Vec<u8>, OutOfMemory> {
+    let mut house = SureHouse::new(alloc);
+    house.put_file("cart", bytes)?;
+    let words = words(alloc, &["check", "cart"])?;
+    let _status = w4_run(rt, alloc, words.as_slice(), &mut house);
+    let mut text = Vec::new(alloc);
+    text.extend_from_slice(house.out())?;
+    text.extend_from_slice(house.err())?;
+    Ok(text)
+}
+
+/// The smallest cart up to its code: `update` is its one function.
+const FRONT: &str =
+    "00 61 73 6d 01 00 00 00 01 04 01 60 00 00 02 0f 01 03 65 6e 76 06 6d 65 6d 6f 72 79 02 00 01 03 02 01 00 07 0a 01 06 75 70 64 61 74 65 00 00";
+
+/// A cart that begins so and has one body.
+fn cart_of(alloc: Global, front: &str, body: &[u8]) -> Result<Vec<u8>, OutOfMemory> {
+    let mut bytes = hex(alloc, front)?;
+    bytes.push(0x0a)?;
+    push_size(&mut bytes, body.len() + 4)?;
+    bytes.push(1)?;
+    push_size(&mut bytes, body.len())?;
+    bytes.extend_from_slice(body)?;
+    Ok(bytes)
+}
+
+/// A recording of no cart in particular, with this first pad in each frame.
+fn recording_of(
     alloc: Global,
-    cart: &[u8],
-    recording: &[u8],
-    font: &[u8],
-    script: &str,
-) -> Result<MemoryHouse, OutOfMemory> {
-    let mut house = MemoryHouse::new(alloc);
-    house.put_file("cart", cart)?;
-    house.put_file("recording", recording)?;
-    house.put_file("font", font)?;
-    house.put_file("script", script.as_bytes())?;
-    Ok(house)
-}
-
-#[test]
-fn a_changed_input_is_shown(rt: HostRuntime) -> Result<(), Fail> {
-    let mut house = SureHouse::new(rt.alloc());
-    house.put_file("cart", &CART)?;
-    house.put_file("recording", &RECORDING)?;
-    house.put_file("font", &FONT)?;
-    house.put_file("script", SCRIPT.as_bytes())?;
-    let words = edit(rt.alloc())?;
-    let status = w4_run(&rt, rt.alloc(), words.as_slice(), &mut house);
-    assert_eq!(rt; status, Status::Done);
-    assert_eq!(rt; house.err().len(), 0);
-    let out = house.out();
-    assert_eq!(rt; out.len(), 76_815);
-    assert!(rt; &out[..15] == b"P6\n160 160\n255\n".as_slice());
-    let shown = [
-        0x07, 0x18, 0x21, 0x30, 0x68, 0x50, 0x86, 0xc0, 0x6c, 0xe0, 0xf8, 0xcf,
-    ];
-    assert!(rt; &out[15..27] == shown.as_slice());
-    for color in out[27..].chunks(3) {
-        assert!(rt; color == [0xe0, 0xf8, 0xcf].as_slice());
+    budget: u32,
+    disk: &[u8],
+    pads: &[u8],
+) -> Result<Vec<u8>, OutOfMemory> {
+    let mut bytes = Vec::new(alloc);
+    bytes.extend_from_slice(b"W4RC\x01")?;
+    bytes.extend_from_slice(&[0; 32])?;
+    bytes.extend_from_slice(&budget.to_le_bytes())?;
+    let size = disk.len().min(1_024) as u16;
+    bytes.extend_from_slice(&size.to_le_bytes())?;
+    bytes.extend_from_slice(disk)?;
+    let count = pads.len().min(36_000) as u32;
+    bytes.extend_from_slice(&count.to_le_bytes())?;
+    for pad in pads {
+        bytes.push(*pad)?;
+        bytes.extend_from_slice(&[0; 8])?;
     }
-    let left = house.file("out").ok_or("no file was made")?;
-    let mut changed = RECORDING;
-    changed[47] = 0x1b;
-    assert!(rt; left == changed.as_slice());
-    Ok(())
+    Ok(bytes)
 }
 
-#[test]
-fn a_refused_order_changes_nothing(rt: HostRuntime) -> Result<(), Fail> {
-    let script = "set 2 0 0 0 0 0 0 0\n";
-    let mut house = house_of(rt.alloc(), &CART, &RECORDING, &FONT, script)?;
-    let words = edit(rt.alloc())?;
-    let status = w4_run(&rt, rt.alloc(), words.as_slice(), &mut house);
-    assert_eq!(rt; status, Status::Done);
-    assert!(rt; house.out() == b"refused no frame\n".as_slice());
-    let left = house.file("out").ok_or("no file was made")?;
-    assert!(rt; left == RECORDING.as_slice());
-    Ok(())
-}
-
-/// Whether an edit over this house ends so, with its line, and makes no file.
-fn fails_so<R: Threads + Sync>(
-    rt: &R,
-    alloc: Global,
-    mut house: MemoryHouse,
-    expected: Status,
-) -> Result<bool, OutOfMemory> {
-    let words = edit(alloc)?;
-    let status = w4_run(rt, alloc, words.as_slice(), &mut house);
-    Ok(status == expected && house.file("out").is_none() && house.err() == line(expected))
-}
-
-#[test]
-fn files_that_are_not_built(rt: HostRuntime) -> Result<(), Fail> {
-    let alloc = rt.alloc();
-    let mut spent = RECORDING;
-    spent[37] = 0;
-    spent[38] = 0;
-    spent[39] = 0;
-    let nops = house_of(alloc, &NOPS, &RECORDING, &FONT, SCRIPT)?;
-    assert!(rt;
-        fails_so(&rt, alloc, nops, Status::NotBuilt)?,
-        "another instruction"
-    );
-    let no_budget = house_of(alloc, &CART, &spent, &FONT, SCRIPT)?;
-    assert!(rt;
-        fails_so(&rt, alloc, no_budget, Status::NotBuilt)?,
-        "budget 0"
-    );
-    let short = house_of(alloc, &CART, &RECORDING[..64], &FONT, SCRIPT)?;
-    assert!(rt;
-        fails_so(&rt, alloc, short, Status::NotBuilt)?,
-        "a recording cut short"
-    );
-    let narrow = house_of(alloc, &CART, &RECORDING, &FONT[..1791], SCRIPT)?;
-    assert!(rt;
-        fails_so(&rt, alloc, narrow, Status::NotBuilt)?,
-        "a font cut short"
-    );
-    let unended = house_of(alloc, &CART, &RECORDING, &FONT, "show 1")?;
-    assert!(rt;
-        fails_so(&rt, alloc, unended, Status::NotBuilt)?,
-        "a line that isn't ended"
-    );
-    let spaced = house_of(alloc, &CART, &RECORDING, &FONT, "show  1\n")?;
-    assert!(rt;
-        fails_so(&rt, alloc, spaced, Status::NotBuilt)?,
-        "two spaces"
-    );
-    Ok(())
-}
-
-#[test]
-fn calls_that_fail(rt: HostRuntime) -> Result<(), Fail> {
-    let cases = [
-        (2, Status::ReadFault),
-        (5, Status::WriteFault),
-        (6, Status::WriteFault),
-    ];
-    for (call, expected) in cases {
-        let mut house = house_of(rt.alloc(), &CART, &RECORDING, &FONT, SCRIPT)?;
-        house.fail_at(call)?;
-        assert!(rt; fails_so(&rt, rt.alloc(), house, expected)?, "call {call}");
-    }
-    let mut house = MemoryHouse::new(rt.alloc());
-    house.put_file("cart", &CART)?;
-    house.put_file("recording", &RECORDING)?;
-    house.put_file("font", &FONT)?;
-    assert!(rt;
-        fails_so(&rt, rt.alloc(), house, Status::ReadFault)?,
-        "no script"
-    );
-    Ok(())
-}
-
-#[test]
-fn other_words_are_refused(rt: HostRuntime) -> Result<(), Fail> {
-    let forms = [
-        words(rt.alloc(), &[])?,
-        words(rt.alloc(), &["edit", "cart", "recording", "font", "script"])?,
-        words(
-            rt.alloc(),
-            &["edits", "cart", "recording", "font", "script", "out"],
-        )?,
-    ];
-    for words in forms {
-        let mut house = house_of(rt.alloc(), &CART, &RECORDING, &FONT, SCRIPT)?;
-        let status = w4_run(&rt, rt.alloc(), words.as_slice(), &mut house);
-        assert_eq!(rt; status, Status::NotBuilt);
-        assert!(rt; house.out().is_empty());
-    }
-    assert_eq!(rt; number(Status::WriteFault), 8);
+/// A section's or a body's size in three bytes.
+fn push_size(bytes: &mut Vec<u8>, size: usize) -> Result<(), OutOfMemory> {
+    bytes.push(128 + (size % 128) as u8)?;
+    bytes.push(128 + (size / 128 % 128) as u8)?;
+    bytes.push((size / 16_384 % 128) as u8)?;
     Ok(())
 }

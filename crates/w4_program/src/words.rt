@@ -1,35 +1,179 @@
 //! The words that the program is called with.
 
 ghost use Rattle.std.specs.Prelude.{◌≡◌, map, option_map, string_bytes};
-ghost use Rattle.w4_program.specs.Forms.{form_of};
-ghost use Rattle.w4_program.specs.Views.{form_view};
+ghost use Rattle.w4_program.specs.Forms.{
+  blank_of,
+  check_of,
+  disk_of,
+  edit_of,
+  form_of,
+  frames_of,
+  make_of,
+  run_words,
+  tones_of,
+  trace_of,
+};
+ghost use Rattle.w4_program.specs.Views.{form_view, run_view};
 
-/// The files of `edit CART REC FONT SCRIPT OUT`: four to read and one to write.
+use crate::places::Places;
+use crate::script::number;
+
+/// The names of the three files that a run is made of.
 #[derive(Clone, Copy)]
-pub struct EditNames<'a> {
+pub struct RunNames<'a> {
     pub cart: &'a str,
     pub recording: &'a str,
     pub font: &'a str,
+}
+
+/// The files of an edit: four to read and one to write.
+#[derive(Clone, Copy)]
+pub struct EditNames<'a> {
+    pub run: RunNames<'a>,
     pub script: &'a str,
     pub out: &'a str,
 }
 
-/// The form of the words, or None where they have none.
-#[tactic(auto, unfolding(crate::specs::Forms::form_of))]
-pub fn edit_names(words: &[String]) -> Option<EditNames<'_>>
-    ensures { option_map form_view result ≡ form_of (map string_bytes words.now) }
+/// What the words ask for.
+#[derive(Clone, Copy)]
+pub enum Form<'a> {
+    /// `check CART`
+    Check(&'a str),
+    /// `blank CART BUDGET`, of at least 1 unit
+    Blank(&'a str, u32),
+    /// `frames CART REC FONT FROM TO`
+    Frames(RunNames<'a>, Places),
+    /// `tones CART REC FONT`
+    Tones(RunNames<'a>),
+    /// `trace CART REC FONT`
+    Trace(RunNames<'a>),
+    /// `disk CART REC FONT PLACE`
+    Disk(RunNames<'a>, u32),
+    /// `edit CART REC FONT SCRIPT OUT`
+    Edit(EditNames<'a>),
+    /// `make NUMBER`
+    Make(u32),
+}
+
+/// The three names.
+fn run_names<'a>(cart: &'a String, recording: &'a String, font: &'a String) -> RunNames<'a>
+    ensures { run_view result ≡ run_words (string_bytes cart.now) (string_bytes recording.now) (string_bytes font.now) }
 {
-    let [name, cart, recording, font, script, out] = words else {
-        return None;
-    };
-    if name.as_str() != "edit" {
-        return None;
-    }
-    Some(EditNames {
+    RunNames {
         cart: cart.as_str(),
         recording: recording.as_str(),
         font: font.as_str(),
+    }
+}
+
+fn check(words: &[String]) -> Option<Form<'_>>
+    ensures { option_map form_view result ≡ check_of (map string_bytes words.now) }
+{
+    let [cart] = words else {
+        return None;
+    };
+    Some(Form::Check(cart.as_str()))
+}
+
+#[tactic(auto, unfolding(crate::specs::Forms::blank_of))]
+fn blank(words: &[String]) -> Option<Form<'_>>
+    ensures { option_map form_view result ≡ blank_of (map string_bytes words.now) }
+{
+    let [cart, budget] = words else {
+        return None;
+    };
+    let budget = number(budget.as_bytes())?;
+    if budget < 1 {
+        return None;
+    }
+    Some(Form::Blank(cart.as_str(), budget))
+}
+
+#[tactic(auto, unfolding(crate::specs::Forms::frames_of))]
+fn frames(words: &[String]) -> Option<Form<'_>>
+    ensures { option_map form_view result ≡ frames_of (map string_bytes words.now) }
+{
+    let [cart, recording, font, from, to] = words else {
+        return None;
+    };
+    let from = number(from.as_bytes())?;
+    let to = number(to.as_bytes())?;
+    if from > to {
+        return None;
+    }
+    Some(Form::Frames(run_names(cart, recording, font), Places { from, to }))
+}
+
+fn tones(words: &[String]) -> Option<Form<'_>>
+    ensures { option_map form_view result ≡ tones_of (map string_bytes words.now) }
+{
+    let [cart, recording, font] = words else {
+        return None;
+    };
+    Some(Form::Tones(run_names(cart, recording, font)))
+}
+
+fn trace(words: &[String]) -> Option<Form<'_>>
+    ensures { option_map form_view result ≡ trace_of (map string_bytes words.now) }
+{
+    let [cart, recording, font] = words else {
+        return None;
+    };
+    Some(Form::Trace(run_names(cart, recording, font)))
+}
+
+#[tactic(auto, unfolding(crate::specs::Forms::disk_of))]
+fn disk(words: &[String]) -> Option<Form<'_>>
+    ensures { option_map form_view result ≡ disk_of (map string_bytes words.now) }
+{
+    let [cart, recording, font, place] = words else {
+        return None;
+    };
+    let place = number(place.as_bytes())?;
+    Some(Form::Disk(run_names(cart, recording, font), place))
+}
+
+fn edit(words: &[String]) -> Option<Form<'_>>
+    ensures { option_map form_view result ≡ edit_of (map string_bytes words.now) }
+{
+    let [cart, recording, font, script, out] = words else {
+        return None;
+    };
+    Some(Form::Edit(EditNames {
+        run: run_names(cart, recording, font),
         script: script.as_str(),
         out: out.as_str(),
-    })
+    }))
+}
+
+#[tactic(auto, unfolding(crate::specs::Forms::make_of))]
+fn make(words: &[String]) -> Option<Form<'_>>
+    ensures { option_map form_view result ≡ make_of (map string_bytes words.now) }
+{
+    let [number_word] = words else {
+        return None;
+    };
+    let number = number(number_word.as_bytes())?;
+    Some(Form::Make(number))
+}
+
+/// The form of the words, or None where they have none.
+#[tactic(auto, unfolding(crate::specs::Forms::form_of))]
+pub fn form_of_words(words: &[String]) -> Option<Form<'_>>
+    ensures { option_map form_view result ≡ form_of (map string_bytes words.now) }
+{
+    let [name, rest @ ..] = words else {
+        return None;
+    };
+    match name.as_str() {
+        "check" => check(rest),
+        "blank" => blank(rest),
+        "frames" => frames(rest),
+        "tones" => tones(rest),
+        "trace" => trace(rest),
+        "disk" => disk(rest),
+        "edit" => edit(rest),
+        "make" => make(rest),
+        _ => None,
+    }
 }

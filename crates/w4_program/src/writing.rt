@@ -39,7 +39,9 @@ pub fn write_recording(alloc: Global, recording: &Recording) -> Result<Vec<u8>, 
     bytes.extend_from_slice(b"W4RC\x01")?;
     bytes.extend_from_slice(recording.digest.as_slice())?;
     bytes.extend_from_slice(recording.budget.to_le_bytes().as_slice())?;
-    bytes.extend_from_slice(0u16.to_le_bytes().as_slice())?;
+    let size = recording.disk.len() as u16;
+    bytes.extend_from_slice(size.to_le_bytes().as_slice())?;
+    bytes.extend_from_slice(recording.disk.as_slice())?;
     let count = recording.inputs.len() as u32;
     bytes.extend_from_slice(count.to_le_bytes().as_slice())?;
     push_inputs(&mut bytes, recording.inputs.as_slice())?;

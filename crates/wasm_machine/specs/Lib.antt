@@ -1,5 +1,21 @@
--- What a first cart is, what its module is, and what a run of it is.
-pub mod Leb
-pub mod FirstCart
+-- The words of the machine's clauses, one file a subject.
 pub mod Slots
-pub mod Running
+pub mod Plain
+pub mod Rows
+pub mod Extensions
+pub mod Labels
+pub mod Standing
+pub mod Stack
+pub mod Framing
+pub mod Tie
+pub mod UnderWay
+pub mod HostCalls
+pub mod Meeting
+pub mod Entering
+pub mod Calling
+pub mod Kinds
+pub mod Moves
+pub mod Turning
+pub mod Bulk
+pub mod Progress
+pub mod Ends

@@ -1,16 +1,37 @@
-//! Runs first carts: reads their bytes, and runs their one function by the WebAssembly Core
-//! Specification, chapter 4, under a budget of instructions. The layer above relies on the ending and
-//! the page being exactly those of the evaluator.
+//! Runs the functions of a cart by the WebAssembly Core Specification, chapter 4, under a budget of
+//! instructions, on one stack of slots and one of labels, whose memory is taken once. The layer above
+//! relies on the ending, the page, the globals and the host being exactly those of the evaluator.
 #![tactic(auto)]
 
-pub mod first_cart;
-pub mod machine;
-pub mod read;
+mod access;
+mod begin;
+mod branch;
+mod bulk;
+mod call;
+mod conversion;
+mod ending;
+mod enter;
+mod extend;
+mod flow;
+mod frame;
+mod globals;
+mod host_call;
+mod label;
+mod labels;
+mod machine;
+mod memory;
+mod numeric;
+mod operands;
+mod plain;
+mod run;
+#[cfg(test)]
+mod run_tests;
 mod slots;
-
-pub use first_cart::{FirstCart, FirstOp, FirstRefusal};
-pub use machine::{Ending, Machine};
-pub use read::read_first;
-
+mod table;
 #[cfg(test)]
 mod tests;
+mod turn;
+mod variables;
+
+pub use ending::Ending;
+pub use machine::Machine;

@@ -4,7 +4,8 @@ use Rattle.w4_defs.specs.declared.order.Order.TheVariants.{Set}
 use Rattle.w4_house.proofs.WorldLaws.{printing_then}
 use Rattle.w4_program.specs.Answering.{Answered, answers}
 use Rattle.w4_program.specs.Scenes.{scene_setup}
-use Rattle.w4_program.proofs.AnswerLaws.{owes_nothing, answers-out-step, answers-inputs-step, answers-end}
+use Rattle.w4_program.proofs.OwesLaws.{owes_nothing}
+use Rattle.w4_program.proofs.AnswerLaws.{answers-out-step, answers-inputs-step, answers-end}
 use Rattle.w4_program.proofs.carry.obey_all.Goals as goal
 
 -- what a list of orders gives past its end
@@ -14,28 +15,31 @@ past_end = Set 0 (record { pads = []; mouse_x = pos 0; mouse_y = pos 0; buttons 
 pub loop-order-preserved : goal.loop-order-preserved
 loop-order-preserved g c =
     let setup = scene_setup c.args.scene.now in
-    let whole = answers setup [] c.args.inputs.now.items c.args.orders.now in
+    let disk = c.args.scene.now.disk.now in
+    let whole = answers setup disk c.args.inputs.now.items c.args.orders.now in
     let before = g.H.House.world c.args.house.now in
     let now = g.H.House.world c.loop-order.house in
     let after = g.H.House.world c.obey_order.new.house in
     let same = c.in_ok-obey_order.ensures.inputs in (
-      answers-out-step before now after setup c.loop-order.inputs.items c.obey_order.new.inputs.items c.args.orders.now c.loop-order.order-index past_end whole.out
+      answers-out-step before now after setup disk c.loop-order.inputs.items c.obey_order.new.inputs.items c.args.orders.now c.loop-order.order-index past_end whole.out
           c.loop-order-test.true same c.in_ok-obey_order.ensures.out c.loop-order.invariant.0,
-      answers-inputs-step setup c.loop-order.inputs.items c.obey_order.new.inputs.items c.args.orders.now c.loop-order.order-index past_end whole.inputs
+      answers-inputs-step setup disk c.loop-order.inputs.items c.obey_order.new.inputs.items c.args.orders.now c.loop-order.order-index past_end whole.inputs
           c.loop-order-test.true same c.loop-order.invariant.1,
       c.in_ok-obey_order.ensures.len ∙ c.loop-order.invariant.2,
       printing_then before now after c.loop-order.invariant.3 c.in_ok-obey_order.ensures.rest,
+      c.in_ok-obey_order.ensures.globals,
     )
 
 pub returns-clause-out : goal.returns-clause-out
 returns-clause-out g c =
     let setup = scene_setup c.args.scene.now in
-    let end = answers-end setup c.loop-order.inputs.items c.args.orders.now c.loop-order.order-index c.loop-order-test.false in
+    let disk = c.args.scene.now.disk.now in
+    let end = answers-end setup disk c.loop-order.inputs.items c.args.orders.now c.loop-order.order-index c.loop-order-test.false in
     owes_nothing (g.H.House.world c.args.house.now) (g.H.House.world c.loop-order.house)
-    (answers setup [] c.loop-order.inputs.items (drop c.loop-order.order-index c.args.orders.now)).out (answers setup [] c.args.inputs.now.items c.args.orders.now).out
+    (answers setup disk c.loop-order.inputs.items (drop c.loop-order.order-index c.args.orders.now)).out (answers setup disk c.args.inputs.now.items c.args.orders.now).out
     (ap (λ (a : Answered). a.out) end) c.loop-order.invariant.0
 
 pub returns-clause-inputs : goal.returns-clause-inputs
 returns-clause-inputs g c =
-    let end = answers-end (scene_setup c.args.scene.now) c.loop-order.inputs.items c.args.orders.now c.loop-order.order-index c.loop-order-test.false in
+    let end = answers-end (scene_setup c.args.scene.now) c.args.scene.now.disk.now c.loop-order.inputs.items c.args.orders.now c.loop-order.order-index c.loop-order-test.false in
     sym (ap (λ (a : Answered). a.inputs) end) ∙ c.loop-order.invariant.1

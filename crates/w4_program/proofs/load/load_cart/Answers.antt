@@ -1,18 +1,19 @@
+use Rattle.std.proofs.Common.{refl}
 use Rattle.std.proofs.lemmas.Result.{err_from_is_err_and}
-use Rattle.wasm_machine.specs.FirstCart.{first_module}
-use Rattle.w4_program.specs.Output.{NotBuilt, or_refuse, reading, cart_of, cart_in}
-use Rattle.w4_program.proofs.StepLaws.{stops_first, judged_by}
+use Rattle.w4_program.specs.Refusals.{manner_of}
+use Rattle.w4_program.proofs.CartLaws.{cart_unread, cart_given, cart_refused}
 use Rattle.w4_program.proofs.load.load_cart.Goals as goal
 
 pub returns-in_err-bytes-clause-gives : goal.returns-in_err-bytes-clause-gives
-unfolding cart_in
 returns-in_err-bytes-clause-gives g c =
     let p = err_from_is_err_and c.from_residual.result c.from_residual.ensures.1 in
-    rw (p.1, p.2) (stops_first (g.H.House.world c.args.house.now) (g.H.House.world c.read_file.new.house) c.in_err-bytes.field-0.0
-    (λ files. reading files c.args.name.now 65537) (λ files bytes. or_refuse NotBuilt (cart_of bytes)) c.in_err-bytes.ensures.gives)
+    rw (p.1, p.2) (cart_unread (g.H.House.world c.args.house.now) (g.H.House.world c.read_file.new.house) (manner_of c.in_err-bytes.field-0.0) c.args.name.now c.in_err-bytes.ensures.gives)
 
-pub returns-clause-gives : goal.returns-clause-gives
-unfolding cart_in
-returns-clause-gives g c =
-    judged_by (g.H.House.world c.args.house.now) (g.H.House.world c.read_file.new.house) first_module c.read_cart.result cart_of 65536 c.args.name.now c.in_ok-bytes.bytes.items
-    c.in_ok-bytes.ensures.gives (rw (← c.as_slice.ensures.value) c.read_cart.ensures)
+pub returns-in-Ok-clause-gives : goal.returns-in-Ok-clause-gives
+returns-in-Ok-clause-gives g c =
+    cart_given (g.H.House.world c.args.house.now) c.args.name.now c.in_ok-bytes.bytes.items c.in-Ok.cart c.in_ok-bytes.ensures.gives (rw (← c.as_slice.ensures.value) c.in-Ok.ensures.cart)
+
+pub returns-in-Err-Kind-clause-gives : goal.returns-in-Err-Kind-clause-gives
+returns-in-Err-Kind-clause-gives g c =
+    cart_refused (g.H.House.world c.args.house.now) c.args.name.now c.in_ok-bytes.bytes.items c.in-Err-Kind.kind c.in_ok-bytes.ensures.gives
+    (rw (← c.as_slice.ensures.value) (c.in-Err-Kind.ensures.refused c.in-Err-Kind.kind (rw c.in-Err-Kind.field-0-is refl)))

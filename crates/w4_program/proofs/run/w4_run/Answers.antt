@@ -1,10 +1,12 @@
 -- Each clause is what its status says, over the worlds before the words are obeyed and after the report.
 use Rattle.std.proofs.Common.{map, ◌∙◌, Result, string_bytes}
 use Rattle.w4_house.specs.World.{Files}
-use Rattle.w4_program.specs.declared.status.Status.TheVariants.{NotBuilt}
+use Rattle.w4_program.specs.declared.status.Status.TheVariants as status
 use Rattle.w4_program.specs.Lines.{line_of}
-use Rattle.w4_program.specs.Output.{Made, Refusal, output}
-use Rattle.w4_program.proofs.EndLaws as laws
+use Rattle.w4_program.specs.Refusals.{Refusal}
+use Rattle.w4_program.specs.Output.{Made, Outputs}
+use Rattle.w4_program.proofs.EndLaws.{ends_reported}
+use Rattle.w4_program.proofs.StatusLaws as laws
 use Rattle.w4_program.proofs.run.w4_run.Goals as goal
 
 pub returns : goal.returns
@@ -13,17 +15,21 @@ returns g c =
     let mid = g.H.House.world c.obey-status.new.house in
     let new = g.H.House.world c.report.new.house in
     let result = c.report.result in
-    let step : Files → Result Made Refusal = λ files. output (map string_bytes c.args.words.now) files in
-    let ends = laws.ends_reported old mid new c.obey-status.result result step c.report.ensures.rest c.report.ensures.status c.obey-status.ensures.ends in
+    let step : Files → Result Made Refusal → Type 0 = λ files made. Outputs (map string_bytes c.args.words.now) files made in
+    let ends = ends_reported old mid new c.obey-status.result result step c.report.ensures.rest c.report.ensures.status c.obey-status.ensures.ends in
     record {
       done_out = laws.done_out old new result step ends;
       done_files = laws.done_files old new result step ends;
       done_err = λ e. c.report.ensures.done e ∙ c.obey-status.ensures.err.0;
+      usage = λ e. c.obey-status.ensures.usage (laws.usage_told c.obey-status.result result c.report.ensures.status e);
+      no_form = λ none. laws.told_or_memory c.obey-status.result status.Usage result (c.obey-status.ensures.no_form none) c.report.ensures.status;
+      cart_refused = laws.cart_refused old new result step ends;
+      font_refused = laws.font_refused old new result step ends;
+      frame_refused = laws.frame_refused old new result step ends;
+      not_built = laws.not_built old new result step ends;
+      read_fault = laws.read_fault old new result step ends;
       write_fault = λ e. (laws.write_fault old new result step ends e).0;
       write_fault_made = λ e. (laws.write_fault old new result step ends e).1;
-      read_fault = laws.read_fault old new result step ends;
-      not_built = laws.not_built old new result step ends;
-      no_form = λ none. laws.told_or_memory c.obey-status.result NotBuilt result (c.obey-status.ensures.no_form none) c.report.ensures.status;
       refused_out = λ r. (laws.refused old new result step ends r).0;
       refused_files = λ r. (laws.refused old new result step ends r).1;
       line = λ r. laws.line_reported old mid new (line_of result) c.obey-status.ensures.err (c.report.ensures.line r);

@@ -1,9 +1,13 @@
-use Rattle.w4_console.proofs.FrameLaws.{starts, resets}
+use Rattle.std.proofs.Common.{◌≡◌, ℕ, List, Some, subst}
+use Rattle.w4_defs.specs.Board.{console_setup}
+use Rattle.w4_defs.specs.Reset.{start}
+use Rattle.w4_console.specs.UnderWay.{moment, so_far}
+use Rattle.w4_console.proofs.FrameLaws.{was_reset}
 use Rattle.w4_console.proofs.console.Console.reset.Goals as goal
 
-pub returns-clause-state : goal.returns-clause-state
-returns-clause-state c = λ cart outside font budget. rw c.put_first_page.ensures (resets cart outside font budget)
-
-pub returns-clause-start : goal.returns-clause-start
-returns-clause-start c = λ cart outside font budget.
-    rw (← c.self.view_is, c.put_first_page.ensures) (starts c.self.inside.page.value c.self.inside.halt cart outside font budget)
+pub returns-clause-reset : goal.returns-clause-reset
+returns-clause-reset c =
+    let setup = console_setup c.args.cart.now c.args.font.now c.args.budget in
+    was_reset setup c.args.disk.now (so_far c.start.new.state c.start.new.made) (moment c.record.new.state c.record.new.made)
+    (subst (λ (disk : List ℕ). start setup disk ≡ Some (so_far c.start.new.state c.start.new.made)) c.new-state-inside.ensures c.start.ensures.start)
+    c.record.ensures.recorded

@@ -1,0 +1,114 @@
+//! Calls of a cart's entry functions. The devices are moved into a board and back, which takes no memory.
+
+ghost use Rattle.std.specs.Option.{IfSome, OnSome};
+ghost use Rattle.std.specs.Prelude.{◌≡◌, Some};
+ghost use Rattle.w4_defs.specs.declared.console.Halt.TheVariants.{Running};
+ghost use Rattle.w4_defs.specs.Lookup.{signature_of};
+ghost use Rattle.w4_defs.specs.Reset.{left, store_of};
+ghost use Rattle.w4_console.specs.UnderWay.{halt_after, HasGlobals, IsCalled, IsCalledFirst, rest_after, so_far};
+ghost use Rattle.wasm_valid.specs.Carts.{nothing};
+
+use std::mem;
+use w4_blit::Font;
+use w4_defs::Halt;
+use w4_devices::{Disk, FrameRecord, ToneLog, TraceLog};
+use w4_host::Board;
+use w4_map::State;
+use wasm_machine::{Ending, Machine};
+use wasm_valid::Cart;
+
+/// Calls a function, where there is one. The rest of the budget where it comes to its end or there is none;
+/// None where it traps or is spent, and then halt says so. The record's logs go on.
+pub(crate) fn call_if_there(
+    machine: &mut Machine,
+    state: &mut State,
+    cart: &Cart,
+    font: &Font,
+    function: Option<u32>,
+    budget: u32,
+    made: &mut FrameRecord,
+) -> Option<u32>
+    requires entry { IfSome function (λ f. signature_of cart.now f ≡ Some nothing) }
+    requires globals { HasGlobals cart.now state.old }
+    requires running { state.old.halt ≡ Running }
+    ensures called { IsCalledFirst cart.now font.now function (so_far state.old made.old) budget result (so_far state.new made.new) }
+    ensures globals { HasGlobals cart.now state.new }
+    ensures running { OnSome result (state.new.halt ≡ Running) }
+{
+    match function {
+        None => Some(budget),
+        Some(function) => call(machine, state, cart, font, function, budget, made),
+    }
+}
+
+/// Calls a function. The rest of the budget where it comes to its end; else None, and halt is set.
+pub(crate) fn call(
+    machine: &mut Machine,
+    state: &mut State,
+    cart: &Cart,
+    font: &Font,
+    function: u32,
+    budget: u32,
+    made: &mut FrameRecord,
+) -> Option<u32>
+    requires entry { signature_of cart.now function ≡ Some nothing }
+    requires globals { HasGlobals cart.now state.old }
+    ensures called { IsCalled cart.now font.now function (so_far state.old made.old) budget result (so_far state.new made.new) }
+    ensures globals { HasGlobals cart.now state.new }
+    ensures running { OnSome result (state.new.halt ≡ Running) }
+{
+    let mut board = board_of(font, state, made);
+    let ending = machine.invoke(
+        cart,
+        function,
+        &mut state.page,
+        &mut state.globals,
+        &mut board,
+        budget,
+    );
+    put_back(state, made, board, halt_after(ending));
+    rest_after(ending)
+}
+
+/// Moves the devices into a board, with the logs so far.
+fn board_of<'a>(font: &'a Font, state: &mut State, made: &mut FrameRecord) -> Board<'a>
+    ensures { record { page = state.new.page; globals = state.new.globals; host = result } ≡ store_of font.now (so_far state.old made.old) }
+{
+    Board {
+        font,
+        channels: state.channels,
+        disk: mem::replace(&mut state.disk, Disk::new(&[])),
+        tones: mem::replace(&mut made.tones, ToneLog::new()),
+        traces: mem::replace(&mut made.traces, TraceLog::new()),
+    }
+}
+
+/// Moves the devices and the logs back, and sets halt.
+fn put_back(state: &mut State, made: &mut FrameRecord, board: Board<'_>, halt: Halt)
+    ensures { so_far state.new made.new ≡ left (record { page = state.old.page; globals = state.old.globals; host = board.entry }) halt }
+{
+    state.channels = board.channels;
+    state.disk = board.disk;
+    state.halt = halt;
+    made.tones = board.tones;
+    made.traces = board.traces;
+}
+
+fn halt_after(ending: Ending) -> Halt
+    ensures { result ≡ halt_after ending }
+{
+    match ending {
+        Ending::Done { rest: _ } => Halt::Running,
+        Ending::Trap(cause) => Halt::Trapped(cause),
+        Ending::Spent => Halt::Spent,
+    }
+}
+
+fn rest_after(ending: Ending) -> Option<u32>
+    ensures { result ≡ rest_after ending }
+{
+    match ending {
+        Ending::Done { rest } => Some(rest),
+        Ending::Trap(_) | Ending::Spent => None,
+    }
+}

@@ -1,0 +1,69 @@
+//! What a frame does with the cart, and what a reset and a frame end with.
+
+ghost use Rattle.std.specs.Prelude.{◌≡◌, Some};
+ghost use Rattle.w4_defs.specs.Board.{console_setup};
+ghost use Rattle.w4_defs.specs.Frame.{begun, update};
+ghost use Rattle.w4_defs.specs.Reset.{recorded};
+ghost use Rattle.w4_console.specs.UnderWay.{HasGlobals, moment, so_far};
+
+use crate::calls::call;
+use crate::page::put_input_page;
+use crate::start::start;
+use w4_blit::Font;
+use w4_defs::{Halt, Input};
+use w4_devices::FrameRecord;
+use w4_map::State;
+use wasm_machine::Machine;
+use wasm_valid::{Cart, Entry};
+
+/// How a frame begins: with a start where its input has a reset, and else with empty logs.
+pub(crate) fn begin(
+    machine: &mut Machine,
+    state: &mut State,
+    cart: &Cart,
+    font: &Font,
+    input: &Input,
+    budget: u32,
+    made: &mut FrameRecord,
+)
+    requires globals { HasGlobals cart.now state.old }
+    ensures begun { begun (console_setup cart.now font.now budget) state.old input.now ≡ Some (so_far state.new made.new) }
+    ensures globals { HasGlobals cart.now state.new }
+{
+    if input.reset {
+        start(machine, state, cart, font, budget, made);
+    } else {
+        *made = FrameRecord::new();
+    }
+}
+
+/// While the cart runs: the input, and `update` with the whole budget.
+pub(crate) fn update(
+    machine: &mut Machine,
+    state: &mut State,
+    cart: &Cart,
+    font: &Font,
+    input: &Input,
+    budget: u32,
+    made: &mut FrameRecord,
+)
+    requires globals { HasGlobals cart.now state.old }
+    ensures update { update (console_setup cart.now font.now budget) input.now (so_far state.old made.old) ≡ Some (so_far state.new made.new) }
+    ensures globals { HasGlobals cart.now state.new }
+{
+    if let Halt::Running = state.halt {
+        put_input_page(state.page.bytes_mut(), input);
+        if let Some(function) = cart.entry(Entry::Update) {
+            call(machine, state, cart, font, function, budget, made);
+        }
+    }
+}
+
+/// Takes the record: the logs so far and the sounds at the first tick. Then the channels age.
+pub(crate) fn record(state: &mut State, made: &mut FrameRecord)
+    ensures recorded { moment state.new made.new ≡ recorded (so_far state.old made.old) }
+    ensures globals { state.new.globals ≡ state.old.globals }
+{
+    made.sounds = state.channels.sounds(0);
+    state.channels.age();
+}

@@ -1,0 +1,90 @@
+//! The start of a cart, before the record of its reset is taken.
+
+ghost use Rattle.std.specs.Prelude.{◌≡◌, map, Some};
+ghost use Rattle.w4_defs.specs.Board.{console_setup};
+ghost use Rattle.w4_defs.specs.declared.console.Halt.TheVariants.{Running};
+ghost use Rattle.w4_defs.specs.Entries.{entries, first_globals};
+ghost use Rattle.w4_defs.specs.Reset.{call_all, fresh, start};
+ghost use Rattle.w4_defs.specs.RunLaws.{types_of};
+ghost use Rattle.w4_console.specs.UnderWay.{HasGlobals, so_far};
+
+use crate::calls::call_if_there;
+use crate::page::put_start_page;
+use w4_blit::Font;
+use w4_defs::{Halt, Val};
+use w4_devices::FrameRecord;
+use w4_map::State;
+use w4_tone::Channels;
+use wasm_machine::Machine;
+use wasm_valid::{Cart, Entry};
+
+/// Starts a cart with the state's own disk: everything else anew, then the functions that a reset calls.
+pub(crate) fn start(
+    machine: &mut Machine,
+    state: &mut State,
+    cart: &Cart,
+    font: &Font,
+    budget: u32,
+    made: &mut FrameRecord,
+)
+    requires globals { HasGlobals cart.now state.old }
+    ensures start { start (console_setup cart.now font.now budget) state.old.disk ≡ Some (so_far state.new made.new) }
+    ensures globals { HasGlobals cart.now state.new }
+{
+    put_fresh(state, cart);
+    *made = FrameRecord::new();
+    call_all(machine, state, cart, font, budget, made);
+}
+
+/// The state before a reset's calls; the disk stays.
+fn put_fresh(state: &mut State, cart: &Cart)
+    requires globals { HasGlobals cart.now state.old }
+    ensures state { state.new ≡ fresh cart.now state.old.disk }
+    ensures globals { HasGlobals cart.now state.new }
+{
+    put_start_page(state.page.bytes_mut(), cart);
+    state.globals.copy_from_slice(first_globals(cart));
+    state.channels = Channels::new();
+    state.halt = Halt::Running;
+}
+
+/// The first values of a cart's globals, each of its global's type.
+pub(crate) fn first_globals(cart: &Cart) -> &[Val]
+    ensures value { result.now ≡ first_globals cart.now }
+    ensures types { types_of result.now ≡ map (λ g. g.global.value) cart.now.globals }
+{
+    // a valid module: its constants have the types of their globals
+    let _code = cart.code();
+    cart.first_globals()
+}
+
+/// Calls the start function and the exports `_start`, `_initialize` and `start`, where present, under one
+/// budget, up to the first that traps or is spent.
+fn call_all(
+    machine: &mut Machine,
+    state: &mut State,
+    cart: &Cart,
+    font: &Font,
+    budget: u32,
+    made: &mut FrameRecord,
+) -> Option<u32>
+    requires globals { HasGlobals cart.now state.old }
+    requires running { state.old.halt ≡ Running }
+    ensures called { call_all (console_setup cart.now font.now budget) (entries cart.now) (so_far state.old made.old) budget ≡ Some (so_far state.new made.new) }
+    ensures globals { HasGlobals cart.now state.new }
+{
+    let rest = call_if_there(machine, state, cart, font, cart.start(), budget, made)?;
+    let crt_start = cart.entry(Entry::CrtStart);
+    let rest = call_if_there(machine, state, cart, font, crt_start, rest, made)?;
+    let initialize = cart.entry(Entry::Initialize);
+    let rest = call_if_there(machine, state, cart, font, initialize, rest, made)?;
+    call_if_there(
+        machine,
+        state,
+        cart,
+        font,
+        cart.entry(Entry::Start),
+        rest,
+        made,
+    )
+}

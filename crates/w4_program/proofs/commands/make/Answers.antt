@@ -1,0 +1,19 @@
+use Rattle.w4_program.proofs.commands.make.Goals as goal
+
+pub returns-in-Check-clause-ends : goal.returns-in-Check-clause-ends
+returns-in-Check-clause-ends g c = rw c.in-Check.is c.check.ensures.ends
+
+pub returns-in-Frames-clause-ends : goal.returns-in-Frames-clause-ends
+returns-in-Frames-clause-ends g c = rw c.in-Frames.is c.frames.ensures.ends
+
+pub returns-in-Tones-clause-ends : goal.returns-in-Tones-clause-ends
+returns-in-Tones-clause-ends g c = rw c.in-Tones.is c.texts.ensures.ends
+
+pub returns-in-Trace-clause-ends : goal.returns-in-Trace-clause-ends
+returns-in-Trace-clause-ends g c = rw c.in-Trace.is c.texts-in-Trace.ensures.ends
+
+pub returns-in-Disk-clause-ends : goal.returns-in-Disk-clause-ends
+returns-in-Disk-clause-ends g c = rw c.in-Disk.is c.disk.ensures.ends
+
+pub returns-in-Edit-clause-ends : goal.returns-in-Edit-clause-ends
+returns-in-Edit-clause-ends g c = rw c.in-Edit.is c.edit.ensures.ends

@@ -1,0 +1,10 @@
+-- What the program makes of given words and files is one thing: bytes are at most one cart, or they are
+-- refused for one cause, and never both.
+use Rattle.std.specs.Prelude.{◌≡◌, ℕ, List, Result}
+use Rattle.w4_house.specs.World.{Files}
+use Rattle.w4_program.specs.Refusals.{Refusal}
+use Rattle.w4_program.specs.Output.{Made, Outputs}
+
+abbrev pub AtMostOneOutput : Type 0
+AtMostOneOutput = (words : List (List ℕ)) (files : Files) (made other : Result Made Refusal)
+    → Outputs words files made → Outputs words files other → made ≡ other

@@ -1,0 +1,226 @@
+//! The commands, each over a cart that is judged first.
+
+ghost use Rattle.std.specs.Prelude.{◌≡◌, ◌+◌, ◌-◌, ◌≤◌, length, option_map, IfErr, OnOk, Ok, Some};
+ghost use Rattle.w4_house.specs.World.{Appends, LeavesPrinting};
+ghost use Rattle.w4_program.specs.Refusals.{manner_of};
+ghost use Rattle.w4_program.specs.Output.{
+  OutputsForm,
+  OverCart,
+  cart_word,
+  checked,
+  disk_of,
+  edited,
+  framed,
+  made_by,
+  printed,
+  texts_of,
+  told_from,
+};
+ghost use Rattle.w4_program.specs.Causes.{Does, Ends, LeavesErr, Prints, StopsWriting};
+ghost use Rattle.w4_program.specs.Views.{edit_view, form_view, played_view, run_view};
+
+use crate::carry::carry_out;
+use crate::load::{Played, load_cart, load_edit, load_run, load_run_to};
+use crate::places::Places;
+use crate::printing::print;
+use crate::scene::Scene;
+use crate::stage::new_stage;
+use crate::status::Status;
+use crate::telling::{Telling, tell_places};
+use crate::words::{EditNames, Form, RunNames};
+use std::alloc::Global;
+use w4_house::House;
+use wasm_valid::Cart;
+
+/// Does what a form asks for. Nothing is written to standard error.
+pub fn run_form<H: House>(alloc: Global, house: &mut H, form: Form<'_>) -> Status
+    ensures ends { Ends (H.world house.old) (H.world house.new) (manner_of result) (λ files made. OutputsForm (Some (form_view form.entry)) files made) }
+    ensures formed { result ≡ Status.Usage → ⊥ }
+    ensures err { LeavesErr (H.world house.old) (H.world house.new) }
+{
+    match cart_name(form) {
+        Some(name) => over_cart(alloc, house, name, form),
+        None => Status::NotBuilt,
+    }
+}
+
+/// The file that is judged as a cart, of the forms that are built.
+fn cart_name(form: Form<'_>) -> Option<&str>
+    ensures { option_map (λ name. name.now) result ≡ cart_word (form_view form.entry) }
+{
+    match form {
+        Form::Check(cart) => Some(cart),
+        Form::Blank(_, _) => None,
+        Form::Frames(names, _) => Some(names.cart),
+        Form::Tones(names) => Some(names.cart),
+        Form::Trace(names) => Some(names.cart),
+        Form::Disk(names, _) => Some(names.cart),
+        Form::Edit(names) => Some(names.run.cart),
+        Form::Make(_) => None,
+    }
+}
+
+/// Judges the cart, and does the rest with it.
+fn over_cart<H: House>(alloc: Global, house: &mut H, name: &str, form: Form<'_>) -> Status
+    ensures ends { Ends (H.world house.old) (H.world house.new) (manner_of result) (λ files made. OverCart name.now (made_by (form_view form.entry)) files made) }
+    ensures formed { result ≡ Status.Usage → ⊥ }
+    ensures err { LeavesErr (H.world house.old) (H.world house.new) }
+{
+    match load_cart(alloc, house, name) {
+        Ok(cart) => make(alloc, house, &cart, form),
+        Err(status) => status,
+    }
+}
+
+/// What a form makes of a cart.
+fn make<H: House>(alloc: Global, house: &mut H, cart: &Cart, form: Form<'_>) -> Status
+    ensures ends { Ends (H.world house.old) (H.world house.new) (manner_of result) (Does (λ files. made_by (form_view form.entry) cart.now files)) }
+    ensures formed { result ≡ Status.Usage → ⊥ }
+    ensures err { LeavesErr (H.world house.old) (H.world house.new) }
+{
+    match form {
+        Form::Check(_) => check(alloc, house),
+        Form::Blank(_, _) => Status::NotBuilt,
+        Form::Frames(names, places) => frames(alloc, house, cart, names, places),
+        Form::Tones(names) => texts(alloc, house, cart, names, Telling::Schedule),
+        Form::Trace(names) => texts(alloc, house, cart, names, Telling::Traces),
+        Form::Disk(names, place) => disk(alloc, house, cart, names, place),
+        Form::Edit(names) => edit(alloc, house, cart, names),
+        Form::Make(_) => Status::NotBuilt,
+    }
+}
+
+/// `check CART`, of a cart that is accepted.
+fn check<H: House>(alloc: Global, house: &mut H) -> Status
+    ensures ends { Ends (H.world house.old) (H.world house.new) (manner_of result) (Does (λ files. Ok (printed checked files))) }
+    ensures formed { result ≡ Status.Usage → ⊥ }
+    ensures err { LeavesErr (H.world house.old) (H.world house.new) }
+{
+    match print(alloc, house, b"ok\n") {
+        Ok(()) => Status::Done,
+        Err(status) => status,
+    }
+}
+
+/// `frames CART REC FONT FROM TO`.
+#[tactic(auto, unfolding(crate::specs::Output::framed))]
+fn frames<H: House>(
+    alloc: Global,
+    house: &mut H,
+    cart: &Cart,
+    names: RunNames<'_>,
+    places: Places,
+) -> Status
+    ensures ends { Ends (H.world house.old) (H.world house.new) (manner_of result) (Does (λ files. framed (run_view names.entry) places.from places.to cart.now files)) }
+    ensures formed { result ≡ Status.Usage → ⊥ }
+    ensures err { LeavesErr (H.world house.old) (H.world house.new) }
+{
+    let (from, to) = (places.from as usize, places.to as usize);
+    match load_run_to(alloc, house, names, places.to) {
+        Ok(run) => tell_run(alloc, house, cart, run, Telling::Image, from, to),
+        Err(status) => status,
+    }
+}
+
+/// `tones CART REC FONT` or `trace CART REC FONT`.
+#[tactic(auto, unfolding(crate::specs::Output::texts_of))]
+fn texts<H: House>(
+    alloc: Global,
+    house: &mut H,
+    cart: &Cart,
+    names: RunNames<'_>,
+    telling: Telling,
+) -> Status
+    ensures ends { Ends (H.world house.old) (H.world house.new) (manner_of result) (Does (λ files. texts_of telling (run_view names.entry) cart.now files)) }
+    ensures formed { result ≡ Status.Usage → ⊥ }
+    ensures err { LeavesErr (H.world house.old) (H.world house.new) }
+{
+    match load_run(alloc, house, names) {
+        Ok(run) => {
+            let n = run.recording.inputs.len();
+            tell_run(alloc, house, cart, run, telling, 0, n)
+        }
+        Err(status) => status,
+    }
+}
+
+/// `disk CART REC FONT PLACE`.
+#[tactic(auto, unfolding(crate::specs::Output::disk_of))]
+fn disk<H: House>(
+    alloc: Global,
+    house: &mut H,
+    cart: &Cart,
+    names: RunNames<'_>,
+    place: u32,
+) -> Status
+    ensures ends { Ends (H.world house.old) (H.world house.new) (manner_of result) (Does (λ files. disk_of (run_view names.entry) place cart.now files)) }
+    ensures formed { result ≡ Status.Usage → ⊥ }
+    ensures err { LeavesErr (H.world house.old) (H.world house.new) }
+{
+    let at = place as usize;
+    match load_run_to(alloc, house, names, place) {
+        Ok(run) => tell_run(alloc, house, cart, run, Telling::DiskBytes, at, at),
+        Err(status) => status,
+    }
+}
+
+/// `edit CART REC FONT SCRIPT OUT`.
+#[tactic(auto, unfolding(crate::specs::Output::edited))]
+fn edit<H: House>(alloc: Global, house: &mut H, cart: &Cart, names: EditNames<'_>) -> Status
+    ensures ends { Ends (H.world house.old) (H.world house.new) (manner_of result) (Does (λ files. edited (edit_view names.entry) cart.now files)) }
+    ensures formed { result ≡ Status.Usage → ⊥ }
+    ensures err { LeavesErr (H.world house.old) (H.world house.new) }
+{
+    match load_edit(alloc, house, names) {
+        Ok(loaded) => carry_out(alloc, house, cart, loaded, names.out),
+        Err(status) => status,
+    }
+}
+
+/// What is told of the places `from` to `to` of a run, and no more.
+fn tell_run<H: House>(
+    alloc: Global,
+    house: &mut H,
+    cart: &Cart,
+    run: Played,
+    telling: Telling,
+    from: usize,
+    to: usize,
+) -> Status
+    requires order { from ≤ to }
+    requires place { to ≤ length run.recording.inputs.items }
+    ensures prints { Prints (H.world house.old) (H.world house.new) (manner_of result) (told_from telling cart.now (played_view run) from (to + 1 - from)) }
+    ensures rest { LeavesPrinting (H.world house.old) (H.world house.new) }
+{
+    match try_tell_run(alloc, house, cart, run, telling, from, to) {
+        Ok(()) => Status::Done,
+        Err(status) => status,
+    }
+}
+
+/// The same.
+fn try_tell_run<H: House>(
+    alloc: Global,
+    house: &mut H,
+    cart: &Cart,
+    run: Played,
+    telling: Telling,
+    from: usize,
+    to: usize,
+) -> Result<(), Status>
+    requires order { from ≤ to }
+    requires place { to ≤ length run.recording.inputs.items }
+    ensures out { OnOk result (Appends (H.world house.old).out (H.world house.new).out (told_from telling cart.now (played_view run) from (to + 1 - from))) }
+    ensures stops { IfErr result (λ why. StopsWriting (H.world house.old) (H.world house.new) (manner_of why)) }
+    ensures rest { LeavesPrinting (H.world house.old) (H.world house.new) }
+{
+    let mut stage = new_stage(alloc, cart)?;
+    let scene = Scene {
+        cart,
+        font: &run.font,
+        disk: run.recording.disk.as_slice(),
+        budget: run.recording.budget,
+    };
+    let inputs = run.recording.inputs.as_slice();
+    tell_places(alloc, house, &mut stage, &scene, inputs, telling, from, to)
+}

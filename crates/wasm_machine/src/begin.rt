@@ -1,0 +1,67 @@
+//! Lists that begin: blocks, loops and ifs (Core Specification, section 4.4.5).
+
+ghost use Rattle.std.specs.Prelude.{◌≡◌, ◌<◌, ◌+◌, ◌∷◌, length, IfSome};
+ghost use Rattle.w4_defs.specs.Effects.{truth};
+ghost use Rattle.w4_defs.specs.Kinds.{size_of};
+ghost use Rattle.wasm_machine.specs.Moves.{chosen};
+
+use crate::label::Label;
+use crate::labels::Labels;
+use crate::slots::Slots;
+use w4_defs::ValType;
+
+/// Whether a block leaves a value.
+#[inline(always)]
+pub(crate) fn answers(result_type: Option<ValType>) -> bool
+    ensures { truth result ≡ size_of result_type }
+{
+    match result_type {
+        None => false,
+        Some(_) => true,
+    }
+}
+
+/// A block or an if begins, which ends at this place.
+#[inline(always)]
+pub(crate) fn begin_list(answers: bool, end: usize, labels: &mut Labels, slots: &Slots)
+    requires end { end < 4294967296 }
+    requires room { length labels.old < 1048576 }
+    ensures { labels.new ≡ Label.List answers end (length slots.now) ∷ labels.old }
+{
+    let height = slots.len() as u32;
+    labels.push(Label::List {
+        answers,
+        end: end as u32,
+        height,
+    });
+}
+
+/// A turn of a loop begins at this place.
+#[inline(always)]
+pub(crate) fn begin_loop(start: usize, labels: &mut Labels, slots: &Slots)
+    requires start { start < 4294967296 }
+    requires room { length labels.old < 1048576 }
+    ensures { labels.new ≡ Label.Loop start (length slots.now) ∷ labels.old }
+{
+    let height = slots.len() as u32;
+    labels.push(Label::Loop {
+        start: start as u32,
+        height,
+    });
+}
+
+/// Where an if at this place goes on, whose else stands at `other`; None where it goes on after its end.
+#[inline(always)]
+pub(crate) fn choose(condition: u64, place: usize, other: Option<usize>) -> Option<usize>
+    requires place { place < 4294967296 }
+    requires other { IfSome other (λ p. p < 4294967296) }
+    ensures { result ≡ chosen condition place other }
+{
+    if condition != 0 {
+        return Some(place + 1);
+    }
+    match other {
+        Some(other) => Some(other + 1),
+        None => None,
+    }
+}

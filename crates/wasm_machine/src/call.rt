@@ -1,0 +1,139 @@
+//! Calls (Core Specification, section 4.4.10).
+
+ghost use Rattle.std.specs.Prelude.{◌≡◌, ◌+◌, ◌<◌, ◌≤◌, ℕ, List, Some, length, slice_get};
+ghost use Rattle.w4_defs.specs.declared.operation.Op.TheVariants as op;
+ghost use Rattle.w4_defs.specs.declared.value.Val.{Val};
+ghost use Rattle.wasm_machine.specs.Calling.{Calling, Calls};
+ghost use Rattle.wasm_machine.specs.Kinds.{kind_of};
+ghost use Rattle.wasm_machine.specs.Tie.{outside};
+ghost use Rattle.wasm_machine.specs.Turning.{Turned, Turning};
+ghost use Rattle.wasm_tree.specs.Layout.{entries};
+ghost use Rattle.wasm_tree.specs.Pool.{operations_of};
+
+use crate::enter::{enter, is_allowed};
+use crate::flow::Flow;
+use crate::frame::Frame;
+use crate::host_call::call_host;
+use crate::labels::Labels;
+use crate::slots::Slots;
+use w4_defs::Cause;
+use wasm_page::Page;
+use wasm_tree::Host;
+use wasm_valid::{Call, Cart};
+
+/// Calls a function, whose arguments are on the stack; the caller goes on at `back`. A function of the
+/// module traps where the stack rule doesn't allow it; one of the host is spent where the budget doesn't
+/// last for its weight.
+pub(crate) fn call<H: Host>(
+    callee: Call,
+    back: usize,
+    budget: u32,
+    frame: &mut Frame,
+    labels: &mut Labels,
+    slots: &mut Slots,
+    page: &mut Page,
+    host: &mut H,
+) -> Flow
+    requires calling { Calling (outside H.weight H.effect) callee back frame.old labels.old slots.old page.old host.old budget }
+    requires back { back < 4294967296 }
+    ensures calls { Calls (outside H.weight H.effect) callee back frame.old labels.old slots.old page.old host.old budget result frame.new labels.new slots.new page.new host.new }
+    ensures grows { length labels.new ≤ length labels.old + 1 }
+{
+    match callee {
+        Call::Own {
+            start,
+            params,
+            zeros,
+            answers,
+            reserve,
+            ..
+        } => {
+            if !is_allowed(reserve, frame) {
+                return Flow::Trap(Cause::Stack);
+            }
+            enter(params, zeros, answers, reserve, back, frame, labels, slots);
+            Flow::Go {
+                place: start,
+                rest: budget,
+            }
+        }
+        Call::Import { name, params, .. } => {
+            match call_host(name, params, budget, slots, page, host) {
+                Some(rest) => Flow::Go { place: back, rest },
+                None => Flow::Spent,
+            }
+        }
+    }
+}
+
+/// `call`: calls the function with this index. The instruction stands at `place`, and its own unit is taken.
+pub(crate) fn call_direct<H: Host>(
+    cart: &Cart,
+    func: u32,
+    place: usize,
+    budget: u32,
+    frame: &mut Frame,
+    labels: &mut Labels,
+    slots: &mut Slots,
+    page: &mut Page,
+    host: &mut H,
+) -> Flow
+    requires going { (globals : List Val) × Turning (outside H.weight H.effect) cart.now place frame.old labels.old slots.old page.old globals host.old (budget + 1) }
+    requires op { slice_get (operations_of (entries cart.now)) place ≡ Some (op.Call func) }
+    requires bound { length (entries cart.now) < 4294967296 }
+    ensures goes { (globals : List Val) → Turned (outside H.weight H.effect) cart.now place frame.old labels.old slots.old page.old globals host.old (budget + 1) result frame.new labels.new slots.new page.new globals host.new budget }
+    ensures grows { length labels.new ≤ length labels.old + 1 }
+{
+    let calls = cart.calls();
+    let callee = calls[func as usize];
+    call(callee, place + 1, budget, frame, labels, slots, page, host)
+}
+
+/// The number of a function's type.
+fn kind(callee: &Call) -> u32
+    ensures { result ≡ kind_of callee.now }
+{
+    match callee {
+        Call::Own { kind, .. } => *kind,
+        Call::Import { kind, .. } => *kind,
+    }
+}
+
+/// `call_indirect`: calls the function that stands in the table at the index on the stack, where its type is
+/// the one with this index. The instruction stands at `place`, and its own unit is taken.
+pub(crate) fn call_indirect<H: Host>(
+    cart: &Cart,
+    type_index: u32,
+    table_index: u32,
+    place: usize,
+    budget: u32,
+    frame: &mut Frame,
+    labels: &mut Labels,
+    slots: &mut Slots,
+    page: &mut Page,
+    host: &mut H,
+) -> Flow
+    requires going { (globals : List Val) × Turning (outside H.weight H.effect) cart.now place frame.old labels.old slots.old page.old globals host.old (budget + 1) }
+    requires op { slice_get (operations_of (entries cart.now)) place ≡ Some (op.CallIndirect type_index table_index) }
+    requires bound { length (entries cart.now) < 4294967296 }
+    ensures goes { (globals : List Val) → Turned (outside H.weight H.effect) cart.now place frame.old labels.old slots.old page.old globals host.old (budget + 1) result frame.new labels.new slots.new page.new globals host.new budget }
+    ensures grows { length labels.new ≤ length labels.old + 1 }
+{
+    let index = slots.pop() as usize;
+    let table = cart.table();
+    if index >= table.len() {
+        return Flow::Trap(Cause::Table);
+    }
+    let entry = table[index];
+    let Some(func) = entry else {
+        return Flow::Trap(Cause::EmptyEntry);
+    };
+    let calls = cart.calls();
+    let callee = calls[func as usize];
+    let numbers = cart.type_numbers();
+    let named = numbers[type_index as usize];
+    if kind(&callee) != named {
+        return Flow::Trap(Cause::Type_);
+    }
+    call(callee, place + 1, budget, frame, labels, slots, page, host)
+}

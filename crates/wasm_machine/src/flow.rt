@@ -1,0 +1,16 @@
+//! How a run goes on after a turn.
+
+use w4_defs::Cause;
+
+/// The answer of one turn.
+#[derive(Clone, Copy, PartialEq, Eq, Debug)]
+pub(crate) enum Flow {
+    /// On at this place, with this much of the budget.
+    Go { place: usize, rest: u32 },
+    /// The entry function has come to its end, and this much of the budget is left.
+    Done { rest: u32 },
+    /// The instruction trapped.
+    Trap(Cause),
+    /// The budget doesn't last for the instruction, which had no effect.
+    Spent,
+}
