@@ -13,12 +13,14 @@ none_left None = false
 none_left (Some ks) = is_nil ks
 
 -- the same where the topmost kind agrees or not
-agreed : (ts : List ValType) (marked : Bool) (ks : List Kind) (b : Bool) → agree ks marked ts ≡ none_left (below_all ts marked ks)
+agreed : (ts : List ValType) (marked : Bool) (ks : List Kind) (b : Bool)
+    → agree ks marked ts ≡ none_left (below_all ts marked ks)
     → (b && agree ks marked ts) ≡ none_left (option_and_then (below_all ts marked) (cond b (Some ks) None))
 agreed ts marked ks true h = h
 agreed ts marked ks false h = refl
 
-agree_taken : (ts : List ValType) (marked : Bool) (ks : List Kind) → agree ks marked ts ≡ none_left (below_all ts marked ks)
+agree_taken : (ts : List ValType) (marked : Bool) (ks : List Kind)
+    → agree ks marked ts ≡ none_left (below_all ts marked ks)
 agree_taken [] marked [] = refl
 agree_taken [] marked (k ∷ ks) = refl
 agree_taken (t ∷ ts) true [] = sym (anything_agrees ts) ∙ agree_taken ts true []
@@ -35,7 +37,8 @@ left_shape : (o : Open) (os : List Open) (x : Option (List Kind))
 left_shape o os None = refl
 left_shape o os (Some ks) = refl
 
-pub finished : (old : List Open) (ts : List ValType) → Some ts ≡ option_map (λ o. o.result) (slice_get old 0) → finishes old ≡ bare_left (at_top (taken ts) old)
+pub finished : (old : List Open) (ts : List ValType) → Some ts ≡ option_map (λ o. o.result) (slice_get old 0)
+    → finishes old ≡ bare_left (at_top (taken ts) old)
 finished [] ts h = absurd (cc h)
 finished (o ∷ os) ts h =
     agree_taken (reverse o.result) o.shape.marked o.shape.kinds

@@ -1,8 +1,8 @@
 -- The calls of a module, one after the other.
-use Rattle.std.proofs.Common.{◌≡◌, ℕ, zero, suc, ◌+◌, ◌<◌, ◌≤◌, List, [], ◌∷◌, ◌++◌, length, take, cond, get_or, Bool, true, false, Option, Some, None, refl, sym, subst, ◌∙◌, ap, append_assoc, arith}
+use Rattle.std.proofs.Common.{◌≡◌, inl, inr, ℕ, zero, suc, ◌+◌, ◌<◌, ◌≤◌, List, [], ◌∷◌, ◌++◌, length, take, get_or, Bool, true, false, Option, Some, None, refl, sym, subst, ◌∙◌, ap, append_assoc, arith}
 use Rattle.std.specs.Prelude.{not, nat_eq, IfSome, slice_get, option_map, nat_lt, zip, All}
 use Rattle.std.specs.List.{AllZip, count_by}
-use Rattle.std.proofs.lemmas.Bool.{false≢true}
+use Rattle.std.proofs.lemmas.Bool.{not-false}
 use Rattle.std.proofs.lemmas.Bool.Decides.{nat_tests}
 use Rattle.std.proofs.lemmas.List.{take_more}
 use Rattle.std.proofs.lemmas.Option.{same_Some, slice_get-get_or}
@@ -15,7 +15,7 @@ use Rattle.w4_defs.specs.Imports.{import_type}
 use Rattle.w4_defs.specs.ImportNames.{import_named}
 use Rattle.w4_defs.specs.Lookup.{local_count, imported_function}
 use Rattle.w4_defs.specs.Module.{Signature, Function, Imported, WasmModule}
-use Rattle.w4_defs.specs.Profile.{profile_refusal, has_many_locals, param_count, is_memory, is_right, is_right_memory, is_right_function, has_type_of}
+use Rattle.w4_defs.specs.Profile.{profile_refusal, has_many_locals, param_count, is_right}
 use Rattle.w4_defs.specs.Program.{instructions, Callee, own, imported, own_callee, own_callees, imported_callee, imported_callees, with_import}
 use Rattle.wasm_tree.specs.Layout.{entries, IsBody, StandsAt}
 use Rattle.wasm_valid.specs.declared.call.Call.{Call}
@@ -28,45 +28,58 @@ use Rattle.wasm_valid.specs.Instructions.{is_instruction}
 use Rattle.wasm_valid.proofs.InstructionLaws.{counted_at}
 use Rattle.wasm_valid.proofs.DecideLaws.{all_parted}
 use Rattle.wasm_valid.specs.Calls.{number_of_type, result_count, IsCall, AreCalls, IsTypeAt, IsCallAt}
-use Rattle.wasm_valid.proofs.NoneLaws.{none_at_place}
-use Rattle.wasm_valid.proofs.ProfileFacts.{not_not, no_cause}
-use Rattle.wasm_valid.proofs.TypeLaws.{same_signature_is}
+use Rattle.wasm_valid.proofs.NoneLaws.{none_at}
+use Rattle.wasm_valid.proofs.ProfileFacts.{is_wrong, no_cause}
+use Rattle.wasm_valid.proofs.ProfileLaws.{IsRight, right_import}
 
-pub zip_joined : {A B : Type 0} (R : A → B → Type 0) (xs us : List A) (ys vs : List B) → AllZip R xs ys → AllZip R us vs → AllZip R (xs ++ us) (ys ++ vs)
+pub zip_joined : {A B : Type 0} (R : A → B → Type 0) (xs us : List A) (ys vs : List B) → AllZip R xs ys
+    → AllZip R us vs → AllZip R (xs ++ us) (ys ++ vs)
 zip_joined R [] us [] vs h k = k
 zip_joined R [] us (y ∷ ys) vs h k = absurd h
 zip_joined R (x ∷ xs) us [] vs h k = absurd h
 zip_joined R (x ∷ xs) us (y ∷ ys) vs h k = (h.0, zip_joined R xs us ys vs h.1 k)
 
-with_joined : (types : List Signature) (kind : ImportKind) (i : Option Import) (xs ys : List Callee) → with_import types kind i (xs ++ ys) ≡ with_import types kind i xs ++ ys
+with_joined : (types : List Signature) (kind : ImportKind) (i : Option Import) (xs ys : List Callee)
+    → with_import types kind i (xs ++ ys) ≡ with_import types kind i xs ++ ys
 with_joined types (Func t) i xs ys = refl
 with_joined types (Table l) i xs ys = refl
 with_joined types (Memory l) i xs ys = refl
 with_joined types (Global g) i xs ys = refl
 
-imported_joined : (types : List Signature) (xs ys : List Imported) → imported_callees types (xs ++ ys) ≡ imported_callees types xs ++ imported_callees types ys
+imported_joined : (types : List Signature) (xs ys : List Imported)
+    → imported_callees types (xs ++ ys) ≡ imported_callees types xs ++ imported_callees types ys
 imported_joined types [] ys = refl
 imported_joined types (x ∷ xs) ys =
     ap (with_import types x.kind (import_named x.module_name x.name)) (imported_joined types xs ys)
-    ∙ with_joined types x.kind (import_named x.module_name x.name) (imported_callees types xs) (imported_callees types ys)
+    ∙ with_joined types x.kind (import_named x.module_name x.name) (imported_callees types xs)
+    (imported_callees types ys)
 
 -- one more import
-pub imports_more : (m : WasmModule) (i : ℕ) (x : Imported) (more calls next : List Call) → i < length m.imports → x ≡ get_or m.imports i x → next ≡ calls ++ more
-    → AreCalls m (imported_callees m.types (x ∷ [])) more → AreCalls m (imported_callees m.types (take i m.imports)) calls → AreCalls m (imported_callees m.types (take (i + 1) m.imports)) next
+pub imports_more : (m : WasmModule) (i : ℕ) (x : Imported) (more calls next : List Call)
+    → i < length m.imports → x ≡ get_or m.imports i x → next ≡ calls ++ more
+    → AreCalls m (imported_callees m.types (x ∷ [])) more
+    → AreCalls m (imported_callees m.types (take i m.imports)) calls
+    → AreCalls m (imported_callees m.types (take (i + 1) m.imports)) next
 imports_more m i x more calls next h at e one so_far =
-    let list : imported_callees m.types (take i m.imports) ++ imported_callees m.types (x ∷ []) ≡ imported_callees m.types (take (i + 1) m.imports) =
-    sym (imported_joined m.types (take i m.imports) (x ∷ [])) ∙ ap (λ y. imported_callees m.types (take i m.imports ++ y ∷ [])) at ∙ ap (imported_callees m.types) (sym (take_more m.imports i x h)) in
+    let list : imported_callees m.types (take i m.imports) ++ imported_callees m.types (x ∷ [])
+    ≡ imported_callees m.types (take (i + 1) m.imports) =
+    sym (imported_joined m.types (take i m.imports) (x ∷ []))
+    ∙ ap (λ y. imported_callees m.types (take i m.imports ++ y ∷ [])) at
+    ∙ ap (imported_callees m.types) (sym (take_more m.imports i x h)) in
     subst (λ (cs : List Call). AreCalls m (imported_callees m.types (take (i + 1) m.imports)) cs) (sym e)
-    (subst (λ (xs : List Callee). AreCalls m xs (calls ++ more)) list (zip_joined (IsCall m) _ _ calls more so_far one))
+    (subst (λ (xs : List Callee). AreCalls m xs (calls ++ more)) list
+    (zip_joined (IsCall m) _ _ calls more so_far one))
 
-no_call_of : (m : WasmModule) (kind : ImportKind) (i : Option Import) → ((index : ℕ) → kind ≡ Func index → ⊥) → AreCalls m (with_import m.types kind i []) []
+no_call_of : (m : WasmModule) (kind : ImportKind) (i : Option Import) → ((index : ℕ) → kind ≡ Func index → ⊥)
+    → AreCalls m (with_import m.types kind i []) []
 no_call_of m (Func index) i h = absurd (h index refl)
 no_call_of m (Table l) i h = tt
 no_call_of m (Memory l) i h = tt
 no_call_of m (Global g) i h = tt
 
 -- an import that isn't a function has no call
-pub no_call : (m : WasmModule) (x : Imported) → ((index : ℕ) → x.kind ≡ Func index → ⊥) → AreCalls m (imported_callees m.types (x ∷ [])) []
+pub no_call : (m : WasmModule) (x : Imported) → ((index : ℕ) → x.kind ≡ Func index → ⊥)
+    → AreCalls m (imported_callees m.types (x ∷ [])) []
 no_call m x h = no_call_of m x.kind (import_named x.module_name x.name) h
 
 -- what a function import is that the profile lets through
@@ -75,106 +88,137 @@ pub record IsFunctionImport (m : WasmModule) (x : Imported) (index : ℕ) : Type
   pub named : import_named x.module_name x.name ≡ Some name
   pub typed : slice_get m.types index ≡ Some (import_type name)
 
-right_kind : (b c : Bool) (kind : ImportKind) (index : ℕ) → kind ≡ Func index → cond b (is_right_memory kind) c ≡ true → c ≡ true
-right_kind true c (Func index) other e h = absurd (false≢true h)
-right_kind true c (Table l) other e h = absurd cc
-right_kind true c (Memory l) other e h = absurd cc
-right_kind true c (Global g) other e h = absurd cc
-right_kind false c kind index e h = h
+function_kind : (m : WasmModule) (x : Imported) (index : ℕ) → x.kind ≡ Func index
+    → IsRight m.types x.kind (import_named x.module_name x.name) → IsFunctionImport m x index
+function_kind m x index e (inl p) = absurd (cc (sym p.1 ∙ e))
+function_kind m x index e (inr t) =
+    let same : t.index ≡ index = cc (sym t.function ∙ e) in
+    let typed = subst (λ k. slice_get m.types k ≡ Some (import_type t.import)) same t.typed in
+    record { name = t.import; named = t.named; typed = typed }
 
-typed_as : (o : Option Signature) (name : Import) → has_type_of name o ≡ true → o ≡ Some (import_type name)
-typed_as None name h = absurd (false≢true h)
-typed_as (Some s) name h = ap Some (same_signature_is s (import_type name) h)
+pub function_import : (m : WasmModule) (x : Imported) (index : ℕ) → x.kind ≡ Func index → is_right m x ≡ true
+    → IsFunctionImport m x index
+function_import m x index e h = function_kind m x index e (right_import m x h)
 
-function_named : (m : WasmModule) (x : Imported) (o : Option Import) (index : ℕ) → import_named x.module_name x.name ≡ o → is_right_function m o (Func index) ≡ true → IsFunctionImport m x index
-function_named m x None index e h = absurd (false≢true h)
-function_named m x (Some name) index e h = record { name = name; named = e; typed = typed_as (slice_get m.types index) name h }
-
-pub function_import : (m : WasmModule) (x : Imported) (index : ℕ) → x.kind ≡ Func index → is_right m x ≡ true → IsFunctionImport m x index
-function_import m x index e h =
-    function_named m x (import_named x.module_name x.name) index refl
-    (subst (λ (k : ImportKind). is_right_function m (import_named x.module_name x.name) k ≡ true) e (right_kind (is_memory x) _ x.kind index e h))
-
-pub import_right : (m : WasmModule) (i : ℕ) (x : Imported) → profile_refusal m ≡ None → slice_get m.imports i ≡ Some x → is_right m x ≡ true
-import_right m i x none e = not_not (is_right m x) (none_at_place (λ y. not (is_right m y)) m.imports i x (no_cause m none).imports e)
+pub import_right : (m : WasmModule) (i : ℕ) (x : Imported) → profile_refusal m ≡ None
+    → slice_get m.imports i ≡ Some x → is_right m x ≡ true
+import_right m i x none e =
+    not-false (is_right m x) (none_at (is_wrong m) m.imports i x (no_cause m none).imports e)
 
 -- the one callee of a function import
-pub import_callee : (m : WasmModule) (x : Imported) (index : ℕ) (name : Import) (call : Call) → x.kind ≡ Func index → import_named x.module_name x.name ≡ Some name
-    → slice_get m.types index ≡ Some (import_type name) → IsCall m (imported (import_type name) name) call → AreCalls m (imported_callees m.types (x ∷ [])) (call ∷ [])
+pub import_callee : (m : WasmModule) (x : Imported) (index : ℕ) (name : Import) (call : Call)
+    → x.kind ≡ Func index → import_named x.module_name x.name ≡ Some name
+    → slice_get m.types index ≡ Some (import_type name) → IsCall m (imported (import_type name) name) call
+    → AreCalls m (imported_callees m.types (x ∷ [])) (call ∷ [])
 import_callee m x index name call ek en et h =
     let list : imported (import_type name) name ∷ [] ≡ imported_callees m.types (x ∷ []) =
-    sym (ap (λ o. imported_callee o (Some name) ∷ []) et) ∙ sym (ap (λ o. imported_callee (slice_get m.types index) o ∷ []) en)
+    sym (ap (λ o. imported_callee o (Some name) ∷ []) et)
+    ∙ sym (ap (λ o. imported_callee (slice_get m.types index) o ∷ []) en)
     ∙ sym (ap (λ k. with_import m.types k (import_named x.module_name x.name) []) ek) in
     subst (λ (xs : List Callee). AreCalls m xs (call ∷ [])) list (h, tt)
 
-own_step : (types : List Signature) (fs : List ℕ) (bs : List Function) (i index : ℕ) (f : Function) → slice_get fs i ≡ Some index → slice_get bs i ≡ Some f
-    → own_callees types (take (suc i) fs) (take (suc i) bs) ≡ own_callees types (take i fs) (take i bs) ++ own_callee (slice_get types index) f ∷ []
+own_step : (types : List Signature) (fs : List ℕ) (bs : List Function) (i index : ℕ) (f : Function)
+    → slice_get fs i ≡ Some index → slice_get bs i ≡ Some f
+    → own_callees types (take (suc i) fs) (take (suc i) bs)
+    ≡ own_callees types (take i fs) (take i bs) ++ own_callee (slice_get types index) f ∷ []
 own_step types [] bs i index f ef eb = absurd cc
 own_step types (k ∷ fs) [] i index f ef eb = absurd cc
 own_step types (k ∷ fs) (b ∷ bs) zero index f ef eb =
-    ap (λ n. own_callee (slice_get types n) b ∷ []) (same_Some _ _ ef) ∙ ap (λ g. own_callee (slice_get types index) g ∷ []) (same_Some _ _ eb)
-own_step types (k ∷ fs) (b ∷ bs) (suc i) index f ef eb = ap (λ xs. own_callee (slice_get types k) b ∷ xs) (own_step types fs bs i index f ef eb)
+    ap (λ n. own_callee (slice_get types n) b ∷ []) (same_Some _ _ ef)
+    ∙ ap (λ g. own_callee (slice_get types index) g ∷ []) (same_Some _ _ eb)
+own_step types (k ∷ fs) (b ∷ bs) (suc i) index f ef eb =
+    ap (λ xs. own_callee (slice_get types k) b ∷ xs) (own_step types fs bs i index f ef eb)
 
 -- one more own function
-pub own_more : (m : WasmModule) (front : List Callee) (i : ℕ) (call : Call) (calls next : List Call) → IsCallAt m i call → next ≡ calls ++ call ∷ []
+pub own_more : (m : WasmModule) (front : List Callee) (i : ℕ) (call : Call) (calls next : List Call)
+    → IsCallAt m i call → next ≡ calls ++ call ∷ []
     → AreCalls m (front ++ own_callees m.types (take i m.functions) (take i m.bodies)) calls
     → AreCalls m (front ++ own_callees m.types (take (i + 1) m.functions) (take (i + 1) m.bodies)) next
 own_more m front i call calls next at e so_far =
     let c : Callee = own (record { signature = at.signature; function = at.function }) in
     let before : List Callee = own_callees m.types (take i m.functions) (take i m.bodies) in
-    let list : (front ++ before) ++ c ∷ [] ≡ front ++ own_callees m.types (take (i + 1) m.functions) (take (i + 1) m.bodies) =
-    append_assoc front before (c ∷ []) ∙ ap (λ o. front ++ (before ++ own_callee o at.function ∷ [])) (sym at.typed)
-    ∙ ap (λ xs. front ++ xs) (sym (own_step m.types m.functions m.bodies i at.index at.function at.indexed at.there))
-    ∙ ap (λ n. front ++ own_callees m.types (take n m.functions) (take n m.bodies)) {x = suc i} (omega arith) in
-    subst (λ (cs : List Call). AreCalls m (front ++ own_callees m.types (take (i + 1) m.functions) (take (i + 1) m.bodies)) cs) (sym e)
-    (subst (λ (xs : List Callee). AreCalls m xs (calls ++ call ∷ [])) list (zip_joined (IsCall m) (front ++ before) (c ∷ []) calls (call ∷ []) so_far (at.called, tt)))
+    let list : (front ++ before) ++ c ∷ []
+    ≡ front ++ own_callees m.types (take (i + 1) m.functions) (take (i + 1) m.bodies) =
+    append_assoc front before (c ∷ [])
+    ∙ ap (λ o. front ++ (before ++ own_callee o at.function ∷ [])) (sym at.typed)
+    ∙ ap (λ xs. front ++ xs)
+    (sym (own_step m.types m.functions m.bodies i at.index at.function at.indexed at.there))
+    ∙ ap (λ n. front ++ own_callees m.types (take n m.functions) (take n m.bodies)) {x = suc i}
+    (omega arith) in
+    subst (λ (cs : List Call). AreCalls m
+    (front ++ own_callees m.types (take (i + 1) m.functions) (take (i + 1) m.bodies)) cs) (sym e)
+    (subst (λ (xs : List Callee). AreCalls m xs (calls ++ call ∷ [])) list
+    (zip_joined (IsCall m) (front ++ before) (c ∷ []) calls (call ∷ []) so_far (at.called, tt)))
 
 -- parameters and locals of an own function are few
-flag_at : (m : WasmModule) (fs : List ℕ) (bs : List Function) (i index : ℕ) (f : Function) → slice_get fs i ≡ Some index → slice_get bs i ≡ Some f → slice_get (zip fs bs) i ≡ Some (index, f)
+flag_at : (m : WasmModule) (fs : List ℕ) (bs : List Function) (i index : ℕ) (f : Function)
+    → slice_get fs i ≡ Some index → slice_get bs i ≡ Some f → slice_get (zip fs bs) i ≡ Some (index, f)
 flag_at m [] bs i index f ef eb = absurd cc
 flag_at m (k ∷ fs) [] i index f ef eb = absurd cc
-flag_at m (k ∷ fs) (b ∷ bs) zero index f ef eb = ap (λ n. Some (n, b)) (same_Some _ _ ef) ∙ ap (λ g. Some (index, g)) (same_Some _ _ eb)
+flag_at m (k ∷ fs) (b ∷ bs) zero index f ef eb =
+    ap (λ n. Some (n, b)) (same_Some _ _ ef) ∙ ap (λ g. Some (index, g)) (same_Some _ _ eb)
 flag_at m (k ∷ fs) (b ∷ bs) (suc i) index f ef eb = flag_at m fs bs i index f ef eb
 
-pub few_locals : (m : WasmModule) (i index : ℕ) (s : Signature) (f : Function) → profile_refusal m ≡ None → slice_get m.functions i ≡ Some index → slice_get m.types index ≡ Some s
+pub few_locals : (m : WasmModule) (i index : ℕ) (s : Signature) (f : Function) → profile_refusal m ≡ None
+    → slice_get m.functions i ≡ Some index → slice_get m.types index ≡ Some s
     → slice_get m.bodies i ≡ Some f → length s.params + local_count f.runs ≤ 1024
 few_locals m i index s f none ef es eb =
-    let flag : nat_lt 1024 (param_count (slice_get m.types index) + local_count f.runs) ≡ false = none_at_place (has_many_locals m) (zip m.functions m.bodies) i (index, f) (no_cause m none).locals (flag_at m m.functions m.bodies i index f ef eb) in
-    let known : nat_lt 1024 (length s.params + local_count f.runs) ≡ false = sym (ap (λ o. nat_lt 1024 (param_count o + local_count f.runs)) es) ∙ flag in
+    let flag : nat_lt 1024 (param_count (slice_get m.types index) + local_count f.runs) ≡ false =
+    none_at (has_many_locals m) (zip m.functions m.bodies) i (index, f) (no_cause m none).locals
+    (flag_at m m.functions m.bodies i index f ef eb) in
+    let known : nat_lt 1024 (length s.params + local_count f.runs) ≡ false =
+    sym (ap (λ o. nat_lt 1024 (param_count o + local_count f.runs)) es) ∙ flag in
     grind (arith, nat_tests)
 
 -- the type index of each own function names a type
-pub own_index_below : (m : WasmModule) (fs : List ℕ) (func : ℕ) → KeepsModuleRules m → fs ≡ m.functions → func < length fs → get_or fs func 0 < length m.types
+pub own_index_below : (m : WasmModule) (fs : List ℕ) (func : ℕ) → KeepsModuleRules m → fs ≡ m.functions
+    → func < length fs → get_or fs func 0 < length m.types
 own_index_below m fs func rules e h =
-    let all = (all_parted (λ i. imported_function i.kind) (λ index. index < length m.types) m.imports m.functions rules.functions).1 in
+    let all =
+    (all_parted (λ i. imported_function i.kind) (λ index. index < length m.types) m.imports m.functions
+    rules.functions).1 in
     subst (λ (xs : List ℕ). All (λ index. index < length m.types) xs) (sym e) all func 0 h
 
-pub own_type_at : (m : WasmModule) (fs : List ℕ) (ts : List Signature) (func : ℕ) (s : Signature) → fs ≡ m.functions → ts ≡ m.types → func < length fs → get_or fs func 0 < length ts
+pub own_type_at : (m : WasmModule) (fs : List ℕ) (ts : List Signature) (func : ℕ) (s : Signature)
+    → fs ≡ m.functions → ts ≡ m.types → func < length fs → get_or fs func 0 < length ts
     → s ≡ get_or ts (get_or fs func 0) s → IsTypeAt m func s
 own_type_at m fs ts func s ef et h k e = record {
   index = get_or fs func 0;
   indexed = ap (λ xs. slice_get xs func) (sym ef) ∙ slice_get-get_or fs func 0 h;
-  typed = ap (λ xs. slice_get xs (get_or fs func 0)) (sym et) ∙ slice_get-get_or ts (get_or fs func 0) s k ∙ ap Some (sym e);
+  typed =
+      ap (λ xs. slice_get xs (get_or fs func 0)) (sym et) ∙ slice_get-get_or ts (get_or fs func 0) s k
+      ∙ ap Some (sym e);
 }
 
-few_at : (m : WasmModule) (func : ℕ) (s : Signature) (o : Option Function) (runs : List Locals) → profile_refusal m ≡ None → IsTypeAt m func s → slice_get m.bodies func ≡ o
+few_at : (m : WasmModule) (func : ℕ) (s : Signature) (o : Option Function) (runs : List Locals)
+    → profile_refusal m ≡ None → IsTypeAt m func s → slice_get m.bodies func ≡ o
     → option_map (λ f. f.runs) o ≡ Some runs → length s.params + local_count runs ≤ 1024
 few_at m func s None runs none t eo er = absurd cc
 few_at m func s (Some f) runs none t eo er =
     omega (arith, few_locals m func t.index s f none t.indexed t.typed eo, ap local_count (same_Some _ _ er))
 
-pub few_runs : (m : WasmModule) (func : ℕ) (s : Signature) (runs : List Locals) → profile_refusal m ≡ None → IsTypeAt m func s
-    → option_map (λ f. f.runs) (slice_get m.bodies func) ≡ Some runs → length s.params + local_count runs ≤ 1024
+pub few_runs : (m : WasmModule) (func : ℕ) (s : Signature) (runs : List Locals) → profile_refusal m ≡ None
+    → IsTypeAt m func s
+    → option_map (λ f. f.runs) (slice_get m.bodies func) ≡ Some runs
+    → length s.params + local_count runs ≤ 1024
 few_runs m func s runs none t er = few_at m func s (slice_get m.bodies func) runs none t refl er
 
 -- the call of an own function, from what its readers give
-own_call_of : (m : WasmModule) (func : ℕ) (s : Signature) (o : Option Function) (runs : List Locals) (ops : List Op) (kind start params others count reserve : ℕ) (answers : Bool)
-    → IsTypeAt m func s → slice_get m.bodies func ≡ o → option_map (λ f. f.runs) o ≡ Some runs → IsBody o ops → IfSome o (λ f. IsProper f.list) → StandsAt (entries m) start o
-    → kind ≡ number_of_type m.types s → params ≡ length s.params → others ≡ local_count runs → result_count answers ≡ length s.results → count ≡ count_by is_instruction ops → reserve ≡ params + others + count
+own_call_of : (m : WasmModule) (func : ℕ) (s : Signature) (o : Option Function) (runs : List Locals)
+    (ops : List Op) (kind start params others count reserve : ℕ) (answers : Bool)
+    → IsTypeAt m func s → slice_get m.bodies func ≡ o → option_map (λ f. f.runs) o ≡ Some runs → IsBody o ops
+    → IfSome o (λ f. IsProper f.list) → StandsAt (entries m) start o
+    → kind ≡ number_of_type m.types s → params ≡ length s.params → others ≡ local_count runs
+    → result_count answers ≡ length s.results → count ≡ count_by is_instruction ops
+    → reserve ≡ params + others + count
     → IsCallAt m func (call.Own kind start params others answers reserve)
-own_call_of m func s None runs ops kind start params others count reserve answers t eo er body proper stands ek ep ez ea ec e = absurd body
-own_call_of m func s (Some f) runs ops kind start params others count reserve answers t eo er body proper stands ek ep ez ea ec e =
-    let listed : count ≡ instructions f.list = ec ∙ ap (count_by is_instruction) body.1 ∙ counted_at End refl body.0 f.list proper in
+own_call_of m func s None runs ops kind start params others count reserve answers t eo er body proper stands
+    ek ep ez ea ec e =
+    absurd body
+own_call_of m func s (Some f) runs ops kind start params others count reserve answers t eo er body proper
+    stands ek ep ez ea ec e =
+    let listed : count ≡ instructions f.list =
+    ec ∙ ap (count_by is_instruction) body.1 ∙ counted_at End refl body.0 f.list proper in
     let zeroed : others ≡ local_count f.runs = ez ∙ ap local_count (sym (same_Some _ _ er)) in record {
       index = t.index;
       signature = s;
@@ -193,16 +237,23 @@ own_call_of m func s (Some f) runs ops kind start params others count reserve an
       };
     }
 
-pub own_call_is : (m : WasmModule) (func : ℕ) (s : Signature) (runs : List Locals) (ops : List Op) (kind start params others count reserve : ℕ) (answers : Bool)
-    → IsTypeAt m func s → option_map (λ f. f.runs) (slice_get m.bodies func) ≡ Some runs → IsBody (slice_get m.bodies func) ops → IfSome (slice_get m.bodies func) (λ f. IsProper f.list)
+pub own_call_is : (m : WasmModule) (func : ℕ) (s : Signature) (runs : List Locals) (ops : List Op)
+    (kind start params others count reserve : ℕ) (answers : Bool)
+    → IsTypeAt m func s → option_map (λ f. f.runs) (slice_get m.bodies func) ≡ Some runs
+    → IsBody (slice_get m.bodies func) ops → IfSome (slice_get m.bodies func) (λ f. IsProper f.list)
     → StandsAt (entries m) start (slice_get m.bodies func)
-    → kind ≡ number_of_type m.types s → params ≡ length s.params → others ≡ local_count runs → result_count answers ≡ length s.results → count ≡ count_by is_instruction ops → reserve ≡ params + others + count
+    → kind ≡ number_of_type m.types s → params ≡ length s.params → others ≡ local_count runs
+    → result_count answers ≡ length s.results → count ≡ count_by is_instruction ops
+    → reserve ≡ params + others + count
     → IsCallAt m func (call.Own kind start params others answers reserve)
-own_call_is m func s runs ops kind start params others count reserve answers t er body proper stands ek ep ez ea ec e =
-    own_call_of m func s (slice_get m.bodies func) runs ops kind start params others count reserve answers t refl er body proper stands ek ep ez ea ec e
+own_call_is m func s runs ops kind start params others count reserve answers t er body proper stands ek ep ez
+    ea ec e =
+    own_call_of m func s (slice_get m.bodies func) runs ops kind start params others count reserve answers t
+    refl er body proper stands ek ep ez ea ec e
 
 -- an import has one result at most
-import_gives : (name : Import) (empty : Bool) → empty ≡ nat_eq (length (import_type name).results) 0 → result_count (not empty) ≡ length (import_type name).results
+import_gives : (name : Import) (empty : Bool) → empty ≡ nat_eq (length (import_type name).results) 0
+    → result_count (not empty) ≡ length (import_type name).results
 import_gives import.Blit empty e = ap (λ b. result_count (not b)) e
 import_gives import.BlitSub empty e = ap (λ b. result_count (not b)) e
 import_gives import.Line empty e = ap (λ b. result_count (not b)) e
@@ -221,14 +272,17 @@ import_gives import.TraceUtf8 empty e = ap (λ b. result_count (not b)) e
 import_gives import.TraceUtf16 empty e = ap (λ b. result_count (not b)) e
 import_gives import.Tracef empty e = ap (λ b. result_count (not b)) e
 
-pub import_call_is : (m : WasmModule) (x : Imported) (index : ℕ) (name : Import) (s : Signature) (kind params : ℕ) (empty : Bool)
-    → x.kind ≡ Func index → is_right m x ≡ true → import_named x.module_name x.name ≡ Some name → slice_get m.types index ≡ Some s
+pub import_call_is : (m : WasmModule) (x : Imported) (index : ℕ) (name : Import) (s : Signature)
+    (kind params : ℕ) (empty : Bool)
+    → x.kind ≡ Func index → is_right m x ≡ true → import_named x.module_name x.name ≡ Some name
+    → slice_get m.types index ≡ Some s
     → kind ≡ number_of_type m.types s → params ≡ length s.params → empty ≡ nat_eq (length s.results) 0
     → AreCalls m (imported_callees m.types (x ∷ [])) (call.Import kind name params (not empty) ∷ [])
 import_call_is m x index name s kind params empty ek right en es ekind ep ee =
     let f = function_import m x index ek right in
     let same : f.name ≡ name = same_Some _ _ (sym f.named ∙ en) in
-    let typed : slice_get m.types index ≡ Some (import_type name) = f.typed ∙ ap (λ n. Some (import_type n)) same in
+    let typed : slice_get m.types index ≡ Some (import_type name) =
+    f.typed ∙ ap (λ n. Some (import_type n)) same in
     let is : s ≡ import_type name = same_Some _ _ (sym es ∙ typed) in
     import_callee m x index name (call.Import kind name params (not empty)) ek en typed (record {
       numbered = ekind ∙ ap (number_of_type m.types) is;

@@ -19,12 +19,15 @@ use Rattle.wasm_valid.specs.declared.entry.Entry.{Entry}
 use Rattle.wasm_valid.specs.declared.entry.Entry.TheVariants.{Update, CrtStart, Initialize, Start}
 use Rattle.wasm_valid.specs.Calls.{AreCalls}
 use Rattle.wasm_valid.specs.Carts.{entry_name, nothing}
-use Rattle.wasm_valid.proofs.NoneLaws.{none_at_place, all_at_place}
+use Rattle.wasm_valid.proofs.NoneLaws.{none_at, all_at}
 use Rattle.wasm_valid.proofs.ProfileFacts.{no_cause, data_passes}
 use Rattle.wasm_valid.specs.Constants.{number32, first_number32}
 
-pub kept_calls : (m n : WasmModule) (xs ys : List Call) → m ≡ n → xs ≡ ys → AreCalls m (callees m) xs → AreCalls n (callees n) ys
-kept_calls m n xs ys em es h = subst (λ (zs : List Call). AreCalls n (callees n) zs) es (subst (λ (k : WasmModule). AreCalls k (callees k) xs) em h)
+pub kept_calls : (m n : WasmModule) (xs ys : List Call) → m ≡ n → xs ≡ ys → AreCalls m (callees m) xs
+    → AreCalls n (callees n) ys
+kept_calls m n xs ys em es h =
+    subst (λ (zs : List Call). AreCalls n (callees n) zs) es
+    (subst (λ (k : WasmModule). AreCalls k (callees k) xs) em h)
 
 pub entry_is_named : (which : Entry) → is_entry_name (entry_name which) ≡ true
 entry_is_named Update = refl
@@ -33,7 +36,8 @@ entry_is_named Initialize = refl
 entry_is_named Start = refl
 
 -- the start function, if there is one
-pub start_type : (m : WasmModule) (start : Option ℕ) → IsStart m start → IfSome start (λ f. signature_of m f ≡ Some nothing)
+pub start_type : (m : WasmModule) (start : Option ℕ) → IsStart m start
+    → IfSome start (λ f. signature_of m f ≡ Some nothing)
 start_type m None h = tt
 start_type m (Some f) h = h
 
@@ -44,7 +48,8 @@ number_is (I64Const n) e = absurd cc
 number_is op e = refl
 
 -- an offset that is a single i32.const, by the first operation of its flattening
-pub offset_number : (e : Expr) (ops : List Op) → IsConstant I32 e → ops ≡ operations_of (flat e) → first_number32 ops ≡ constant_of e
+pub offset_number : (e : Expr) (ops : List Op) → IsConstant I32 e → ops ≡ operations_of (flat e)
+    → first_number32 ops ≡ constant_of e
 offset_number done ops h is = absurd h
 offset_number (plain m done) ops h is = ap first_number32 is ∙ number_is m.0 h
 offset_number (plain m (plain n rest)) ops h is = absurd h
@@ -57,13 +62,15 @@ offset_number (loop r inner rest) ops h is = absurd h
 offset_number (if_then r taken rest) ops h is = absurd h
 offset_number (if_else r taken other rest) ops h is = absurd h
 
-constant_fits : (op : Op) (count size : ℕ) → constant_type op ≡ Some I32 → passes (profile.constant op) count size ≡ false → constant op + count ≤ size
+constant_fits : (op : Op) (count size : ℕ) → constant_type op ≡ Some I32
+    → passes (profile.constant op) count size ≡ false → constant op + count ≤ size
 constant_fits (I32Const n) count size e h = grind (arith, nat_tests)
 constant_fits (I64Const n) count size e h = absurd cc
 constant_fits op count size e h = absurd cc
 
 -- a constant offset of a segment that doesn't pass the end
-pub offset_fits : (e : Expr) (count size : ℕ) → IsConstant I32 e → passes (single_constant e) count size ≡ false → constant_of e + count ≤ size
+pub offset_fits : (e : Expr) (count size : ℕ) → IsConstant I32 e
+    → passes (single_constant e) count size ≡ false → constant_of e + count ≤ size
 offset_fits done count size h p = absurd h
 offset_fits (plain m done) count size h p = constant_fits m.0 count size h p
 offset_fits (plain m (plain n rest)) count size h p = absurd h
@@ -81,21 +88,30 @@ pub record IsSegmentRead (o : Option DataSegment) (offset : ℕ) (bytes : List �
   pub offset_is : option_map (λ s. constant_of s.offset) o ≡ Some offset
   pub fits : offset + length bytes ≤ 65536
 
-segment_read : (o : Option DataSegment) (ops : List Op) (bytes : List ℕ) (offset : ℕ) → ((s : DataSegment) → o ≡ Some s → IsConstant I32 s.offset × (data_passes s ≡ false))
-    → option_map (λ s. operations_of (flat s.offset)) o ≡ Some ops → option_map (λ s. s.bytes) o ≡ Some bytes → offset ≡ first_number32 ops → IsSegmentRead o offset bytes
+segment_read : (o : Option DataSegment) (ops : List Op) (bytes : List ℕ) (offset : ℕ)
+    → ((s : DataSegment) → o ≡ Some s → IsConstant I32 s.offset × (data_passes s ≡ false))
+    → option_map (λ s. operations_of (flat s.offset)) o ≡ Some ops → option_map (λ s. s.bytes) o ≡ Some bytes
+    → offset ≡ first_number32 ops → IsSegmentRead o offset bytes
 segment_read None ops bytes offset h e b n = absurd cc
 segment_read (Some s) ops bytes offset h e b n =
     let g = h s refl in
     let is : offset ≡ constant_of s.offset = n ∙ offset_number s.offset ops g.0 (sym (same_Some _ _ e)) in
-    let fits : constant_of s.offset + length s.bytes ≤ 65536 = offset_fits s.offset (length s.bytes) 65536 g.0 g.1 in record {
+    let fits : constant_of s.offset + length s.bytes ≤ 65536 =
+    offset_fits s.offset (length s.bytes) 65536 g.0 g.1 in
+    record {
       offset_is = ap Some (sym is);
       fits = omega (arith, is, fits, ap length (same_Some _ _ b));
     }
 
-pub segment_is_read : (m : WasmModule) (i : ℕ) (ops : List Op) (bytes : List ℕ) (offset : ℕ) → profile_refusal m ≡ None → IsValid m
-    → option_map (λ s. operations_of (flat s.offset)) (slice_get m.segments i) ≡ Some ops → option_map (λ s. s.bytes) (slice_get m.segments i) ≡ Some bytes
+pub segment_is_read : (m : WasmModule) (i : ℕ) (ops : List Op) (bytes : List ℕ) (offset : ℕ)
+    → profile_refusal m ≡ None → IsValid m
+    → option_map (λ s. operations_of (flat s.offset)) (slice_get m.segments i) ≡ Some ops
+    → option_map (λ s. s.bytes) (slice_get m.segments i) ≡ Some bytes
     → offset ≡ first_number32 ops → IsSegmentRead (slice_get m.segments i) offset bytes
 segment_is_read m i ops bytes offset none valid e b n =
     segment_read (slice_get m.segments i) ops bytes offset
-    (λ s is. ((all_at_place (IsDataSegment m) m.segments i s valid.0.segments is).2, none_at_place data_passes m.segments i s (no_cause m none).segments is))
+    (λ s is. (
+      (all_at (IsDataSegment m) m.segments i s valid.0.segments is).2,
+      none_at data_passes m.segments i s (no_cause m none).segments is,
+    ))
     e b n

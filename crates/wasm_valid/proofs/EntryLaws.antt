@@ -1,4 +1,5 @@
--- The entries of a body with places that count from the first entry of all bodies: the pass doesn't see places.
+-- The entries of a body with places that count from the first entry of all bodies: the pass doesn't see
+-- places.
 use Rattle.std.proofs.Common.{◌≡◌, ◌↔◌, ℕ, zero, suc, ◌+◌, ◌<◌, ◌≤◌, Bool, true, false, not, cond, List, [], ◌∷◌, ◌++◌, length, map, drop, get_or, Option, Some, None, option_map, option_and_then, refl, sym, ap, ◌∙◌, subst, arith}
 use Rattle.std.specs.Prelude.{slice_get, IfSome, IsTrue}
 use Rattle.std.proofs.lemmas.List.{length-map}
@@ -25,16 +26,19 @@ use Rattle.wasm_valid.proofs.PassLaws.{pass_decides_bodies}
 use Rattle.wasm_valid.proofs.BodyLaws.{shape_decides_bodies}
 
 -- the place of an else isn't looked at, but whether there is one
-same_at : (c : Context) (start : ℕ) (o : Op) (labels : List ℕ) (p : Open) (os : List Open) → turned c (op_after start o) labels (p ∷ os) ≡ turned c o labels (p ∷ os)
+same_at : (c : Context) (start : ℕ) (o : Op) (labels : List ℕ) (p : Open) (os : List Open)
+    → turned c (op_after start o) labels (p ∷ os) ≡ turned c o labels (p ∷ os)
 same_at c start (op.If r None end) labels p os = refl
 same_at c start (op.If r (Some middle) end) labels p os = refl
 same_at c start _ labels p os = refl
 
-same_turn : (c : Context) (start : ℕ) (o : Op) (labels : List ℕ) (os : List Open) → turned c (op_after start o) labels os ≡ turned c o labels os
+same_turn : (c : Context) (start : ℕ) (o : Op) (labels : List ℕ) (os : List Open)
+    → turned c (op_after start o) labels os ≡ turned c o labels os
 same_turn c start o labels [] = refl
 same_turn c start o labels (p ∷ os) = same_at c start o labels p os
 
-run_more : (c : Context) (m : Mark) (ms : List Mark) (os : List Open) → run c (m ∷ ms) os ≡ option_and_then (run c ms) (turned c m.0 m.1 os)
+run_more : (c : Context) (m : Mark) (ms : List Mark) (os : List Open)
+    → run c (m ∷ ms) os ≡ option_and_then (run c ms) (turned c m.0 m.1 os)
 run_more c m ms [] = refl
 run_more c m ms (o ∷ os) = refl
 
@@ -43,52 +47,67 @@ cut [] k x h = absurd (cc h)
 cut (y ∷ xs) zero x h = ap (λ z. z ∷ xs) (same_Some _ _ h)
 cut (y ∷ xs) (suc k) x h = cut xs k x h
 
-shifted : (start : ℕ) (f : Function) (ops : List Op) → IsProper f.list → ops ≡ operations_of (flat_at op.End start f.list) → ops ≡ operations_of (map (after start) (flat f.list))
+shifted : (start : ℕ) (f : Function) (ops : List Op) → IsProper f.list
+    → ops ≡ operations_of (flat_at op.End start f.list)
+    → ops ≡ operations_of (map (after start) (flat f.list))
 shifted start f ops p h = h ∙ ap operations_of (flattening_shifted start f.list p)
 
-pub as_many : (o : Option Function) (ops : List Op) → IsBody o ops → IfSome o (λ f. IsProper f.list) → length ops ≡ size_with o
+pub as_many : (o : Option Function) (ops : List Op) → IsBody o ops → IfSome o (λ f. IsProper f.list)
+    → length ops ≡ size_with o
 as_many None ops h p = absurd h
 as_many (Some f) ops h p =
     let marks : List Mark = map (after h.0) (flat f.list) in
     ap length (shifted h.0 f ops p h.1) ∙ length-map marks (λ m. m.0) ∙ length-map (flat f.list) (after h.0)
 
-entry_at : (c : Context) (start : ℕ) (ms : List Mark) (ops : List Op) (place : ℕ) (d : Op) (labels : List ℕ) (old : List Open) → ops ≡ operations_of (map (after start) ms) → place < length ms
+entry_at : (c : Context) (start : ℕ) (ms : List Mark) (ops : List Op) (place : ℕ) (d : Op) (labels : List ℕ)
+    (old : List Open) → ops ≡ operations_of (map (after start) ms) → place < length ms
     → option_map (λ m. m.1) (slice_get ms place) ≡ Some labels
-    → run c (drop place ms) old ≡ option_and_then (run c (drop (place + 1) ms)) (turned c (get_or ops place d) labels old)
+    → run c (drop place ms) old
+    ≡ option_and_then (run c (drop (place + 1) ms)) (turned c (get_or ops place d) labels old)
 entry_at c start ms ops place d labels old h small hl =
     let m : Mark = get_or ms place (mark d) in
     let there : slice_get ms place ≡ Some m = slice_get-get_or ms place (mark d) small in
     let same : m.1 ≡ labels = same_Some _ _ (sym (ap (option_map (λ x. x.1)) there) ∙ hl) in
     let found : slice_get ops place ≡ Some (op_after start m.0) =
     ap (λ xs. slice_get xs place) h ∙ slice_get-map (λ (x : Mark). x.0) (map (after start) ms) place
-    ∙ ap (option_map (λ x. x.0)) (slice_get-map (after start) ms place ∙ ap (option_map (after start)) there) in
+    ∙ ap (option_map (λ x. x.0))
+    (slice_get-map (after start) ms place ∙ ap (option_map (after start)) there) in
     ap (λ xs. run c xs old) (cut ms place m there) ∙ run_more c m (drop (suc place) ms) old
     ∙ ap (λ k. option_and_then (run c (drop k ms)) (turned c m.0 m.1 old)) {x = suc place} (omega arith)
     ∙ ap (λ ls. option_and_then (run c (drop (place + 1) ms)) (turned c m.0 ls old)) same
     ∙ ap (option_and_then (run c (drop (place + 1) ms))) (sym (same_turn c start m.0 labels old))
-    ∙ ap (λ x. option_and_then (run c (drop (place + 1) ms)) (turned c x labels old)) (sym (get_or_from_slice_get ops place (op_after start m.0) d found))
+    ∙ ap (λ x. option_and_then (run c (drop (place + 1) ms)) (turned c x labels old))
+    (sym (get_or_from_slice_get ops place (op_after start m.0) d found))
 
 -- one more entry
-pub entry_next : (c : Context) (o : Option Function) (ops : List Op) (place : ℕ) (d : Op) (labels : List ℕ) (old new : List Open) (went : Bool) → IsBody o ops → IfSome o (λ f. IsProper f.list) → place < length ops
-    → option_map (λ m. m.1) (entry_of o place) ≡ Some labels → turned c (get_or ops place d) labels old ≡ cond went (Some new) None
-    → run c (drop place (entries_with o)) old ≡ option_and_then (run c (drop (place + 1) (entries_with o))) (cond went (Some new) None)
+pub entry_next : (c : Context) (o : Option Function) (ops : List Op) (place : ℕ) (d : Op) (labels : List ℕ)
+    (old new : List Open) (went : Bool) → IsBody o ops → IfSome o (λ f. IsProper f.list) → place < length ops
+    → option_map (λ m. m.1) (entry_of o place) ≡ Some labels
+    → turned c (get_or ops place d) labels old ≡ cond went (Some new) None
+    → run c (drop place (entries_with o)) old
+    ≡ option_and_then (run c (drop (place + 1) (entries_with o))) (cond went (Some new) None)
 entry_next c None ops place d labels old new went h p small hl t = absurd h
 entry_next c (Some f) ops place d labels old new went h p small hl t =
-    entry_at c h.0 (flat f.list) ops place d labels old (shifted h.0 f ops p h.1) (omega (arith, small, as_many (Some f) ops h p)) hl
+    entry_at c h.0 (flat f.list) ops place d labels old (shifted h.0 f ops p h.1)
+    (omega (arith, small, as_many (Some f) ops h p)) hl
     ∙ ap (option_and_then (run c (drop (place + 1) (flat f.list)))) t
 
-pub entry_stop : (c : Context) (ms rest : List Mark) (now new : List Open) (went : Bool) → run c ms now ≡ option_and_then (run c rest) (cond went (Some new) None) → went ≡ false
+pub entry_stop : (c : Context) (ms rest : List Mark) (now new : List Open) (went : Bool)
+    → run c ms now ≡ option_and_then (run c rest) (cond went (Some new) None) → went ≡ false
     → run c ms now ≡ None
 entry_stop c ms rest now new went h e = h ∙ ap (λ b. option_and_then (run c rest) (cond b (Some new) None)) e
 
-pub entry_on : (c : Context) (ms rest : List Mark) (now new : List Open) (went : Bool) → run c ms now ≡ option_and_then (run c rest) (cond went (Some new) None) → went ≡ true
+pub entry_on : (c : Context) (ms rest : List Mark) (now new : List Open) (went : Bool)
+    → run c ms now ≡ option_and_then (run c rest) (cond went (Some new) None) → went ≡ true
     → run c rest new ≡ run c ms now
-entry_on c ms rest now new went h e = sym (h ∙ ap (λ b. option_and_then (run c rest) (cond b (Some new) None)) e)
+entry_on c ms rest now new went h e =
+    sym (h ∙ ap (λ b. option_and_then (run c rest) (cond b (Some new) None)) e)
 
 pub stopped : (b : Bool) (x : Option (List Open)) → b ≡ false → x ≡ None → IsTrue b ↔ (x ≡ Some [])
 stopped b x e n = ((λ h. absurd (cc (sym h ∙ e))), (λ h. absurd (cc (sym n ∙ h))))
 
-pub ended : (os : List Open) (b : Bool) (x : Option (List Open)) → x ≡ Some os → b ≡ is_open os → IsTrue (not b) ↔ (x ≡ Some [])
+pub ended : (os : List Open) (b : Bool) (x : Option (List Open)) → x ≡ Some os → b ≡ is_open os
+    → IsTrue (not b) ↔ (x ≡ Some [])
 ended [] b x n e = ((λ h. n), (λ h. ap not e))
 ended (o ∷ os) b x n e = ((λ h. absurd (cc (sym h ∙ ap not e))), (λ h. absurd (cc (sym n ∙ h))))
 
@@ -98,46 +117,69 @@ nothing_from [] (suc k) h = refl
 nothing_from (x ∷ xs) zero h = absurd (omega (arith, h))
 nothing_from (x ∷ xs) (suc k) h = nothing_from xs k (omega (arith, h))
 
-pub past_all : (c : Context) (o : Option Function) (ops : List Op) (place : ℕ) (os : List Open) → IsBody o ops → IfSome o (λ f. IsProper f.list) → length ops ≤ place → run c (drop place (entries_with o)) os ≡ Some os
+pub past_all : (c : Context) (o : Option Function) (ops : List Op) (place : ℕ) (os : List Open) → IsBody o ops
+    → IfSome o (λ f. IsProper f.list) → length ops ≤ place → run c (drop place (entries_with o)) os ≡ Some os
 past_all c None ops place os h p e = absurd h
-past_all c (Some f) ops place os h p e = ap (λ ms. run c ms os) (nothing_from (flat f.list) place (omega (arith, e, as_many (Some f) ops h p)))
+past_all c (Some f) ops place os h p e =
+    ap (λ ms. run c ms os) (nothing_from (flat f.list) place (omega (arith, e, as_many (Some f) ops h p)))
 
 -- ---- what the pass decides
 
-same_answer : (r b : Bool) (x : Option (List Open)) → x ≡ cond b (Some []) None → IsTrue r ↔ (x ≡ Some []) → b ≡ r
+same_answer : (r b : Bool) (x : Option (List Open)) → x ≡ cond b (Some []) None → IsTrue r ↔ (x ≡ Some [])
+    → b ≡ r
 same_answer true true x e h = refl
 same_answer true false x e h = absurd (cc (sym e ∙ h.0 refl))
 same_answer false true x e h = absurd (cc (h.1 e))
 same_answer false false x e h = refl
 
-pub decided : (m : WasmModule) (s : Signature) (o : Option Function) (runs : List Locals) (c : Context) (os : List Open) (r : Bool)
+pub decided : (m : WasmModule) (s : Signature) (o : Option Function) (runs : List Locals) (c : Context)
+    (os : List Open) (r : Bool)
     → option_map (λ f. f.runs) o ≡ Some runs → IfSome o (λ f. IsProper f.list)
-    → c ≡ record { within = m; locals = s.params ++ local_types runs; labels = s.results ∷ []; results = s.results } → os ≡ opened s.results s.results ∷ []
+    → c ≡ record {
+      within = m;
+      locals = s.params ++ local_types runs;
+      labels = s.results ∷ [];
+      results = s.results;
+    } → os ≡ opened s.results s.results ∷ []
     → IsTrue r ↔ (run c (entries_with o) os ≡ Some []) → option_map (body_stands m s) o ≡ Some r
 decided m s None runs c os r hr p ec eo h = absurd (cc hr)
 decided m s (Some f) runs c os r hr p ec eo h =
-    let same : c ≡ body_context m s f = ec ∙ ap (λ x. record { within = m; locals = s.params ++ local_types x; labels = s.results ∷ []; results = s.results }) (sym (same_Some _ _ hr)) in
+    let same : c ≡ body_context m s f =
+    ec ∙ ap (λ x. record {
+      within = m;
+      locals = s.params ++ local_types x;
+      labels = s.results ∷ [];
+      results = s.results;
+    }) (sym (same_Some _ _ hr)) in
     ap Some (same_answer r (body_stands m s f) (run c (flat f.list) os)
-    (ap (λ x. run x (flat f.list) os) same ∙ ap (run (body_context m s f) (flat f.list)) eo ∙ pass_decides_bodies m s f p) h)
+    (ap (λ x. run x (flat f.list) os) same ∙ ap (run (body_context m s f) (flat f.list)) eo
+    ∙ pass_decides_bodies m s f p) h)
 
-typed_with : (m : WasmModule) (func index : ℕ) (s : Signature) (r : Bool) (f : Function) → module_has_float m ≡ false → slice_get m.functions func ≡ Some index → slice_get m.types index ≡ Some s
+typed_with : (m : WasmModule) (func index : ℕ) (s : Signature) (r : Bool) (f : Function)
+    → module_has_float m ≡ false → slice_get m.functions func ≡ Some index → slice_get m.types index ≡ Some s
     → slice_get m.bodies func ≡ Some f → body_stands m s f ≡ r → IsTrue r ↔ IsTypedAt m func
 typed_with m func index s r f n hi hs hf hb =
     let law = shape_decides_bodies m index func s f n hs hf in (
       (λ h. (index, f, hi, hf, law.1 (hb ∙ h))),
-      (λ (i, g, ei, eg, t). sym hb ∙ law.0 (subst (λ x. BodyHasType m x f) (same_Some _ _ (sym ei ∙ hi)) (subst (BodyHasType m i) (same_Some _ _ (sym eg ∙ hf)) t))),
+      (λ (i, g, ei, eg, t). sym hb
+          ∙ law.0 (subst (λ x. BodyHasType m x f) (same_Some _ _ (sym ei ∙ hi))
+          (subst (BodyHasType m i) (same_Some _ _ (sym eg ∙ hf)) t))),
     )
 
-typed_from : (m : WasmModule) (func index : ℕ) (s : Signature) (r : Bool) (o : Option Function) → module_has_float m ≡ false → slice_get m.functions func ≡ Some index → slice_get m.types index ≡ Some s
+typed_from : (m : WasmModule) (func index : ℕ) (s : Signature) (r : Bool) (o : Option Function)
+    → module_has_float m ≡ false → slice_get m.functions func ≡ Some index → slice_get m.types index ≡ Some s
     → slice_get m.bodies func ≡ o → option_map (body_stands m s) o ≡ Some r → IsTrue r ↔ IsTypedAt m func
 typed_from m func index s r None n hi hs hf hb = absurd (cc hb)
-typed_from m func index s r (Some f) n hi hs hf hb = typed_with m func index s r f n hi hs hf (same_Some _ _ hb)
+typed_from m func index s r (Some f) n hi hs hf hb =
+    typed_with m func index s r f n hi hs hf (same_Some _ _ hb)
 
-pub typed : (m : WasmModule) (func index : ℕ) (s : Signature) (r : Bool) → module_has_float m ≡ false → slice_get m.functions func ≡ Some index → slice_get m.types index ≡ Some s
+pub typed : (m : WasmModule) (func index : ℕ) (s : Signature) (r : Bool) → module_has_float m ≡ false
+    → slice_get m.functions func ≡ Some index → slice_get m.types index ≡ Some s
     → option_map (body_stands m s) (slice_get m.bodies func) ≡ Some r → IsTrue r ↔ IsTypedAt m func
 typed m func index s r n hi hs hb = typed_from m func index s r (slice_get m.bodies func) n hi hs refl hb
 
-pub untyped : (m : WasmModule) (func index : ℕ) → slice_get m.functions func ≡ Some index → slice_get m.types index ≡ None → IsTrue false ↔ IsTypedAt m func
+pub untyped : (m : WasmModule) (func index : ℕ) → slice_get m.functions func ≡ Some index
+    → slice_get m.types index ≡ None → IsTrue false ↔ IsTypedAt m func
 untyped m func index hi hn = (
   (λ h. absurd (cc h)),
   (λ (i, g, ei, eg, t). absurd (cc (sym (ap (slice_get m.types) (same_Some _ _ (sym ei ∙ hi)) ∙ hn) ∙ t.1))),

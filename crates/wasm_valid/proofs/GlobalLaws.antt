@@ -13,14 +13,15 @@ use Rattle.w4_defs.specs.Tree.{Expr, done, plain, block, loop, if_then, if_else,
 use Rattle.w4_defs.specs.Validity.{IsConstant, constant_type}
 use Rattle.wasm_tree.specs.Pool.{operations_of}
 use Rattle.wasm_valid.specs.Constants.{constant_value, first_value}
-use Rattle.wasm_valid.proofs.NoneLaws.{all_at_place}
+use Rattle.wasm_valid.proofs.NoneLaws.{all_at}
 
 value_is : (op : Op) (t : ValType) → constant_type op ≡ Some t → constant_value op ≡ value_of t (constant op)
 value_is (I32Const n) t e = ap (λ k. value_of k n) (same_Some _ _ e)
 value_is (I64Const n) t e = ap (λ k. value_of k n) (same_Some _ _ e)
 value_is op t e = absurd cc
 
-first_is : (e : Expr) (t : ValType) → IsConstant t e → first_value (operations_of (flat e)) ≡ value_of t (constant_of e)
+first_is : (e : Expr) (t : ValType) → IsConstant t e
+    → first_value (operations_of (flat e)) ≡ value_of t (constant_of e)
 first_is done t h = absurd h
 first_is (plain m done) t h = value_is m.0 t h
 first_is (plain m (plain n rest)) t h = absurd h
@@ -33,12 +34,17 @@ first_is (loop r inner rest) t h = absurd h
 first_is (if_then r taken rest) t h = absurd h
 first_is (if_else r taken other rest) t h = absurd h
 
-given : (o : Option Global) (ops : List Op) (v : Val) → ((g : Global) → o ≡ Some g → IsConstant g.global.value g.first) → option_map (λ g. operations_of (flat g.first)) o ≡ Some ops
+given : (o : Option Global) (ops : List Op) (v : Val)
+    → ((g : Global) → o ≡ Some g → IsConstant g.global.value g.first)
+    → option_map (λ g. operations_of (flat g.first)) o ≡ Some ops
     → v ≡ first_value ops → option_map entries.first_value o ≡ Some v
 given None ops v h e is = absurd cc
 given (Some g) ops v h e is =
     ap Some (sym (first_is g.first g.global.value (h g refl)) ∙ ap first_value (same_Some _ _ e) ∙ sym is)
 
-pub global_given : (gs : List Global) (i : ℕ) (ops : List Op) (v : Val) → All (λ g. IsConstant g.global.value g.first) gs → option_map (λ g. operations_of (flat g.first)) (slice_get gs i) ≡ Some ops
+pub global_given : (gs : List Global) (i : ℕ) (ops : List Op) (v : Val)
+    → All (λ g. IsConstant g.global.value g.first) gs
+    → option_map (λ g. operations_of (flat g.first)) (slice_get gs i) ≡ Some ops
     → v ≡ first_value ops → option_map entries.first_value (slice_get gs i) ≡ Some v
-global_given gs i ops v h e is = given (slice_get gs i) ops v (λ g at. all_at_place (λ z. IsConstant z.global.value z.first) gs i g h at) e is
+global_given gs i ops v h e is =
+    given (slice_get gs i) ops v (λ g at. all_at (λ z. IsConstant z.global.value z.first) gs i g h at) e is

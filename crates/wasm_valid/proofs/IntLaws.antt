@@ -37,7 +37,8 @@ right_int (t ∷ a) b h = right_int a b h.1
 pub reversed_int : (ts : List ValType) → AreInt ts → AreInt (reverse ts)
 reversed_int [] h = tt
 reversed_int (t ∷ ts) h =
-    subst AreInt (sym (reverse-append (t ∷ []) ts)) (joined_int (reverse ts) (t ∷ []) (reversed_int ts h.1) (h.0, tt))
+    subst AreInt (sym (reverse-append (t ∷ []) ts))
+    (joined_int (reverse ts) (t ∷ []) (reversed_int ts h.1) (h.0, tt))
 
 pub result_int : (r : Option ValType) → is_float_result r ≡ false → AreInt (result_types r)
 result_int None h = tt
@@ -51,10 +52,6 @@ got_int [] k h = tt
 got_int (t ∷ ts) zero h = h.0
 got_int (t ∷ ts) (suc k) h = got_int ts k h.1
 
-pub if_some_is : {A : Type 0} (P : A → Type 0) (o : Option A) (x : A) → IfSome o P → o ≡ Some x → P x
-if_some_is P None x h e = absurd (cc e)
-if_some_is P (Some y) x h e = subst P (cc e) h
-
 -- ---- lists of kinds
 
 pub joined_kinds : (a b : List Kind) → AreIntKinds a → AreIntKinds b → AreIntKinds (a ++ b)
@@ -65,23 +62,29 @@ pub known_int : (ts : List ValType) → AreInt ts → AreIntKinds (map Some ts)
 known_int [] h = tt
 known_int (t ∷ ts) h = (h.0, known_int ts h.1)
 
-pub below_int : (t : ValType) (marked : Bool) (ks rest : List Kind) → AreIntKinds ks → below t marked ks ≡ Some rest → AreIntKinds rest
+pub below_int : (t : ValType) (marked : Bool) (ks rest : List Kind) → AreIntKinds ks
+    → below t marked ks ≡ Some rest → AreIntKinds rest
 below_int t true [] rest i h = let e : [] ≡ rest = cc h in subst AreIntKinds e tt
 below_int t false [] rest i h = absurd (cc h)
 below_int t true (k ∷ ks) rest i h = subst AreIntKinds (if_some (agrees k t) ks rest h).1 i.1
 below_int t false (k ∷ ks) rest i h = subst AreIntKinds (if_some (agrees k t) ks rest h).1 i.1
 
-pub all_below_int : (us : List ValType) (marked : Bool) (ks rest : List Kind) → AreIntKinds ks → below_all us marked ks ≡ Some rest → AreIntKinds rest
+pub all_below_int : (us : List ValType) (marked : Bool) (ks rest : List Kind) → AreIntKinds ks
+    → below_all us marked ks ≡ Some rest → AreIntKinds rest
 all_below_int [] marked ks rest i h = let e : ks ≡ rest = cc h in subst AreIntKinds e i
 all_below_int (u ∷ us) marked ks rest i h =
     let p = then_some (below_all us marked) (below u marked ks) rest h in
     all_below_int us marked p.0 rest (below_int u marked ks p.0 i p.1) p.2
 
-pub top_int : (marked : Bool) (ks : List Kind) (top : Kind × List Kind) → AreIntKinds ks → topmost marked ks ≡ Some top → IsIntKind top.0 × AreIntKinds top.1
-top_int true [] top i h = let e : (None, []) ≡ top = cc h in subst (λ x. IsIntKind x.0 × AreIntKinds x.1) e (tt, tt)
+pub top_int : (marked : Bool) (ks : List Kind) (top : Kind × List Kind) → AreIntKinds ks
+    → topmost marked ks ≡ Some top → IsIntKind top.0 × AreIntKinds top.1
+top_int true [] top i h =
+    let e : (None, []) ≡ top = cc h in subst (λ x. IsIntKind x.0 × AreIntKinds x.1) e (tt, tt)
 top_int false [] top i h = absurd (cc h)
-top_int true (k ∷ ks) top i h = let e : (k, ks) ≡ top = cc h in subst (λ x. IsIntKind x.0 × AreIntKinds x.1) e i
-top_int false (k ∷ ks) top i h = let e : (k, ks) ≡ top = cc h in subst (λ x. IsIntKind x.0 × AreIntKinds x.1) e i
+top_int true (k ∷ ks) top i h =
+    let e : (k, ks) ≡ top = cc h in subst (λ x. IsIntKind x.0 × AreIntKinds x.1) e i
+top_int false (k ∷ ks) top i h =
+    let e : (k, ks) ≡ top = cc h in subst (λ x. IsIntKind x.0 × AreIntKinds x.1) e i
 
 pub common_int : (j k both : Kind) → IsIntKind j → IsIntKind k → common_kind j k ≡ Some both → IsIntKind both
 common_int None k both i l h = let e : k ≡ both = cc h in subst IsIntKind e l
@@ -97,7 +100,8 @@ some_type (Some F32) i = absurd i
 some_type (Some F64) i = absurd i
 
 -- some int types for which kinds stand
-pub some_types : (ks : List Kind) (marked : Bool) → AreIntKinds ks → (ts : List ValType) × AreInt ts × (agree ks marked ts ≡ true)
+pub some_types : (ks : List Kind) (marked : Bool) → AreIntKinds ks
+    → (ts : List ValType) × AreInt ts × (agree ks marked ts ≡ true)
 some_types [] marked i = ([], tt, refl)
 some_types (k ∷ ks) marked i =
     let p = some_type k i.0 in
@@ -133,7 +137,8 @@ tested_arrow : (o : Option Arrow) → is_int_arrow o ≡ true → IsIntArrow o
 unfolding is_int_arrow
 tested_arrow None h = tt
 tested_arrow (Some arrow) h =
-    let p = and_parts (are_int arrow.0) (are_int arrow.1) h in (tested_int arrow.0 p.0, tested_int arrow.1 p.1)
+    let p = and_parts (are_int arrow.0) (are_int arrow.1) h in
+    (tested_int arrow.0 p.0, tested_int arrow.1 p.1)
 
 numeric_tested : (o : Op) → is_int_arrow (numeric_type o) ≡ true
 unfolding is_int_arrow are_int
@@ -143,30 +148,50 @@ numeric_tested _ = refl
 numeric_int : (o : Op) → IsIntArrow (numeric_type o)
 numeric_int o = tested_arrow (numeric_type o) (numeric_tested o)
 
-int_if : (b : Bool) (taken given : List ValType) → AreInt taken → AreInt given → IsIntArrow (arrow_if b taken given)
+int_if : (b : Bool) (taken given : List ValType) → AreInt taken → AreInt given
+    → IsIntArrow (arrow_if b taken given)
 int_if true taken given h g = (h, g)
 int_if false taken given h g = tt
 
 pub memory_int : (has : Bool) (o : Op) → IsIntArrow (memory_type has o)
-memory_int has (op.I32Load align offset) = int_if (has && nat_le (2 ^ align) 4) (I32 ∷ []) (I32 ∷ []) (tt, tt) (tt, tt)
-memory_int has (op.I64Load align offset) = int_if (has && nat_le (2 ^ align) 8) (I32 ∷ []) (I64 ∷ []) (tt, tt) (tt, tt)
-memory_int has (op.I32Load8S align offset) = int_if (has && nat_le (2 ^ align) 1) (I32 ∷ []) (I32 ∷ []) (tt, tt) (tt, tt)
-memory_int has (op.I32Load8U align offset) = int_if (has && nat_le (2 ^ align) 1) (I32 ∷ []) (I32 ∷ []) (tt, tt) (tt, tt)
-memory_int has (op.I32Load16S align offset) = int_if (has && nat_le (2 ^ align) 2) (I32 ∷ []) (I32 ∷ []) (tt, tt) (tt, tt)
-memory_int has (op.I32Load16U align offset) = int_if (has && nat_le (2 ^ align) 2) (I32 ∷ []) (I32 ∷ []) (tt, tt) (tt, tt)
-memory_int has (op.I64Load8S align offset) = int_if (has && nat_le (2 ^ align) 1) (I32 ∷ []) (I64 ∷ []) (tt, tt) (tt, tt)
-memory_int has (op.I64Load8U align offset) = int_if (has && nat_le (2 ^ align) 1) (I32 ∷ []) (I64 ∷ []) (tt, tt) (tt, tt)
-memory_int has (op.I64Load16S align offset) = int_if (has && nat_le (2 ^ align) 2) (I32 ∷ []) (I64 ∷ []) (tt, tt) (tt, tt)
-memory_int has (op.I64Load16U align offset) = int_if (has && nat_le (2 ^ align) 2) (I32 ∷ []) (I64 ∷ []) (tt, tt) (tt, tt)
-memory_int has (op.I64Load32S align offset) = int_if (has && nat_le (2 ^ align) 4) (I32 ∷ []) (I64 ∷ []) (tt, tt) (tt, tt)
-memory_int has (op.I64Load32U align offset) = int_if (has && nat_le (2 ^ align) 4) (I32 ∷ []) (I64 ∷ []) (tt, tt) (tt, tt)
-memory_int has (op.I32Store align offset) = int_if (has && nat_le (2 ^ align) 4) (I32 ∷ I32 ∷ []) [] (tt, (tt, tt)) tt
-memory_int has (op.I64Store align offset) = int_if (has && nat_le (2 ^ align) 8) (I32 ∷ I64 ∷ []) [] (tt, (tt, tt)) tt
-memory_int has (op.I32Store8 align offset) = int_if (has && nat_le (2 ^ align) 1) (I32 ∷ I32 ∷ []) [] (tt, (tt, tt)) tt
-memory_int has (op.I32Store16 align offset) = int_if (has && nat_le (2 ^ align) 2) (I32 ∷ I32 ∷ []) [] (tt, (tt, tt)) tt
-memory_int has (op.I64Store8 align offset) = int_if (has && nat_le (2 ^ align) 1) (I32 ∷ I64 ∷ []) [] (tt, (tt, tt)) tt
-memory_int has (op.I64Store16 align offset) = int_if (has && nat_le (2 ^ align) 2) (I32 ∷ I64 ∷ []) [] (tt, (tt, tt)) tt
-memory_int has (op.I64Store32 align offset) = int_if (has && nat_le (2 ^ align) 4) (I32 ∷ I64 ∷ []) [] (tt, (tt, tt)) tt
+memory_int has (op.I32Load align offset) =
+    int_if (has && nat_le (2 ^ align) 4) (I32 ∷ []) (I32 ∷ []) (tt, tt) (tt, tt)
+memory_int has (op.I64Load align offset) =
+    int_if (has && nat_le (2 ^ align) 8) (I32 ∷ []) (I64 ∷ []) (tt, tt) (tt, tt)
+memory_int has (op.I32Load8S align offset) =
+    int_if (has && nat_le (2 ^ align) 1) (I32 ∷ []) (I32 ∷ []) (tt, tt) (tt, tt)
+memory_int has (op.I32Load8U align offset) =
+    int_if (has && nat_le (2 ^ align) 1) (I32 ∷ []) (I32 ∷ []) (tt, tt) (tt, tt)
+memory_int has (op.I32Load16S align offset) =
+    int_if (has && nat_le (2 ^ align) 2) (I32 ∷ []) (I32 ∷ []) (tt, tt) (tt, tt)
+memory_int has (op.I32Load16U align offset) =
+    int_if (has && nat_le (2 ^ align) 2) (I32 ∷ []) (I32 ∷ []) (tt, tt) (tt, tt)
+memory_int has (op.I64Load8S align offset) =
+    int_if (has && nat_le (2 ^ align) 1) (I32 ∷ []) (I64 ∷ []) (tt, tt) (tt, tt)
+memory_int has (op.I64Load8U align offset) =
+    int_if (has && nat_le (2 ^ align) 1) (I32 ∷ []) (I64 ∷ []) (tt, tt) (tt, tt)
+memory_int has (op.I64Load16S align offset) =
+    int_if (has && nat_le (2 ^ align) 2) (I32 ∷ []) (I64 ∷ []) (tt, tt) (tt, tt)
+memory_int has (op.I64Load16U align offset) =
+    int_if (has && nat_le (2 ^ align) 2) (I32 ∷ []) (I64 ∷ []) (tt, tt) (tt, tt)
+memory_int has (op.I64Load32S align offset) =
+    int_if (has && nat_le (2 ^ align) 4) (I32 ∷ []) (I64 ∷ []) (tt, tt) (tt, tt)
+memory_int has (op.I64Load32U align offset) =
+    int_if (has && nat_le (2 ^ align) 4) (I32 ∷ []) (I64 ∷ []) (tt, tt) (tt, tt)
+memory_int has (op.I32Store align offset) =
+    int_if (has && nat_le (2 ^ align) 4) (I32 ∷ I32 ∷ []) [] (tt, (tt, tt)) tt
+memory_int has (op.I64Store align offset) =
+    int_if (has && nat_le (2 ^ align) 8) (I32 ∷ I64 ∷ []) [] (tt, (tt, tt)) tt
+memory_int has (op.I32Store8 align offset) =
+    int_if (has && nat_le (2 ^ align) 1) (I32 ∷ I32 ∷ []) [] (tt, (tt, tt)) tt
+memory_int has (op.I32Store16 align offset) =
+    int_if (has && nat_le (2 ^ align) 2) (I32 ∷ I32 ∷ []) [] (tt, (tt, tt)) tt
+memory_int has (op.I64Store8 align offset) =
+    int_if (has && nat_le (2 ^ align) 1) (I32 ∷ I64 ∷ []) [] (tt, (tt, tt)) tt
+memory_int has (op.I64Store16 align offset) =
+    int_if (has && nat_le (2 ^ align) 2) (I32 ∷ I64 ∷ []) [] (tt, (tt, tt)) tt
+memory_int has (op.I64Store32 align offset) =
+    int_if (has && nat_le (2 ^ align) 4) (I32 ∷ I64 ∷ []) [] (tt, (tt, tt)) tt
 memory_int has op.MemorySize = int_if has [] (I32 ∷ []) tt (tt, tt)
 memory_int has op.MemoryGrow = int_if has (I32 ∷ []) (I32 ∷ []) (tt, tt) (tt, tt)
 memory_int has op.MemoryCopy = int_if has (I32 ∷ I32 ∷ I32 ∷ []) [] (tt, (tt, (tt, tt))) tt
@@ -174,7 +199,8 @@ memory_int has op.MemoryFill = int_if has (I32 ∷ I32 ∷ I32 ∷ []) [] (tt, (
 memory_int has o = numeric_int o
 
 -- an arrow of what an index names
-named_int : {A : Type 0} (P : A → Type 0) (f : A → Option Arrow) (o : Option A) → IfSome o P → ((x : A) → P x → IsIntArrow (f x)) → IsIntArrow (option_and_then f o)
+named_int : {A : Type 0} (P : A → Type 0) (f : A → Option Arrow) (o : Option A) → IfSome o P
+    → ((x : A) → P x → IsIntArrow (f x)) → IsIntArrow (option_and_then f o)
 named_int P f None h g = tt
 named_int P f (Some x) h g = g x h
 
@@ -195,18 +221,25 @@ sets_int g h = int_if g.mutable (g.value ∷ []) [] (h, tt) tt
 
 pub arrow_int : (c : Context) (o : Op) → HasNoFloat c → IsIntArrow (only_type c o)
 arrow_int c op.Nop n = (tt, tt)
-arrow_int c (op.BrIf label) n = named_int AreInt branches (slice_get c.labels label) (got_all AreInt c.labels label n.labels) branches_int
+arrow_int c (op.BrIf label) n =
+    named_int AreInt branches (slice_get c.labels label) (got_all AreInt c.labels label n.labels) branches_int
 arrow_int c (op.Call func) n =
     named_int (λ s. AreInt s.params × AreInt s.results) calls (signature_of c.within func)
     (signature_int c.within (slice_get (function_indices c.within) func) n.signatures) (λ s h. h)
 arrow_int c (op.CallIndirect signature table) n =
-    int_when (nat_lt table (length (tables_of c.within))) (option_and_then calls_indirectly (slice_get c.within.types signature))
+    int_when (nat_lt table (length (tables_of c.within)))
+    (option_and_then calls_indirectly (slice_get c.within.types signature))
     (named_int (λ s. AreInt s.params × AreInt s.results) calls_indirectly (slice_get c.within.types signature)
     (got_all (λ s. AreInt s.params × AreInt s.results) c.within.types signature n.signatures)
     (λ s h. (joined_int s.params (I32 ∷ []) h.0 (tt, tt), h.1)))
-arrow_int c (op.LocalGet index) n = named_int IsInt gives (slice_get c.locals index) (got_int c.locals index n.locals) (λ t h. (tt, (h, tt)))
-arrow_int c (op.LocalSet index) n = named_int IsInt consumes (slice_get c.locals index) (got_int c.locals index n.locals) (λ t h. ((h, tt), tt))
-arrow_int c (op.LocalTee index) n = named_int IsInt unary (slice_get c.locals index) (got_int c.locals index n.locals) (λ t h. ((h, tt), (h, tt)))
+arrow_int c (op.LocalGet index) n =
+    named_int IsInt gives (slice_get c.locals index) (got_int c.locals index n.locals) (λ t h. (tt, (h, tt)))
+arrow_int c (op.LocalSet index) n =
+    named_int IsInt consumes (slice_get c.locals index) (got_int c.locals index n.locals)
+    (λ t h. ((h, tt), tt))
+arrow_int c (op.LocalTee index) n =
+    named_int IsInt unary (slice_get c.locals index) (got_int c.locals index n.locals)
+    (λ t h. ((h, tt), (h, tt)))
 arrow_int c (op.GlobalGet index) n =
     named_int (λ g. IsInt g.value) (λ g. gives g.value) (slice_get (global_types c.within) index)
     (got_all (λ g. IsInt g.value) (global_types c.within) index n.globals) (λ g h. (tt, (h, tt)))
@@ -215,7 +248,8 @@ arrow_int c (op.GlobalSet index) n =
     (got_all (λ g. IsInt g.value) (global_types c.within) index n.globals) sets_int
 arrow_int c o n = memory_int (nat_lt 0 (length (memories_of c.within))) o
 
-pub inside : (c : Context) (label : List ValType) → AreInt label → HasNoFloat c → HasNoFloat (with_label label c)
+pub inside : (c : Context) (label : List ValType) → AreInt label → HasNoFloat c
+    → HasNoFloat (with_label label c)
 inside c label h n = record {
   locals = n.locals;
   labels = All-cons AreInt label c.labels h n.labels;
@@ -224,5 +258,6 @@ inside c label h n = record {
   globals = n.globals;
 }
 
-pub arrow_ints : (o : Option Arrow) (arrow : Arrow) → IsIntArrow o → o ≡ Some arrow → AreInt arrow.0 × AreInt arrow.1
+pub arrow_ints : (o : Option Arrow) (arrow : Arrow) → IsIntArrow o → o ≡ Some arrow
+    → AreInt arrow.0 × AreInt arrow.1
 arrow_ints o arrow h e = subst IsIntArrow e h

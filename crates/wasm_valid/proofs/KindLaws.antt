@@ -6,14 +6,17 @@ use Rattle.w4_defs.specs.declared.value.ValType.TheVariants.{I32, I64, F32, F64}
 use Rattle.w4_defs.specs.Kinds.{same_type, same_types}
 use Rattle.w4_defs.specs.Shape.{Kind, agrees, agree, below, below_all, topmost, common_kind}
 
-pub then_some : {A B : Type 0} (f : A → Option B) (o : Option A) (y : B) → option_and_then f o ≡ Some y → (x : A) × (o ≡ Some x) × (f x ≡ Some y)
+pub then_some : {A B : Type 0} (f : A → Option B) (o : Option A) (y : B) → option_and_then f o ≡ Some y
+    → (x : A) × (o ≡ Some x) × (f x ≡ Some y)
 then_some f None y h = absurd (cc h)
 then_some f (Some x) y h = (x, refl, h)
 
-pub some_then : {A B : Type 0} (f : A → Option B) (o : Option A) (x : A) (y : B) → o ≡ Some x → f x ≡ Some y → option_and_then f o ≡ Some y
+pub some_then : {A B : Type 0} (f : A → Option B) (o : Option A) (x : A) (y : B) → o ≡ Some x → f x ≡ Some y
+    → option_and_then f o ≡ Some y
 some_then f o x y e h = ap (option_and_then f) e ∙ h
 
-pub map_some : {A B : Type 0} (f : A → B) (o : Option A) (y : B) → option_map f o ≡ Some y → (x : A) × (o ≡ Some x) × (f x ≡ y)
+pub map_some : {A B : Type 0} (f : A → B) (o : Option A) (y : B) → option_map f o ≡ Some y
+    → (x : A) × (o ≡ Some x) × (f x ≡ y)
 map_some f None y h = absurd (cc h)
 map_some f (Some x) y h = (x, refl, cc h)
 
@@ -68,7 +71,8 @@ below_agrees t false (k ∷ ks) rest ts h g =
     and_from (agrees k t) (agree ks false ts) p.0 (subst (λ xs. agree xs false ts ≡ true) (sym p.1) g)
 
 pub agrees_below : (t : ValType) (marked : Bool) (ks : List Kind) (ts : List ValType)
-    → agree ks marked (t ∷ ts) ≡ true → (rest : List Kind) × (below t marked ks ≡ Some rest) × (agree rest marked ts ≡ true)
+    → agree ks marked (t ∷ ts) ≡ true
+    → (rest : List Kind) × (below t marked ks ≡ Some rest) × (agree rest marked ts ≡ true)
 agrees_below t true [] ts h = ([], refl, anything_agrees ts)
 agrees_below t false [] ts h = absurd (cc h)
 agrees_below t true (k ∷ ks) ts h =
@@ -84,7 +88,8 @@ all_below_agree (u ∷ us) marked ks rest ts h g =
     below_agrees u marked ks p.0 (us ++ ts) p.1 (all_below_agree us marked p.0 rest ts p.2 g)
 
 pub agree_all_below : (us : List ValType) (marked : Bool) (ks : List Kind) (ts : List ValType)
-    → agree ks marked (us ++ ts) ≡ true → (rest : List Kind) × (below_all us marked ks ≡ Some rest) × (agree rest marked ts ≡ true)
+    → agree ks marked (us ++ ts) ≡ true
+    → (rest : List Kind) × (below_all us marked ks ≡ Some rest) × (agree rest marked ts ≡ true)
 agree_all_below [] marked ks ts h = (ks, refl, h)
 agree_all_below (u ∷ us) marked ks ts h =
     let p = agrees_below u marked ks (us ++ ts) h in
@@ -95,10 +100,12 @@ pub known_agree : (us : List ValType) (marked : Bool) (ks : List Kind) (ts : Lis
     → agree ks marked ts ≡ true → agree (map Some us ++ ks) marked (us ++ ts) ≡ true
 known_agree [] marked ks ts h = h
 known_agree (u ∷ us) marked ks ts h =
-    and_from (same_type u u) (agree (map Some us ++ ks) marked (us ++ ts)) (same_type_self u) (known_agree us marked ks ts h)
+    and_from (same_type u u) (agree (map Some us ++ ks) marked (us ++ ts)) (same_type_self u)
+    (known_agree us marked ks ts h)
 
 pub agree_known : (us : List ValType) (marked : Bool) (ks : List Kind) (ts : List ValType)
-    → agree (map Some us ++ ks) marked ts ≡ true → (rest : List ValType) × (ts ≡ us ++ rest) × (agree ks marked rest ≡ true)
+    → agree (map Some us ++ ks) marked ts ≡ true
+    → (rest : List ValType) × (ts ≡ us ++ rest) × (agree ks marked rest ≡ true)
 agree_known [] marked ks ts h = (ts, refl, h)
 agree_known (u ∷ us) marked ks [] h = absurd (cc h)
 agree_known (u ∷ us) marked ks (t ∷ ts) h =
@@ -109,35 +116,49 @@ agree_known (u ∷ us) marked ks (t ∷ ts) h =
 -- ---- the topmost kind
 
 pub top_agrees : (marked : Bool) (ks : List Kind) (top : Kind × List Kind) (t : ValType) (ts : List ValType)
-    → topmost marked ks ≡ Some top → agrees top.0 t ≡ true → agree top.1 marked ts ≡ true → agree ks marked (t ∷ ts) ≡ true
+    → topmost marked ks ≡ Some top → agrees top.0 t ≡ true → agree top.1 marked ts ≡ true
+    → agree ks marked (t ∷ ts) ≡ true
 top_agrees true [] top t ts h a g = refl
 top_agrees false [] top t ts h a g = absurd (cc h)
 top_agrees true (k ∷ ks) top t ts h a g =
     let e : (k, ks) ≡ top = cc h in
-    and_from (agrees k t) (agree ks true ts) (subst (λ x. agrees x.0 t ≡ true) (sym e) a) (subst (λ x. agree x.1 true ts ≡ true) (sym e) g)
+    and_from (agrees k t) (agree ks true ts) (subst (λ x. agrees x.0 t ≡ true) (sym e) a)
+    (subst (λ x. agree x.1 true ts ≡ true) (sym e) g)
 top_agrees false (k ∷ ks) top t ts h a g =
     let e : (k, ks) ≡ top = cc h in
-    and_from (agrees k t) (agree ks false ts) (subst (λ x. agrees x.0 t ≡ true) (sym e) a) (subst (λ x. agree x.1 false ts ≡ true) (sym e) g)
+    and_from (agrees k t) (agree ks false ts) (subst (λ x. agrees x.0 t ≡ true) (sym e) a)
+    (subst (λ x. agree x.1 false ts ≡ true) (sym e) g)
 
 pub agrees_top : (marked : Bool) (ks : List Kind) (t : ValType) (ts : List ValType)
-    → agree ks marked (t ∷ ts) ≡ true → (k : Kind) × (rest : List Kind) × (topmost marked ks ≡ Some (k, rest)) × (agrees k t ≡ true) × (agree rest marked ts ≡ true)
+    → agree ks marked (t ∷ ts) ≡ true
+    → (k : Kind) × (rest : List Kind) × (topmost marked ks ≡ Some (k, rest)) × (agrees k t ≡ true)
+    × (agree rest marked ts ≡ true)
 agrees_top true [] t ts h = (None, [], refl, refl, anything_agrees ts)
 agrees_top false [] t ts h = absurd (cc h)
-agrees_top true (k ∷ ks) t ts h = let p = and_parts (agrees k t) (agree ks true ts) h in (k, ks, refl, p.0, p.1)
-agrees_top false (k ∷ ks) t ts h = let p = and_parts (agrees k t) (agree ks false ts) h in (k, ks, refl, p.0, p.1)
+agrees_top true (k ∷ ks) t ts h =
+    let p = and_parts (agrees k t) (agree ks true ts) h in (k, ks, refl, p.0, p.1)
+agrees_top false (k ∷ ks) t ts h =
+    let p = and_parts (agrees k t) (agree ks false ts) h in (k, ks, refl, p.0, p.1)
 
 -- what agrees with the common kind agrees with both, and the other way
-pub common_agrees : (j k both : Kind) (t : ValType) → common_kind j k ≡ Some both → agrees both t ≡ true → (agrees j t ≡ true) × (agrees k t ≡ true)
+pub common_agrees : (j k both : Kind) (t : ValType) → common_kind j k ≡ Some both → agrees both t ≡ true
+    → (agrees j t ≡ true) × (agrees k t ≡ true)
 common_agrees None k both t h a = let e : k ≡ both = cc h in (refl, subst (λ x. agrees x t ≡ true) (sym e) a)
-common_agrees (Some u) None both t h a = let e : Some u ≡ both = cc h in (subst (λ x. agrees x t ≡ true) (sym e) a, refl)
+common_agrees (Some u) None both t h a =
+    let e : Some u ≡ both = cc h in (subst (λ x. agrees x t ≡ true) (sym e) a, refl)
 common_agrees (Some u) (Some v) both t h a =
     let p = if_some (same_type u v) (Some u) both h in
     let is : same_type u t ≡ true = subst (λ x. agrees x t ≡ true) (sym p.1) a in
     (is, subst (λ x. same_type x t ≡ true) (same_type_is u v p.0) is)
 
-pub agrees_common : (j k : Kind) (t : ValType) → agrees j t ≡ true → agrees k t ≡ true → (both : Kind) × (common_kind j k ≡ Some both) × (agrees both t ≡ true)
+pub agrees_common : (j k : Kind) (t : ValType) → agrees j t ≡ true → agrees k t ≡ true
+    → (both : Kind) × (common_kind j k ≡ Some both) × (agrees both t ≡ true)
 agrees_common None k t a b = (k, refl, b)
 agrees_common (Some u) None t a b = (Some u, refl, a)
 agrees_common (Some u) (Some v) t a b =
-    let e : u ≡ v = same_type_is u t a ∙ sym (same_type_is v t b) in
-    (Some u, some_if (same_type u v) (Some (Some u)) (subst (λ x. same_type u x ≡ true) e (same_type_self u)), a)
+    let e : u ≡ v = same_type_is u t a ∙ sym (same_type_is v t b) in (
+      Some u,
+      some_if (same_type u v) (Some (Some u))
+          (subst (λ x. same_type u x ≡ true) e (same_type_self u)),
+      a,
+    )

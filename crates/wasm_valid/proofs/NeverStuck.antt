@@ -17,11 +17,12 @@ use Rattle.w4_defs.specs.Control.{leave}
 use Rattle.w4_defs.specs.Evaluation.{body_env, eval, run_own, ended, enter_own, enter, run_entry}
 use Rattle.w4_defs.specs.RunLaws.{types_of}
 use Rattle.wasm_valid.specs.TypedRuns.{AnswersByType, HasTypes, NeverStuck, KeepsGlobalTypes, value_types}
+use Rattle.wasm_valid.specs.Carts.{nothing}
+use Rattle.wasm_valid.proofs.ProfileLaws.{own_globals}
 use Rattle.wasm_valid.proofs.TypedValues.{are_of_typed}
 use Rattle.wasm_valid.proofs.TypedLists.{Fits}
 use Rattle.wasm_valid.proofs.TypedCalls.{IsReady, HasSignature, Linked, Matches}
 use Rattle.wasm_valid.proofs.TypedSteps.{eval_fits}
-use Rattle.wasm_valid.proofs.TypedImports.{only_own_globals}
 use Rattle.wasm_valid.proofs.TypedModules.{linked}
 
 -- an end with a meaning, at which the globals have these types
@@ -60,12 +61,8 @@ import_takes : (i : Import) → (import_type i).params ≡ [] → ⊥
 import_takes Blit h = absurd (cc h)
 import_takes _ h = absurd (cc h)
 
--- the type of an entry function
-abbrev pub no_type : Signature
-no_type = record { params = []; results = [] }
-
 enter_ends : {H : Type 0} (m : WasmModule) (prog : Prog H) → Linked m prog
-    → (callee : Callee) (st : Store H) (b : ℕ) → IsReady m callee → HasSignature no_type callee
+    → (callee : Callee) (st : Store H) (b : ℕ) → IsReady m callee → HasSignature nothing callee
     → types_of st.globals ≡ map (λ g. g.value) (global_types m)
     → Ends (map (λ g. g.value) (global_types m)) (enter prog (Some callee) st b)
 enter_ends {H} m prog l (own f) st b ready named k =
@@ -81,7 +78,7 @@ enter_ends {H} m prog l (own f) st b ready named k =
     (zeros f.function.runs) st b
     (omega arith) refl same ready.0 refl locals k in
     subst (λ t. Ends types (cond t (enter_own prog f st b) Undefined))
-    (ap (λ s. same_signature s no_type) (sym named))
+    (ap (λ s. same_signature s nothing) (sym named))
     (cond_ends types (nat_le (reserve_of f) 1048576) (ended (run_own prog f st b)) (Faulted Stack st)
     (left_ends m f.signature f.function o fits) k)
 enter_ends m prog l (imported s i) st b ready named k =
@@ -94,16 +91,16 @@ values_of (g ∷ gs) = ap (λ ts. g.global.value ∷ ts) (values_of gs)
 
 -- only own globals are there
 own_values : (m : WasmModule) → profile_refusal m ≡ None → map (λ g. g.value) (global_types m) ≡ value_types m
-own_values m h = ap (map (λ g. g.value)) (only_own_globals m h) ∙ values_of m.globals
+own_values m h = ap (map (λ g. g.value)) (own_globals m h) ∙ values_of m.globals
 
 run_ends : {H : Type 0} (m : WasmModule) (out : Outside H) → profile_refusal m ≡ None → IsValid m
     → length m.functions ≡ length m.bodies → AnswersByType out
-    → (func : ℕ) (st : Store H) (b : ℕ) → signature_of m func ≡ Some no_type
+    → (func : ℕ) (st : Store H) (b : ℕ) → signature_of m func ≡ Some nothing
     → types_of st.globals ≡ value_types m → Ends (value_types m) (run_entry m out func st b)
 run_ends m out profile valid even answers func st b entry globals =
     let prog = program m out in
     let l = linked m out profile valid even answers in
-    let p = l.functions func no_type entry in
+    let p = l.functions func nothing entry in
     let same = own_values m profile in
     subst (λ types. Ends types (run_entry m out func st b)) same
     (subst (λ callee. Ends (map (λ g. g.value) (global_types m)) (enter prog callee st b)) (sym p.named.found)
@@ -111,7 +108,7 @@ run_ends m out profile valid even answers func st b entry globals =
 
 pub never_stuck : {H : Type 0} (m : WasmModule) (out : Outside H)
     → profile_refusal m ≡ None → IsValid m → length m.functions ≡ length m.bodies → AnswersByType out
-    → (func : ℕ) (st : Store H) (b : ℕ) → signature_of m func ≡ Some no_type
+    → (func : ℕ) (st : Store H) (b : ℕ) → signature_of m func ≡ Some nothing
     → types_of st.globals ≡ value_types m
     → run_entry m out func st b ≢ Undefined
 never_stuck m out profile valid even answers func st b entry globals h =
@@ -119,7 +116,7 @@ never_stuck m out profile valid even answers func st b entry globals h =
 
 pub globals_keep_types : {H : Type 0} (m : WasmModule) (out : Outside H)
     → profile_refusal m ≡ None → IsValid m → length m.functions ≡ length m.bodies → AnswersByType out
-    → (func : ℕ) (st : Store H) (b : ℕ) → signature_of m func ≡ Some no_type
+    → (func : ℕ) (st : Store H) (b : ℕ) → signature_of m func ≡ Some nothing
     → types_of st.globals ≡ value_types m
     → HasTypes (value_types m) (run_entry m out func st b)
 globals_keep_types m out profile valid even answers func st b entry globals =

@@ -1,48 +1,47 @@
--- Lists of which no item passes a test.
-use Rattle.std.proofs.Common.{◌≡◌, ℕ, zero, suc, ◌+◌, List, [], ◌∷◌, ◌++◌, map, cond, Bool, true, false, Option, Some, None, refl, sym, subst, ◌∙◌, ap}
-use Rattle.std.specs.Prelude.{◌||◌, slice_get, position}
-use Rattle.std.specs.List.{list_any, position_from, All}
+-- Lists of which no item passes a test, and lists of which all keep a rule.
+use Rattle.std.proofs.Common.{◌≡◌, ℕ, zero, suc, ◌+◌, List, [], ◌∷◌, map, cond, Bool, true, false, Option, Some, None, refl, sym, subst, ◌∙◌, ap}
+use Rattle.std.specs.Prelude.{◌||◌, slice_get, position, All, IfSome}
+use Rattle.std.specs.List.{list_any, position_from}
+use Rattle.std.proofs.lemmas.Bool.{or_parts, or_from}
 use Rattle.std.proofs.lemmas.Iterator.Adapters.{position_from-zero}
-use Rattle.std.proofs.lemmas.Option.{same_Some, slice_get_within, get_or_from_slice_get}
-
-abbrev pub NoneOf : {X : Type 0} → (X → Bool) → List X → Type 0
-NoneOf p [] = Unit {0}
-NoneOf p (x ∷ xs) = (p x ≡ false) × NoneOf p xs
+use Rattle.std.proofs.lemmas.List.Elements.{All-nil, All-cons}
+use Rattle.std.proofs.lemmas.Option.{same_Some}
+use Rattle.wasm_tree.proofs.EntryLaws.{got_all}
 
 failed : (b : Bool) (i : ℕ) (o : Option ℕ) → cond b (Some i) o ≡ None → (b ≡ false) × (o ≡ None)
 failed true i o e = absurd cc
 failed false i o e = (refl, e)
 
-none_from : {X : Type 0} (p : X → Bool) (i : ℕ) (xs : List X) → position_from p i xs ≡ None → NoneOf p xs
-none_from p i [] e = tt
-none_from p i (x ∷ xs) e = let h = failed (p x) i _ e in (h.0, none_from p (i + 1) xs h.1)
+none_from : {X : Type 0} (p : X → Bool) (i : ℕ) (xs : List X) → position_from p i xs ≡ None
+    → list_any p xs ≡ false
+none_from p i [] e = refl
+none_from p i (x ∷ xs) e =
+    let h = failed (p x) i (position_from p (i + 1) xs) e in
+    or_from (p x) (list_any p xs) h.0 (none_from p (i + 1) xs h.1)
 
-pub none_by_position : {X : Type 0} (p : X → Bool) (xs : List X) → position p xs ≡ None → NoneOf p xs
+pub none_by_position : {X : Type 0} (p : X → Bool) (xs : List X) → position p xs ≡ None
+    → list_any p xs ≡ false
 none_by_position p xs e = none_from p 0 xs (sym (position_from-zero p xs) ∙ e)
 
-pub neither : (a b : Bool) → (a || b) ≡ false → (a ≡ false) × (b ≡ false)
-neither true b e = absurd cc
-neither false b e = (refl, e)
+-- the flags of a list
+pub any_mapped : {X : Type 0} (f : X → Bool) (xs : List X) → list_any (λ b. b) (map f xs) ≡ list_any f xs
+any_mapped f [] = refl
+any_mapped f (x ∷ xs) = ap (λ b. f x || b) (any_mapped f xs)
 
-pub none_by_any : {X : Type 0} (p : X → Bool) (xs : List X) → list_any p xs ≡ false → NoneOf p xs
-none_by_any p [] e = tt
-none_by_any p (x ∷ xs) e = let h = neither (p x) (list_any p xs) e in (h.0, none_by_any p xs h.1)
+pub none_at : {X : Type 0} (p : X → Bool) (xs : List X) (k : ℕ) (x : X)
+    → list_any p xs ≡ false → slice_get xs k ≡ Some x → p x ≡ false
+none_at p [] k x h e = absurd (cc e)
+none_at p (y ∷ xs) zero x h e =
+    subst (λ z. p z ≡ false) (same_Some y x e) (or_parts (p y) (list_any p xs) h).0
+none_at p (y ∷ xs) (suc k) x h e = none_at p xs k x (or_parts (p y) (list_any p xs) h).1 e
 
--- the flags of two lists
-pub none_parts : {X : Type 0} (f : X → Bool) (xs : List X) (ys : List Bool) → NoneOf (λ b. b) (map f xs ++ ys) → NoneOf f xs × NoneOf (λ b. b) ys
-none_parts f [] ys h = (tt, h)
-none_parts f (x ∷ xs) ys h = let r = none_parts f xs ys h.1 in ((h.0, r.0), r.1)
+-- what no item has, all lack
+pub none_all : {X : Type 0} (p : X → Bool) (P : X → Type 0) (xs : List X)
+    → ((x : X) → p x ≡ false → P x) → list_any p xs ≡ false → All P xs
+none_all p P [] g h = All-nil P
+none_all p P (x ∷ xs) g h =
+    let q = or_parts (p x) (list_any p xs) h in All-cons P x xs (g x q.0) (none_all p P xs g q.1)
 
-pub none_mapped : {X : Type 0} (f : X → Bool) (xs : List X) → NoneOf (λ b. b) (map f xs) → NoneOf f xs
-none_mapped f [] h = tt
-none_mapped f (x ∷ xs) h = (h.0, none_mapped f xs h.1)
-
-pub none_at_place : {X : Type 0} (p : X → Bool) (xs : List X) (k : ℕ) (x : X) → NoneOf p xs → slice_get xs k ≡ Some x → p x ≡ false
-none_at_place p [] k x h e = absurd cc
-none_at_place p (y ∷ ys) zero x h e = ap p (sym (same_Some _ _ e)) ∙ h.0
-none_at_place p (y ∷ ys) (suc k) x h e = none_at_place p ys k x h.1 e
-
-pub all_at_place : {X : Type 0} (P : X → Type 0) (xs : List X) (k : ℕ) (x : X) → All P xs → slice_get xs k ≡ Some x → P x
-all_at_place P xs k x h e =
-    let same = get_or_from_slice_get xs k x x e in
-    subst P same (h k x (slice_get_within xs k x e))
+pub all_at : {X : Type 0} (P : X → Type 0) (xs : List X) (k : ℕ) (x : X) → All P xs
+    → slice_get xs k ≡ Some x → P x
+all_at P xs k x h e = subst (λ o. IfSome o P) e (got_all P xs k h)

@@ -6,25 +6,30 @@ use Rattle.w4_defs.specs.Shape.{Kind, Shape, below, below_all, with_kinds, taken
 use Rattle.wasm_valid.specs.Pass.{Open, with_shape}
 use Rattle.wasm_valid.specs.OpenLists.{at_top, on_top}
 
-pub at_same : (f g : Shape → Option Shape) (os : List Open) → ((s : Shape) → f s ≡ g s) → at_top f os ≡ at_top g os
+pub at_same : (f g : Shape → Option Shape) (os : List Open) → ((s : Shape) → f s ≡ g s)
+    → at_top f os ≡ at_top g os
 at_same f g [] h = refl
 at_same f g (o ∷ os) h = ap (option_map (λ s. with_shape o s ∷ os)) (h o.shape)
 
 mapped_shape : (o : Open) (os : List Open) (f : Shape → Shape) (x : Option Shape)
-    → option_map (λ s. with_shape o s ∷ os) (option_map f x) ≡ option_map (on_top f) (option_map (λ s. with_shape o s ∷ os) x)
+    → option_map (λ s. with_shape o s ∷ os) (option_map f x)
+    ≡ option_map (on_top f) (option_map (λ s. with_shape o s ∷ os) x)
 mapped_shape o os f None = refl
 mapped_shape o os f (Some s) = refl
 
-pub at_map : (f : Shape → Shape) (g : Shape → Option Shape) (os : List Open) → at_top (λ s. option_map f (g s)) os ≡ option_map (on_top f) (at_top g os)
+pub at_map : (f : Shape → Shape) (g : Shape → Option Shape) (os : List Open)
+    → at_top (λ s. option_map f (g s)) os ≡ option_map (on_top f) (at_top g os)
 at_map f g [] = refl
 at_map f g (o ∷ os) = mapped_shape o os f (g o.shape)
 
 then_shape : (o : Open) (os : List Open) (f : Shape → Option Shape) (x : Option Shape)
-    → option_map (λ s. with_shape o s ∷ os) (option_and_then f x) ≡ option_and_then (at_top f) (option_map (λ s. with_shape o s ∷ os) x)
+    → option_map (λ s. with_shape o s ∷ os) (option_and_then f x)
+    ≡ option_and_then (at_top f) (option_map (λ s. with_shape o s ∷ os) x)
 then_shape o os f None = refl
 then_shape o os f (Some s) = refl
 
-pub at_then : (f g : Shape → Option Shape) (os : List Open) → at_top (λ s. option_and_then f (g s)) os ≡ option_and_then (at_top f) (at_top g os)
+pub at_then : (f g : Shape → Option Shape) (os : List Open)
+    → at_top (λ s. option_and_then f (g s)) os ≡ option_and_then (at_top f) (at_top g os)
 at_then f g [] = refl
 at_then f g (o ∷ os) = then_shape o os f (g o.shape)
 
@@ -39,22 +44,26 @@ on_same f g (o ∷ os) h = ap (λ s. with_shape o s ∷ os) (h o.shape)
 -- ---- several types are taken, the last first
 
 below_then : (ts : List ValType) (s : Shape) (x : Option (List Kind))
-    → option_map (with_kinds s) (option_and_then (below_all (reverse ts) s.marked) x) ≡ option_and_then (taken ts) (option_map (with_kinds s) (option_and_then (below_all [] s.marked) x))
+    → option_map (with_kinds s) (option_and_then (below_all (reverse ts) s.marked) x)
+    ≡ option_and_then (taken ts) (option_map (with_kinds s) (option_and_then (below_all [] s.marked) x))
 below_then ts s None = refl
 below_then ts s (Some ks) = refl
 
-taken_shape : (ts : List ValType) (t : ValType) (s : Shape) → taken (ts ++ t ∷ []) s ≡ option_and_then (taken ts) (taken (t ∷ []) s)
+taken_shape : (ts : List ValType) (t : ValType) (s : Shape)
+    → taken (ts ++ t ∷ []) s ≡ option_and_then (taken ts) (taken (t ∷ []) s)
 taken_shape ts t s =
     ap (λ us. option_map (with_kinds s) (below_all us s.marked s.kinds)) (reverse-append ts (t ∷ []))
     ∙ below_then ts s (below t s.marked s.kinds)
 
-pub taken_last : (ts : List ValType) (t : ValType) (os : List Open) → at_top (taken (ts ++ t ∷ [])) os ≡ option_and_then (at_top (taken ts)) (at_top (taken (t ∷ [])) os)
+pub taken_last : (ts : List ValType) (t : ValType) (os : List Open)
+    → at_top (taken (ts ++ t ∷ [])) os ≡ option_and_then (at_top (taken ts)) (at_top (taken (t ∷ [])) os)
 taken_last ts t os =
     at_same (taken (ts ++ t ∷ [])) (λ s. option_and_then (taken ts) (taken (t ∷ []) s)) os (taken_shape ts t)
     ∙ at_then (taken ts) (taken (t ∷ [])) os
 
 -- the first types up to and with one
-up_to : {A : Type 0} (xs : List A) (k : ℕ) (d : A) → k < length xs → take (suc k) xs ≡ take k xs ++ get_or xs k d ∷ []
+up_to : {A : Type 0} (xs : List A) (k : ℕ) (d : A) → k < length xs
+    → take (suc k) xs ≡ take k xs ++ get_or xs k d ∷ []
 up_to [] k d h = absurd (omega (arith, h))
 up_to (x ∷ xs) zero d h = refl
 up_to (x ∷ xs) (suc k) d h = ap (λ zs. x ∷ zs) (up_to xs k d (omega (arith, h)))

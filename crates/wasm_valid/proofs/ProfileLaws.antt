@@ -1,131 +1,117 @@
--- What a module within the profile imports: functions and the memory, so no table and no global.
-use Rattle.std.proofs.Common.{◌≡◌, ℕ, ◌+◌, ◌<◌, Bool, true, false, not, ◌||◌, cond, List, [], ◌∷◌, ◌++◌, length, map, Option, Some, None, option_and_then, refl, sym, ap, ◌∙◌, arith, length-append}
-use Rattle.std.specs.Prelude.{position, slice_get, nat_lt, IsSome}
-use Rattle.std.specs.List.{list_any, position_from, filter_map, cons_option}
-use Rattle.std.proofs.lemmas.Bool.{lt-ltb}
-use Rattle.std.proofs.lemmas.Iterator.Adapters.{position_from-zero}
-use Rattle.w4_defs.specs.declared.module.ImportKind.{ImportKind}
-use Rattle.w4_defs.specs.declared.module.ImportKind.TheVariants as kind
+-- What a module within the profile imports: the memory, and functions that have the types of their names; so
+-- no table and no global.
+use Rattle.std.proofs.Common.{◌≡◌, ◌⊎◌, inl, inr, ℕ, ◌<◌, Bool, true, false, ◌||◌, cond, List, [], ◌∷◌, ◌++◌, length, map, Option, Some, None, refl, ap, ◌∙◌, arith, length-append}
+use Rattle.std.specs.Prelude.{slice_get, nat_lt, filter_map, IsSome}
+use Rattle.std.specs.List.{list_any, cons_option}
+use Rattle.std.proofs.lemmas.Bool.{lt-ltb, or_parts, not-false}
+use Rattle.w4_defs.specs.declared.value.Limits.{Limits}
 use Rattle.w4_defs.specs.declared.console.Import.{Import}
-use Rattle.w4_defs.specs.declared.refusal.ProfileRefusal.{ProfileRefusal}
-use Rattle.w4_defs.specs.declared.refusal.ProfileRefusal.TheVariants as refusal
-use Rattle.w4_defs.specs.Module.{Imported, WasmModule}
+use Rattle.w4_defs.specs.declared.module.ImportKind.{ImportKind}
+use Rattle.w4_defs.specs.declared.module.ImportKind.TheVariants.{Func, Table, Memory, Global}
+use Rattle.w4_defs.specs.Module.{Signature, Imported, WasmModule}
 use Rattle.w4_defs.specs.Lookup.{imported_table, imported_memory, imported_global, tables_of, memories_of, global_types}
 use Rattle.w4_defs.specs.ImportNames.{import_named}
-use Rattle.w4_defs.specs.Floats.{module_has_float}
-use Rattle.w4_defs.specs.Profile.{is_memory, is_known_entry, is_right_function, is_right_memory, is_right, first_wrong_import, unknown_import, wrong_import, if_so, first_of, causes, profile_refusal}
+use Rattle.w4_defs.specs.Imports.{import_type}
+use Rattle.w4_defs.specs.Profile.{is_memory, is_right, is_right_memory, is_right_function, has_type_of, profile_refusal}
+use Rattle.wasm_valid.proofs.ProfileFacts.{is_wrong, no_cause}
+use Rattle.wasm_valid.proofs.TypeLaws.{same_signature_is}
 
--- where no cause holds, each is none
-AreNone : List (Option ProfileRefusal) → Type 0
-AreNone [] = Unit {0}
-AreNone (x ∷ xs) = (x ≡ None) × AreNone xs
+-- ---- each import
 
-none_of : (xs : List (Option ProfileRefusal)) → first_of xs ≡ None → AreNone xs
-unfolding AreNone
-none_of [] h = tt
-none_of (None ∷ xs) h = (refl, none_of xs h)
-none_of (Some r ∷ xs) h = absurd (cc h)
+-- a function import of its name's type
+pub record Takes (types : List Signature) (kind : ImportKind) (name : Option Import) : Type 0 where
+  pub index : ℕ
+  pub import : Import
+  pub function : kind ≡ Func index
+  pub named : name ≡ Some import
+  pub typed : slice_get types index ≡ Some (import_type import)
 
-not_so : (b : Bool) (r : ProfileRefusal) → if_so b r ≡ None → b ≡ false
-not_so true r h = absurd (cc h)
-not_so false r h = refl
+abbrev pub IsRight : List Signature → ImportKind → Option Import → Type 0
+IsRight types kind name = ((l : Limits) × (kind ≡ Memory l)) ⊎ Takes types kind name
 
-is_not : (b : Bool) → not b ≡ false → b ≡ true
-is_not true h = refl
-is_not false h = absurd (cc h)
+right_memory : (types : List Signature) (kind : ImportKind) (name : Option Import)
+    → is_right_memory kind ≡ true
+    → IsRight types kind name
+right_memory types (Memory l) name h = inl (l, refl)
+right_memory types (Func index) name h = absurd (cc h)
+right_memory types (Table l) name h = absurd (cc h)
+right_memory types (Global g) name h = absurd (cc h)
 
--- the causes that speak of floats and imports
-record Within (m : WasmModule) : Type 0 where
-  pub floats : module_has_float m ≡ false
-  pub unknown : unknown_import m ≡ None
-  pub wrong : wrong_import m ≡ None
-  pub memory : list_any is_memory m.imports ≡ true
+has_type : (name : Import) (o : Option Signature) → has_type_of name o ≡ true → o ≡ Some (import_type name)
+has_type name None h = absurd (cc h)
+has_type name (Some s) h = ap Some (same_signature_is s (import_type name) h)
 
-within : (m : WasmModule) → profile_refusal m ≡ None → Within m
-unfolding AreNone
-within m h =
-    let a = none_of (causes m) h in
-    record {
-      floats = not_so (module_has_float m) refusal.Floats a.0;
-      unknown = a.1.1.1.0;
-      wrong = a.1.1.1.1.0;
-      memory = is_not (list_any is_memory m.imports) (not_so (not (list_any is_memory m.imports)) refusal.NoMemory a.1.1.1.1.1.0);
-    }
+right_function : (m : WasmModule) (kind : ImportKind) (name : Option Import)
+    → is_right_function m name kind ≡ true → IsRight m.types kind name
+right_function m (Func index) (Some import) h =
+    inr
+    (record {
+      index = index;
+      import = import;
+      function = refl;
+      named = refl;
+      typed = has_type import (slice_get m.types index) h;
+    })
+right_function m (Func index) None h = absurd (cc h)
+right_function m (Memory l) None h = absurd (cc h)
+right_function m (Memory l) (Some import) h = absurd (cc h)
+right_function m (Table l) None h = absurd (cc h)
+right_function m (Table l) (Some import) h = absurd (cc h)
+right_function m (Global g) None h = absurd (cc h)
+right_function m (Global g) (Some import) h = absurd (cc h)
 
-pub no_floats : (m : WasmModule) → profile_refusal m ≡ None → module_has_float m ≡ false
-no_floats m h = (within m h).floats
+right_kind : (m : WasmModule) (kind : ImportKind) (name : Option Import) (b : Bool)
+    → cond b (is_right_memory kind) (is_right_function m name kind) ≡ true → IsRight m.types kind name
+right_kind m kind name true h = right_memory m.types kind name h
+right_kind m kind name false h = right_function m kind name h
 
--- an import that isn't right is one of two refusals
-one_of : (b : Bool) (r s : ProfileRefusal) → if_so (not b) r ≡ None → if_so b s ≡ None → ⊥
-one_of true r s h g = cc g
-one_of false r s h g = cc h
+pub right_import : (m : WasmModule) (i : Imported) → is_right m i ≡ true
+    → IsRight m.types i.kind (import_named i.module_name i.name)
+right_import m i h = right_kind m i.kind (import_named i.module_name i.name) (is_memory i) h
 
-no_wrong : (m : WasmModule) (o : Option ℕ)
-    → option_and_then (λ k. if_so (not (is_known_entry (slice_get m.imports k))) (refusal.UnknownImport k)) o ≡ None
-    → option_and_then (λ k. if_so (is_known_entry (slice_get m.imports k)) (refusal.WrongImport k)) o ≡ None → o ≡ None
-no_wrong m None h g = refl
-no_wrong m (Some k) h g = absurd (one_of (is_known_entry (slice_get m.imports k)) _ _ h g)
+-- ---- no table and no global is imported
 
-all_right : (m : WasmModule) → Within m → position (λ i. not (is_right m i)) m.imports ≡ None
-all_right m w = no_wrong m (first_wrong_import m) w.unknown w.wrong
+no_table : (types : List Signature) (kind : ImportKind) (name : Option Import) → IsRight types kind name
+    → imported_table kind ≡ None
+no_table types kind name (inl p) = ap imported_table p.1
+no_table types kind name (inr t) = ap imported_table t.function
 
--- of a list without such an item, the first and the rest
-cond_none : (b : Bool) (n : ℕ) (o : Option ℕ) → cond b (Some n) o ≡ None → (b ≡ false) × (o ≡ None)
-cond_none true n o h = absurd (cc h)
-cond_none false n o h = (refl, h)
+no_global : (types : List Signature) (kind : ImportKind) (name : Option Import) → IsRight types kind name
+    → imported_global kind ≡ None
+no_global types kind name (inl p) = ap imported_global p.1
+no_global types kind name (inr t) = ap imported_global t.function
 
-AreRight : WasmModule → List Imported → Type 0
-AreRight m [] = Unit {0}
-AreRight m (i ∷ is) = (is_right m i ≡ true) × AreRight m is
-
-right_from : (m : WasmModule) (n : ℕ) (is : List Imported) → position_from (λ i. not (is_right m i)) n is ≡ None → AreRight m is
-unfolding AreRight
-right_from m n [] h = tt
-right_from m n (i ∷ is) h =
-    let p = cond_none (not (is_right m i)) n (position_from (λ i. not (is_right m i)) (n + 1) is) h in
-    (is_not (is_right m i) p.0, right_from m (n + 1) is p.1)
-
-are_right : (m : WasmModule) → Within m → AreRight m m.imports
-are_right m w = right_from m 0 m.imports (sym (position_from-zero (λ i. not (is_right m i)) m.imports) ∙ all_right m w)
-
--- a right import is a function or the memory
-right_kind : (m : WasmModule) (b : Bool) (o : Option Import) (k : ImportKind) → cond b (is_right_memory k) (is_right_function m o k) ≡ true
-    → (imported_table k ≡ None) × (imported_global k ≡ None)
-right_kind m b o (kind.Func index) h = (refl, refl)
-right_kind m b o (kind.Memory l) h = (refl, refl)
-right_kind m true o (kind.Table l) h = absurd (cc h)
-right_kind m true o (kind.Global g) h = absurd (cc h)
-right_kind m false None (kind.Table l) h = absurd (cc h)
-right_kind m false (Some name) (kind.Table l) h = absurd (cc h)
-right_kind m false None (kind.Global g) h = absurd (cc h)
-right_kind m false (Some name) (kind.Global g) h = absurd (cc h)
-
-kind_of : (m : WasmModule) (i : Imported) → is_right m i ≡ true → (imported_table i.kind ≡ None) × (imported_global i.kind ≡ None)
-kind_of m i h = right_kind m (is_memory i) (import_named i.module_name i.name) i.kind h
-
-no_tables : (m : WasmModule) (is : List Imported) → AreRight m is → filter_map (λ i. imported_table i.kind) is ≡ []
-unfolding AreRight
-no_tables m [] h = refl
-no_tables m (i ∷ is) h = ap (λ o. cons_option o (filter_map (λ i. imported_table i.kind) is)) (kind_of m i h.0).0 ∙ no_tables m is h.1
-
-no_globals : (m : WasmModule) (is : List Imported) → AreRight m is → filter_map (λ i. imported_global i.kind) is ≡ []
-unfolding AreRight
-no_globals m [] h = refl
-no_globals m (i ∷ is) h = ap (λ o. cons_option o (filter_map (λ i. imported_global i.kind) is)) (kind_of m i h.0).1 ∙ no_globals m is h.1
+none_imported : {A : Type 0} (f : ImportKind → Option A) (m : WasmModule) (is : List Imported)
+    → ((kind : ImportKind) (name : Option Import) → IsRight m.types kind name → f kind ≡ None)
+    → list_any (is_wrong m) is ≡ false → filter_map (λ i. f i.kind) is ≡ []
+none_imported f m [] none h = refl
+none_imported f m (i ∷ is) none h =
+    let q = or_parts (is_wrong m i) (list_any (is_wrong m) is) h in
+    ap (λ o. cons_option o (filter_map (λ i. f i.kind) is))
+    (none i.kind (import_named i.module_name i.name) (right_import m i (not-false (is_right m i) q.0)))
+    ∙ none_imported f m is none q.1
 
 pub own_tables : (m : WasmModule) → profile_refusal m ≡ None → tables_of m ≡ m.tables
-own_tables m h = ap (λ ts. ts ++ m.tables) (no_tables m m.imports (are_right m (within m h)))
+own_tables m h =
+    ap (λ ts. ts ++ m.tables)
+    (none_imported imported_table m m.imports (no_table m.types) (no_cause m h).imports)
 
 pub own_globals : (m : WasmModule) → profile_refusal m ≡ None → global_types m ≡ map (λ g. g.global) m.globals
-own_globals m h = ap (λ gs. gs ++ map (λ g. g.global) m.globals) (no_globals m m.imports (are_right m (within m h)))
+own_globals m h =
+    ap (λ gs. gs ++ map (λ g. g.global) m.globals)
+    (none_imported imported_global m m.imports (no_global m.types) (no_cause m h).imports)
+
+-- ---- the memory is imported
 
 -- the import with the memory's names is a memory
-memory_kind : (m : WasmModule) (b : Bool) (o : Option Import) (k : ImportKind) → b ≡ true → cond b (is_right_memory k) (is_right_function m o k) ≡ true → IsSome (imported_memory k)
-memory_kind m false o k e h = absurd (cc e)
-memory_kind m true o (kind.Func index) e h = absurd (cc h)
-memory_kind m true o (kind.Memory l) e h = refl
-memory_kind m true o (kind.Table l) e h = absurd (cc h)
-memory_kind m true o (kind.Global g) e h = absurd (cc h)
+memory_kind : (b : Bool) (kind : ImportKind) (other : Bool) → b ≡ true
+    → cond b (is_right_memory kind) other ≡ true
+    → IsSome (imported_memory kind)
+memory_kind false kind other e h = absurd (cc e)
+memory_kind true (Memory l) other e h = refl
+memory_kind true (Func index) other e h = absurd (cc h)
+memory_kind true (Table l) other e h = absurd (cc h)
+memory_kind true (Global g) other e h = absurd (cc h)
 
 counted : {A : Type 0} (o : Option A) (xs : List A) → IsSome o → 0 < length (cons_option o xs)
 counted None xs h = absurd (cc h)
@@ -135,20 +121,27 @@ counted_more : {A : Type 0} (o : Option A) (xs : List A) → 0 < length xs → 0
 counted_more None xs h = h
 counted_more (Some x) xs h = omega arith
 
-some_memory : (m : WasmModule) (i : Imported) (is : List Imported) (b : Bool) → is_memory i ≡ b → (b || list_any is_memory is) ≡ true → is_right m i ≡ true
-    → (list_any is_memory is ≡ true → 0 < length (filter_map (λ i. imported_memory i.kind) is)) → 0 < length (filter_map (λ i. imported_memory i.kind) (i ∷ is))
-some_memory m i is true e h r g =
-    counted (imported_memory i.kind) (filter_map (λ i. imported_memory i.kind) is) (memory_kind m (is_memory i) (import_named i.module_name i.name) i.kind e r)
-some_memory m i is false e h r g = counted_more (imported_memory i.kind) (filter_map (λ i. imported_memory i.kind) is) (g h)
+memory_among : (m : WasmModule) (i : Imported) (is : List Imported) (b : Bool) → is_memory i ≡ b
+    → (b || list_any is_memory is) ≡ true → is_right m i ≡ true
+    → (list_any is_memory is ≡ true → 0 < length (filter_map (λ i. imported_memory i.kind) is))
+    → 0 < length (filter_map (λ i. imported_memory i.kind) (i ∷ is))
+memory_among m i is true e h right later =
+    counted (imported_memory i.kind) (filter_map (λ i. imported_memory i.kind) is)
+    (memory_kind (is_memory i) i.kind (is_right_function m (import_named i.module_name i.name) i.kind) e
+    right)
+memory_among m i is false e h right later =
+    counted_more (imported_memory i.kind) (filter_map (λ i. imported_memory i.kind) is) (later h)
 
-memories : (m : WasmModule) (is : List Imported) → AreRight m is → list_any is_memory is ≡ true → 0 < length (filter_map (λ i. imported_memory i.kind) is)
-unfolding AreRight
+memories : (m : WasmModule) (is : List Imported) → list_any (is_wrong m) is ≡ false
+    → list_any is_memory is ≡ true
+    → 0 < length (filter_map (λ i. imported_memory i.kind) is)
 memories m [] h e = absurd (cc e)
-memories m (i ∷ is) h e = some_memory m i is (is_memory i) refl e h.0 (memories m is h.1)
+memories m (i ∷ is) h e =
+    let q = or_parts (is_wrong m i) (list_any (is_wrong m) is) h in
+    memory_among m i is (is_memory i) refl e (not-false (is_right m i) q.0) (memories m is q.1)
 
 pub has_memory : (m : WasmModule) → profile_refusal m ≡ None → nat_lt 0 (length (memories_of m)) ≡ true
 has_memory m h =
     let imported = filter_map (λ i. imported_memory i.kind) m.imports in
-    let w = within m h in
-    let some : 0 < length imported = memories m m.imports (are_right m w) w.memory in
+    let some : 0 < length imported = memories m m.imports (no_cause m h).imports (no_cause m h).memory in
     lt-ltb 0 (length (memories_of m)) (omega (arith, some, length-append imported m.memories))

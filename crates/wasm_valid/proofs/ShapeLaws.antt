@@ -13,20 +13,24 @@ use Rattle.wasm_valid.proofs.IntLaws.{joined_int, left_int, result_int, inside}
 use Rattle.wasm_valid.proofs.TakenLaws.{taken_stands, stands_taken, given_stands, stands_given, taken_int, given_int}
 use Rattle.wasm_valid.proofs.StepLaws.{step_begins, step_int, step_follows}
 
-stands_through : (g : Shape → Option Shape) (o : Option Shape) (outs : List ValType) → stands_in (option_and_then g o) outs ≡ true
+stands_through : (g : Shape → Option Shape) (o : Option Shape) (outs : List ValType)
+    → stands_in (option_and_then g o) outs ≡ true
     → (s : Shape) × (o ≡ Some s) × (stands_in (g s) outs ≡ true)
 stands_through g None outs h = absurd (cc h)
 stands_through g (Some s) outs h = (s, refl, h)
 
-through_stands : (g : Shape → Option Shape) (o : Option Shape) (s : Shape) (outs : List ValType) → o ≡ Some s → stands_in (g s) outs ≡ true
+through_stands : (g : Shape → Option Shape) (o : Option Shape) (s : Shape) (outs : List ValType) → o ≡ Some s
+    → stands_in (g s) outs ≡ true
     → stands_in (option_and_then g o) outs ≡ true
 through_stands g o s outs e h = ap (λ x. stands_in (option_and_then g x) outs) e ∙ h
 
-stands_where : (b : Bool) (o : Option Shape) (outs : List ValType) → stands_in (cond b o None) outs ≡ true → (b ≡ true) × (stands_in o outs ≡ true)
+stands_where : (b : Bool) (o : Option Shape) (outs : List ValType) → stands_in (cond b o None) outs ≡ true
+    → (b ≡ true) × (stands_in o outs ≡ true)
 stands_where true o outs h = (refl, h)
 stands_where false o outs h = absurd (cc h)
 
-where_stands : (b : Bool) (o : Option Shape) (outs : List ValType) → b ≡ true → stands_in o outs ≡ true → stands_in (cond b o None) outs ≡ true
+where_stands : (b : Bool) (o : Option Shape) (outs : List ValType) → b ≡ true → stands_in o outs ≡ true
+    → stands_in (cond b o None) outs ≡ true
 where_stands b o outs e h = ap (λ x. stands_in (cond x o None) outs) e ∙ h
 
 three_free : (a b d : Bool) → (a || b || d) ≡ false → (a ≡ false) × (b ≡ false) × (d ≡ false)
@@ -46,14 +50,16 @@ nothing_below ins h = sym (reverse-reverse ins) ∙ ap reverse (none_agree (reve
 from_nothing : (c : Context) (e : Expr) (outs : List ValType) → LeadsFrom c e empty outs → HasType c e [] outs
 from_nothing c e outs (ins, i, h, t) = subst (λ x. HasType c e x outs) (nothing_below ins h) t
 
-led : (c : Context) (e : Expr) (outs ins same : List ValType) → ins ≡ same → HasType c e ins outs → HasType c e same outs
+led : (c : Context) (e : Expr) (outs ins same : List ValType) → ins ≡ same → HasType c e ins outs
+    → HasType c e same outs
 led c e outs ins same h t = subst (λ x. HasType c e x outs) h t
 
 under_int : (outs ts us : List ValType) → outs ≡ ts ++ us → AreInt outs → AreInt ts
 under_int outs ts us h i = left_int ts us (subst AreInt h i)
 
 -- what the shape after a list stands for, the list leads to from types for which the shape before it stands
-pub begins : (c : Context) (e : Expr) (s : Shape) (outs : List ValType) → HasNoFloat c → has_float e ≡ false → AreIntKinds s.kinds → AreInt outs
+pub begins : (c : Context) (e : Expr) (s : Shape) (outs : List ValType) → HasNoFloat c → has_float e ≡ false
+    → AreIntKinds s.kinds → AreInt outs
     → stands_in (after c e s) outs ≡ true → LeadsFrom c e s outs
 begins c done s outs n f k i h = (outs, i, h, refl)
 begins c (plain m rest) s outs n f k i h =
@@ -66,28 +72,54 @@ begins c (block r inner rest) s outs n f k i h =
     let free = three_free (is_float_result r) (has_float inner) (has_float rest) f in
     let ints = result_int r free.0 in
     let there = inside c (result_types r) ints n in
-    let p = stands_where (stands_in (after (with_label (result_types r) c) inner empty) (result_types r)) (after c rest (given (result_types r) s)) outs h in
-    let held = from_nothing (with_label (result_types r) c) inner (result_types r) (begins (with_label (result_types r) c) inner empty (result_types r) there free.1 tt ints p.0) in
-    let q = begins c rest (given (result_types r) s) outs n free.2 (given_int (result_types r) s ints k) i p.1 in
-    let g = stands_given (result_types r) s q.0 q.2 in
-    (g.0, under_int q.0 g.0 (result_types r) g.1 q.1, g.2, (held, led c rest outs q.0 (g.0 ++ result_types r) g.1 q.3))
+    let p =
+    stands_where (stands_in (after (with_label (result_types r) c) inner empty) (result_types r))
+    (after c rest (given (result_types r) s)) outs h in
+    let held =
+    from_nothing (with_label (result_types r) c) inner (result_types r)
+    (begins (with_label (result_types r) c) inner empty (result_types r) there free.1 tt ints p.0) in
+    let q =
+    begins c rest (given (result_types r) s) outs n free.2 (given_int (result_types r) s ints k) i p.1 in
+    let g = stands_given (result_types r) s q.0 q.2 in (
+      g.0,
+      under_int q.0 g.0 (result_types r) g.1 q.1,
+      g.2,
+      (held, led c rest outs q.0 (g.0 ++ result_types r) g.1 q.3),
+    )
 begins c (loop r inner rest) s outs n f k i h =
     let free = three_free (is_float_result r) (has_float inner) (has_float rest) f in
     let ints = result_int r free.0 in
     let there = inside c [] tt n in
-    let p = stands_where (stands_in (after (with_label [] c) inner empty) (result_types r)) (after c rest (given (result_types r) s)) outs h in
-    let held = from_nothing (with_label [] c) inner (result_types r) (begins (with_label [] c) inner empty (result_types r) there free.1 tt ints p.0) in
-    let q = begins c rest (given (result_types r) s) outs n free.2 (given_int (result_types r) s ints k) i p.1 in
-    let g = stands_given (result_types r) s q.0 q.2 in
-    (g.0, under_int q.0 g.0 (result_types r) g.1 q.1, g.2, (held, led c rest outs q.0 (g.0 ++ result_types r) g.1 q.3))
+    let p =
+    stands_where (stands_in (after (with_label [] c) inner empty) (result_types r))
+    (after c rest (given (result_types r) s)) outs h in
+    let held =
+    from_nothing (with_label [] c) inner (result_types r)
+    (begins (with_label [] c) inner empty (result_types r) there free.1 tt ints p.0) in
+    let q =
+    begins c rest (given (result_types r) s) outs n free.2 (given_int (result_types r) s ints k) i p.1 in
+    let g = stands_given (result_types r) s q.0 q.2 in (
+      g.0,
+      under_int q.0 g.0 (result_types r) g.1 q.1,
+      g.2,
+      (held, led c rest outs q.0 (g.0 ++ result_types r) g.1 q.3),
+    )
 begins c (if_then None inner rest) s outs n f k i h =
     let free = or_parts (has_float inner) (has_float rest) f in
     let there = inside c [] tt n in
-    let p = stands_where (stands_in (after (with_label [] c) inner empty) []) (option_and_then (after c rest) (taken (I32 ∷ []) s)) outs h in
-    let held = from_nothing (with_label [] c) inner [] (begins (with_label [] c) inner empty [] there free.0 tt tt p.0) in
+    let p =
+    stands_where (stands_in (after (with_label [] c) inner empty) [])
+    (option_and_then (after c rest) (taken (I32 ∷ []) s)) outs h in
+    let held =
+    from_nothing (with_label [] c) inner []
+    (begins (with_label [] c) inner empty [] there free.0 tt tt p.0) in
     let m = stands_through (after c rest) (taken (I32 ∷ []) s) outs p.1 in
-    let q = begins c rest m.0 outs n free.1 (taken_int (I32 ∷ []) s m.0 k m.1) i m.2 in
-    (q.0 ++ I32 ∷ [], joined_int q.0 (I32 ∷ []) q.1 (tt, tt), taken_stands (I32 ∷ []) s m.0 q.0 m.1 q.2, (refl, q.0, refl, held, q.3))
+    let q = begins c rest m.0 outs n free.1 (taken_int (I32 ∷ []) s m.0 k m.1) i m.2 in (
+      q.0 ++ I32 ∷ [],
+      joined_int q.0 (I32 ∷ []) q.1 (tt, tt),
+      taken_stands (I32 ∷ []) s m.0 q.0 m.1 q.2,
+      (refl, q.0, refl, held, q.3),
+    )
 begins c (if_then (Some t) inner rest) s outs n f k i h = absurd (cc h)
 begins c (if_else r inner other rest) s outs n f k i h =
     let first = or_parts (is_float_result r || has_float inner || has_float other) (has_float rest) f in
@@ -95,13 +127,24 @@ begins c (if_else r inner other rest) s outs n f k i h =
     let ints = result_int r free.0 in
     let label = with_label (result_types r) c in
     let there = inside c (result_types r) ints n in
-    let p = stands_where (stands_in (after label inner empty) (result_types r) && stands_in (after label other empty) (result_types r))
+    let p =
+    stands_where (stands_in (after label inner empty) (result_types r)
+    && stands_in (after label other empty) (result_types r))
     (option_and_then (λ below. after c rest (given (result_types r) below)) (taken (I32 ∷ []) s)) outs h in
-    let both = and_parts (stands_in (after label inner empty) (result_types r)) (stands_in (after label other empty) (result_types r)) p.0 in
-    let held = from_nothing label inner (result_types r) (begins label inner empty (result_types r) there free.1 tt ints both.0) in
-    let held_other = from_nothing label other (result_types r) (begins label other empty (result_types r) there free.2 tt ints both.1) in
-    let m = stands_through (λ below. after c rest (given (result_types r) below)) (taken (I32 ∷ []) s) outs p.1 in
-    let q = begins c rest (given (result_types r) m.0) outs n first.1 (given_int (result_types r) m.0 ints (taken_int (I32 ∷ []) s m.0 k m.1)) i m.2 in
+    let both =
+    and_parts (stands_in (after label inner empty) (result_types r))
+    (stands_in (after label other empty) (result_types r)) p.0 in
+    let held =
+    from_nothing label inner (result_types r)
+    (begins label inner empty (result_types r) there free.1 tt ints both.0) in
+    let held_other =
+    from_nothing label other (result_types r)
+    (begins label other empty (result_types r) there free.2 tt ints both.1) in
+    let m =
+    stands_through (λ below. after c rest (given (result_types r) below)) (taken (I32 ∷ []) s) outs p.1 in
+    let q =
+    begins c rest (given (result_types r) m.0) outs n first.1
+    (given_int (result_types r) m.0 ints (taken_int (I32 ∷ []) s m.0 k m.1)) i m.2 in
     let g = stands_given (result_types r) m.0 q.0 q.2 in (
       g.0 ++ I32 ∷ [],
       joined_int g.0 (I32 ∷ []) (under_int q.0 g.0 (result_types r) g.1 q.1) (tt, tt),
@@ -110,34 +153,44 @@ begins c (if_else r inner other rest) s outs n f k i h =
     )
 
 -- the other way: the shape after a list stands for where it leads
-pub follows : (c : Context) (e : Expr) (s : Shape) (ins outs : List ValType) → stands s ins ≡ true → HasType c e ins outs → stands_in (after c e s) outs ≡ true
+pub follows : (c : Context) (e : Expr) (s : Shape) (ins outs : List ValType) → stands s ins ≡ true
+    → HasType c e ins outs → stands_in (after c e s) outs ≡ true
 follows c done s ins outs h t = subst (λ x. stands s x ≡ true) t h
 follows c (plain m rest) s ins outs h (mid, led, t) =
     let p = step_follows c m.0 m.1 s ins mid h led in
     through_stands (after c rest) (step c m.0 m.1 s) p.0 outs p.1 (follows c rest p.0 mid outs p.2 t)
 follows c (block r inner rest) s ins outs h (held, t) =
-    where_stands (stands_in (after (with_label (result_types r) c) inner empty) (result_types r)) (after c rest (given (result_types r) s)) outs
+    where_stands (stands_in (after (with_label (result_types r) c) inner empty) (result_types r))
+    (after c rest (given (result_types r) s)) outs
     (follows (with_label (result_types r) c) inner empty [] (result_types r) refl held)
-    (follows c rest (given (result_types r) s) (ins ++ result_types r) outs (given_stands (result_types r) s ins h) t)
+    (follows c rest (given (result_types r) s) (ins ++ result_types r) outs
+    (given_stands (result_types r) s ins h) t)
 follows c (loop r inner rest) s ins outs h (held, t) =
-    where_stands (stands_in (after (with_label [] c) inner empty) (result_types r)) (after c rest (given (result_types r) s)) outs
+    where_stands (stands_in (after (with_label [] c) inner empty) (result_types r))
+    (after c rest (given (result_types r) s)) outs
     (follows (with_label [] c) inner empty [] (result_types r) refl held)
-    (follows c rest (given (result_types r) s) (ins ++ result_types r) outs (given_stands (result_types r) s ins h) t)
+    (follows c rest (given (result_types r) s) (ins ++ result_types r) outs
+    (given_stands (result_types r) s ins h) t)
 follows c (if_then None inner rest) s ins outs h (none, ts, e, held, t) =
     let m = stands_taken (I32 ∷ []) s ts (subst (λ x. stands s x ≡ true) e h) in
-    where_stands (stands_in (after (with_label [] c) inner empty) []) (option_and_then (after c rest) (taken (I32 ∷ []) s)) outs
+    where_stands (stands_in (after (with_label [] c) inner empty) [])
+    (option_and_then (after c rest) (taken (I32 ∷ []) s)) outs
     (follows (with_label [] c) inner empty [] [] refl held)
     (through_stands (after c rest) (taken (I32 ∷ []) s) m.0 outs m.1 (follows c rest m.0 ts outs m.2 t))
 follows c (if_then (Some r) inner rest) s ins outs h (none, ts, e, held, t) = absurd (cc none)
 follows c (if_else r inner other rest) s ins outs h (ts, e, held, held_other, t) =
     let label = with_label (result_types r) c in
     let m = stands_taken (I32 ∷ []) s ts (subst (λ x. stands s x ≡ true) e h) in
-    where_stands (stands_in (after label inner empty) (result_types r) && stands_in (after label other empty) (result_types r))
+    where_stands (stands_in (after label inner empty) (result_types r)
+    && stands_in (after label other empty) (result_types r))
     (option_and_then (λ below. after c rest (given (result_types r) below)) (taken (I32 ∷ []) s)) outs
-    (and_from (stands_in (after label inner empty) (result_types r)) (stands_in (after label other empty) (result_types r))
-    (follows label inner empty [] (result_types r) refl held) (follows label other empty [] (result_types r) refl held_other))
+    (and_from (stands_in (after label inner empty) (result_types r))
+    (stands_in (after label other empty) (result_types r))
+    (follows label inner empty [] (result_types r) refl held)
+    (follows label other empty [] (result_types r) refl held_other))
     (through_stands (λ below. after c rest (given (result_types r) below)) (taken (I32 ∷ []) s) m.0 outs m.1
-    (follows c rest (given (result_types r) m.0) (ts ++ result_types r) outs (given_stands (result_types r) m.0 ts m.2) t))
+    (follows c rest (given (result_types r) m.0) (ts ++ result_types r) outs
+    (given_stands (result_types r) m.0 ts m.2) t))
 
 pub shape_decides_from : ShapeDecidesFrom
 shape_decides_from c e s outs n f k i = ((λ l. follows c e s l.0 outs l.2 l.3), begins c e s outs n f k i)

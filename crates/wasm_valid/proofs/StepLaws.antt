@@ -4,7 +4,6 @@ use Rattle.std.specs.Prelude.{slice_get}
 use Rattle.std.specs.List.{list_all}
 use Rattle.std.proofs.lemmas.Bool.{and_parts, and_from}
 use Rattle.std.proofs.lemmas.List.{reverse-append, reverse-reverse, append-nil, append_assoc}
-use Rattle.wasm_tree.proofs.EntryLaws.{got_all}
 use Rattle.w4_defs.specs.declared.value.ValType.{ValType}
 use Rattle.w4_defs.specs.declared.value.ValType.TheVariants.{I32}
 use Rattle.w4_defs.specs.declared.operation.Op.{Op}
@@ -14,12 +13,14 @@ use Rattle.w4_defs.specs.Typing.{Context, IsInt, AreInt, AreLabels, Leads, only_
 use Rattle.w4_defs.specs.Shape.{Kind, Shape, agrees, agree, anything, stands, with_kinds, taken, given, passed, topmost, common_kind, dropped, chosen, selected, ends, is_label, common_label, step}
 use Rattle.wasm_valid.specs.ShapeLaw.{HasNoFloat, AreIntKinds}
 use Rattle.wasm_valid.proofs.KindLaws.{then_some, some_then, map_some, some_map, if_some, some_if, same_types_are, same_types_self, anything_agrees, top_agrees, agrees_top, common_agrees, agrees_common}
-use Rattle.wasm_valid.proofs.IntLaws.{joined_int, left_int, right_int, if_some_is, top_int, common_int, some_type, arrow_int, arrow_ints}
+use Rattle.wasm_valid.proofs.IntLaws.{joined_int, left_int, right_int, top_int, common_int, some_type, arrow_int, arrow_ints}
+use Rattle.wasm_valid.proofs.NoneLaws.{all_at}
 use Rattle.wasm_valid.proofs.TakenLaws.{taken_stands, stands_taken, given_stands, stands_given, taken_int, given_int, some_ints, uncut}
 
 -- from some int types for which s stands the operation leads to outs
 abbrev pub Begins : Context → Op → List ℕ → Shape → List ValType → Type 0
-Begins c o labels s outs = (ins : List ValType) × AreInt ins × (stands s ins ≡ true) × Leads c (o, labels) ins outs
+Begins c o labels s outs =
+    (ins : List ValType) × AreInt ins × (stands s ins ≡ true) × Leads c (o, labels) ins outs
 
 -- a shape follows, and stands for outs
 abbrev pub Follows : Option Shape → List ValType → Type 0
@@ -32,7 +33,8 @@ anything_stands ts = anything_agrees (reverse ts)
 
 arrow_begins : (s t : Shape) (arrow : Arrow) (outs : List ValType) → AreInt arrow.0 → AreInt outs
     → passed s arrow ≡ Some t → stands t outs ≡ true
-    → (ts : List ValType) × (outs ≡ ts ++ arrow.1) × AreInt (ts ++ arrow.0) × (stands s (ts ++ arrow.0) ≡ true)
+    → (ts : List ValType) × (outs ≡ ts ++ arrow.1) × AreInt (ts ++ arrow.0)
+    × (stands s (ts ++ arrow.0) ≡ true)
 arrow_begins s t arrow outs i j h g =
     let p = map_some (given arrow.1) (taken arrow.0 s) t h in
     let q = stands_given arrow.1 p.0 outs (subst (λ x. stands x outs ≡ true) (sym p.2) g) in
@@ -41,14 +43,16 @@ arrow_begins s t arrow outs i j h g =
 
 plain_begins : (c : Context) (o : Op) (s t : Shape) (outs : List ValType) → HasNoFloat c → AreInt outs
     → option_and_then (passed s) (only_type c o) ≡ Some t → stands t outs ≡ true
-    → (ins : List ValType) × AreInt ins × (stands s ins ≡ true) × ((ts a b : List ValType) × (ins ≡ ts ++ a) × (only_type c o ≡ Some (a, b)) × (outs ≡ ts ++ b))
+    → (ins : List ValType) × AreInt ins × (stands s ins ≡ true)
+    × ((ts a b : List ValType) × (ins ≡ ts ++ a) × (only_type c o ≡ Some (a, b)) × (outs ≡ ts ++ b))
 plain_begins c o s t outs n j h g =
     let p = then_some (passed s) (only_type c o) t h in
     let i = arrow_ints (only_type c o) p.0 (arrow_int c o n) p.1 in
     let q = arrow_begins s t p.0 outs i.0 j p.2 g in
     (q.0 ++ p.0.0, q.2, q.3, (q.0, p.0.0, p.0.1, refl, p.1, q.1))
 
-plain_int : (c : Context) (o : Op) (s t : Shape) → HasNoFloat c → AreIntKinds s.kinds → option_and_then (passed s) (only_type c o) ≡ Some t → AreIntKinds t.kinds
+plain_int : (c : Context) (o : Op) (s t : Shape) → HasNoFloat c → AreIntKinds s.kinds
+    → option_and_then (passed s) (only_type c o) ≡ Some t → AreIntKinds t.kinds
 plain_int c o s t n k h =
     let p = then_some (passed s) (only_type c o) t h in
     let i = arrow_ints (only_type c o) p.0 (arrow_int c o n) p.1 in
@@ -56,7 +60,8 @@ plain_int c o s t n k h =
     subst (λ x. AreIntKinds x.kinds) q.2 (given_int p.0.1 q.0 i.1 (taken_int p.0.0 s q.0 k q.1))
 
 plain_follows : (c : Context) (o : Op) (s : Shape) (ins outs ts a b : List ValType) → stands s ins ≡ true
-    → ins ≡ ts ++ a → only_type c o ≡ Some (a, b) → outs ≡ ts ++ b → Follows (option_and_then (passed s) (only_type c o)) outs
+    → ins ≡ ts ++ a → only_type c o ≡ Some (a, b) → outs ≡ ts ++ b
+    → Follows (option_and_then (passed s) (only_type c o)) outs
 plain_follows c o s ins outs ts a b h e k f =
     let p = stands_taken a s ts (subst (λ x. stands s x ≡ true) e h) in (
       given b p.0,
@@ -69,9 +74,11 @@ plain_follows c o s ins outs ts a b h e k f =
 ends_anything : (s t : Shape) (label : Option (List ValType)) → ends s label ≡ Some t
     → (ts : List ValType) × (below : Shape) × (label ≡ Some ts) × (taken ts s ≡ Some below) × (anything ≡ t)
 ends_anything s t None h = absurd (cc h)
-ends_anything s t (Some label) h = let p = map_some (λ below. anything) (taken label s) t h in (label, p.0, refl, p.1, p.2)
+ends_anything s t (Some label) h =
+    let p = map_some (λ below. anything) (taken label s) t h in (label, p.0, refl, p.1, p.2)
 
-ends_here : (s below : Shape) (label : List ValType) (o : Option (List ValType)) → o ≡ Some label → taken label s ≡ Some below → ends s o ≡ Some anything
+ends_here : (s below : Shape) (label : List ValType) (o : Option (List ValType)) → o ≡ Some label
+    → taken label s ≡ Some below → ends s o ≡ Some anything
 ends_here s below label o h g = ap (ends s) h ∙ some_map (λ x. anything) (taken label s) below g
 
 -- some int types below a label's, for which the shape stands
@@ -80,10 +87,13 @@ branch_begins : (s below : Shape) (label : List ValType) → AreIntKinds s.kinds
 branch_begins s below label k h =
     let p = some_ints below (taken_int label s below k h) in (p.0, p.1, taken_stands label s below p.0 h p.2)
 
-branch_follows : (s : Shape) (ts a under label outs : List ValType) (o : Option (List ValType)) → stands s (ts ++ a) ≡ true
+branch_follows : (s : Shape) (ts a under label outs : List ValType) (o : Option (List ValType))
+    → stands s (ts ++ a) ≡ true
     → a ≡ under ++ label → o ≡ Some label → Follows (ends s o) outs
 branch_follows s ts a under label outs o h e k =
-    let p = stands_taken label s (ts ++ under) (subst (λ x. stands s x ≡ true) (ap (λ x. ts ++ x) e ∙ sym (append_assoc ts under label)) h) in
+    let p =
+    stands_taken label s (ts ++ under)
+    (subst (λ x. stands s x ≡ true) (ap (λ x. ts ++ x) e ∙ sym (append_assoc ts under label)) h) in
     (anything, ends_here s p.0 label o k p.1, anything_stands outs)
 
 -- ---- the labels of a br_table
@@ -95,34 +105,46 @@ label_is label (Some other) h = ap Some (sym (same_types_are label other h))
 is_that_label : (label : List ValType) (o : Option (List ValType)) → o ≡ Some label → is_label label o ≡ true
 is_that_label label o h = subst (λ x. is_label label x ≡ true) (sym h) (same_types_self label)
 
-all_are : (c : Context) (label : List ValType) (labels : List ℕ) → list_all (λ other. is_label label (slice_get c.labels other)) labels ≡ true → AreLabels c label labels
+all_are : (c : Context) (label : List ValType) (labels : List ℕ)
+    → list_all (λ other. is_label label (slice_get c.labels other)) labels ≡ true → AreLabels c label labels
 all_are c label [] h = tt
 all_are c label (l ∷ labels) h =
-    let p = and_parts (is_label label (slice_get c.labels l)) (list_all (λ other. is_label label (slice_get c.labels other)) labels) h in
+    let p =
+    and_parts (is_label label (slice_get c.labels l))
+    (list_all (λ other. is_label label (slice_get c.labels other)) labels) h in
     (label_is label (slice_get c.labels l) p.0, all_are c label labels p.1)
 
-are_all : (c : Context) (label : List ValType) (labels : List ℕ) → AreLabels c label labels → list_all (λ other. is_label label (slice_get c.labels other)) labels ≡ true
+are_all : (c : Context) (label : List ValType) (labels : List ℕ) → AreLabels c label labels
+    → list_all (λ other. is_label label (slice_get c.labels other)) labels ≡ true
 are_all c label [] h = refl
 are_all c label (l ∷ labels) h =
-    and_from (is_label label (slice_get c.labels l)) (list_all (λ other. is_label label (slice_get c.labels other)) labels)
+    and_from (is_label label (slice_get c.labels l))
+    (list_all (λ other. is_label label (slice_get c.labels other)) labels)
     (is_that_label label (slice_get c.labels l) h.0) (are_all c label labels h.1)
 
-common_are : (c : Context) (label : List ValType) (labels : List ℕ) → common_label c labels ≡ Some label → (0 < length labels) × AreLabels c label labels
+common_are : (c : Context) (label : List ValType) (labels : List ℕ) → common_label c labels ≡ Some label
+    → (0 < length labels) × AreLabels c label labels
 common_are c label [] h = absurd (cc h)
 common_are c label (l ∷ labels) h =
-    let p = then_some (λ label. cond (list_all (λ other. is_label label (slice_get c.labels other)) labels) (Some label) None) (slice_get c.labels l) label h in
+    let p =
+    then_some (λ label. cond (list_all (λ other. is_label label (slice_get c.labels other)) labels)
+    (Some label) None) (slice_get c.labels l) label h in
     let q = if_some (list_all (λ other. is_label p.0 (slice_get c.labels other)) labels) p.0 label p.2 in
     (omega arith, subst (λ x. AreLabels c x (l ∷ labels)) q.1 (p.1, all_are c p.0 labels q.0))
 
-are_common : (c : Context) (label : List ValType) (labels : List ℕ) → 0 < length labels → AreLabels c label labels → common_label c labels ≡ Some label
+are_common : (c : Context) (label : List ValType) (labels : List ℕ) → 0 < length labels
+    → AreLabels c label labels → common_label c labels ≡ Some label
 are_common c label [] some h = absurd (omega arith)
 are_common c label (l ∷ labels) some h =
-    some_then (λ label. cond (list_all (λ other. is_label label (slice_get c.labels other)) labels) (Some label) None) (slice_get c.labels l) label label h.0
-    (some_if (list_all (λ other. is_label label (slice_get c.labels other)) labels) (Some label) (are_all c label labels h.1))
+    some_then (λ label. cond (list_all (λ other. is_label label (slice_get c.labels other)) labels)
+    (Some label) None) (slice_get c.labels l) label label h.0
+    (some_if (list_all (λ other. is_label label (slice_get c.labels other)) labels) (Some label)
+    (are_all c label labels h.1))
 
 -- ---- drop
 
-dropped_begins : (s t : Shape) (outs : List ValType) → AreIntKinds s.kinds → dropped s ≡ Some t → stands t outs ≡ true
+dropped_begins : (s t : Shape) (outs : List ValType) → AreIntKinds s.kinds → dropped s ≡ Some t
+    → stands t outs ≡ true
     → (u : ValType) × IsInt u × (stands s (outs ++ u ∷ []) ≡ true)
 dropped_begins s t outs k h g =
     let p = map_some (λ top. with_kinds s top.1) (topmost s.marked s.kinds) t h in
@@ -130,7 +152,8 @@ dropped_begins s t outs k h g =
       u.0,
       u.1,
       subst (λ xs. agree s.kinds s.marked xs ≡ true) (sym (reverse-append outs (u.0 ∷ [])))
-          (top_agrees s.marked s.kinds p.0 u.0 (reverse outs) p.1 u.2 (subst (λ x. stands x outs ≡ true) (sym p.2) g)),
+          (top_agrees s.marked s.kinds p.0 u.0 (reverse outs) p.1 u.2
+          (subst (λ x. stands x outs ≡ true) (sym p.2) g)),
     )
 
 dropped_int : (s t : Shape) → AreIntKinds s.kinds → dropped s ≡ Some t → AreIntKinds t.kinds
@@ -138,17 +161,23 @@ dropped_int s t k h =
     let p = map_some (λ top. with_kinds s top.1) (topmost s.marked s.kinds) t h in
     subst (λ x. AreIntKinds x.kinds) p.2 (top_int s.marked s.kinds p.0 k p.1).1
 
-dropped_follows : (s : Shape) (ts : List ValType) (u : ValType) → stands s (ts ++ u ∷ []) ≡ true → Follows (dropped s) ts
+dropped_follows : (s : Shape) (ts : List ValType) (u : ValType) → stands s (ts ++ u ∷ []) ≡ true
+    → Follows (dropped s) ts
 dropped_follows s ts u h =
-    let p = agrees_top s.marked s.kinds u (reverse ts) (subst (λ xs. agree s.kinds s.marked xs ≡ true) (reverse-append ts (u ∷ [])) h) in
+    let p =
+    agrees_top s.marked s.kinds u (reverse ts)
+    (subst (λ xs. agree s.kinds s.marked xs ≡ true) (reverse-append ts (u ∷ [])) h) in
     (with_kinds s p.1, some_map (λ top. with_kinds s top.1) (topmost s.marked s.kinds) (p.0, p.1) p.2, p.4)
 
 -- ---- select
 
-first_agrees : (k : Kind) (ks : List Kind) (marked : Bool) (ts : List ValType) → agree (k ∷ ks) marked ts ≡ true
-    → (u : ValType) × (rest : List ValType) × (ts ≡ u ∷ rest) × (agrees k u ≡ true) × (agree ks marked rest ≡ true)
+first_agrees : (k : Kind) (ks : List Kind) (marked : Bool) (ts : List ValType)
+    → agree (k ∷ ks) marked ts ≡ true
+    → (u : ValType) × (rest : List ValType) × (ts ≡ u ∷ rest) × (agrees k u ≡ true)
+    × (agree ks marked rest ≡ true)
 first_agrees k ks marked [] h = absurd (cc h)
-first_agrees k ks marked (t ∷ ts) h = let p = and_parts (agrees k t) (agree ks marked ts) h in (t, ts, refl, p.0, p.1)
+first_agrees k ks marked (t ∷ ts) h =
+    let p = and_parts (agrees k t) (agree ks marked ts) h in (t, ts, refl, p.0, p.1)
 
 record Two (s t : Shape) : Type 0 where
   pub upper : Kind × List Kind
@@ -162,15 +191,21 @@ record Two (s t : Shape) : Type 0 where
 two : (s t : Shape) → selected s ≡ Some t → Two s t
 two s t h =
     let p = then_some (λ top. chosen s top.0 top.1) (topmost s.marked s.kinds) t h in
-    let q = then_some (λ top. option_map (λ kind. with_kinds s (kind ∷ top.1)) (common_kind p.0.0 top.0)) (topmost s.marked p.0.1) t p.2 in
+    let q =
+    then_some (λ top. option_map (λ kind. with_kinds s (kind ∷ top.1)) (common_kind p.0.0 top.0))
+    (topmost s.marked p.0.1) t p.2 in
     let r = map_some (λ kind. with_kinds s (kind ∷ q.0.1)) (common_kind p.0.0 q.0.0) t q.2 in
     record { upper = p.0; lower = q.0; both = r.0; there = p.1; under = q.1; common = r.1; made = r.2 }
 
-selected_begins : (s t : Shape) (outs : List ValType) → AreInt outs → selected s ≡ Some t → stands t outs ≡ true
-    → (ts : List ValType) × (u : ValType) × (outs ≡ ts ++ u ∷ []) × IsInt u × AreInt ts × (stands s (ts ++ u ∷ u ∷ []) ≡ true)
+selected_begins : (s t : Shape) (outs : List ValType) → AreInt outs → selected s ≡ Some t
+    → stands t outs ≡ true
+    → (ts : List ValType) × (u : ValType) × (outs ≡ ts ++ u ∷ []) × IsInt u × AreInt ts
+    × (stands s (ts ++ u ∷ u ∷ []) ≡ true)
 selected_begins s t outs i h g =
     let w = two s t h in
-    let p = first_agrees w.both w.lower.1 s.marked (reverse outs) (subst (λ x. stands x outs ≡ true) (sym w.made) g) in
+    let p =
+    first_agrees w.both w.lower.1 s.marked (reverse outs)
+    (subst (λ x. stands x outs ≡ true) (sym w.made) g) in
     let a = common_agrees w.upper.0 w.lower.0 w.both p.0 w.common p.3 in
     let e = uncut outs (p.0 ∷ []) p.1 p.2 in
     let j = subst AreInt e i in
@@ -192,15 +227,19 @@ selected_int s t k h =
     let b = top_int s.marked w.upper.1 w.lower a.1 w.under in
     subst (λ x. AreIntKinds x.kinds) w.made (common_int w.upper.0 w.lower.0 w.both a.0 b.0 w.common, b.1)
 
-selected_follows : (s : Shape) (ts : List ValType) (u : ValType) → stands s (ts ++ u ∷ u ∷ []) ≡ true → Follows (selected s) (ts ++ u ∷ [])
+selected_follows : (s : Shape) (ts : List ValType) (u : ValType) → stands s (ts ++ u ∷ u ∷ []) ≡ true
+    → Follows (selected s) (ts ++ u ∷ [])
 selected_follows s ts u h =
-    let p = agrees_top s.marked s.kinds u (u ∷ reverse ts) (subst (λ xs. agree s.kinds s.marked xs ≡ true) (reverse-append ts (u ∷ u ∷ [])) h) in
+    let p =
+    agrees_top s.marked s.kinds u (u ∷ reverse ts)
+    (subst (λ xs. agree s.kinds s.marked xs ≡ true) (reverse-append ts (u ∷ u ∷ [])) h) in
     let q = agrees_top s.marked p.1 u (reverse ts) p.4 in
     let r = agrees_common p.0 q.0 u p.3 q.3 in
     let t = with_kinds s (r.0 ∷ q.1) in (
       t,
       some_then (λ top. chosen s top.0 top.1) (topmost s.marked s.kinds) (p.0, p.1) t p.2
-          (some_then (λ top. option_map (λ kind. with_kinds s (kind ∷ top.1)) (common_kind p.0 top.0)) (topmost s.marked p.1) (q.0, q.1) t q.2
+          (some_then (λ top. option_map (λ kind. with_kinds s (kind ∷ top.1)) (common_kind p.0 top.0))
+          (topmost s.marked p.1) (q.0, q.1) t q.2
           (some_map (λ kind. with_kinds s (kind ∷ q.1)) (common_kind p.0 q.0) r.0 r.1)),
       subst (λ xs. agree (r.0 ∷ q.1) s.marked xs ≡ true) (sym (reverse-append ts (u ∷ [])))
           (and_from (agrees r.0 u) (agree q.1 s.marked (reverse ts)) r.2 q.4),
@@ -208,22 +247,30 @@ selected_follows s ts u h =
 
 -- ---- each operation
 
-label_int : (c : Context) (l : ℕ) (label : List ValType) → HasNoFloat c → slice_get c.labels l ≡ Some label → AreInt label
-label_int c l label n h = if_some_is AreInt (slice_get c.labels l) label (got_all AreInt c.labels l n.labels) h
+label_int : (c : Context) (l : ℕ) (label : List ValType) → HasNoFloat c → slice_get c.labels l ≡ Some label
+    → AreInt label
+label_int c l label n h =
+    all_at AreInt c.labels l label n.labels h
 
-labels_int : (c : Context) (labels : List ℕ) (label : List ValType) → HasNoFloat c → 0 < length labels → AreLabels c label labels → AreInt label
+labels_int : (c : Context) (labels : List ℕ) (label : List ValType) → HasNoFloat c → 0 < length labels
+    → AreLabels c label labels → AreInt label
 labels_int c [] label n some h = absurd (omega arith)
 labels_int c (l ∷ labels) label n some h = label_int c l label n h.0
 
 -- from some int types for which s stands the step leads to outs
-pub step_begins : (c : Context) (o : Op) (labels : List ℕ) (s t : Shape) (outs : List ValType) → HasNoFloat c → AreIntKinds s.kinds → AreInt outs
+pub step_begins : (c : Context) (o : Op) (labels : List ℕ) (s t : Shape) (outs : List ValType) → HasNoFloat c
+    → AreIntKinds s.kinds → AreInt outs
     → step c o labels s ≡ Some t → stands t outs ≡ true → Begins c o labels s outs
 step_begins c op.Unreachable labels s t outs n k i h g =
     let p = some_ints s k in (p.0, p.1, p.2, ([], p.0, outs, refl, (p.1, i), refl))
 step_begins c (op.Br l) labels s t outs n k i h g =
     let p = ends_anything s t (slice_get c.labels l) h in
-    let q = branch_begins s p.1 p.0 k p.3 in
-    (q.0 ++ p.0, joined_int q.0 p.0 q.1 (label_int c l p.0 n p.2), q.2, ([], q.0 ++ p.0, outs, refl, (q.0, p.0, p.2, refl, q.1, i), refl))
+    let q = branch_begins s p.1 p.0 k p.3 in (
+      q.0 ++ p.0,
+      joined_int q.0 p.0 q.1 (label_int c l p.0 n p.2),
+      q.2,
+      ([], q.0 ++ p.0, outs, refl, (q.0, p.0, p.2, refl, q.1, i), refl),
+    )
 step_begins c op.BrTable labels s t outs n k i h g =
     let m = then_some (λ below. ends below (common_label c labels)) (taken (I32 ∷ []) s) t h in
     let p = ends_anything m.0 t (common_label c labels) m.2 in
@@ -231,17 +278,26 @@ step_begins c op.BrTable labels s t outs n k i h g =
     let r = common_are c p.0 labels p.2 in
     let whole = q.0 ++ p.0 ++ I32 ∷ [] in (
       whole,
-      joined_int (q.0 ++ p.0) (I32 ∷ []) (joined_int q.0 p.0 q.1 (labels_int c labels p.0 n r.0 r.1)) (tt, tt),
+      joined_int (q.0 ++ p.0) (I32 ∷ []) (joined_int q.0 p.0 q.1 (labels_int c labels p.0 n r.0 r.1))
+          (tt, tt),
       taken_stands (I32 ∷ []) s m.0 (q.0 ++ p.0) m.1 q.2,
       ([], whole, outs, refl, (q.0, p.0, r.0, r.1, refl, q.1, i), refl),
     )
 step_begins c op.Return labels s t outs n k i h g =
     let p = map_some (λ below. anything) (taken c.results s) t h in
-    let q = branch_begins s p.0 c.results k p.1 in
-    (q.0 ++ c.results, joined_int q.0 c.results q.1 n.results, q.2, ([], q.0 ++ c.results, outs, refl, (q.0, refl, q.1, i), refl))
+    let q = branch_begins s p.0 c.results k p.1 in (
+      q.0 ++ c.results,
+      joined_int q.0 c.results q.1 n.results,
+      q.2,
+      ([], q.0 ++ c.results, outs, refl, (q.0, refl, q.1, i), refl),
+    )
 step_begins c op.Drop labels s t outs n k i h g =
-    let p = dropped_begins s t outs k h g in
-    (outs ++ p.0 ∷ [], joined_int outs (p.0 ∷ []) i (p.1, tt), p.2, (outs, p.0 ∷ [], [], refl, (p.0, p.1, refl, refl), sym (append-nil outs)))
+    let p = dropped_begins s t outs k h g in (
+      outs ++ p.0 ∷ [],
+      joined_int outs (p.0 ∷ []) i (p.1, tt),
+      p.2,
+      (outs, p.0 ∷ [], [], refl, (p.0, p.1, refl, refl), sym (append-nil outs)),
+    )
 step_begins c op.Select labels s t outs n k i h g =
     let m = then_some selected (taken (I32 ∷ []) s) t h in
     let p = selected_begins m.0 t outs i m.2 g in
@@ -255,36 +311,50 @@ step_begins c op.Select labels s t outs n k i h g =
 step_begins c o labels s t outs n k i h g = plain_begins c o s t outs n i h g
 
 -- no float comes to a shape by a step
-pub step_int : (c : Context) (o : Op) (labels : List ℕ) (s t : Shape) → HasNoFloat c → AreIntKinds s.kinds → step c o labels s ≡ Some t → AreIntKinds t.kinds
-step_int c op.Unreachable labels s t n k h = let e : anything ≡ t = cc h in subst (λ x. AreIntKinds x.kinds) e tt
-step_int c (op.Br l) labels s t n k h = subst (λ x. AreIntKinds x.kinds) (ends_anything s t (slice_get c.labels l) h).4 tt
+pub step_int : (c : Context) (o : Op) (labels : List ℕ) (s t : Shape) → HasNoFloat c → AreIntKinds s.kinds
+    → step c o labels s ≡ Some t → AreIntKinds t.kinds
+step_int c op.Unreachable labels s t n k h =
+    let e : anything ≡ t = cc h in subst (λ x. AreIntKinds x.kinds) e tt
+step_int c (op.Br l) labels s t n k h =
+    subst (λ x. AreIntKinds x.kinds) (ends_anything s t (slice_get c.labels l) h).4 tt
 step_int c op.BrTable labels s t n k h =
     let m = then_some (λ below. ends below (common_label c labels)) (taken (I32 ∷ []) s) t h in
     subst (λ x. AreIntKinds x.kinds) (ends_anything m.0 t (common_label c labels) m.2).4 tt
-step_int c op.Return labels s t n k h = subst (λ x. AreIntKinds x.kinds) (ends_anything s t (Some c.results) h).4 tt
+step_int c op.Return labels s t n k h =
+    subst (λ x. AreIntKinds x.kinds) (ends_anything s t (Some c.results) h).4 tt
 step_int c op.Drop labels s t n k h = dropped_int s t k h
 step_int c op.Select labels s t n k h =
-    let m = then_some selected (taken (I32 ∷ []) s) t h in selected_int m.0 t (taken_int (I32 ∷ []) s m.0 k m.1) m.2
+    let m = then_some selected (taken (I32 ∷ []) s) t h in
+    selected_int m.0 t (taken_int (I32 ∷ []) s m.0 k m.1) m.2
 step_int c o labels s t n k h = plain_int c o s t n k h
 
 -- where the operation leads from types for which s stands, the step is there and stands for where it leads
-pub step_follows : (c : Context) (o : Op) (labels : List ℕ) (s : Shape) (ins outs : List ValType) → stands s ins ≡ true → Leads c (o, labels) ins outs → Follows (step c o labels s) outs
+pub step_follows : (c : Context) (o : Op) (labels : List ℕ) (s : Shape) (ins outs : List ValType)
+    → stands s ins ≡ true → Leads c (o, labels) ins outs → Follows (step c o labels s) outs
 step_follows c op.Unreachable labels s ins outs h l = (anything, refl, anything_stands outs)
 step_follows c (op.Br label) labels s ins outs h (ts, a, b, e, (under, types, there, parts, i, j), f) =
-    branch_follows s ts a under types outs (slice_get c.labels label) (subst (λ x. stands s x ≡ true) e h) parts there
+    branch_follows s ts a under types outs (slice_get c.labels label) (subst (λ x. stands s x ≡ true) e h)
+    parts there
 step_follows c op.BrTable labels s ins outs h (ts, a, b, e, (under, types, some, there, parts, i, j), f) =
     let whole = ap (λ x. ts ++ x) parts ∙ sym (append_assoc ts (under ++ types) (I32 ∷ [])) in
-    let m = stands_taken (I32 ∷ []) s (ts ++ (under ++ types)) (subst (λ x. stands s x ≡ true) (e ∙ whole) h) in
-    let p = branch_follows m.0 ts (under ++ types) under types outs (common_label c labels) m.2 refl (are_common c types labels some there) in
+    let m =
+    stands_taken (I32 ∷ []) s (ts ++ (under ++ types)) (subst (λ x. stands s x ≡ true) (e ∙ whole) h) in
+    let p =
+    branch_follows m.0 ts (under ++ types) under types outs (common_label c labels) m.2 refl
+    (are_common c types labels some there) in
     (p.0, some_then (λ below. ends below (common_label c labels)) (taken (I32 ∷ []) s) m.0 p.0 m.1 p.1, p.2)
 step_follows c op.Return labels s ins outs h (ts, a, b, e, (under, parts, i, j), f) =
-    branch_follows s ts a under c.results outs (Some c.results) (subst (λ x. stands s x ≡ true) e h) parts refl
+    branch_follows s ts a under c.results outs (Some c.results) (subst (λ x. stands s x ≡ true) e h)
+    parts refl
 step_follows c op.Drop labels s ins outs h (ts, a, b, e, (t, i, one, none), f) =
     let p = dropped_follows s ts t (subst (λ x. stands s x ≡ true) (e ∙ ap (λ x. ts ++ x) one) h) in
     (p.0, p.1, subst (λ x. stands p.0 x ≡ true) (sym (f ∙ ap (λ x. ts ++ x) none ∙ append-nil ts)) p.2)
 step_follows c op.Select labels s ins outs h (ts, a, b, e, (t, i, three, one), f) =
     let whole = e ∙ ap (λ x. ts ++ x) three ∙ sym (append_assoc ts (t ∷ t ∷ []) (I32 ∷ [])) in
     let m = stands_taken (I32 ∷ []) s (ts ++ t ∷ t ∷ []) (subst (λ x. stands s x ≡ true) whole h) in
-    let p = selected_follows m.0 ts t m.2 in
-    (p.0, some_then selected (taken (I32 ∷ []) s) m.0 p.0 m.1 p.1, subst (λ x. stands p.0 x ≡ true) (sym (f ∙ ap (λ x. ts ++ x) one)) p.2)
+    let p = selected_follows m.0 ts t m.2 in (
+      p.0,
+      some_then selected (taken (I32 ∷ []) s) m.0 p.0 m.1 p.1,
+      subst (λ x. stands p.0 x ≡ true) (sym (f ∙ ap (λ x. ts ++ x) one)) p.2,
+    )
 step_follows c o labels s ins outs h (ts, a, b, e, k, f) = plain_follows c o s ins outs ts a b h e k f

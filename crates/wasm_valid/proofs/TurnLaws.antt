@@ -1,10 +1,8 @@
 -- What each turn is, by the operation.
-use Rattle.std.proofs.Common.{◌≡◌, ◌≢◌, ℕ, Bool, true, false, ◌&&◌, List, [], ◌∷◌, length, refl, arith}
+use Rattle.std.proofs.Common.{◌≡◌, ℕ, Bool, true, false, List, [], ◌∷◌, length, refl}
 use Rattle.std.specs.Prelude.{nat_lt}
-use Rattle.w4_defs.specs.declared.value.ValType.{ValType}
 use Rattle.w4_defs.specs.declared.operation.Op.{Op}
 use Rattle.w4_defs.specs.declared.operation.Op.TheVariants as op
-use Rattle.w4_defs.specs.Kinds.{same_type, same_types}
 use Rattle.w4_defs.specs.Lookup.{memories_of}
 use Rattle.w4_defs.specs.OperandTypes.{memory_type}
 use Rattle.w4_defs.specs.Typing.{Context}
@@ -22,7 +20,8 @@ names (op.GlobalGet index) = true
 names (op.GlobalSet index) = true
 names _ = false
 
-pub unnamed : (c : Context) (o : Op) → names o ≡ false → memory_type (nat_lt 0 (length (memories_of c.within))) o ≡ direct_type c o
+pub unnamed : (c : Context) (o : Op) → names o ≡ false
+    → memory_type (nat_lt 0 (length (memories_of c.within))) o ≡ direct_type c o
 unnamed c op.Nop h = absurd (cc h)
 unnamed c (op.Call func) h = absurd (cc h)
 unnamed c (op.LocalGet index) h = absurd (cc h)
@@ -44,7 +43,8 @@ branches_or_chooses op.Drop = true
 branches_or_chooses op.Select = true
 branches_or_chooses _ = false
 
-pub passed_step : (c : Context) (o : Op) (labels : List ℕ) (os : List Open) → branches_or_chooses o ≡ false → passes (direct_type c o) os ≡ stepped c o labels os
+pub passed_step : (c : Context) (o : Op) (labels : List ℕ) (os : List Open) → branches_or_chooses o ≡ false
+    → passes (direct_type c o) os ≡ stepped c o labels os
 passed_step c op.Unreachable labels os h = absurd (cc h)
 passed_step c (op.Br label) labels os h = absurd (cc h)
 passed_step c (op.BrIf label) labels os h = absurd (cc h)
@@ -63,7 +63,8 @@ opens_or_closes op.Else = true
 opens_or_closes op.End = true
 opens_or_closes _ = false
 
-leaf_of : (c : Context) (o : Op) (labels : List ℕ) (p : Open) (os : List Open) → opens_or_closes o ≡ false → stepped c o labels (p ∷ os) ≡ turned c o labels (p ∷ os)
+leaf_of : (c : Context) (o : Op) (labels : List ℕ) (p : Open) (os : List Open) → opens_or_closes o ≡ false
+    → stepped c o labels (p ∷ os) ≡ turned c o labels (p ∷ os)
 leaf_of c (op.Block r end) labels p os h = absurd (cc h)
 leaf_of c (op.Loop r end) labels p os h = absurd (cc h)
 leaf_of c (op.If r other end) labels p os h = absurd (cc h)
@@ -71,18 +72,7 @@ leaf_of c op.Else labels p os h = absurd (cc h)
 leaf_of c op.End labels p os h = absurd (cc h)
 leaf_of c _ labels p os h = refl
 
-pub stepped_turn : (c : Context) (o : Op) (labels : List ℕ) (os : List Open) → opens_or_closes o ≡ false → stepped c o labels os ≡ turned c o labels os
+pub stepped_turn : (c : Context) (o : Op) (labels : List ℕ) (os : List Open) → opens_or_closes o ≡ false
+    → stepped c o labels os ≡ turned c o labels os
 stepped_turn c o labels [] h = refl
 stepped_turn c o labels (p ∷ os) h = leaf_of c o labels p os h
-
--- ---- lists of types
-
-other_head : (x y : Bool) → false ≡ y → false ≡ (x && y)
-other_head true y h = h
-other_head false y h = refl
-
-pub other_length : (xs ys : List ValType) → length xs ≢ length ys → false ≡ same_types xs ys
-other_length [] [] h = absurd (h refl)
-other_length [] (b ∷ ys) h = refl
-other_length (a ∷ xs) [] h = refl
-other_length (a ∷ xs) (b ∷ ys) h = other_head (same_type a b) (same_types xs ys) (other_length xs ys (λ e. h (omega (arith, e))))

@@ -15,7 +15,8 @@ pub other_length : (ss ts : List ValType) → (length ss ≡ length ts → ⊥) 
 other_length [] [] h = absurd (h refl)
 other_length [] (t ∷ ts) h = refl
 other_length (s ∷ ss) [] h = refl
-other_length (s ∷ ss) (t ∷ ts) h = both_false (same_type s t) (same_types ss ts) (other_length ss ts (λ e. h (ap suc e)))
+other_length (s ∷ ss) (t ∷ ts) h =
+    both_false (same_type s t) (same_types ss ts) (other_length ss ts (λ e. h (ap suc e)))
 
 pub same_signature_is : (s t : Signature) → same_signature s t ≡ true → s ≡ t
 same_signature_is s t e =

@@ -1,7 +1,6 @@
 -- Calls of typed programs: the callee finds its arguments, and its results go onto the caller's operands.
 use Rattle.std.proofs.Common.{◌≡◌, ◌⊎◌, inl, inr, ◌↔◌, ℕ, zero, suc, ◌<◌, ◌≤◌, ◌-◌, true, false, nat_lt, List, [], ◌∷◌, ◌++◌, length, map, reverse, Option, Some, None, refl, sym, ap, ◌∙◌, subst, arith}
 use Rattle.std.specs.Prelude.{slice_get, IsSome}
-use Rattle.std.proofs.lemmas.Bool.{and_parts}
 use Rattle.w4_defs.specs.declared.value.Val.{Val}
 use Rattle.w4_defs.specs.declared.value.ValType.{ValType}
 use Rattle.w4_defs.specs.declared.value.ValType.TheVariants.{I32}
@@ -11,7 +10,7 @@ use Rattle.w4_defs.specs.declared.console.Import.TheVariants.{Diskr, Diskw}
 use Rattle.w4_defs.specs.Tree.{Expr}
 use Rattle.w4_defs.specs.Module.{Signature, WasmModule}
 use Rattle.w4_defs.specs.Lookup.{signature_of, tables_of, local_types}
-use Rattle.w4_defs.specs.Kinds.{same_signature, same_types, numbers_of}
+use Rattle.w4_defs.specs.Kinds.{same_signature, numbers_of}
 use Rattle.w4_defs.specs.Typing.{Context, HasType, body_context}
 use Rattle.w4_defs.specs.Imports.{import_type}
 use Rattle.w4_defs.specs.Program.{Own, Callee, own, imported, absent, zeros, Prog}
@@ -20,7 +19,7 @@ use Rattle.w4_defs.specs.Control.{where_some, with_arguments, leave}
 use Rattle.w4_defs.specs.Evaluation.{Env, Evaluator, allowed, called_env, after_import, answered, call_import, call_own, call, call_typed, call_entry, call_indirect}
 use Rattle.w4_defs.specs.RunLaws.{types_of}
 use Rattle.wasm_valid.specs.TypedRuns.{AnswersByType}
-use Rattle.wasm_valid.proofs.KindLaws.{same_types_are}
+use Rattle.wasm_valid.proofs.TypeLaws.{same_signature_is}
 use Rattle.wasm_valid.proofs.TypedValues.{types_joined}
 use Rattle.wasm_valid.proofs.TypedLists.{Fits, global_values, on_i32_fits, where_some_fits, cond_fits, with_arguments_fits, leave_fits}
 
@@ -63,17 +62,11 @@ pub record Matches (c : Context) (env : Env) : Type 0 where
 -- typed lists of this module fit, with less than n units
 abbrev pub Evaluates : {H : Type 0} → WasmModule → ℕ → Evaluator H → Type 0
 Evaluates {H} m n e =
-    (c : Context) (body : Expr) (env : Env) (ins outs : List ValType) (ops ls : List Val) (st : Store H) (b : ℕ)
+    (c : Context) (body : Expr) (env : Env) (ins outs : List ValType) (ops ls : List Val) (st : Store H)
+    (b : ℕ)
     → b < n → c.within ≡ m → Matches c env → HasType c body ins outs
     → types_of ops ≡ reverse ins → types_of ls ≡ c.locals → types_of st.globals ≡ global_values c
     → Fits c outs (e body env ops ls st b)
-
-pub same_signature_is : (s t : Signature) → same_signature s t ≡ true → s ≡ t
-same_signature_is s t h =
-    let p = and_parts (same_types s.params t.params) (same_types s.results t.results) h in
-    let params = same_types_are s.params t.params p.0 in
-    let results = same_types_are s.results t.results p.1 in
-    λ i. record { params = params i; results = results i }
 
 -- an import has no result, or one i32
 import_results : (i : Import) → ((import_type i).results ≡ []) ⊎ ((import_type i).results ≡ I32 ∷ [])
@@ -113,7 +106,8 @@ module _ {H : Type 0} (c : Context) (outs tops : List ValType) where
       (linked : Linked c.within prog) where
     pub call_own_fits : (f : Own) (env : Env) (ops ls : List Val) (st : Store H) (b : ℕ) → b < n
         → IsReady c.within (own f)
-        → types_of ops ≡ reverse f.signature.params ++ tops → reverse outs ≡ reverse f.signature.results ++ tops
+        → types_of ops ≡ reverse f.signature.params ++ tops
+        → reverse outs ≡ reverse f.signature.results ++ tops
         → types_of ls ≡ c.locals → types_of st.globals ≡ global_values c
         → Fits c outs (call_own e f env ops ls st b)
     call_own_fits f env ops ls st b less ready h g l k =
@@ -122,7 +116,8 @@ module _ {H : Type 0} (c : Context) (outs tops : List ValType) where
         (e f.function.list (called_env f env) [] (args ++ zeros f.function.runs) st b) in
         let into : Context = body_context c.within f.signature f.function in
         let same : Matches into (called_env f env) = record { labels = refl; results = refl } in
-        cond_fits c outs (allowed f env) (with_arguments Stuck f.signature.params ops go) (Trap cause.Stack st)
+        cond_fits c outs (allowed f env) (with_arguments Stuck f.signature.params ops go)
+        (Trap cause.Stack st)
         (λ t. with_arguments_fits c outs f.signature.params tops ops go h (λ args ops typed below.
         let locals : List Val = args ++ zeros f.function.runs in
         leave_fits c outs f.signature f.function tops ops ls
@@ -181,7 +176,8 @@ module _ {H : Type 0} (c : Context) (outs tops : List ValType) where
         (st : Store H) (b : ℕ) → b < n → slice_get prog.table i ≡ found
         → types_of ops ≡ reverse s.params ++ tops → reverse outs ≡ reverse s.results ++ tops
         → types_of ls ≡ c.locals → types_of st.globals ≡ global_values c
-        → Fits c outs (where_some (Trap cause.Table st) found (λ entry. call_entry prog e s entry env ops ls st b))
+        → Fits c outs (where_some (Trap cause.Table st) found
+        (λ entry. call_entry prog e s entry env ops ls st b))
     call_place_fits s i None env ops ls st b less found h g l k = k
     call_place_fits s i (Some entry) env ops ls st b less found h g l k =
         call_entry_fits s i entry env ops ls st b less found h g l k

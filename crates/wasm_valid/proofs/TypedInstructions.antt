@@ -99,7 +99,8 @@ select_suits t tops locals ops ls page h l =
     on_value_suits (t ∷ tops) locals t (t ∷ tops) ops _ h (λ second ops s h.
     on_value_suits (t ∷ tops) locals t tops ops _ h (λ first ops f h.
     holds_suits (t ∷ tops) locals (same_kind first second)
-    (Does ((if nat_eq n 0 then second else first) ∷ ops) ls page) Lacks (same_kinds first second (f ∙ sym s)) (
+    (Does ((if nat_eq n 0 then second else first) ∷ ops) ls page) Lacks
+    (same_kinds first second (f ∙ sym s)) (
       pushed t tops (if nat_eq n 0 then second else first) ops
           (type_of_chosen (nat_eq n 0) second first t s f) h,
       l,
@@ -134,7 +135,8 @@ global_typed c st i g e s =
     (option_map (λ g. g.value)) e
 
 module _ {H : Type 0} (c : Context) (outs : List ValType) where
-  pub branch_fits : (env : Env) (l : ℕ) (label below : List ValType) (ops ls : List Val) (st : Store H) (b : ℕ)
+  pub branch_fits : (env : Env) (l : ℕ) (label below : List ValType) (ops ls : List Val) (st : Store H)
+      (b : ℕ)
       → Matches c env → slice_get c.labels l ≡ Some label
       → types_of ops ≡ reverse label ++ below → types_of ls ≡ c.locals → types_of st.globals ≡ global_values c
       → Fits c outs (branch env l ops ls st b)
@@ -151,7 +153,8 @@ module _ {H : Type 0} (c : Context) (outs : List ValType) where
       → Fits c outs (branch_if env l ops ls st b)
   branch_if_fits env l label tops ops ls st b m e h o k g =
       on_i32_fits c outs (reverse label ++ tops) ops _ h (λ n ops below.
-      cond_fits c outs (nat_eq n 0) (Falls ops ls st b) (branch env l ops ls st b) (λ t. (below ∙ sym o, k, g))
+      cond_fits c outs (nat_eq n 0) (Falls ops ls st b) (branch env l ops ls st b)
+      (λ t. (below ∙ sym o, k, g))
       (λ t. branch_fits env l label tops ops ls st b m e below k g))
 
   pub branch_table_fits : (env : Env) (labels : List ℕ) (label below : List ValType) (ops ls : List Val)

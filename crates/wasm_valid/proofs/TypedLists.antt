@@ -62,7 +62,8 @@ module _ {H : Type 0} (c : Context) (outs : List ValType) where
   on_i32_fits tops (val.I32 n ∷ ops) go h k = k n ops (cc h)
   on_i32_fits tops (val.I64 n ∷ ops) go h k = absurd (cc h)
 
-  pub where_some_fits : {A : Type 0} (lack : Outcome H) (o : Option A) (x : A) (go : A → Outcome H) → o ≡ Some x
+  pub where_some_fits : {A : Type 0} (lack : Outcome H) (o : Option A) (x : A) (go : A → Outcome H)
+      → o ≡ Some x
       → Fits c outs (go x) → Fits c outs (where_some lack o go)
   where_some_fits lack o x go e k = subst (λ o. Fits c outs (where_some lack o go)) (sym e) k
 
@@ -112,7 +113,8 @@ module _ {H : Type 0} (c : Context) (outs : List ValType) where
       → Goes c outs b (reverse (result_types result) ++ tops) go
       → Fits c outs (close (option_to_list result) ops go o)
   close_fits result tops b ops go (Falls vs ls st r) e a h k =
-      holds_fits (are_of (option_to_list result) vs) (go (vs ++ ops) ls st r) Stuck (result_held result vs h.0)
+      holds_fits (are_of (option_to_list result) vs) (go (vs ++ ops) ls st r) Stuck
+      (result_held result vs h.0)
       (k (vs ++ ops) ls st r a (onto (reverse (result_types result)) tops vs ops h.0 e) h.1 h.2)
   close_fits result tops b ops go (Branch zero vs ls st r) e a h k =
       let same : result_types result ≡ h.0 = cc h.1 in
@@ -133,7 +135,8 @@ module _ {H : Type 0} (c : Context) (outs : List ValType) where
       → types_of st.globals ≡ global_values c → Fits c outs (again ls st r))
       → Fits c outs (turn (option_to_list result) ops go again o)
   turn_fits result tops b ops go again (Falls vs ls st r) e a h k t =
-      holds_fits (are_of (option_to_list result) vs) (go (vs ++ ops) ls st r) Stuck (result_held result vs h.0)
+      holds_fits (are_of (option_to_list result) vs) (go (vs ++ ops) ls st r) Stuck
+      (result_held result vs h.0)
       (k (vs ++ ops) ls st r a (onto (reverse (result_types result)) tops vs ops h.0 e) h.1 h.2)
   turn_fits result tops b ops go again (Branch zero vs ls st r) e a h k t = t ls st r a h.3 h.4
   turn_fits result tops b ops go again (Branch (suc l) vs ls st r) e a h k t = h
@@ -143,7 +146,8 @@ module _ {H : Type 0} (c : Context) (outs : List ValType) where
   turn_fits result tops b ops go again Stuck e a h k t = h
 
   -- the end of a called function: its results go onto the caller's operands
-  pub leave_fits : (s : Signature) (f : Function) (tops : List ValType) (ops locals : List Val) (o : Outcome H)
+  pub leave_fits : (s : Signature) (f : Function) (tops : List ValType) (ops locals : List Val)
+      (o : Outcome H)
       → types_of ops ≡ tops → types_of locals ≡ c.locals
       → reverse outs ≡ reverse s.results ++ tops → Fits (body_context c.within s f) s.results o
       → Fits c outs (leave s.results ops locals o)

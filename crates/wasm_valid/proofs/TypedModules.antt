@@ -17,10 +17,13 @@ use Rattle.w4_defs.specs.Outcome.{Outside}
 use Rattle.w4_defs.specs.RunLaws.{types_of}
 use Rattle.wasm_valid.specs.TypedRuns.{AnswersByType}
 use Rattle.wasm_valid.proofs.KindLaws.{then_some, some_then}
-use Rattle.wasm_valid.proofs.BodyLaws.{none_at, free}
+use Rattle.wasm_valid.specs.Carts.{nothing}
+use Rattle.wasm_valid.proofs.BodyLaws.{free}
+use Rattle.wasm_valid.proofs.NoneLaws.{none_at}
+use Rattle.wasm_valid.proofs.ProfileFacts.{no_cause}
 use Rattle.wasm_valid.proofs.TypedValues.{zeros_typed}
 use Rattle.wasm_valid.proofs.TypedCalls.{Linked}
-use Rattle.wasm_valid.proofs.TypedImports.{AllNamed, no_float, none_is_wrong, imports_named}
+use Rattle.wasm_valid.proofs.TypedImports.{AllNamed, imports_named}
 
 -- ---- own functions
 
@@ -50,11 +53,12 @@ body_typed m k index s f valid h t g =
     subst (λ x. HasType (body_context m x f) f.list [] x.results) same_type
     (subst (λ x. HasType (body_context m p.4.0 x) x.list [] p.4.0.results) same_body p.4.2)
 
-body_zeros : (m : WasmModule) (k : ℕ) (f : Function) → profile_refusal m ≡ None → slice_get m.bodies k ≡ Some f
+body_zeros : (m : WasmModule) (k : ℕ) (f : Function) → profile_refusal m ≡ None
+    → slice_get m.bodies k ≡ Some f
     → types_of (zeros f.runs) ≡ local_types f.runs
 body_zeros m k f h g =
     zeros_typed f.runs (or_parts (list_any (λ run. is_float run.kind) f.runs) (has_float f.list)
-    (none_at function_has_float m.bodies k f (free m (no_float m h)).bodies g)).0
+    (none_at function_has_float m.bodies k f (free m (no_cause m h).floats).bodies g)).0
 
 owns_named : (m : WasmModule) → profile_refusal m ≡ None → IsValid m → length m.functions ≡ length m.bodies
     → AllNamed m (own_callees m.types m.functions m.bodies) m.functions
@@ -73,7 +77,8 @@ owns_named m profile valid even k s h =
 pub all_named : (m : WasmModule) → profile_refusal m ≡ None → IsValid m → length m.functions ≡ length m.bodies
     → AllNamed m (callees m) (function_indices m)
 all_named m profile valid even =
-    imports_named m (own_callees m.types m.functions m.bodies) m.functions m.imports (none_is_wrong m profile)
+    imports_named m (own_callees m.types m.functions m.bodies) m.functions m.imports
+    (no_cause m profile).imports
     (owns_named m profile valid even)
 
 -- ---- the table
@@ -122,7 +127,6 @@ has_signature : (m : WasmModule) (func : ℕ) → IsValid m → func < length (f
     → (s : Signature) × (signature_of m func ≡ Some s)
 has_signature m func valid less =
     let index : ℕ = get_or (function_indices m) func 0 in
-    let nothing : Signature = record { params = []; results = [] } in
     let s : Signature = get_or m.types index nothing in (
       s,
       some_then (λ index. slice_get m.types index) (slice_get (function_indices m) func) index s

@@ -29,7 +29,8 @@ use Rattle.wasm_valid.proofs.TypedLists.{Fits, global_values, on_i32_fits, where
 use Rattle.wasm_valid.proofs.TypedCalls.{Linked, Matches, Evaluates, call_fits, call_indirect_fits}
 use Rattle.wasm_valid.proofs.TypedInstructions.{topmost_part, local_get_suits, local_set_suits, local_tee_suits, select_suits, drop_suits, branch_fits, branch_if_fits, branch_table_fits, return_fits, get_global_fits, set_global_fits}
 
-where_true : {A : Type 0} (b : Bool) (o : Option A) (x : A) → cond b o None ≡ Some x → (b ≡ true) × (o ≡ Some x)
+where_true : {A : Type 0} (b : Bool) (o : Option A) (x : A) → cond b o None ≡ Some x
+    → (b ≡ true) × (o ≡ Some x)
 where_true true o x h = (refl, h)
 where_true false o x h = absurd (cc h)
 
@@ -101,7 +102,8 @@ module _ {H : Type 0} (c : Context) (prog : Prog H) (e : Evaluator H) (n : ℕ) 
       let f = linked.functions func p.0 p.1 in
       where_some_fits c outs Stuck (slice_get prog.functions func) f.named.callee
       (λ callee. call prog e callee env ops ls st b) f.named.found
-      (call_fits c outs tops prog e n fits linked p.0 f.named.callee env ops ls st b less f.named.ready f.signature
+      (call_fits c outs tops prog e n fits linked p.0 f.named.callee env ops ls st b less f.named.ready
+      f.signature
       (retyped (types_of ops) a p.0.params tops h q.0)
       (retyped (reverse outs) given p.0.results tops g q.1) l k)
   simple_fits (op.CallIndirect type table) labels env a given tops outs ops ls st b less m t h g l k =
@@ -173,7 +175,8 @@ module _ {H : Type 0} (c : Context) (prog : Prog H) (e : Evaluator H) (n : ℕ) 
         → HasType (with_label (result_types r) c) inner [] (result_types r)
         → HasType c rest (ins ++ result_types r) outs
         → types_of ops ≡ reverse ins → types_of ls ≡ c.locals → types_of st.globals ≡ global_values c
-        → Fits c outs (close (option_to_list r) ops (e rest env) (e inner (inside (size_of r) env) [] ls st b))
+        → Fits c outs (close (option_to_list r) ops (e rest env)
+        (e inner (inside (size_of r) env) [] ls st b))
     closed_fits r inner rest env ins outs ops ls st b less m t u h l k =
         close_fits c outs r (reverse ins) b ops (e rest env) (e inner (inside (size_of r) env) [] ls st b) h
         (body_most e n b keeps less inner (inside (size_of r) env) [] ls st)
@@ -193,7 +196,8 @@ module _ {H : Type 0} (c : Context) (prog : Prog H) (e : Evaluator H) (n : ℕ) 
         and_then_fits c outs mid b (simple prog e i.0 i.1 env ops ls st b) (e rest env)
         (simple_most prog e n keeps i.0 i.1 env ops ls st b small)
         (simple_fits i.0 i.1 env led.1 led.2 (reverse led.0) mid ops ls st b small m led.4
-        (h ∙ ap reverse led.3 ∙ reverse-append led.0 led.1) (ap reverse led.5 ∙ reverse-append led.0 led.2) l k)
+        (h ∙ ap reverse led.3 ∙ reverse-append led.0 led.1)
+        (ap reverse led.5 ∙ reverse-append led.0 led.2) l k)
         (λ ops ls st r lower h l k. fits c rest env mid outs ops ls st r (omega arith) refl m t h l k)
     act_fits (block r inner rest) env ins outs ops ls st zero less m t h l k = k
     act_fits (block r inner rest) env ins outs ops ls st (suc b) less m t h l k =
@@ -223,7 +227,8 @@ module _ {H : Type 0} (c : Context) (prog : Prog H) (e : Evaluator H) (n : ℕ) 
         on_i32_fits c outs (reverse ts) ops _ (h ∙ ap reverse parts ∙ reverse-append ts (I32 ∷ []))
         (λ test ops h.
         closed_fits r (if nat_eq test 0 then other else taken) rest env ts outs ops ls st b (omega arith) m
-        (chosen_typed (nat_eq test 0) (with_label (result_types r) c) other taken (result_types r) u t) v h l k)
+        (chosen_typed (nat_eq test 0) (with_label (result_types r) c) other taken (result_types r) u t) v
+        h l k)
 
 pub eval_fits : {H : Type 0} (m : WasmModule) (prog : Prog H) → Linked m prog → (n : ℕ)
     → Evaluates m n (eval prog)

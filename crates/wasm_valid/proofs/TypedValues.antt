@@ -23,7 +23,8 @@ pub types_reversed : (vs : List Val) → types_of (reverse vs) ≡ reverse (type
 types_reversed [] = refl
 types_reversed (v ∷ vs) =
     ap types_of (reverse-append (v ∷ []) vs) ∙ types_joined (reverse vs) (v ∷ [])
-    ∙ ap (λ ts. ts ++ type_of v ∷ []) (types_reversed vs) ∙ sym (reverse-append (type_of v ∷ []) (types_of vs))
+    ∙ ap (λ ts. ts ++ type_of v ∷ []) (types_reversed vs)
+    ∙ sym (reverse-append (type_of v ∷ []) (types_of vs))
 
 pub types_counted : (vs : List Val) → length (types_of vs) ≡ length vs
 types_counted [] = refl
@@ -50,7 +51,8 @@ pub record Split (ts below : List ValType) (ops : List Val) : Type 0 where
   pub top : types_of (take (length ts) ops) ≡ reverse ts
   pub rest : types_of (drop (length ts) ops) ≡ below
 
-pub split : (ts below : List ValType) (ops : List Val) → types_of ops ≡ reverse ts ++ below → Split ts below ops
+pub split : (ts below : List ValType) (ops : List Val) → types_of ops ≡ reverse ts ++ below
+    → Split ts below ops
 split ts below ops h =
     let n = length ts in
     let m : length (reverse ts) ≡ n = length-reverse ts in

@@ -28,7 +28,8 @@ nothing = record { params = []; results = [] }
 abbrev pub type_numbers : WasmModule → List ℕ
 type_numbers m = map (number_of_type m.types) m.types
 
-pub record IsKept (m : WasmModule) (filled : List (Option ℕ)) (firsts : List Val) (functions : List Call) (kinds : List ℕ) : Type 0 where
+pub record IsKept (m : WasmModule) (filled : List (Option ℕ)) (firsts : List Val) (functions : List Call)
+    (kinds : List ℕ) : Type 0 where
   pub profile : profile_refusal m ≡ None
   pub valid : IsValid m
   pub table : filled ≡ table_of m

@@ -32,7 +32,8 @@ pushed k s = with_kinds s (k ∷ s.kinds)
 abbrev pub popped : List Open → Option (Kind × List Open)
 popped [] = None
 popped (o ∷ os) =
-    option_map (λ top. (top.0, with_shape o (with_kinds o.shape top.1) ∷ os)) (topmost o.shape.marked o.shape.kinds)
+    option_map (λ top. (top.0, with_shape o (with_kinds o.shape top.1) ∷ os))
+    (topmost o.shape.marked o.shape.kinds)
 
 -- a list is opened inside those that are open
 abbrev pub entered : List ValType → List ValType → List Open → List Open
@@ -69,7 +70,8 @@ stepped c op labels os = at_top (step (context c os) op labels) os
 -- the list of a frame, where so many kinds are its own
 abbrev pub held_with : Frame → ℕ → List Kind → Open
 held_with f n ks =
-    record { label = f.label.now; result = f.results.now; shape = record { kinds = take n ks; marked = f.marked } }
+    let own : Shape = record { kinds = take n ks; marked = f.marked } in
+    record { label = f.label.now; result = f.results.now; shape = own }
 
 -- the lists of frames, the innermost first, over kinds from the top
 abbrev pub held : List Frame → List Kind → List Open
@@ -108,12 +110,15 @@ abbrev pub parted : List Open → Option (List Open)
 parted [] = None
 parted (o ∷ os) = cond (stands o.shape o.result) (Some (opened o.label o.result ∷ os)) None
 
+-- whether all these labels have a type
+abbrev pub all_have : List ValType → List (List ValType) → List ℕ → Bool
+all_have label known labels = list_all (λ other. is_label label (slice_get known other)) labels
+
 -- the one type that all these labels have
 abbrev pub shared : List Open → List ℕ → Option (List ValType)
 shared os [] = None
 shared os (l ∷ labels) =
-    option_and_then
-    (λ label. if list_all (λ other. is_label label (slice_get (labels_of os) other)) labels then Some label else None)
+    option_and_then (λ label. if all_have label (labels_of os) labels then Some label else None)
     (slice_get (labels_of os) l)
 
 -- ---- operations that take and give types

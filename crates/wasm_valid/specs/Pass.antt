@@ -39,7 +39,8 @@ closed o (p ∷ os) = cond (stands o.shape o.result) (Some (with_shape p (given 
 
 -- a condition is taken, and a list is opened
 abbrev pub chosen_list : List ValType → Open → List Open → Option (List Open)
-chosen_list result o os = option_map (λ s. opened result result ∷ with_shape o s ∷ os) (taken (I32 ∷ []) o.shape)
+chosen_list result o os =
+    option_map (λ s. opened result result ∷ with_shape o s ∷ os) (taken (I32 ∷ []) o.shape)
 
 abbrev pub opened_if : Option ValType → Open → List Open → Option (List Open)
 opened_if None o os = chosen_list [] o os
@@ -65,4 +66,5 @@ run c (m ∷ ms) (o ∷ os) = option_and_then (run c ms) (turn c m.0 m.1 o os)
 abbrev pub PassDecidesBodies : Type 0
 PassDecidesBodies =
     (m : WasmModule) (s : Signature) (f : Function) → IsProper f.list
-    → run (body_context m s f) (flat f.list) (opened s.results s.results ∷ []) ≡ cond (body_stands m s f) (Some []) None
+    → run (body_context m s f) (flat f.list) (opened s.results s.results ∷ [])
+    ≡ cond (body_stands m s f) (Some []) None

@@ -143,4 +143,5 @@ test_rows op = either_arrow (test32_row op) (test64_row op)
 
 abbrev pub value_rows : Op → Option Arrow
 value_rows op =
-    either_arrow (unary_row op) (either_arrow (binary32_row op) (either_arrow (binary64_row op) (conversion_row op)))
+    either_arrow (unary_row op)
+    (either_arrow (binary32_row op) (either_arrow (binary64_row op) (conversion_row op)))

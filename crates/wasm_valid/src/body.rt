@@ -45,7 +45,8 @@ fn has_type(
     requires profile { profile_refusal code.now ≡ None }
     requires functions { functions.now ≡ function_indices code.now }
     requires body { func < length code.now.bodies }
-    ensures { IfOk result (λ r. option_map (body_stands code.now signature.now) (slice_get code.now.bodies func) ≡ Some r) }
+    ensures { IfOk result (λ r.
+        option_map (body_stands code.now signature.now) (slice_get code.now.bodies func) ≡ Some r) }
 {
     let scope = Scope::new(alloc, code, functions, signature, code.runs(func))?;
     let lists = Frames::new(alloc, &signature.results);
@@ -60,7 +61,8 @@ fn goes_through<'a>(
     lists: Frames<'a>,
 ) -> Result<bool, OutOfMemory>
     requires { func < length code.now.bodies }
-    ensures value { IfOk result (λ r. IsTrue r ↔ (run scope.now (body_entries code.now func) lists.entry ≡ Some [])) }
+    ensures value { IfOk result (λ r.
+        IsTrue r ↔ (run scope.now (body_entries code.now func) lists.entry ≡ Some [])) }
     ensures proper { IfSome (slice_get code.now.bodies func) (λ f. IsProper f.list) }
 {
     let operations = code.body(func);

@@ -5,7 +5,7 @@ ghost use Rattle.std.specs.Prelude.{◌+◌, ◌++◌, ◌<◌, ◌≡◌, ◌�
 ghost use Rattle.w4_defs.specs.Lookup.{local_count};
 ghost use Rattle.w4_defs.specs.Module.{Signature};
 ghost use Rattle.w4_defs.specs.Program.{callees, imported_callees};
-ghost use Rattle.wasm_valid.specs.Calls.{AreCalls, IsCallAt, IsTypeAt, result_count};
+ghost use Rattle.wasm_valid.specs.Calls.{AreCalls, AreImportCalls, IsCallAt, IsTypeAt, result_count};
 ghost use Rattle.wasm_valid.specs.Instructions.{is_instruction};
 ghost use Rattle.wasm_valid.specs.Ready.{IsReady};
 ghost use Rattle.w4_defs.specs.Profile.{is_right};
@@ -33,7 +33,8 @@ pub fn calls(alloc: Global, code: &Code) -> Result<Vec<Call>, OutOfMemory>
 /// The calls of the imported functions.
 fn import_calls(alloc: Global, code: &Code) -> Result<Vec<Call>, OutOfMemory>
     requires { IsReady code.now }
-    ensures { IfOk result (λ calls. AreCalls code.now (imported_callees code.now.types code.now.imports) calls.items) }
+    ensures { IfOk result (λ calls.
+        AreCalls code.now (imported_callees code.now.types code.now.imports) calls.items) }
 {
     let imports = code.imports();
     let mut calls = Vec::new(alloc);
@@ -47,7 +48,8 @@ fn import_calls(alloc: Global, code: &Code) -> Result<Vec<Call>, OutOfMemory>
 fn with_import(calls: Vec<Call>, code: &Code, i: usize) -> Result<Vec<Call>, OutOfMemory>
     requires ready { IsReady code.now }
     requires within { i < length code.now.imports }
-    ensures { IfOk result (λ new. AreCalls code.now (imported_callees code.now.types (take i code.now.imports)) calls.items → AreCalls code.now (imported_callees code.now.types (take (i + 1) code.now.imports)) new.items) }
+    ensures { IfOk result (λ new.
+        AreImportCalls code.now i calls.items → AreImportCalls code.now (i + 1) new.items) }
 {
     let mut calls = calls;
     let import = &code.imports()[i];

@@ -33,7 +33,8 @@ pub fn have_names_apart(exports: &[Export]) -> bool
 /// Whether no export before this one has its name.
 fn is_apart(exports: &[Export], i: usize) -> bool
     requires { i < length exports.now }
-    ensures { IfSome (slice_get exports.now i) (λ f. Decides result (All (λ e. e.name ≢ f.name) (take i exports.now))) }
+    ensures { IfSome (slice_get exports.now i)
+        (λ f. Decides result (All (λ e. e.name ≢ f.name) (take i exports.now))) }
 {
     let export = &exports[i];
     let name = &export.name[..];

@@ -1,14 +1,12 @@
 //! The labels of a br_table, which all have one type (Core Specification 1.0, section 3.3.5).
 
-ghost use Rattle.std.specs.Prelude.{◌≡◌, option_map, slice_get};
-ghost use Rattle.std.specs.List.{list_all};
-ghost use Rattle.w4_defs.specs.Kinds.{same_types};
+ghost use Rattle.std.specs.Prelude.{◌≡◌, option_map};
 ghost use Rattle.w4_defs.specs.Shape.{is_label};
-ghost use Rattle.wasm_valid.specs.OpenLists.{shared};
+ghost use Rattle.wasm_valid.specs.OpenLists.{all_have, shared};
 ghost use Rattle.wasm_valid.specs.Pass.{labels_of};
 
 use crate::frames::Frames;
-use crate::operands::same_type;
+use crate::signature::same_types;
 use w4_defs::ValType;
 
 /// The one type that all these labels have; None where one differs or is no label, or there are none.
@@ -29,7 +27,7 @@ pub fn common_label<'a>(labels: &[u32], lists: &Frames<'a>) -> Option<&'a [ValTy
 }
 
 fn all_have(label: &[ValType], labels: &[u32], lists: &Frames) -> bool
-    ensures { result ≡ list_all (λ other. is_label label.now (slice_get (labels_of lists.now) other)) labels.now }
+    ensures { result ≡ all_have label.now (labels_of lists.now) labels.now }
 {
     for i in 0..labels.len() {
         if !is_label(label, lists.label(labels[i])) {
@@ -46,18 +44,4 @@ fn is_label(label: &[ValType], other: Option<&[ValType]>) -> bool
         Some(other) => same_types(label, other),
         None => false,
     }
-}
-
-fn same_types(first: &[ValType], second: &[ValType]) -> bool
-    ensures { result ≡ same_types first.now second.now }
-{
-    if first.len() != second.len() {
-        return false;
-    }
-    for i in 0..first.len() {
-        if !same_type(first[i], second[i]) {
-            return false;
-        }
-    }
-    true
 }

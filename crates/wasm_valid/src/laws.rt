@@ -23,7 +23,8 @@ pub fn pass_decides_bodies()
     ensures { PassDecidesBodies }
 {}
 
-/// The entries of a flattening besides each `else` and each `end` are as many as the instructions of its tree.
+/// The entries of a flattening besides each `else` and each `end` are as many as the instructions of its
+/// tree.
 pub fn instructions_are_counted()
     ensures { InstructionsAreCounted }
 {}

@@ -1,5 +1,6 @@
 //! Validation of a module (Core Specification, chapter 3). The layer above makes a `Cart` by `validate`, and
-//! relies on it: its module is valid and within the console's profile, and its functions are ready to be called.
+//! relies on it: its module is valid and within the console's profile, and its functions are ready to be
+//! called.
 #![tactic(auto)]
 
 mod arrows;

@@ -43,7 +43,8 @@ impl<'a> Frames<'a> {
 
     /// Takes the types of an instruction's operands, and gives those of its results.
     pub fn pass(&mut self, takes: &[ValType], gives: &[ValType]) -> Result<bool, OutOfMemory>
-        ensures { IfOk result (λ went. Becomes went self.new (at_top (λ s. passed s (takes.now, gives.now)) self.old)) }
+        ensures { IfOk result (λ went.
+            Becomes went self.new (at_top (λ s. passed s (takes.now, gives.now)) self.old)) }
     {
         if !self.take_all(takes) {
             return Ok(false);

@@ -37,9 +37,15 @@ impl<'a> Model for Scope<'a> {
     ghost use Rattle.w4_defs.specs.Lookup.{function_indices};
     ghost use Rattle.w4_defs.specs.Profile.{profile_refusal};
 
-    ghost view = { λ s. record { within = s.code.now; locals = s.params.now ++ s.locals.items; labels = s.results.now ∷ []; results = s.results.now } };
+    ghost view = { λ s. record {
+      within = s.code.now;
+      locals = s.params.now ++ s.locals.items;
+      labels = s.results.now ∷ [];
+      results = s.results.now;
+    } };
 
-    ghost invariant = { λ s. (profile_refusal s.code.now ≡ None) × (s.functions.now ≡ function_indices s.code.now) };
+    ghost invariant = { λ s. (profile_refusal s.code.now ≡ None)
+        × (s.functions.now ≡ function_indices s.code.now) };
 }
 
 impl<'a> Scope<'a> {
@@ -53,7 +59,12 @@ impl<'a> Scope<'a> {
     ) -> Result<Scope<'a>, OutOfMemory>
         requires profile { profile_refusal code.now ≡ None }
         requires functions { functions.now ≡ function_indices code.now }
-        ensures { IfOk result (λ s. s ≡ record { within = code.now; locals = signature.now.params ++ local_types runs.now; labels = signature.now.results ∷ []; results = signature.now.results }) }
+        ensures { IfOk result (λ s. s ≡ record {
+          within = code.now;
+          locals = signature.now.params ++ local_types runs.now;
+          labels = signature.now.results ∷ [];
+          results = signature.now.results;
+        }) }
     {
         let locals = local_types(alloc, runs)?;
         Ok(Scope {

@@ -39,7 +39,8 @@ fn same_signature(first: &FuncType, second: &FuncType) -> bool
     same_types(&first.params, &second.params) && same_types(&first.results, &second.results)
 }
 
-fn same_types(first: &[ValType], second: &[ValType]) -> bool
+/// Whether two lists of types are equal.
+pub fn same_types(first: &[ValType], second: &[ValType]) -> bool
     ensures { result ≡ same_types first.now second.now }
 {
     if first.len() != second.len() {

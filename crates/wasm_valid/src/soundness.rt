@@ -6,8 +6,8 @@ ghost use Rattle.wasm_valid.specs.TypedRuns.{AnswersByType, KeepsGlobalTypes, Ne
 use wasm_tree::Host;
 
 /// Whatever stands outside, if its imports answer by their types: a run of an entry function of an accepted
-/// module never lacks an operand, a local, a global, a label or a function, nor finds one of another type; and
-/// the globals have their types at its end, at a trap and when the budget is spent.
+/// module never lacks an operand, a local, a global, a label or a function, nor finds one of another type;
+/// and the globals have their types at its end, at a trap and when the budget is spent.
 pub fn runs_are_sound<H>()
     ensures never_stuck { (out : Outside H) → AnswersByType out → NeverStuck out }
     ensures globals { (out : Outside H) → AnswersByType out → KeepsGlobalTypes out }

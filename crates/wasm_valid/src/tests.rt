@@ -1,44 +1,46 @@
 //! What no clause says: that modules show each rule, and that one step away it holds; and what a cart gives.
 
+ghost use Rattle.std.specs.Prelude.{◌≡◌, IfOk, length};
+
 use crate::test_modules::{
-    base, constant, export, function, import, int, limits, long, memory, nothing,
+    at_most_one, base, constant, empty_bodies, empty_body, exports, import, int, limits, long,
+    memory, module, one, plain_module,
 };
 use crate::{Call, Cart, Entry, ValidRefusal, validate};
 use std::alloc::Global;
 use w4_defs::{
-    ExportKind, GlobalType, Import, ImportKind, Limits, Locals, OutOfMemory, Val, ValType,
+    ExportKind, GlobalType, Import, ImportEntry, ImportKind, Limits, Locals, OutOfMemory, Val,
+    ValType,
 };
 use wasm_link::check_profile;
-use wasm_tree::{Code, FlatElement, FlatGlobal, FlatSegment};
+use wasm_tree::{Bodies, Code, FlatBody, FlatElement, FlatExpression, FlatGlobal, FlatSegment};
 
-/// What the module is judged: None where the profile refuses it.
-fn judged(alloc: Global, code: Code) -> Option<Result<Cart, ValidRefusal>> {
+/// The cart of a module. One that the profile refuses is no case: it is answered as if memory was refused.
+fn judged(alloc: Global, code: Result<Code, OutOfMemory>) -> Result<Cart, ValidRefusal> {
+    let code = code?;
     match check_profile(&code) {
-        Ok(()) => Some(validate(alloc, code)),
-        Err(_) => None,
+        Ok(()) => validate(alloc, code),
+        Err(_) => Err(ValidRefusal::OutOfMemory),
     }
 }
 
-/// Whether there is a cart of it.
-fn is_cart(alloc: Global, code: Code) -> Option<Result<(), ValidRefusal>> {
+/// Why there is no cart of a module.
+fn refusal(alloc: Global, code: Result<Code, OutOfMemory>) -> Option<ValidRefusal> {
     match judged(alloc, code) {
-        Some(Ok(_)) => Some(Ok(())),
-        Some(Err(refusal)) => Some(Err(refusal)),
-        None => None,
+        Ok(_) => None,
+        Err(refusal) => Some(refusal),
     }
 }
 
-type Answer = Option<Result<(), ValidRefusal>>;
+const CART: Option<ValidRefusal> = None;
 
-const CART: Answer = Some(Ok(()));
+const BROKEN: Option<ValidRefusal> = Some(ValidRefusal::Invalid(None));
 
-const BROKEN: Answer = Some(Err(ValidRefusal::Invalid(None)));
-
-/// The answer for a module with a second function of this type, and this start function.
-fn started(alloc: Global, index: u32, start: Option<u32>) -> Result<Answer, OutOfMemory> {
-    let mut code = function(alloc, base(alloc)?, index, &[], nothing(alloc)?)?;
+/// A module with a second function of this type, and this start function.
+fn started(alloc: Global, index: u32, start: Option<u32>) -> Result<Code, OutOfMemory> {
+    let mut code = plain_module(alloc, &[0, index])?;
     code.start = start;
-    Ok(is_cart(alloc, code))
+    Ok(code)
 }
 
 #[test]
@@ -50,7 +52,8 @@ fn functions_have_types_and_the_start_has_none(rt: HostRuntime) {
         (1, Some(1), BROKEN),
         (0, Some(2), BROKEN),
     ] {
-        assert_eq!(rt; started(rt.alloc(), index, start), Ok(want));
+        let code = started(rt.alloc(), index, start);
+        assert_eq!(rt; refusal(rt.alloc(), code), want);
     }
 }
 
@@ -58,47 +61,52 @@ fn sizes(alloc: Global, count: usize, limits: Limits) -> Result<Vec<Limits>, Out
     Ok(vec![in alloc; limits; count]?)
 }
 
-/// The answer for a module with so many tables of these sizes, and a memory that may have so many pages.
+/// A module with so many tables of these sizes, so many own memories, and an imported memory that may have so
+/// many pages.
 fn sized(
     alloc: Global,
-    count: usize,
+    tables: usize,
     greatest: Option<u32>,
+    memories: usize,
     pages: u32,
-    own: usize,
-) -> Result<Answer, OutOfMemory> {
+) -> Result<Code, OutOfMemory> {
+    let tables = sizes(alloc, tables, limits(2, greatest))?;
+    let memories = sizes(alloc, memories, limits(0, None))?;
+    let imports = memory(alloc, Some(pages))?;
     let mut code = base(alloc)?;
-    code.tables = sizes(alloc, count, limits(2, greatest))?;
-    code.memories = sizes(alloc, own, limits(0, None))?;
-    code.imports.clear();
-    code.imports.push(memory(alloc, Some(pages))?)?;
-    Ok(is_cart(alloc, code))
+    code.tables = tables;
+    code.memories = memories;
+    code.imports = imports;
+    Ok(code)
 }
 
 #[test]
 fn there_is_one_table_and_one_memory(rt: HostRuntime) {
-    for (count, greatest, pages, own, want) in [
-        (1, None, 1, 0, CART),
-        (2, None, 1, 0, BROKEN),
-        (1, Some(2), 1, 0, CART),
-        (1, Some(1), 1, 0, BROKEN),
-        (0, None, 65536, 0, CART),
-        (0, None, 65537, 0, BROKEN),
+    for (tables, greatest, memories, pages, want) in [
+        (1, None, 0, 1, CART),
+        (2, None, 0, 1, BROKEN),
+        (1, Some(2), 0, 1, CART),
+        (1, Some(1), 0, 1, BROKEN),
+        (0, None, 0, 65536, CART),
+        (0, None, 0, 65537, BROKEN),
         (0, None, 1, 1, BROKEN),
     ] {
-        assert_eq!(rt; sized(rt.alloc(), count, greatest, pages, own), Ok(want));
+        let code = sized(rt.alloc(), tables, greatest, memories, pages);
+        assert_eq!(rt; refusal(rt.alloc(), code), want);
     }
 }
 
-/// The answer for a module with a global.
-fn global(alloc: Global, value: ValType, first: Option<ValType>) -> Result<Answer, OutOfMemory> {
-    let mut code = base(alloc)?;
+/// A module with a global.
+fn global(alloc: Global, value: ValType, first: Option<ValType>) -> Result<Code, OutOfMemory> {
     let global = GlobalType {
         value,
         mutable: false,
     };
     let first = constant(alloc, first)?;
-    code.globals.push(FlatGlobal { global, first })?;
-    Ok(is_cart(alloc, code))
+    let globals = one(alloc, FlatGlobal { global, first })?;
+    let mut code = base(alloc)?;
+    code.globals = globals;
+    Ok(code)
 }
 
 #[test]
@@ -109,80 +117,105 @@ fn globals_begin_with_a_constant_of_their_type(rt: HostRuntime) {
         (ValType::I64, Some(ValType::I32), BROKEN),
         (ValType::I32, None, BROKEN),
     ] {
-        assert_eq!(rt; global(rt.alloc(), value, first), Ok(want));
+        let code = global(rt.alloc(), value, first);
+        assert_eq!(rt; refusal(rt.alloc(), code), want);
     }
 }
 
-/// The answer for a module with one more export.
-fn exported(
-    alloc: Global,
-    name: &[u8],
-    kind: ExportKind,
-    index: u32,
-) -> Result<Answer, OutOfMemory> {
-    let code = export(alloc, base(alloc)?, name, kind, index)?;
-    Ok(is_cart(alloc, code))
+/// A module with one more export.
+fn exported(alloc: Global, name: &[u8], kind: ExportKind, index: u32) -> Result<Code, OutOfMemory> {
+    let exports = exports(alloc, 0, name, kind, index)?;
+    let mut code = base(alloc)?;
+    code.exports = exports;
+    Ok(code)
 }
 
 #[test]
-fn exports_are_there_under_names_apart(rt: HostRuntime) {
-    let (x, update) = (b"x".as_slice(), b"update".as_slice());
-    for (name, kind, index, want) in [
-        (x, ExportKind::Func, 0, CART),
-        (x, ExportKind::Func, 1, BROKEN),
-        (x, ExportKind::Memory, 0, CART),
-        (x, ExportKind::Memory, 1, BROKEN),
-        (x, ExportKind::Table, 0, BROKEN),
-        (x, ExportKind::Global, 0, BROKEN),
-        (update, ExportKind::Func, 0, BROKEN),
+fn exports_are_there(rt: HostRuntime) {
+    for (kind, index, want) in [
+        (ExportKind::Func, 0, CART),
+        (ExportKind::Func, 1, BROKEN),
+        (ExportKind::Memory, 0, CART),
+        (ExportKind::Memory, 1, BROKEN),
+        (ExportKind::Table, 0, BROKEN),
+        (ExportKind::Global, 0, BROKEN),
     ] {
-        assert_eq!(rt; exported(rt.alloc(), name, kind, index), Ok(want));
+        let code = exported(rt.alloc(), b"x", kind, index);
+        assert_eq!(rt; refusal(rt.alloc(), code), want);
     }
 }
 
-/// The answer for a module with so many tables and an element segment.
-fn filled(
+#[test]
+fn exports_have_names_apart(rt: HostRuntime) {
+    let code = exported(rt.alloc(), b"update", ExportKind::Func, 0);
+    assert_eq!(rt; refusal(rt.alloc(), code), BROKEN);
+}
+
+/// An element segment of a function or of none.
+fn segment_of(
     alloc: Global,
-    count: usize,
     table: u32,
     offset: Option<ValType>,
-    functions: &[u32],
-) -> Result<Answer, OutOfMemory> {
-    let mut code = base(alloc)?;
-    code.tables = sizes(alloc, count, limits(2, None))?;
+    function: Option<u32>,
+) -> Result<FlatElement, OutOfMemory> {
     let offset = constant(alloc, offset)?;
-    let functions = Vec::from_slice(alloc, functions)?;
-    code.elements.push(FlatElement {
+    let functions = at_most_one(alloc, function)?;
+    Ok(FlatElement {
         table,
         offset,
         functions,
-    })?;
-    Ok(is_cart(alloc, code))
+    })
+}
+
+/// A module with so many tables and an element segment.
+fn filled(alloc: Global, tables: usize, segment: FlatElement) -> Result<Code, OutOfMemory> {
+    let elements = one(alloc, segment)?;
+    let tables = sizes(alloc, tables, limits(2, None))?;
+    let mut code = base(alloc)?;
+    code.tables = tables;
+    code.elements = elements;
+    Ok(code)
 }
 
 #[test]
 fn element_segments_fill_the_table(rt: HostRuntime) {
     let int = Some(ValType::I32);
-    let alloc = rt.alloc();
-    assert_eq!(rt; filled(alloc, 1, 0, int, &[0]), Ok(CART));
-    assert_eq!(rt; filled(alloc, 1, 0, int, &[1]), Ok(BROKEN));
-    assert_eq!(rt; filled(alloc, 1, 1, int, &[0]), Ok(BROKEN));
-    assert_eq!(rt; filled(alloc, 1, 0, None, &[0]), Ok(BROKEN));
-    assert_eq!(rt; filled(alloc, 1, 0, Some(ValType::I64), &[0]), Ok(BROKEN));
-    assert_eq!(rt; filled(alloc, 0, 0, None, &[]), Ok(BROKEN));
+    for (tables, table, offset, function, want) in [
+        (1, 0, int, Some(0), CART),
+        (1, 0, int, Some(1), BROKEN),
+        (1, 1, int, Some(0), BROKEN),
+        (1, 0, None, Some(0), BROKEN),
+        (1, 0, Some(ValType::I64), Some(0), BROKEN),
+        (0, 0, None, None, BROKEN),
+    ] {
+        let segment = segment_of(rt.alloc(), table, offset, function).expect(&rt, "memory");
+        let code = filled(rt.alloc(), tables, segment);
+        assert_eq!(rt; refusal(rt.alloc(), code), want);
+    }
 }
 
-/// The answer for a module with a data segment.
-fn stored(alloc: Global, memory: u32, offset: Option<ValType>) -> Result<Answer, OutOfMemory> {
-    let mut code = base(alloc)?;
-    let offset = constant(alloc, offset)?;
+fn data(
+    alloc: Global,
+    memory: u32,
+    offset: FlatExpression,
+) -> Result<Vec<FlatSegment>, OutOfMemory> {
     let bytes = Vec::from_slice(alloc, b"abc")?;
-    code.segments.push(FlatSegment {
-        memory,
-        offset,
-        bytes,
-    })?;
-    Ok(is_cart(alloc, code))
+    one(
+        alloc,
+        FlatSegment {
+            memory,
+            offset,
+            bytes,
+        },
+    )
+}
+
+/// A module with a data segment.
+fn stored(alloc: Global, memory: u32, offset: Option<ValType>) -> Result<Code, OutOfMemory> {
+    let segments = data(alloc, memory, constant(alloc, offset)?)?;
+    let mut code = base(alloc)?;
+    code.segments = segments;
+    Ok(code)
 }
 
 #[test]
@@ -193,127 +226,186 @@ fn data_segments_fill_the_memory(rt: HostRuntime) {
         (0, Some(ValType::I64), BROKEN),
         (0, None, BROKEN),
     ] {
-        assert_eq!(rt; stored(rt.alloc(), memory, offset), Ok(want));
+        let code = stored(rt.alloc(), memory, offset);
+        assert_eq!(rt; refusal(rt.alloc(), code), want);
     }
 }
 
-/// A module whose second and third functions, of type [i64] -> [i32], have an empty list.
-fn untyped(alloc: Global) -> Result<Code, OutOfMemory> {
-    let code = function(alloc, base(alloc)?, 2, &[], nothing(alloc)?)?;
-    function(alloc, code, 2, &[], nothing(alloc)?)
+/// A module whose second and third functions, of type [i64] -> [i32], have an empty list, with this start
+/// function.
+fn untyped(alloc: Global, start: Option<u32>) -> Result<Code, OutOfMemory> {
+    let mut code = plain_module(alloc, &[0, 2, 2])?;
+    code.start = start;
+    Ok(code)
 }
 
 #[test]
 fn the_first_function_without_a_typing_is_named(rt: HostRuntime) {
-    let alloc = rt.alloc();
-    let code = untyped(alloc).expect(&rt, "memory");
-    let second = Some(Err(ValidRefusal::Invalid(Some(1))));
-    assert_eq!(rt; is_cart(alloc, code), second);
-    let mut code = untyped(alloc).expect(&rt, "memory");
-    code.start = Some(3);
-    assert_eq!(rt; is_cart(alloc, code), BROKEN);
+    let second = Some(ValidRefusal::Invalid(Some(1)));
+    for (start, want) in [(None, second), (Some(3), BROKEN)] {
+        let code = untyped(rt.alloc(), start);
+        assert_eq!(rt; refusal(rt.alloc(), code), want);
+    }
 }
 
-/// A function in a module with an import, further locals and a result.
-fn with_functions(alloc: Global) -> Result<Code, OutOfMemory> {
-    let mut code = base(alloc)?;
-    let trace = ImportKind::Func { index: 3 };
-    code.imports.push(import(alloc, b"trace", trace)?)?;
-    code.exports.clear();
-    let runs = [Locals {
+#[test]
+fn refusals_say_what_is_invalid(rt: HostRuntime) {
+    for (refusal, want) in [
+        (ValidRefusal::Invalid(None), "invalid module"),
+        (ValidRefusal::Invalid(Some(3)), "invalid function 3"),
+        (ValidRefusal::OutOfMemory, "out of memory"),
+    ] {
+        let text = refusal.to_string(rt.alloc()).expect(&rt, "memory");
+        assert_eq!(rt; text.as_str(), want);
+    }
+}
+
+/// The body of a function with two further locals and one instruction.
+fn answering(alloc: Global) -> Result<FlatBody, OutOfMemory> {
+    let run = Locals {
         count: 2,
         kind: ValType::I64,
-    }];
-    let code = function(alloc, code, 2, &runs, int(alloc, 5)?)?;
-    function(alloc, code, 0, &[], nothing(alloc)?)
+    };
+    let runs = one(alloc, run)?;
+    let list = int(alloc, 5)?;
+    Ok(FlatBody { runs, list })
 }
 
-/// With the exports `update` and `start`, and a start function.
-fn with_exports(alloc: Global) -> Result<Code, OutOfMemory> {
-    let code = with_functions(alloc)?;
-    let code = export(alloc, code, b"update", ExportKind::Func, 1)?;
-    let mut code = export(alloc, code, b"start", ExportKind::Func, 3)?;
+/// Three bodies, the second of which answers.
+fn bodies(alloc: Global) -> Result<Bodies, OutOfMemory>
+    ensures { IfOk result (λ bodies. length bodies ≡ 3) }
+{
+    let bodies = empty_bodies(alloc, 1)?.with(answering(alloc)?)?;
+    bodies.with(empty_body(alloc)?)
+}
+
+/// The memory and an imported function.
+fn imports(alloc: Global) -> Result<Vec<ImportEntry>, OutOfMemory> {
+    let trace = import(alloc, b"trace", ImportKind::Func { index: 3 })?;
+    let mut imports = memory(alloc, None)?;
+    imports.push(trace)?;
+    Ok(imports)
+}
+
+/// An imported function, three own ones, the exports `update` and `start`, and a start function.
+fn with_functions(alloc: Global) -> Result<Code, OutOfMemory> {
+    let imports = imports(alloc)?;
+    let exports = exports(alloc, 1, b"start", ExportKind::Func, 3)?;
+    let mut code = module(alloc, &[0, 2, 0], bodies(alloc)?)?;
+    code.imports = imports;
+    code.exports = exports;
     code.start = Some(3);
     Ok(code)
 }
 
 fn element(alloc: Global, offset: u32, functions: &[u32]) -> Result<FlatElement, OutOfMemory> {
+    let offset = int(alloc, offset)?;
+    let functions = Vec::from_slice(alloc, functions)?;
     Ok(FlatElement {
         table: 0,
-        offset: int(alloc, offset)?,
-        functions: Vec::from_slice(alloc, functions)?,
+        offset,
+        functions,
     })
 }
 
-/// With a table of four entries, a global and a data segment.
-fn whole(alloc: Global) -> Result<Code, OutOfMemory> {
-    let mut code = with_exports(alloc)?;
-    code.tables.push(limits(4, None))?;
-    code.elements.push(element(alloc, 1, &[1, 2, 3])?)?;
-    code.elements.push(element(alloc, 2, &[0])?)?;
-    code.globals.push(FlatGlobal {
-        global: GlobalType {
-            value: ValType::I64,
-            mutable: true,
-        },
-        first: long(alloc, 18446744073709551615)?,
-    })?;
-    code.segments.push(FlatSegment {
-        memory: 0,
-        offset: int(alloc, 65533)?,
-        bytes: Vec::from_slice(alloc, b"abc")?,
-    })?;
+fn elements(alloc: Global) -> Result<Vec<FlatElement>, OutOfMemory> {
+    let later = element(alloc, 2, &[0])?;
+    let mut elements = one(alloc, element(alloc, 1, &[1, 2, 3])?)?;
+    elements.push(later)?;
+    Ok(elements)
+}
+
+/// With a table of four entries.
+fn with_table(alloc: Global) -> Result<Code, OutOfMemory> {
+    let tables = one(alloc, limits(4, None))?;
+    let elements = elements(alloc)?;
+    let mut code = with_functions(alloc)?;
+    code.tables = tables;
+    code.elements = elements;
     Ok(code)
 }
 
+/// With a global.
+fn with_global(alloc: Global) -> Result<Code, OutOfMemory> {
+    let global = GlobalType {
+        value: ValType::I64,
+        mutable: true,
+    };
+    let first = long(alloc, 18446744073709551615)?;
+    let globals = one(alloc, FlatGlobal { global, first })?;
+    let mut code = with_table(alloc)?;
+    code.globals = globals;
+    Ok(code)
+}
+
+/// With a data segment.
+fn whole(alloc: Global) -> Result<Code, OutOfMemory> {
+    let segments = data(alloc, 0, int(alloc, 65533)?)?;
+    let mut code = with_global(alloc)?;
+    code.segments = segments;
+    Ok(code)
+}
+
+fn whole_cart(alloc: Global) -> Result<Cart, ValidRefusal> {
+    judged(alloc, whole(alloc))
+}
+
 #[test]
-fn a_cart_gives_what_its_module_has(rt: HostRuntime) {
-    let alloc = rt.alloc();
-    let code = whole(alloc).expect(&rt, "memory");
-    let cart = judged(alloc, code)
-        .expect(&rt, "profile")
-        .expect(&rt, "valid");
+fn a_cart_gives_its_entry_functions(rt: HostRuntime) {
+    let cart = whole_cart(rt.alloc()).expect(&rt, "a cart");
     assert_eq!(rt; cart.start(), Some(3));
-    assert_eq!(rt; cart.entry(Entry::Update), Some(1));
-    assert_eq!(rt; cart.entry(Entry::Start), Some(3));
-    assert_eq!(rt; cart.entry(Entry::CrtStart), None);
-    assert_eq!(rt; cart.entry(Entry::Initialize), None);
+    for (which, want) in [
+        (Entry::Update, Some(1)),
+        (Entry::Start, Some(3)),
+        (Entry::CrtStart, None),
+        (Entry::Initialize, None),
+    ] {
+        assert_eq!(rt; cart.entry(which), want);
+    }
+}
+
+#[test]
+fn a_cart_gives_its_first_values(rt: HostRuntime) {
+    let cart = whole_cart(rt.alloc()).expect(&rt, "a cart");
     let table = [None, Some(1), Some(0), Some(3)];
     assert_eq!(rt; cart.table(), table.as_slice());
     let globals = [Val::I64(18446744073709551615)];
     assert_eq!(rt; cart.first_globals(), globals.as_slice());
+}
+
+#[test]
+fn a_cart_gives_its_functions(rt: HostRuntime) {
+    let cart = whole_cart(rt.alloc()).expect(&rt, "a cart");
     assert_eq!(rt; cart.type_numbers(), [0, 1, 2, 1].as_slice());
     assert_eq!(rt; cart.code().functions(), [0, 2, 0].as_slice());
     assert_eq!(rt; cart.calls().len(), 4);
-    assert_eq!(rt;
-        cart.calls().get(0).copied(),
-        Some(Call::Import {
-            kind: 1,
-            name: Import::Trace,
-            params: 1,
-            answers: false,
-        })
-    );
-    assert_eq!(rt;
-        cart.calls().get(2).copied(),
-        Some(Call::Own {
-            kind: 2,
-            start: 1,
-            params: 1,
-            zeros: 2,
-            answers: true,
-            reserve: 4,
-        })
-    );
+}
+
+#[test]
+fn a_cart_gives_the_call_of_each_function(rt: HostRuntime) {
+    let cart = whole_cart(rt.alloc()).expect(&rt, "a cart");
+    let trace = Call::Import {
+        kind: 1,
+        name: Import::Trace,
+        params: 1,
+        answers: false,
+    };
+    let answering = Call::Own {
+        kind: 2,
+        start: 1,
+        params: 1,
+        zeros: 2,
+        answers: true,
+        reserve: 4,
+    };
+    for (func, want) in [(0, trace), (2, answering)] {
+        assert_eq!(rt; cart.calls().get(func).copied(), Some(want));
+    }
 }
 
 #[test]
 fn a_cart_has_the_data_of_its_module(rt: HostRuntime) {
-    let alloc = rt.alloc();
-    let code = whole(alloc).expect(&rt, "memory");
-    let cart = judged(alloc, code)
-        .expect(&rt, "profile")
-        .expect(&rt, "valid");
+    let cart = whole_cart(rt.alloc()).expect(&rt, "a cart");
     assert_eq!(rt; cart.segment_count(), 1);
     for i in 0..cart.segment_count() {
         let (offset, bytes) = cart.segment(i);

@@ -1,10 +1,10 @@
 //! The turns of the pass: what each entry of a body does to the open lists.
 
-ghost use Rattle.std.specs.Prelude.{◌≡◌, ◌∷◌, IfOk, None, Some, [], if◌then◌else◌, nat_lt, length, option_and_then, slice_get};
-ghost use Rattle.w4_defs.specs.Lookup.{signature_of, tables_of};
+ghost use Rattle.std.specs.Prelude.{◌≡◌, ◌∷◌, IfOk, Some, [], option_and_then, slice_get};
+ghost use Rattle.w4_defs.specs.Lookup.{signature_of};
 ghost use Rattle.w4_defs.specs.OperandTypes.{gives, unary};
 ghost use Rattle.w4_defs.specs.Shape.{anything, ends, selected};
-ghost use Rattle.w4_defs.specs.Typing.{branches, calls, calls_indirectly, consumes, sets};
+ghost use Rattle.w4_defs.specs.Typing.{branches, calls, consumes, only_type, sets};
 ghost use Rattle.wasm_valid.specs.OpenLists.{Becomes, at_top, chosen_if, direct_type, passes, shared, stepped, turned, with_condition};
 ghost use Rattle.wasm_valid.specs.Pass.{labels_of};
 ghost use Rattle.wasm_valid.specs.Rows.{shown};
@@ -99,7 +99,8 @@ impl<'a> Scope<'a> {
         table: u32,
         lists: &mut Frames<'a>,
     ) -> Result<bool, OutOfMemory>
-        ensures { IfOk result (λ went. Becomes went lists.new (passes (if nat_lt table (length (tables_of self.now.within)) then option_and_then calls_indirectly (slice_get self.now.within.types index) else None) lists.old)) }
+        ensures { IfOk result (λ went.
+            Becomes went lists.new (passes (only_type self.now (Op.CallIndirect index table)) lists.old)) }
     {
         if !self.has_table(table) {
             return Ok(false);
@@ -197,7 +198,8 @@ fn never_reached(lists: &mut Frames) -> bool
 }
 
 fn branch(label: u32, lists: &mut Frames) -> bool
-    ensures { Becomes result lists.new (at_top (λ s. ends s (slice_get (labels_of lists.old) label)) lists.old) }
+    ensures { Becomes result lists.new
+        (at_top (λ s. ends s (slice_get (labels_of lists.old) label)) lists.old) }
 {
     match lists.label(label) {
         Some(types) => lists.branch(types),
@@ -207,7 +209,8 @@ fn branch(label: u32, lists: &mut Frames) -> bool
 
 /// Takes the condition; the label's types are taken and given again.
 fn branch_if(label: u32, lists: &mut Frames) -> Result<bool, OutOfMemory>
-    ensures { IfOk result (λ went. Becomes went lists.new (passes (option_and_then branches (slice_get (labels_of lists.old) label)) lists.old)) }
+    ensures { IfOk result (λ went. Becomes went lists.new
+        (passes (option_and_then branches (slice_get (labels_of lists.old) label)) lists.old)) }
 {
     let Some(types) = lists.label(label) else {
         return Ok(false);
@@ -219,7 +222,8 @@ fn branch_if(label: u32, lists: &mut Frames) -> Result<bool, OutOfMemory>
 }
 
 fn branch_table(labels: &[u32], lists: &mut Frames) -> bool
-    ensures { Becomes result lists.new (with_condition (λ s. ends s (shared lists.old labels.now)) lists.old) }
+    ensures { Becomes result lists.new
+        (with_condition (λ s. ends s (shared lists.old labels.now)) lists.old) }
 {
     let Some(types) = common_label(labels, lists) else {
         return false;

@@ -3,6 +3,7 @@
 ghost use Rattle.std.specs.Prelude.{◌<◌, ◌≡◌, Err, IfOk, None, Option, length, ℕ};
 ghost use Rattle.w4_defs.specs.Cart.{IsInvalid};
 ghost use Rattle.w4_defs.specs.Profile.{profile_refusal};
+ghost use Rattle.w4_defs.specs.Validity.{IsValid};
 ghost use Rattle.wasm_valid.specs.Untyped.{IsUntypedFound};
 
 use crate::body::body_has_type;
@@ -16,11 +17,13 @@ use wasm_tree::Code;
 
 /// The cart of a module that the profile lets through.
 ///
-/// The refusal is Invalid(None) exactly where a module rule fails, and Invalid(Some(f)) exactly where all hold
-/// and f is the first own function, counted from 0, whose body has no typing. The code is dropped on a refusal.
+/// There is a cart only where the module is valid. The refusal is Invalid(None) exactly where a module rule
+/// fails, and Invalid(Some(f)) exactly where all hold and f is the first own function, counted from 0, whose
+/// body has no typing. The code is dropped on a refusal.
 pub fn validate(alloc: Global, code: Code) -> Result<Cart, ValidRefusal>
     requires { profile_refusal code ≡ None }
     ensures cart { IfOk result (λ cart. cart ≡ code) }
+    ensures valid { IfOk result (λ cart. IsValid cart) }
     ensures invalid { (func : Option ℕ) → result ≡ Err (ValidRefusal.Invalid func) → IsInvalid code func }
 {
     if !keeps_module_rules(&code) {

@@ -6,7 +6,10 @@ use Rattle.wasm_valid.proofs.arrows.store.Goals as goal
 
 pub returns-then-align-width : goal.returns-then-align-width
 returns-then-align-width c =
-    c.stores.ensures ∙ sym (ap (λ b. arrow_if b (I32 ∷ c.args.kind ∷ []) []) (aligned c.args.align c.args.width c.if-align-width.true))
+    c.stores.ensures ∙ sym (ap (λ b. arrow_if b (I32 ∷ c.args.kind ∷ []) [])
+    (aligned c.args.align c.args.width c.if-align-width.true))
 
 pub returns-else-align-width : goal.returns-else-align-width
-returns-else-align-width c = sym (ap (λ b. arrow_if b (I32 ∷ c.args.kind ∷ []) []) (misaligned c.args.align c.args.width c.if-align-width.false))
+returns-else-align-width c =
+    sym (ap (λ b. arrow_if b (I32 ∷ c.args.kind ∷ []) [])
+    (misaligned c.args.align c.args.width c.if-align-width.false))

@@ -6,7 +6,12 @@ use Rattle.wasm_valid.proofs.body.goes_through.Goals as goal
 
 pub labels-requires : goal.labels-requires
 labels-requires c =
-    omega (arith, c.loop-place-test.true, as_many (slice_get c.args.code.now.bodies c.args.func) c.body-operations.result.now c.body-operations.ensures.value c.body-operations.ensures.proper)
+    omega (
+      arith,
+      c.loop-place-test.true,
+      as_many (slice_get c.args.code.now.bodies c.args.func) c.body-operations.result.now
+          c.body-operations.ensures.value c.body-operations.ensures.proper,
+    )
 
 pub returns-then-not-branch-clause-value : goal.returns-then-not-branch-clause-value
 returns-then-not-branch-clause-value c =
@@ -14,9 +19,13 @@ returns-then-not-branch-clause-value c =
     let place = c.loop-place.place in
     let rest = drop (place + 1) (body_entries m c.args.func) in
     stopped _ _ refl
-    (sym c.loop-place.invariant ∙ entry_stop c.args.scope.now (drop place (body_entries m c.args.func)) rest c.loop-place.lists c.turn.new.lists c.in_ok-turn.field-0
-    (entry_next c.args.scope.now (slice_get m.bodies c.args.func) c.body-operations.result.now place _ c.labels.result.now c.loop-place.lists c.turn.new.lists c.in_ok-turn.field-0
-    c.body-operations.ensures.value c.body-operations.ensures.proper c.loop-place-test.true c.labels.ensures c.in_ok-turn.ensures)
+    (sym c.loop-place.invariant
+    ∙ entry_stop c.args.scope.now (drop place (body_entries m c.args.func)) rest c.loop-place.lists
+    c.turn.new.lists c.in_ok-turn.field-0
+    (entry_next c.args.scope.now (slice_get m.bodies c.args.func) c.body-operations.result.now place _
+    c.labels.result.now c.loop-place.lists c.turn.new.lists c.in_ok-turn.field-0
+    c.body-operations.ensures.value c.body-operations.ensures.proper c.loop-place-test.true c.labels.ensures
+    c.in_ok-turn.ensures)
     c.if-not-branch.true)
 
 pub loop-place-preserved : goal.loop-place-preserved
@@ -24,9 +33,12 @@ loop-place-preserved c =
     let m = c.args.code.now in
     let place = c.loop-place.place in
     let rest = drop (place + 1) (body_entries m c.args.func) in
-    entry_on c.args.scope.now (drop place (body_entries m c.args.func)) rest c.loop-place.lists c.turn.new.lists c.in_ok-turn.field-0
-    (entry_next c.args.scope.now (slice_get m.bodies c.args.func) c.body-operations.result.now place _ c.labels.result.now c.loop-place.lists c.turn.new.lists c.in_ok-turn.field-0
-    c.body-operations.ensures.value c.body-operations.ensures.proper c.loop-place-test.true c.labels.ensures c.in_ok-turn.ensures)
+    entry_on c.args.scope.now (drop place (body_entries m c.args.func)) rest c.loop-place.lists
+    c.turn.new.lists c.in_ok-turn.field-0
+    (entry_next c.args.scope.now (slice_get m.bodies c.args.func) c.body-operations.result.now place _
+    c.labels.result.now c.loop-place.lists c.turn.new.lists c.in_ok-turn.field-0
+    c.body-operations.ensures.value c.body-operations.ensures.proper c.loop-place-test.true c.labels.ensures
+    c.in_ok-turn.ensures)
     c.if-not-branch.false
     ∙ c.loop-place.invariant
 
@@ -34,6 +46,8 @@ pub returns-clause-value : goal.returns-clause-value
 returns-clause-value c =
     let m = c.args.code.now in
     ended c.loop-place.lists c.is_open.result _
-    (sym c.loop-place.invariant ∙ past_all c.args.scope.now (slice_get m.bodies c.args.func) c.body-operations.result.now c.loop-place.place c.loop-place.lists
+    (sym c.loop-place.invariant
+    ∙ past_all c.args.scope.now (slice_get m.bodies c.args.func) c.body-operations.result.now
+    c.loop-place.place c.loop-place.lists
     c.body-operations.ensures.value c.body-operations.ensures.proper c.loop-place-test.false)
     c.is_open.ensures

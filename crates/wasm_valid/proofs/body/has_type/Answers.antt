@@ -12,8 +12,11 @@ returns c =
     let m = c.args.code.now in
     let s = c.args.signature.now in
     let func = c.args.func in
-    IfOk-weaker c.goes_through.result (λ (r : Bool). IsTrue r ↔ (run c.in_ok-scope.scope (body_entries m func) c.new-lists.result ≡ Some []))
+    IfOk-weaker c.goes_through.result
+    (λ (r : Bool). IsTrue r ↔ (run c.in_ok-scope.scope (body_entries m func) c.new-lists.result ≡ Some []))
     (λ r. option_map (body_stands m s) (slice_get m.bodies func) ≡ Some r)
-    (λ r h. decided m s (slice_get m.bodies func) c.runs.result.now c.in_ok-scope.scope c.new-lists.result r c.runs.ensures c.goes_through.ensures.proper
-    c.in_ok-scope.ensures (c.new-lists.ensures ∙ ap (λ ts. opened ts ts ∷ []) (c.deref.ensures.value ∙ ap (λ x. x.results) c.signature.view_is)) h)
+    (λ r h. decided m s (slice_get m.bodies func) c.runs.result.now c.in_ok-scope.scope c.new-lists.result r
+    c.runs.ensures c.goes_through.ensures.proper
+    c.in_ok-scope.ensures (c.new-lists.ensures
+    ∙ ap (λ ts. opened ts ts ∷ []) (c.deref.ensures.value ∙ ap (λ x. x.results) c.signature.view_is)) h)
     c.goes_through.ensures.value

@@ -5,4 +5,5 @@ use Rattle.wasm_valid.proofs.calls.calls.Given as goal
 
 abbrev pub invariant-loop-func : goal.invariant-loop-func
 invariant-loop-func l =
-    AreCalls l.code (imported_callees l.code.types l.code.imports ++ own_callees l.code.types (take l.func l.code.functions) (take l.func l.code.bodies)) l.calls.items
+    AreCalls l.code (imported_callees l.code.types l.code.imports
+    ++ own_callees l.code.types (take l.func l.code.functions) (take l.func l.code.bodies)) l.calls.items

@@ -6,21 +6,44 @@ use Rattle.wasm_valid.proofs.CallLaws.{few_runs, own_call_is}
 use Rattle.wasm_valid.proofs.calls.own_call.Goals as goal
 
 pub local_count-zeros-requires : goal.local_count-zeros-requires
-local_count-zeros-requires c = omega (arith, few_runs c.args.code.now c.args.func _ c.runs.result.now c.requires.ready.profile c.own_type-signature.ensures c.runs.ensures)
+local_count-zeros-requires c =
+    omega (
+      arith,
+      few_runs c.args.code.now c.args.func _ c.runs.result.now c.requires.ready.profile
+          c.own_type-signature.ensures c.runs.ensures,
+    )
 
 pub overflow_add-result : goal.overflow_add-result
 overflow_add-result c =
     let s = c.own_type-signature.result.now in
-    let params : c.len-params.result ≡ length s.params = omega (arith, c.len-params.ensures, c.signature.inside.params.ok, ap (λ t. length t.params) c.signature.view_is) in
-    omega (arith, few_runs c.args.code.now c.args.func s c.runs.result.now c.requires.ready.profile c.own_type-signature.ensures c.runs.ensures, c.local_count-zeros.ensures)
+    let params : c.len-params.result ≡ length s.params =
+    omega (
+      arith,
+      c.len-params.ensures,
+      c.signature.inside.params.ok,
+      ap (λ t. length t.params) c.signature.view_is,
+    ) in
+    omega (
+      arith,
+      few_runs c.args.code.now c.args.func s c.runs.result.now c.requires.ready.profile
+          c.own_type-signature.ensures c.runs.ensures,
+      c.local_count-zeros.ensures,
+    )
 
 pub overflow_add-result-2 : goal.overflow_add-result-2
 overflow_add-result-2 c =
     let s = c.own_type-signature.result.now in
-    let params : c.len-params.result ≡ length s.params = omega (arith, c.len-params.ensures, c.signature.inside.params.ok, ap (λ t. length t.params) c.signature.view_is) in
+    let params : c.len-params.result ≡ length s.params =
     omega (
       arith,
-      few_runs c.args.code.now c.args.func s c.runs.result.now c.requires.ready.profile c.own_type-signature.ensures c.runs.ensures,
+      c.len-params.ensures,
+      c.signature.inside.params.ok,
+      ap (λ t. length t.params) c.signature.view_is,
+    ) in
+    omega (
+      arith,
+      few_runs c.args.code.now c.args.func s c.runs.result.now c.requires.ready.profile
+          c.own_type-signature.ensures c.runs.ensures,
       c.local_count-zeros.ensures,
       c.instruction_count-instructions.ensures,
       count_by-le-length is_instruction c.body.result.now,
@@ -31,7 +54,17 @@ pub returns : goal.returns
 returns c =
     let m = c.args.code.now in
     let s = c.own_type-signature.result.now in
-    let params : c.len-params.result ≡ length s.params = omega (arith, c.len-params.ensures, c.signature.inside.params.ok, ap (λ t. length t.params) c.signature.view_is) in
-    own_call_is m c.args.func s c.runs.result.now c.body.result.now c.number_of_type.result c.body_start.result c.len-params.result c.local_count-zeros.result c.instruction_count-instructions.result _ c.in_ok-answers.field-0
-    c.own_type-signature.ensures c.runs.ensures c.body.ensures.value c.body.ensures.proper c.body_start.ensures.stands
-    (c.number_of_type.ensures ∙ ap (λ ts. number_of_type ts s) c.types.ensures) params c.local_count-zeros.ensures c.in_ok-answers.ensures c.instruction_count-instructions.ensures refl
+    let params : c.len-params.result ≡ length s.params =
+    omega (
+      arith,
+      c.len-params.ensures,
+      c.signature.inside.params.ok,
+      ap (λ t. length t.params) c.signature.view_is,
+    ) in
+    own_call_is m c.args.func s c.runs.result.now c.body.result.now c.number_of_type.result
+    c.body_start.result c.len-params.result c.local_count-zeros.result c.instruction_count-instructions.result
+    _ c.in_ok-answers.field-0
+    c.own_type-signature.ensures c.runs.ensures c.body.ensures.value c.body.ensures.proper
+    c.body_start.ensures.stands
+    (c.number_of_type.ensures ∙ ap (λ ts. number_of_type ts s) c.types.ensures) params
+    c.local_count-zeros.ensures c.in_ok-answers.ensures c.instruction_count-instructions.ensures refl

@@ -14,5 +14,7 @@ IsAmong memories s = (s.memory ≡ 0) × (0 < memories) × IsConstant I32 s.offs
 pub returns : goal.returns
 returns c =
     let m = c.args.code.now in
-    subst (λ (xs : List DataSegment). Decides c.all.result (All (IsAmong (length (memories_of m))) xs)) c.segments.ensures
-    (subst (λ (n : ℕ). Decides c.all.result (All (IsAmong n) c.segments.result.now)) c.requires.memories c.all.ensures)
+    subst (λ (xs : List DataSegment). Decides c.all.result (All (IsAmong (length (memories_of m))) xs))
+    c.segments.ensures
+    (subst (λ (n : ℕ). Decides c.all.result (All (IsAmong n) c.segments.result.now)) c.requires.memories
+    c.all.ensures)

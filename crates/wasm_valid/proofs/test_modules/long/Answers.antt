@@ -6,10 +6,12 @@ use Rattle.wasm_valid.proofs.test_modules.long.Goals as goal
 
 pub new-requires-2 : goal.new-requires-2
 new-requires-2 c =
-    let e : c.in_ok-marks.marks ≡ flat (plain (I64Const c.args.value, []) done) = rw (c.in_ok-marks.ensures, c.in_ok-with.ensures, c.in_ok-new.ensures) refl in
+    let e : c.in_ok-marks.marks ≡ flat (plain (I64Const c.args.value, []) done) =
+    rw (c.in_ok-marks.ensures, c.in_ok-with.ensures, c.in_ok-new.ensures) refl in
     (plain (I64Const c.args.value, []) done, (tt, tt), e)
 
 pub returns : goal.returns
 returns c =
-    let e : c.in_ok-marks.marks ≡ flat (plain (I64Const c.args.value, []) done) = rw (c.in_ok-marks.ensures, c.in_ok-with.ensures, c.in_ok-new.ensures) refl in
+    let e : c.in_ok-marks.marks ≡ flat (plain (I64Const c.args.value, []) done) =
+    rw (c.in_ok-marks.ensures, c.in_ok-with.ensures, c.in_ok-new.ensures) refl in
     c.new-2.ensures ∙ ap read_flat e

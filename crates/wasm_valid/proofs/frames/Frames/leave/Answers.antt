@@ -9,4 +9,5 @@ returns-in-Some c =
     left c.in-Some.frame s.outer.items _ _ s.kinds.items _ c.truncate.ensures.items
     (nested_base s.inner c.in-Some.frame s.outer.items (length s.kinds.items) c.self.invariant c.in-Some.is)
     c.pop-self-inside.ensures.items (λ h. c.pop-self-inside.ensures.variant.1 (omega (arith, h, s.outer.ok)))
-    ∙ ap (drop 1) (ap (λ i. held (all_frames i s.outer.items) (reverse s.kinds.items)) (sym c.in-Some.is) ∙ c.self.view_is)
+    ∙ ap (drop 1) (ap (λ i. held (all_frames i s.outer.items) (reverse s.kinds.items)) (sym c.in-Some.is)
+    ∙ c.self.view_is)

@@ -11,10 +11,13 @@ returns-then-depth-len c =
     some_label c.in-Some.field-0 c.index.result.now s.outer.items (reverse s.kinds.items) c.args.depth _
     (omega (arith, c.if-depth-len.true, c.len.ensures, s.outer.ok))
     (omega (arith, c.len-then-depth-len.ensures, s.outer.ok)) c.index.ensures
-    ∙ ap (λ os. slice_get (labels_of os) (c.args.depth + 1)) (ap (λ i. held (all_frames i s.outer.items) (reverse s.kinds.items)) (sym c.in-Some.is) ∙ c.self.view_is)
+    ∙ ap (λ os. slice_get (labels_of os) (c.args.depth + 1))
+    (ap (λ i. held (all_frames i s.outer.items) (reverse s.kinds.items)) (sym c.in-Some.is) ∙ c.self.view_is)
 
 pub returns-else-depth-len : goal.returns-else-depth-len
 returns-else-depth-len c =
     let s = c.self.inside in
-    no_label c.in-Some.field-0 s.outer.items (reverse s.kinds.items) c.args.depth (omega (arith, c.if-depth-len.false, c.len.ensures, s.outer.ok))
-    ∙ ap (λ os. slice_get (labels_of os) (c.args.depth + 1)) (ap (λ i. held (all_frames i s.outer.items) (reverse s.kinds.items)) (sym c.in-Some.is) ∙ c.self.view_is)
+    no_label c.in-Some.field-0 s.outer.items (reverse s.kinds.items) c.args.depth
+    (omega (arith, c.if-depth-len.false, c.len.ensures, s.outer.ok))
+    ∙ ap (λ os. slice_get (labels_of os) (c.args.depth + 1))
+    (ap (λ i. held (all_frames i s.outer.items) (reverse s.kinds.items)) (sym c.in-Some.is) ∙ c.self.view_is)

@@ -7,8 +7,10 @@ use Rattle.wasm_valid.proofs.frames.Frames.pop.Goals as goal
 pub returns-then-frame-len : goal.returns-then-frame-len
 returns-then-frame-len c =
     let s = c.self.inside in
-    sym (ap popped (ap (λ i. held (all_frames i s.outer.items) (reverse s.kinds.items)) (sym c.in-Some.is) ∙ c.self.view_is))
+    sym (ap popped (ap (λ i. held (all_frames i s.outer.items) (reverse s.kinds.items)) (sym c.in-Some.is)
+    ∙ c.self.view_is))
     ∙ popped_some c.in-Some.frame (reverse s.outer.items) s.kinds.items c.pop.new.self.items c.pop.result
     (omega (arith, c.if-frame-len.true, c.len.ensures, s.kinds.ok)) c.pop.ensures.items
     (c.pop.ensures.variant.1 (omega (arith, c.if-frame-len.true, c.len.ensures)))
-    ∙ ap (λ i. option_map (λ k. (k, held (all_frames i s.outer.items) (reverse c.pop.new.self.items))) c.pop.result) (sym c.in-Some.is)
+    ∙ ap (λ i. option_map (λ k. (k, held (all_frames i s.outer.items) (reverse c.pop.new.self.items)))
+    c.pop.result) (sym c.in-Some.is)

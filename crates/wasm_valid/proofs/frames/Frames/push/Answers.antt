@@ -7,5 +7,6 @@ pub returns : goal.returns
 returns c =
     let s = c.self.inside in
     ap (λ ks. held (all_frames s.inner s.outer.items) (reverse ks)) c.in_ok-push.ensures.items
-    ∙ pushed_one s.inner s.outer.items s.kinds.items c.args.kind (λ f e. nested_base s.inner f s.outer.items (length s.kinds.items) c.self.invariant e)
+    ∙ pushed_one s.inner s.outer.items s.kinds.items c.args.kind
+    (λ f e. nested_base s.inner f s.outer.items (length s.kinds.items) c.self.invariant e)
     ∙ ap (on_top (pushed c.args.kind)) c.self.view_is

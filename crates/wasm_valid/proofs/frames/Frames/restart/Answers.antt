@@ -8,4 +8,5 @@ returns-in-Some c =
     let s = c.self.inside in
     restarted c.in-Some.frame (reverse s.outer.items) s.kinds.items _ c.args.marked c.truncate.ensures.items
     (nested_base s.inner c.in-Some.frame s.outer.items (length s.kinds.items) c.self.invariant c.in-Some.is)
-    ∙ ap (on_top (bare c.args.marked)) (ap (λ i. held (all_frames i s.outer.items) (reverse s.kinds.items)) (sym c.in-Some.is) ∙ c.self.view_is)
+    ∙ ap (on_top (bare c.args.marked))
+    (ap (λ i. held (all_frames i s.outer.items) (reverse s.kinds.items)) (sym c.in-Some.is) ∙ c.self.view_is)

@@ -5,5 +5,6 @@ use Rattle.wasm_valid.proofs.frames.Frames.take_all.Goals as goal
 
 pub loop-i-preserved : goal.loop-i-preserved
 loop-i-preserved c =
-    taken_step c.args.kinds.now c.loop-i.i I32 c.loop-i.self c.take.new.self c.take.result c.loop-i-test.true c.take.ensures c.if-not-take.false
+    taken_step c.args.kinds.now c.loop-i.i I32 c.loop-i.self c.take.new.self c.take.result c.loop-i-test.true
+    c.take.ensures c.if-not-take.false
     ∙ c.loop-i.invariant

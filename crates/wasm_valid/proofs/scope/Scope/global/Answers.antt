@@ -17,6 +17,12 @@ returns-then-index-global_count c =
 pub returns-else-index-global_count : goal.returns-else-index-global_count
 returns-else-index-global_count c =
     let m = c.self.inside.code.now in
-    sym (slice_get_past (map (λ (g : Global). g.global) m.globals) c.args.index (omega (arith, c.if-index-global_count.false, c.global_count.ensures, length-map m.globals (λ (g : Global). g.global))))
+    sym (slice_get_past (map (λ (g : Global). g.global) m.globals) c.args.index
+    (omega (
+      arith,
+      c.if-index-global_count.false,
+      c.global_count.ensures,
+      length-map m.globals (λ (g : Global). g.global),
+    )))
     ∙ ap (λ gs. slice_get gs c.args.index) (sym (own_globals m c.self.invariant.0))
     ∙ ap (λ x. slice_get (global_types x.within) c.args.index) c.self.view_is

@@ -7,5 +7,6 @@ use Rattle.wasm_valid.proofs.scope.Scope.table_arrow.Goals as goal
 
 pub returns : goal.returns
 returns c =
-    c.table_arrow.ensures ∙ ap (λ b. memory_type b c.args.op) (sym (has_memory c.self.inside.code.now c.self.invariant.0))
+    c.table_arrow.ensures ∙ ap (λ b. memory_type b c.args.op)
+    (sym (has_memory c.self.inside.code.now c.self.invariant.0))
     ∙ ap (λ x. memory_type (nat_lt 0 (length (memories_of x.within))) c.args.op) c.self.view_is
