@@ -4,7 +4,6 @@ pub mod LabelLaws
 pub mod SameLaws
 pub mod LocalLaws
 pub mod NumberLaws
-pub mod StackLaws
 pub mod OpenLaws
 pub mod CallLists
 pub mod TypeNumbers
@@ -19,6 +18,7 @@ pub mod StraightLaws
 pub mod CloseLaws
 pub mod LeapLaws
 pub mod BeginLaws
+pub mod IfLaws
 pub mod BranchLaws
 pub mod TableLaws
 pub mod WidthLaws

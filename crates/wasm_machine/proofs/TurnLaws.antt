@@ -26,7 +26,8 @@ use Rattle.wasm_machine.specs.Tie.{Ties, Going, Goes}
 use Rattle.wasm_machine.specs.UnderWay.{Leap}
 use Rattle.wasm_machine.proofs.StraightLaws.{OpAt, straight}
 use Rattle.wasm_machine.proofs.LeapLaws.{leap_to, land_goes}
-use Rattle.wasm_machine.proofs.BeginLaws.{block_goes, loop_goes, forked, if_ready, if_after, if_first}
+use Rattle.wasm_machine.proofs.BeginLaws.{block_goes, loop_goes}
+use Rattle.wasm_machine.proofs.IfLaws.{forked, if_ready, if_after, if_first}
 use Rattle.wasm_machine.proofs.BranchLaws.{br_goes, br_if_ready, br_if_goes, br_table_ready, br_table_goes, return_goes}
 use Rattle.wasm_machine.proofs.PlainLaws.{IsPlain, plain_leaf, plain_ready, plain_leads}
 

@@ -34,9 +34,12 @@ pub(crate) fn call<H: Host>(
     page: &mut Page,
     host: &mut H,
 ) -> Flow
-    requires calling { Calling (outside H.weight H.effect) callee back frame.old labels.old slots.old page.old host.old budget }
+    requires calling { Calling (outside H.weight H.effect) callee back frame.old labels.old slots.old
+        page.old host.old budget }
     requires back { back < 4294967296 }
-    ensures calls { Calls (outside H.weight H.effect) callee back frame.old labels.old slots.old page.old host.old budget result frame.new labels.new slots.new page.new host.new }
+    ensures calls { Calls (outside H.weight H.effect) callee back frame.old labels.old slots.old page.old
+        host.old budget
+        result frame.new labels.new slots.new page.new host.new }
     ensures grows { length labels.new ≤ length labels.old + 1 }
 {
     match callee {
@@ -78,10 +81,13 @@ pub(crate) fn call_direct<H: Host>(
     page: &mut Page,
     host: &mut H,
 ) -> Flow
-    requires going { (globals : List Val) × Turning (outside H.weight H.effect) cart.now place frame.old labels.old slots.old page.old globals host.old (budget + 1) }
+    requires going { (globals : List Val) × Turning (outside H.weight H.effect) cart.now place frame.old
+        labels.old slots.old page.old globals host.old (budget + 1) }
     requires op { slice_get (operations_of (entries cart.now)) place ≡ Some (op.Call func) }
     requires bound { length (entries cart.now) < 4294967296 }
-    ensures goes { (globals : List Val) → Turned (outside H.weight H.effect) cart.now place frame.old labels.old slots.old page.old globals host.old (budget + 1) result frame.new labels.new slots.new page.new globals host.new budget }
+    ensures goes { (globals : List Val) → Turned (outside H.weight H.effect) cart.now place frame.old
+        labels.old slots.old page.old globals host.old (budget + 1)
+        result frame.new labels.new slots.new page.new globals host.new budget }
     ensures grows { length labels.new ≤ length labels.old + 1 }
 {
     let calls = cart.calls();
@@ -113,10 +119,14 @@ pub(crate) fn call_indirect<H: Host>(
     page: &mut Page,
     host: &mut H,
 ) -> Flow
-    requires going { (globals : List Val) × Turning (outside H.weight H.effect) cart.now place frame.old labels.old slots.old page.old globals host.old (budget + 1) }
-    requires op { slice_get (operations_of (entries cart.now)) place ≡ Some (op.CallIndirect type_index table_index) }
+    requires going { (globals : List Val) × Turning (outside H.weight H.effect) cart.now place frame.old
+        labels.old slots.old page.old globals host.old (budget + 1) }
+    requires op { slice_get (operations_of (entries cart.now)) place
+        ≡ Some (op.CallIndirect type_index table_index) }
     requires bound { length (entries cart.now) < 4294967296 }
-    ensures goes { (globals : List Val) → Turned (outside H.weight H.effect) cart.now place frame.old labels.old slots.old page.old globals host.old (budget + 1) result frame.new labels.new slots.new page.new globals host.new budget }
+    ensures goes { (globals : List Val) → Turned (outside H.weight H.effect) cart.now place frame.old
+        labels.old slots.old page.old globals host.old (budget + 1)
+        result frame.new labels.new slots.new page.new globals host.new budget }
     ensures grows { length labels.new ≤ length labels.old + 1 }
 {
     let index = slots.pop() as usize;

@@ -1,44 +1,23 @@
-//! The table of conversions and sign extensions (Core Specification, sections 4.3.2 and 4.3.4).
+//! What conversions and sign extensions do to their operand (Core Specification, sections 4.3.2 and 4.3.4).
 
 ghost use Rattle.std.specs.Prelude.{◌≡◌, ◌+◌, ◌%◌, ◌^◌, ◌<◌, ◌≤◌, ◌⊎◌, length};
-ghost use Rattle.w4_defs.specs.Effects.{effect, conversion as converted};
+ghost use Rattle.w4_defs.specs.Effects.{conversion as converted};
 ghost use Rattle.wasm_machine.specs.Extensions.{extended_i32, extended_i64};
 ghost use Rattle.wasm_machine.specs.Plain.{Ready, Did};
-ghost use Rattle.wasm_machine.specs.Rows.{FromConversion};
 ghost use Rattle.w4_defs.specs.declared.value.Val.TheVariants as val;
 ghost use Rattle.w4_defs.specs.declared.value.ValType.TheVariants.{I32, I64};
 
 use crate::extend::{extend_32, extend_64};
 use crate::slots::Slots;
-use w4_defs::{Cause, Op};
+use w4_defs::Cause;
 use wasm_page::Page;
-
-/// The last table.
-#[inline(always)]
-pub(crate) fn conversion(op: Op, base: usize, slots: &mut Slots, page: &Page) -> Option<Cause>
-    requires rows { FromConversion op }
-    requires ready { Ready (effect op) base slots.old page.now }
-    ensures did { Did (effect op) base slots.old page.now result slots.new page.now }
-    ensures grows { length slots.new ≤ length slots.old + 1 }
-{
-    match op {
-        Op::I32WrapI64 => wrap(base, slots, page),
-        Op::I64ExtendI32S => widen_signed(base, slots, page),
-        Op::I64ExtendI32U => widen(base, slots, page),
-        Op::I32Extend8S => sign_32(1, base, slots, page),
-        Op::I32Extend16S => sign_32(2, base, slots, page),
-        Op::I64Extend8S => sign_64(1, base, slots, page),
-        Op::I64Extend16S => sign_64(2, base, slots, page),
-        Op::I64Extend32S => sign_64(4, base, slots, page),
-        _ => None,
-    }
-}
 
 /// The low half.
 #[inline(always)]
-fn wrap(base: usize, slots: &mut Slots, page: &Page) -> Option<Cause>
+pub(crate) fn wrap(base: usize, slots: &mut Slots, page: &Page) -> Option<Cause>
     requires { Ready (converted I64 (λ a. val.I32 (a % 2 ^ 32))) base slots.old page.now }
-    ensures did { Did (converted I64 (λ a. val.I32 (a % 2 ^ 32))) base slots.old page.now result slots.new page.now }
+    ensures did { Did (converted I64 (λ a. val.I32 (a % 2 ^ 32))) base slots.old page.now
+        result slots.new page.now }
     ensures grows { length slots.new ≤ length slots.old + 1 }
 {
     let a = slots.pop();
@@ -48,7 +27,7 @@ fn wrap(base: usize, slots: &mut Slots, page: &Page) -> Option<Cause>
 
 /// A slot holds a number of 32 bits as it holds one of 64.
 #[inline(always)]
-fn widen(base: usize, slots: &mut Slots, page: &Page) -> Option<Cause>
+pub(crate) fn widen(base: usize, slots: &mut Slots, page: &Page) -> Option<Cause>
     requires { Ready (converted I32 val.I64) base slots.old page.now }
     ensures did { Did (converted I32 val.I64) base slots.old page.now result slots.new page.now }
     ensures grows { length slots.new ≤ length slots.old + 1 }
@@ -59,7 +38,7 @@ fn widen(base: usize, slots: &mut Slots, page: &Page) -> Option<Cause>
 }
 
 #[inline(always)]
-fn widen_signed(base: usize, slots: &mut Slots, page: &Page) -> Option<Cause>
+pub(crate) fn widen_signed(base: usize, slots: &mut Slots, page: &Page) -> Option<Cause>
     requires { Ready (converted I32 (extended_i64 4)) base slots.old page.now }
     ensures did { Did (converted I32 (extended_i64 4)) base slots.old page.now result slots.new page.now }
     ensures grows { length slots.new ≤ length slots.old + 1 }
@@ -71,7 +50,7 @@ fn widen_signed(base: usize, slots: &mut Slots, page: &Page) -> Option<Cause>
 
 /// Within 32 bits, from so many bytes.
 #[inline(always)]
-fn sign_32(bytes: usize, base: usize, slots: &mut Slots, page: &Page) -> Option<Cause>
+pub(crate) fn sign_32(bytes: usize, base: usize, slots: &mut Slots, page: &Page) -> Option<Cause>
     requires bytes { (bytes ≡ 1) ⊎ (bytes ≡ 2) }
     requires ready { Ready (converted I32 (extended_i32 bytes)) base slots.old page.now }
     ensures did { Did (converted I32 (extended_i32 bytes)) base slots.old page.now result slots.new page.now }
@@ -84,7 +63,7 @@ fn sign_32(bytes: usize, base: usize, slots: &mut Slots, page: &Page) -> Option<
 
 /// Within 64 bits, from so many bytes.
 #[inline(always)]
-fn sign_64(bytes: usize, base: usize, slots: &mut Slots, page: &Page) -> Option<Cause>
+pub(crate) fn sign_64(bytes: usize, base: usize, slots: &mut Slots, page: &Page) -> Option<Cause>
     requires bytes { (bytes ≡ 1) ⊎ (bytes ≡ 2) ⊎ (bytes ≡ 4) }
     requires ready { Ready (converted I64 (extended_i64 bytes)) base slots.old page.now }
     ensures did { Did (converted I64 (extended_i64 bytes)) base slots.old page.now result slots.new page.now }

@@ -8,10 +8,11 @@ use crate::label::Label;
 use crate::labels::Labels;
 use crate::slots::Slots;
 
-/// How many own functions may be active, and what their reserves may come to.
+/// How many own functions may be active.
 const MOST_ACTIVE: usize = 4096;
 
-const MOST_RESERVE: usize = 1_048_576;
+/// What the reserves of the active functions may come to.
+pub(crate) const MOST_RESERVE: usize = 1_048_576;
 
 /// Whether the stack rule allows a call of a function with this reserve.
 #[inline(always)]

@@ -51,7 +51,9 @@ pub(crate) fn call_host<H: Host>(
     requires few { params ≤ 9 }
     requires there { params ≤ length slots.old }
     requires room { length slots.old < 1048576 }
-    ensures { Pays (outside H.weight H.effect) name (arguments_of params slots.old) (drop params slots.old) page.old host.old budget result slots.new page.new host.new }
+    ensures { Pays (outside H.weight H.effect) name (arguments_of params slots.old)
+        (drop params slots.old) page.old host.old budget
+        result slots.new page.new host.new }
 {
     let mut args = [0; MOST_ARGUMENTS];
     take_arguments(params, slots, &mut args);

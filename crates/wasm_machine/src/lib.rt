@@ -3,7 +3,6 @@
 //! relies on the ending, the page, the globals and the host being exactly those of the evaluator.
 #![tactic(auto)]
 
-mod access;
 mod begin;
 mod branch;
 mod bulk;
@@ -20,7 +19,6 @@ mod label;
 mod labels;
 mod machine;
 mod memory;
-mod numeric;
 mod operands;
 mod plain;
 mod run;

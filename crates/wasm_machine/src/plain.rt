@@ -1,4 +1,4 @@
-//! The plain instructions: those that need neither host, budget nor label. Each table goes on to the next.
+//! The plain instructions: those that need neither host, budget nor label (Core Specification, section 4.4).
 
 ghost use Rattle.std.specs.Prelude.{◌≡◌, ◌+◌, ◌<◌, ◌≤◌, length};
 ghost use Rattle.w4_defs.specs.Effects.{effect, pushed};
@@ -6,22 +6,29 @@ ghost use Rattle.wasm_machine.specs.Plain.{Ready, Did};
 ghost use Rattle.w4_defs.specs.declared.value.Val.TheVariants as val;
 ghost use Rattle.w4_defs.specs.declared.operation.Op.TheVariants as op_of;
 
-use crate::access::access;
-use crate::memory::{memory_copy, memory_fill, memory_grow};
+use crate::conversion::{sign_32, sign_64, widen, widen_signed, wrap};
+use crate::memory::{
+    load_32, load_64, load_signed_32, load_signed_64, memory_copy, memory_fill, memory_grow, store,
+};
+use crate::operands::{binary_32, binary_64, compare_32, compare_64, eqz, unary_32, unary_64};
 use crate::slots::Slots;
 use crate::variables::{local_get, local_set, local_tee, select};
-use w4_defs::{Cause, Op};
+use w4_defs::{Binary, Cause, Compare, Op, Unary, ValType};
 use wasm_page::Page;
 
-/// Does one plain instruction, and gives the cause where it traps; then the page is as before. `base` slots lie
-/// below the function's locals. Condition: operands and locals are there, each of the instruction's type.
-pub(crate) fn plain(op: Op, base: usize, slots: &mut Slots, page: &mut Page) -> Option<Cause>
-    requires ready { Ready (effect op) base slots.old page.old }
+/// Does one plain instruction, and gives the cause where it traps; then the page is as before. `base` slots
+/// lie below the function's locals. Condition: operands and locals are there, each of the instruction's type.
+///
+/// All rows stand in one table, since a jump finds the row: tables that go on to one another would cost an
+/// instruction a jump for each table before its own.
+#[inline(always)]
+pub(crate) fn plain(op: &Op, base: usize, slots: &mut Slots, page: &mut Page) -> Option<Cause>
+    requires ready { Ready (effect op.now) base slots.old page.old }
     requires room { length slots.old < 1048576 }
-    ensures did { Did (effect op) base slots.old page.old result slots.new page.new }
+    ensures did { Did (effect op.now) base slots.old page.old result slots.new page.new }
     ensures grows { length slots.new ≤ length slots.old + 1 }
 {
-    match op {
+    match *op {
         Op::Unreachable => Some(Cause::Unreachable),
         Op::Nop => None,
         Op::Drop => drop_operand(base, slots, page),
@@ -29,13 +36,116 @@ pub(crate) fn plain(op: Op, base: usize, slots: &mut Slots, page: &mut Page) -> 
         Op::LocalGet { index } => local_get(index, base, slots, page),
         Op::LocalSet { index } => local_set(index, base, slots, page),
         Op::LocalTee { index } => local_tee(index, base, slots, page),
+        Op::I32Load { offset, .. } => load_32(offset, 4, base, slots, page),
+        Op::I64Load { offset, .. } => load_64(offset, 8, base, slots, page),
+        Op::I32Load8S { offset, .. } => load_signed_32(offset, 1, base, slots, page),
+        Op::I32Load8U { offset, .. } => load_32(offset, 1, base, slots, page),
+        Op::I32Load16S { offset, .. } => load_signed_32(offset, 2, base, slots, page),
+        Op::I32Load16U { offset, .. } => load_32(offset, 2, base, slots, page),
+        Op::I64Load8S { offset, .. } => load_signed_64(offset, 1, base, slots, page),
+        Op::I64Load8U { offset, .. } => load_64(offset, 1, base, slots, page),
+        Op::I64Load16S { offset, .. } => load_signed_64(offset, 2, base, slots, page),
+        Op::I64Load16U { offset, .. } => load_64(offset, 2, base, slots, page),
+        Op::I64Load32S { offset, .. } => load_signed_64(offset, 4, base, slots, page),
+        Op::I64Load32U { offset, .. } => load_64(offset, 4, base, slots, page),
+        Op::I32Store { offset, .. } => store(ValType::I32, offset, 4, base, slots, page),
+        Op::I64Store { offset, .. } => store(ValType::I64, offset, 8, base, slots, page),
+        Op::I32Store8 { offset, .. } => store(ValType::I32, offset, 1, base, slots, page),
+        Op::I32Store16 { offset, .. } => store(ValType::I32, offset, 2, base, slots, page),
+        Op::I64Store8 { offset, .. } => store(ValType::I64, offset, 1, base, slots, page),
+        Op::I64Store16 { offset, .. } => store(ValType::I64, offset, 2, base, slots, page),
+        Op::I64Store32 { offset, .. } => store(ValType::I64, offset, 4, base, slots, page),
         Op::MemorySize => push_32(1, base, slots, page),
         Op::MemoryGrow => memory_grow(base, slots, page),
         Op::MemoryCopy => memory_copy(base, slots, page),
         Op::MemoryFill => memory_fill(base, slots, page),
         Op::I32Const { value } => push_32(value, base, slots, page),
         Op::I64Const { value } => push_64(value, base, slots, page),
-        _ => access(op, base, slots, page),
+        Op::I32Eqz => eqz(ValType::I32, base, slots, page),
+        Op::I32Eq => compare_32(Compare::Eq, base, slots, page),
+        Op::I32Ne => compare_32(Compare::Ne, base, slots, page),
+        Op::I32LtS => compare_32(Compare::LtS, base, slots, page),
+        Op::I32LtU => compare_32(Compare::LtU, base, slots, page),
+        Op::I32GtS => compare_32(Compare::GtS, base, slots, page),
+        Op::I32GtU => compare_32(Compare::GtU, base, slots, page),
+        Op::I32LeS => compare_32(Compare::LeS, base, slots, page),
+        Op::I32LeU => compare_32(Compare::LeU, base, slots, page),
+        Op::I32GeS => compare_32(Compare::GeS, base, slots, page),
+        Op::I32GeU => compare_32(Compare::GeU, base, slots, page),
+        Op::I32Clz => unary_32(Unary::Clz, base, slots, page),
+        Op::I32Ctz => unary_32(Unary::Ctz, base, slots, page),
+        Op::I32Popcnt => unary_32(Unary::Popcnt, base, slots, page),
+        Op::I32Add => binary_32(Binary::Add, base, slots, page),
+        Op::I32Sub => binary_32(Binary::Sub, base, slots, page),
+        Op::I32Mul => binary_32(Binary::Mul, base, slots, page),
+        Op::I32DivS => binary_32(Binary::DivS, base, slots, page),
+        Op::I32DivU => binary_32(Binary::DivU, base, slots, page),
+        Op::I32RemS => binary_32(Binary::RemS, base, slots, page),
+        Op::I32RemU => binary_32(Binary::RemU, base, slots, page),
+        Op::I32And => binary_32(Binary::And, base, slots, page),
+        Op::I32Or => binary_32(Binary::Or, base, slots, page),
+        Op::I32Xor => binary_32(Binary::Xor, base, slots, page),
+        Op::I32Shl => binary_32(Binary::Shl, base, slots, page),
+        Op::I32ShrS => binary_32(Binary::ShrS, base, slots, page),
+        Op::I32ShrU => binary_32(Binary::ShrU, base, slots, page),
+        Op::I32Rotl => binary_32(Binary::Rotl, base, slots, page),
+        Op::I32Rotr => binary_32(Binary::Rotr, base, slots, page),
+        Op::I64Eqz => eqz(ValType::I64, base, slots, page),
+        Op::I64Eq => compare_64(Compare::Eq, base, slots, page),
+        Op::I64Ne => compare_64(Compare::Ne, base, slots, page),
+        Op::I64LtS => compare_64(Compare::LtS, base, slots, page),
+        Op::I64LtU => compare_64(Compare::LtU, base, slots, page),
+        Op::I64GtS => compare_64(Compare::GtS, base, slots, page),
+        Op::I64GtU => compare_64(Compare::GtU, base, slots, page),
+        Op::I64LeS => compare_64(Compare::LeS, base, slots, page),
+        Op::I64LeU => compare_64(Compare::LeU, base, slots, page),
+        Op::I64GeS => compare_64(Compare::GeS, base, slots, page),
+        Op::I64GeU => compare_64(Compare::GeU, base, slots, page),
+        Op::I64Clz => unary_64(Unary::Clz, base, slots, page),
+        Op::I64Ctz => unary_64(Unary::Ctz, base, slots, page),
+        Op::I64Popcnt => unary_64(Unary::Popcnt, base, slots, page),
+        Op::I64Add => binary_64(Binary::Add, base, slots, page),
+        Op::I64Sub => binary_64(Binary::Sub, base, slots, page),
+        Op::I64Mul => binary_64(Binary::Mul, base, slots, page),
+        Op::I64DivS => binary_64(Binary::DivS, base, slots, page),
+        Op::I64DivU => binary_64(Binary::DivU, base, slots, page),
+        Op::I64RemS => binary_64(Binary::RemS, base, slots, page),
+        Op::I64RemU => binary_64(Binary::RemU, base, slots, page),
+        Op::I64And => binary_64(Binary::And, base, slots, page),
+        Op::I64Or => binary_64(Binary::Or, base, slots, page),
+        Op::I64Xor => binary_64(Binary::Xor, base, slots, page),
+        Op::I64Shl => binary_64(Binary::Shl, base, slots, page),
+        Op::I64ShrS => binary_64(Binary::ShrS, base, slots, page),
+        Op::I64ShrU => binary_64(Binary::ShrU, base, slots, page),
+        Op::I64Rotl => binary_64(Binary::Rotl, base, slots, page),
+        Op::I64Rotr => binary_64(Binary::Rotr, base, slots, page),
+        Op::I32WrapI64 => wrap(base, slots, page),
+        Op::I64ExtendI32S => widen_signed(base, slots, page),
+        Op::I64ExtendI32U => widen(base, slots, page),
+        Op::I32Extend8S => sign_32(1, base, slots, page),
+        Op::I32Extend16S => sign_32(2, base, slots, page),
+        Op::I64Extend8S => sign_64(1, base, slots, page),
+        Op::I64Extend16S => sign_64(2, base, slots, page),
+        Op::I64Extend32S => sign_64(4, base, slots, page),
+        // The others are no plain instructions.
+        Op::Block { .. } => None,
+        Op::Loop { .. } => None,
+        Op::If { .. } => None,
+        Op::Else => None,
+        Op::End => None,
+        Op::Br { .. } => None,
+        Op::BrIf { .. } => None,
+        Op::BrTable => None,
+        Op::Return => None,
+        Op::Call { .. } => None,
+        Op::CallIndirect { .. } => None,
+        Op::GlobalGet { .. } => None,
+        Op::GlobalSet { .. } => None,
+        Op::F32Const { .. } => None,
+        Op::F64Const { .. } => None,
+        Op::FloatMemory { .. } => None,
+        Op::FloatPlain { .. } => None,
+        Op::FloatCut { .. } => None,
     }
 }
 

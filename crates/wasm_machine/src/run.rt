@@ -24,7 +24,7 @@ use wasm_valid::Cart;
 #[inline(always)]
 fn step<H: Host>(
     cart: &Cart,
-    op: Op,
+    op: &Op,
     place: usize,
     rest: u32,
     frame: &mut Frame,
@@ -34,13 +34,16 @@ fn step<H: Host>(
     globals: &mut [Val],
     host: &mut H,
 ) -> Flow
-    requires going { Turning (outside H.weight H.effect) cart.now place frame.old labels.old slots.old page.old globals.old host.old rest }
-    requires op { slice_get (operations_of (entries cart.now)) place ≡ Some op }
+    requires going { Turning (outside H.weight H.effect) cart.now place frame.old labels.old slots.old
+        page.old globals.old host.old rest }
+    requires op { slice_get (operations_of (entries cart.now)) place ≡ Some op.now }
     requires bound { length (entries cart.now) < 4294967296 }
-    ensures goes { Turned (outside H.weight H.effect) cart.now place frame.old labels.old slots.old page.old globals.old host.old rest result frame.new labels.new slots.new page.new globals.new host.new rest }
+    ensures goes { Turned (outside H.weight H.effect) cart.now place frame.old labels.old slots.old
+        page.old globals.old host.old rest
+        result frame.new labels.new slots.new page.new globals.new host.new rest }
     ensures progress { Progress result rest labels.old labels.new }
 {
-    match op {
+    match *op {
         Op::End => close(place, rest, frame, labels, slots),
         Op::Else => close(place, rest, frame, labels, slots),
         _ => {
@@ -75,14 +78,17 @@ pub(crate) fn run<H: Host>(
     globals: &mut [Val],
     host: &mut H,
 ) -> Ending
-    requires going { Turning (outside H.weight H.effect) cart.now start frame.old labels.old slots.old page.old globals.old host.old budget }
-    ensures { Ran (outside H.weight H.effect) cart.now start frame.old labels.old slots.old page.old globals.old host.old budget result page.new globals.new host.new }
+    requires going { Turning (outside H.weight H.effect) cart.now start frame.old labels.old slots.old
+        page.old globals.old host.old budget }
+    ensures { Ran (outside H.weight H.effect) cart.now start frame.old labels.old slots.old page.old
+        globals.old host.old budget
+        result page.new globals.new host.new }
 {
     let operations = cart.code().operations();
     let mut place = start;
     let mut rest = budget;
     'turns: loop {
-        let op = operations[place];
+        let op = &operations[place];
         match step(
             cart, op, place, rest, frame, labels, slots, page, globals, host,
         ) {

@@ -27,7 +27,11 @@ impl Host for Writer {
 
     ghost weight = { λ _ name args page. slice_index args 0 };
 
-    ghost effect = { λ host name args page. record { page = slice_set page (slice_index args 1 % 65536) (slice_index args 2 % 256); host = host; answer = (if nat_eq (length (import_type name).results) 1 then Some 0 else None) } };
+    ghost effect = { λ host name args page. record {
+      page = slice_set page (slice_index args 1 % 65536) (slice_index args 2 % 256);
+      host = host;
+      answer = (if nat_eq (length (import_type name).results) 1 then Some 0 else None);
+    } };
 
     fn weight(&self, _name: Import, args: &[u32], _page: &PageBytes) -> u64 {
         u64::from(at(args, 0))

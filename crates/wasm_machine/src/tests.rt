@@ -45,21 +45,21 @@ fn calculated_64(
 fn extended_8(slots: &mut Slots, page: &mut Page, number: u32) -> Result<Option<u64>, Cause> {
     slots.clear();
     slots.push(u64::from(number));
-    let trapped = plain(Op::I32Extend8S, 0, slots, page);
+    let trapped = plain(&Op::I32Extend8S, 0, slots, page);
     answer(slots, trapped)
 }
 
 fn wrapped(slots: &mut Slots, page: &mut Page, number: u64) -> Result<Option<u64>, Cause> {
     slots.clear();
     slots.push(number);
-    let trapped = plain(Op::I32WrapI64, 0, slots, page);
+    let trapped = plain(&Op::I32WrapI64, 0, slots, page);
     answer(slots, trapped)
 }
 
 fn grown(slots: &mut Slots, page: &mut Page, more: u32) -> Result<Option<u64>, Cause> {
     slots.clear();
     slots.push(u64::from(more));
-    let trapped = plain(Op::MemoryGrow, 0, slots, page);
+    let trapped = plain(&Op::MemoryGrow, 0, slots, page);
     answer(slots, trapped)
 }
 
@@ -74,7 +74,7 @@ fn selected(
     slots.push(u64::from(a));
     slots.push(u64::from(b));
     slots.push(u64::from(c));
-    let trapped = plain(Op::Select, 0, slots, page);
+    let trapped = plain(&Op::Select, 0, slots, page);
     answer(slots, trapped)
 }
 
@@ -86,7 +86,7 @@ fn loaded(
 ) -> Result<Option<u64>, Cause> {
     slots.clear();
     slots.push(u64::from(address));
-    let trapped = plain(Op::I32Load { align: 2, offset }, 0, slots, page);
+    let trapped = plain(&Op::I32Load { align: 2, offset }, 0, slots, page);
     answer(slots, trapped)
 }
 
@@ -94,7 +94,7 @@ fn loaded_signed(slots: &mut Slots, page: &mut Page, address: u32) -> Result<Opt
     slots.clear();
     slots.push(u64::from(address));
     let trapped = plain(
-        Op::I64Load8S {
+        &Op::I64Load8S {
             align: 0,
             offset: 0,
         },
@@ -115,7 +115,7 @@ fn stored_byte(
     slots.push(u64::from(address));
     slots.push(u64::from(number));
     let trapped = plain(
-        Op::I32Store8 {
+        &Op::I32Store8 {
             align: 0,
             offset: 0,
         },
@@ -137,7 +137,7 @@ fn filled(
     slots.push(u64::from(to));
     slots.push(u64::from(value));
     slots.push(u64::from(count));
-    let trapped = plain(Op::MemoryFill, 0, slots, page);
+    let trapped = plain(&Op::MemoryFill, 0, slots, page);
     answer(slots, trapped)
 }
 
@@ -152,7 +152,7 @@ fn copied(
     slots.push(u64::from(to));
     slots.push(u64::from(from));
     slots.push(u64::from(count));
-    let trapped = plain(Op::MemoryCopy, 0, slots, page);
+    let trapped = plain(&Op::MemoryCopy, 0, slots, page);
     answer(slots, trapped)
 }
 

@@ -26,7 +26,7 @@ use wasm_valid::Cart;
 #[inline(always)]
 pub(crate) fn turn<H: Host>(
     cart: &Cart,
-    op: Op,
+    op: &Op,
     place: usize,
     rest: u32,
     frame: &mut Frame,
@@ -36,15 +36,19 @@ pub(crate) fn turn<H: Host>(
     globals: &mut [Val],
     host: &mut H,
 ) -> Flow
-    requires going { Turning (outside H.weight H.effect) cart.now place frame.old labels.old slots.old page.old globals.old host.old (rest + 1) }
-    requires op { slice_get (operations_of (entries cart.now)) place ≡ Some op }
-    requires end { (op ≢ Op.End) × (op ≢ Op.Else) }
+    requires going { Turning (outside H.weight H.effect) cart.now place frame.old labels.old slots.old
+        page.old globals.old host.old (rest + 1) }
+    requires op { slice_get (operations_of (entries cart.now)) place ≡ Some op.now }
+    requires end { (op.now ≢ Op.End) × (op.now ≢ Op.Else) }
     requires bound { length (entries cart.now) < 4294967296 }
-    ensures goes { Turned (outside H.weight H.effect) cart.now place frame.old labels.old slots.old page.old globals.old host.old (rest + 1) result frame.new labels.new slots.new page.new globals.new host.new rest }
+    ensures goes { Turned (outside H.weight H.effect) cart.now place frame.old labels.old slots.old
+        page.old globals.old host.old (rest + 1)
+        result frame.new labels.new slots.new page.new globals.new host.new rest }
     ensures grows { length labels.new ≤ length labels.old + 1 }
 {
     let next = place + 1;
-    match op {
+    let base = frame.base;
+    match *op {
         Op::Block { result, end } => {
             begin_list(answers(result), end, labels, slots);
             Flow::Go { place: next, rest }
@@ -90,9 +94,9 @@ pub(crate) fn turn<H: Host>(
         Op::GlobalSet { index } => set_global(
             cart, index, place, rest, frame, labels, slots, page, globals, host,
         ),
-        Op::MemoryCopy => move_bytes(true, next, rest, frame.base, slots, page),
-        Op::MemoryFill => move_bytes(false, next, rest, frame.base, slots, page),
-        _ => match plain(op, frame.base, slots, page) {
+        Op::MemoryCopy => move_bytes(true, next, rest, base, slots, page),
+        Op::MemoryFill => move_bytes(false, next, rest, base, slots, page),
+        _ => match plain(op, base, slots, page) {
             None => Flow::Go { place: next, rest },
             Some(cause) => Flow::Trap(cause),
         },

@@ -49,7 +49,7 @@ pop-requires g c = (if_needs _ _ _ _ _ _ _ _ _ _ _
 pub choose-requires-clause-place : goal.choose-requires-clause-place
 choose-requires-clause-place g c = omega (
   arith,
-  place_within (entries c.args.cart.now) c.args.place c.args.op
+  place_within (entries c.args.cart.now) c.args.place c.args.op.now
       c.requires.op,
   c.requires.bound,
 )
