@@ -1,5 +1,5 @@
 -- How calls of entry functions go on, one after another.
-use Rattle.std.proofs.Common.{◌≡◌, ℕ, List, [], ◌∷◌, Option, Some, None, refl, ap, sym, subst, ◌∙◌}
+use Rattle.std.proofs.Common.{◌≡◌, ℕ, List, [], ◌∷◌, Option, Some, None, refl, subst, ◌∙◌}
 use Rattle.std.specs.Option.{OnSome}
 use Rattle.w4_defs.specs.declared.value.Val.{Val}
 use Rattle.w4_defs.specs.declared.console.Halt.{Halt}
@@ -19,7 +19,8 @@ abbrev pub store : List ℕ → List Val → Board → Store Board
 store page globals board = record { page = page; globals = globals; host = board }
 
 -- what an ending says of how it goes on
-ended : (end : Ended Board) (found : Ending) (page : List ℕ) (globals : List Val) (board : Board) → EndsAs end found page globals board
+ended : (end : Ended Board) (found : Ending) (page : List ℕ) (globals : List Val) (board : Board)
+    → EndsAs end found page globals board
     → (go : Underway → ℕ → Option Underway)
     → then_on end go ≡ gone_on (rest_after found) (left (store page globals board) (halt_after found)) go
 ended (Finished st rest) (ending.Done left) page globals board e go = rw (e.0, e.1) refl
@@ -34,20 +35,27 @@ ended (Exhausted st) ending.Spent page globals board e go = rw e refl
 ended Undefined found page globals board e go = absurd e
 
 -- a call on a board, and what stands after the devices are put back
-pub called : (cart : WasmModule) (font : List ℕ) (function : ℕ) (now next : Underway) (budget : ℕ) (found : Ending) (state : State)
-    (first page : List ℕ) (firsts globals back : List Val) (board used : Board) (rest : Option ℕ) (halt : Halt)
+pub called : (cart : WasmModule) (font : List ℕ) (function : ℕ) (now next : Underway) (budget : ℕ)
+    (found : Ending) (state : State) (first page : List ℕ) (firsts globals back : List Val)
+    (board used : Board) (rest : Option ℕ) (halt : Halt)
     → store state.page state.globals board ≡ store_of font now → first ≡ state.page → firsts ≡ state.globals
     → EndsAs (run_entry cart console function (store first firsts board) budget) found page globals used
-    → back ≡ globals → rest ≡ rest_after found → halt ≡ halt_after found → next ≡ left (store page back used) halt
+    → back ≡ globals → rest ≡ rest_after found → halt ≡ halt_after found
+    → next ≡ left (store page back used) halt
     → IsCalled cart font function now budget rest next
-called cart font function now next budget found state first page firsts globals back board used rest halt from p g e b r h n =
+called cart font function now next budget found state first page firsts globals back board used rest halt from
+    p g e b r h n =
     let at_first : store first firsts board ≡ store_of font now = rw (p, g) from in
     rw (n, r, h, b)
     (ended (run_entry cart console function (store_of font now) budget) found page globals used
-    (subst (λ (st : Store Board). EndsAs (run_entry cart console function st budget) found page globals used) at_first e))
+    (subst
+    (λ (st : Store Board).
+    EndsAs (run_entry cart console function st budget) found page globals used)
+    at_first e))
 
 -- where a rest is left, the cart still runs
-pub still_runs : (found : Ending) (rest : Option ℕ) (halt here : Halt) → rest ≡ rest_after found → halt ≡ halt_after found → here ≡ halt
+pub still_runs : (found : Ending) (rest : Option ℕ) (halt here : Halt) → rest ≡ rest_after found
+    → halt ≡ halt_after found → here ≡ halt
     → OnSome rest (here ≡ Running)
 still_runs (ending.Done left) rest halt here r h e = rw (e, h, r) refl
 still_runs (ending.Trap cause) rest halt here r h e = rw (e, h, r) tt
@@ -64,17 +72,22 @@ module _ (cart : WasmModule) (font : List ℕ) (whole : ℕ) where
   Calls functions now budget next = call_all (console_setup cart font whole) functions now budget ≡ Some next
 
   -- where no rest is left, the others aren't called; where one is left, they are called with it
-  pub stops : (function named : Option ℕ) (functions : List (Option ℕ)) (now next : Underway) (budget : ℕ) → function ≡ named
+  pub stops : (function named : Option ℕ) (functions : List (Option ℕ)) (now next : Underway) (budget : ℕ)
+      → function ≡ named
       → IsCalledFirst cart font function now budget None next → Calls (named ∷ functions) now budget next
   stops function named functions now next budget e is =
       subst (λ (f : Option ℕ). Calls (f ∷ functions) now budget next) e (is functions whole)
 
-  pub goes_on : (function named : Option ℕ) (functions : List (Option ℕ)) (now mid next : Underway) (budget rest : ℕ) → function ≡ named
-      → IsCalledFirst cart font function now budget (Some rest) mid → Calls functions mid rest next → Calls (named ∷ functions) now budget next
+  pub goes_on : (function named : Option ℕ) (functions : List (Option ℕ)) (now mid next : Underway)
+      (budget rest : ℕ)
+      → function ≡ named
+      → IsCalledFirst cart font function now budget (Some rest) mid → Calls functions mid rest next
+      → Calls (named ∷ functions) now budget next
   goes_on function named functions now mid next budget rest e is others =
       subst (λ (f : Option ℕ). Calls (f ∷ functions) now budget next) e (is functions whole ∙ others)
 
-  pub ends : (function named : Option ℕ) (now next : Underway) (budget : ℕ) (found : Option ℕ) → function ≡ named
+  pub ends : (function named : Option ℕ) (now next : Underway) (budget : ℕ) (found : Option ℕ)
+      → function ≡ named
       → IsCalledFirst cart font function now budget found next → Calls (named ∷ []) now budget next
   ends function named now next budget found e is =
       subst (λ (f : Option ℕ). Calls (f ∷ []) now budget next) e (is [] whole ∙ at_end found next)

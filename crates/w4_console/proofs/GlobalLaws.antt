@@ -36,14 +36,20 @@ of_all : (globals : List Global) → All (λ g. IsConstant g.global.value g.firs
     → types_of (map first_value globals) ≡ map (λ g. g.global.value) globals
 of_all [] h = refl
 of_all (g ∷ globals) h =
-    rw (of_first g.first g.global.value (h zero g (omega arith)), of_all globals (λ k d l. h (suc k) d (omega arith))) refl
+    rw (
+      of_first g.first g.global.value (h zero g (omega arith)),
+      of_all globals (λ k d l. h (suc k) d (omega arith)),
+    )
+    refl
 
-pub first_types : (m : WasmModule) → IsValid m → types_of (first_globals m) ≡ map (λ g. g.global.value) m.globals
+pub first_types : (m : WasmModule) → IsValid m
+    → types_of (first_globals m) ≡ map (λ g. g.global.value) m.globals
 first_types m valid = of_all m.globals valid.0.globals
 
 length_of : (values : List Val) → length (types_of values) ≡ length values
 length_of [] = refl
 length_of (v ∷ values) = ap suc (length_of values)
 
-pub as_long : (values others : List Val) (types : List ValType) → types_of values ≡ types → types_of others ≡ types → length values ≡ length others
+pub as_long : (values others : List Val) (types : List ValType) → types_of values ≡ types
+    → types_of others ≡ types → length values ≡ length others
 as_long values others types a b = sym (length_of values) ∙ ap length (a ∙ sym b) ∙ length_of others

@@ -5,7 +5,14 @@ ghost use Rattle.std.specs.Prelude.{◌≡◌, Some};
 ghost use Rattle.w4_defs.specs.declared.console.Halt.TheVariants.{Running};
 ghost use Rattle.w4_defs.specs.Lookup.{signature_of};
 ghost use Rattle.w4_defs.specs.Reset.{left, store_of};
-ghost use Rattle.w4_console.specs.UnderWay.{halt_after, HasGlobals, IsCalled, IsCalledFirst, rest_after, so_far};
+ghost use Rattle.w4_console.specs.UnderWay.{
+  halt_after,
+  HasGlobals,
+  IsCalled,
+  IsCalledFirst,
+  rest_after,
+  so_far,
+};
 ghost use Rattle.wasm_valid.specs.Carts.{nothing};
 
 use std::mem;
@@ -31,7 +38,8 @@ pub(crate) fn call_if_there(
     requires entry { IfSome function (λ f. signature_of cart.now f ≡ Some nothing) }
     requires globals { HasGlobals cart.now state.old }
     requires running { state.old.halt ≡ Running }
-    ensures called { IsCalledFirst cart.now font.now function (so_far state.old made.old) budget result (so_far state.new made.new) }
+    ensures called { IsCalledFirst cart.now font.now function (so_far state.old made.old) budget
+        result (so_far state.new made.new) }
     ensures globals { HasGlobals cart.now state.new }
     ensures running { OnSome result (state.new.halt ≡ Running) }
 {
@@ -53,7 +61,8 @@ pub(crate) fn call(
 ) -> Option<u32>
     requires entry { signature_of cart.now function ≡ Some nothing }
     requires globals { HasGlobals cart.now state.old }
-    ensures called { IsCalled cart.now font.now function (so_far state.old made.old) budget result (so_far state.new made.new) }
+    ensures called { IsCalled cart.now font.now function (so_far state.old made.old) budget
+        result (so_far state.new made.new) }
     ensures globals { HasGlobals cart.now state.new }
     ensures running { OnSome result (state.new.halt ≡ Running) }
 {
@@ -72,7 +81,8 @@ pub(crate) fn call(
 
 /// Moves the devices into a board, with the logs so far.
 fn board_of<'a>(font: &'a Font, state: &mut State, made: &mut FrameRecord) -> Board<'a>
-    ensures { record { page = state.new.page; globals = state.new.globals; host = result } ≡ store_of font.now (so_far state.old made.old) }
+    ensures { record { page = state.new.page; globals = state.new.globals; host = result }
+        ≡ store_of font.now (so_far state.old made.old) }
 {
     Board {
         font,
@@ -85,7 +95,8 @@ fn board_of<'a>(font: &'a Font, state: &mut State, made: &mut FrameRecord) -> Bo
 
 /// Moves the devices and the logs back, and sets halt.
 fn put_back(state: &mut State, made: &mut FrameRecord, board: Board<'_>, halt: Halt)
-    ensures { so_far state.new made.new ≡ left (record { page = state.old.page; globals = state.old.globals; host = board.entry }) halt }
+    ensures { so_far state.new made.new
+        ≡ left (record { page = state.old.page; globals = state.old.globals; host = board.entry }) halt }
 {
     state.channels = board.channels;
     state.disk = board.disk;

@@ -63,7 +63,8 @@ impl Console {
         requires disk { length disk.now ≤ 1024 }
         requires budget { 1 ≤ budget }
         requires globals { HasGlobals cart.now self.old }
-        ensures reset { reset (console_setup cart.now font.now budget) disk.now ≡ Some (moment self.new made.new) }
+        ensures reset { reset (console_setup cart.now font.now budget) disk.now
+            ≡ Some (moment self.new made.new) }
         ensures globals { HasGlobals cart.now self.new }
     {
         let (machine, state) = (&mut self.machine, &mut self.state);
@@ -86,7 +87,8 @@ impl Console {
     )
         requires budget { 1 ≤ budget }
         requires globals { HasGlobals cart.now self.old }
-        ensures frame { frame (console_setup cart.now font.now budget) self.old input.now ≡ Some (moment self.new made.new) }
+        ensures frame { frame (console_setup cart.now font.now budget) self.old input.now
+            ≡ Some (moment self.new made.new) }
         ensures globals { HasGlobals cart.now self.new }
         ensures ticks { steps.new ≡ steps.old + 1 }
     {

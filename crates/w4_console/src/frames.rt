@@ -27,7 +27,8 @@ pub(crate) fn begin(
     made: &mut FrameRecord,
 )
     requires globals { HasGlobals cart.now state.old }
-    ensures begun { begun (console_setup cart.now font.now budget) state.old input.now ≡ Some (so_far state.new made.new) }
+    ensures begun { begun (console_setup cart.now font.now budget) state.old input.now
+        ≡ Some (so_far state.new made.new) }
     ensures globals { HasGlobals cart.now state.new }
 {
     if input.reset {
@@ -48,7 +49,8 @@ pub(crate) fn update(
     made: &mut FrameRecord,
 )
     requires globals { HasGlobals cart.now state.old }
-    ensures update { update (console_setup cart.now font.now budget) input.now (so_far state.old made.old) ≡ Some (so_far state.new made.new) }
+    ensures update { update (console_setup cart.now font.now budget) input.now (so_far state.old made.old)
+        ≡ Some (so_far state.new made.new) }
     ensures globals { HasGlobals cart.now state.new }
 {
     if let Halt::Running = state.halt {

@@ -10,6 +10,3 @@ mod page;
 mod start;
 
 pub use console::Console;
-
-#[cfg(test)]
-mod tests;

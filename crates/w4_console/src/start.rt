@@ -28,7 +28,8 @@ pub(crate) fn start(
     made: &mut FrameRecord,
 )
     requires globals { HasGlobals cart.now state.old }
-    ensures start { start (console_setup cart.now font.now budget) state.old.disk ≡ Some (so_far state.new made.new) }
+    ensures start { start (console_setup cart.now font.now budget) state.old.disk
+        ≡ Some (so_far state.new made.new) }
     ensures globals { HasGlobals cart.now state.new }
 {
     put_fresh(state, cart);
@@ -70,7 +71,8 @@ fn call_all(
 ) -> Option<u32>
     requires globals { HasGlobals cart.now state.old }
     requires running { state.old.halt ≡ Running }
-    ensures called { call_all (console_setup cart.now font.now budget) (entries cart.now) (so_far state.old made.old) budget ≡ Some (so_far state.new made.new) }
+    ensures called { call_all (console_setup cart.now font.now budget) (entries cart.now)
+        (so_far state.old made.old) budget ≡ Some (so_far state.new made.new) }
     ensures globals { HasGlobals cart.now state.new }
 {
     let rest = call_if_there(machine, state, cart, font, cart.start(), budget, made)?;

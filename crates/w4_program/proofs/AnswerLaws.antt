@@ -1,9 +1,7 @@
 -- Answers that are written one after another.
-use Rattle.std.proofs.Common.{◌≡◌, ℕ, ◌+◌, ◌<◌, ◌≤◌, List, [], ◌∷◌, ◌++◌, length, get_or, drop, Some, true, false, cond, leb, refl, sym, ap, subst, ◌∙◌, append_assoc, add-one, drop-cons}
+use Rattle.std.proofs.Common.{◌≡◌, ℕ, ◌+◌, ◌<◌, ◌≤◌, List, [], ◌∷◌, ◌++◌, length, get_or, drop, true, false, cond, leb, refl, sym, ap, subst, ◌∙◌, add-one, drop-cons}
 use Rattle.std.specs.Prelude.{OnOk, IfOk, Result, Ok, Err}
-use Rattle.std.specs.Option.{ForSome}
 use Rattle.std.proofs.lemmas.Bool.{lt-leb, le-leb, le-ltb}
-use Rattle.std.proofs.lemmas.List.{append-nil}
 use Rattle.std.proofs.Math.ListN.{drop_of_length-le}
 use Rattle.w4_defs.specs.declared.console.Input.{Input}
 use Rattle.w4_defs.specs.declared.order.Order.{Order}
@@ -15,67 +13,102 @@ use Rattle.w4_program.proofs.OwesLaws.{Owes, owes_less}
 use Rattle.w4_program.specs.Answering.{Answered, no_frame, refused, answer, answer_set, answer_show, answer_state, answers}
 
 -- the first order's answer, and those of the rest over the inputs that it leaves
-answers-step : (setup : Setup) (disk : List ℕ) (items next : List Input) (orders : List Order) (i : ℕ) (d : Order) → i < length orders
+answers-step : (setup : Setup) (disk : List ℕ) (items next : List Input) (orders : List Order) (i : ℕ)
+    (d : Order)
+    → i < length orders
     → next ≡ (answer setup disk items (get_or orders i d)).inputs
     → answers setup disk items (drop i orders)
-    ≡ record { out = (answer setup disk items (get_or orders i d)).out ++ (answers setup disk next (drop (i + 1) orders)).out; inputs = (answers setup disk next (drop (i + 1) orders)).inputs }
+    ≡ record {
+      out = (answer setup disk items (get_or orders i d)).out
+          ++ (answers setup disk next (drop (i + 1) orders)).out;
+      inputs = (answers setup disk next (drop (i + 1) orders)).inputs;
+    }
 unfolding answers
 answers-step setup disk items next orders i d lt e =
-    let first : drop i orders ≡ get_or orders i d ∷ drop (i + 1) orders = rw (add-one i) (drop-cons orders i d lt) in
+    let first : drop i orders ≡ get_or orders i d ∷ drop (i + 1) orders =
+    rw (add-one i) (drop-cons orders i d lt) in
     rw (first, e) refl
 
-pub answers-out-step : (first now after : World) (setup : Setup) (disk : List ℕ) (items next : List Input) (orders : List Order) (i : ℕ) (d : Order) (whole : List ℕ) → i < length orders
+pub answers-out-step : (first now after : World) (setup : Setup) (disk : List ℕ) (items next : List Input)
+    (orders : List Order) (i : ℕ) (d : Order) (whole : List ℕ)
+    → i < length orders
     → next ≡ (answer setup disk items (get_or orders i d)).inputs
     → Appends now.out after.out (answer setup disk items (get_or orders i d)).out
-    → Owes first now (answers setup disk items (drop i orders)).out whole → Owes first after (answers setup disk next (drop (i + 1) orders)).out whole
+    → Owes first now (answers setup disk items (drop i orders)).out whole
+    → Owes first after (answers setup disk next (drop (i + 1) orders)).out whole
 answers-out-step first now after setup disk items next orders i d whole lt e more so_far =
-    owes_less first now after (answer setup disk items (get_or orders i d)).out (answers setup disk next (drop (i + 1) orders)).out whole more
-    (subst (λ (a : Answered). Owes first now a.out whole) (answers-step setup disk items next orders i d lt e) so_far)
+    owes_less first now after (answer setup disk items (get_or orders i d)).out
+    (answers setup disk next (drop (i + 1) orders)).out whole more
+    (subst (λ (a : Answered). Owes first now a.out whole)
+    (answers-step setup disk items next orders i d lt e) so_far)
 
-pub answers-inputs-step : (setup : Setup) (disk : List ℕ) (items next : List Input) (orders : List Order) (i : ℕ) (d : Order) (whole : List Input) → i < length orders
+pub answers-inputs-step : (setup : Setup) (disk : List ℕ) (items next : List Input) (orders : List Order)
+    (i : ℕ) (d : Order) (whole : List Input)
+    → i < length orders
     → next ≡ (answer setup disk items (get_or orders i d)).inputs
-    → (answers setup disk items (drop i orders)).inputs ≡ whole → (answers setup disk next (drop (i + 1) orders)).inputs ≡ whole
+    → (answers setup disk items (drop i orders)).inputs ≡ whole
+    → (answers setup disk next (drop (i + 1) orders)).inputs ≡ whole
 answers-inputs-step setup disk items next orders i d whole lt e so_far =
     sym (ap (λ (a : Answered). a.inputs) (answers-step setup disk items next orders i d lt e)) ∙ so_far
 
-pub answers-end : (setup : Setup) (disk : List ℕ) (items : List Input) (orders : List Order) (i : ℕ) → length orders ≤ i → answers setup disk items (drop i orders) ≡ record { out = []; inputs = items }
+pub answers-end : (setup : Setup) (disk : List ℕ) (items : List Input) (orders : List Order) (i : ℕ)
+    → length orders ≤ i → answers setup disk items (drop i orders) ≡ record { out = []; inputs = items }
 unfolding answers
 answers-end setup disk items orders i le = rw (drop_of_length-le orders le) refl
 
-pub answer_set-past : (inputs : List Input) (k : ℕ) (input : Input) → length inputs ≤ k → (answer_set inputs k input).out ≡ no_frame
+pub answer_set-past : (inputs : List Input) (k : ℕ) (input : Input) → length inputs ≤ k
+    → (answer_set inputs k input).out ≡ no_frame
 unfolding answer_set
 answer_set-past inputs k input le = rw (le-ltb k (length inputs) le) refl
 
-pub answer_show-past : (setup : Setup) (disk : List ℕ) (inputs : List Input) (p : ℕ) → length inputs < p → (answer_show setup disk inputs p).out ≡ no_frame
+pub answer_show-past : (setup : Setup) (disk : List ℕ) (inputs : List Input) (p : ℕ) → length inputs < p
+    → (answer_show setup disk inputs p).out ≡ no_frame
 unfolding answer_show
 answer_show-past setup disk inputs p lt = rw (lt-leb p (length inputs) lt) refl
 
-pub answer_show-within : (setup : Setup) (disk : List ℕ) (inputs : List Input) (p : ℕ) → p ≤ length inputs → (answer_show setup disk inputs p).out ≡ picture (run setup disk inputs p)
+pub answer_show-within : (setup : Setup) (disk : List ℕ) (inputs : List Input) (p : ℕ) → p ≤ length inputs
+    → (answer_show setup disk inputs p).out ≡ picture (run setup disk inputs p)
 unfolding answer_show
 answer_show-within setup disk inputs p le = rw (le-leb p (length inputs) le) refl
 
 -- showing changes nothing
-pub answer_show-inputs : (setup : Setup) (disk : List ℕ) (inputs : List Input) (p : ℕ) → inputs ≡ (answer_show setup disk inputs p).inputs
+pub answer_show-inputs : (setup : Setup) (disk : List ℕ) (inputs : List Input) (p : ℕ)
+    → inputs ≡ (answer_show setup disk inputs p).inputs
 unfolding answer_show
-answer_show-inputs setup disk inputs p = elim (leb p (length inputs)) as (λ b. inputs ≡ (cond b (record { out = picture (run setup disk inputs p); inputs = inputs }) (refused inputs)).inputs) [ true ↦ refl | false ↦ refl ]
+answer_show-inputs setup disk inputs p =
+    elim (leb p (length inputs)) as
+    (λ b. inputs
+    ≡ (cond b (record { out = picture (run setup disk inputs p); inputs = inputs })
+    (refused inputs)).inputs)
+    [ true ↦ refl | false ↦ refl ]
 
-pub answer_state-past : (setup : Setup) (disk : List ℕ) (inputs : List Input) (p : ℕ) → length inputs < p → (answer_state setup disk inputs p).out ≡ no_frame
+pub answer_state-past : (setup : Setup) (disk : List ℕ) (inputs : List Input) (p : ℕ) → length inputs < p
+    → (answer_state setup disk inputs p).out ≡ no_frame
 unfolding answer_state
 answer_state-past setup disk inputs p lt = rw (lt-leb p (length inputs) lt) refl
 
-pub answer_state-within : (setup : Setup) (disk : List ℕ) (inputs : List Input) (p : ℕ) → p ≤ length inputs → (answer_state setup disk inputs p).out ≡ told_state p (length inputs) (run setup disk inputs p)
+pub answer_state-within : (setup : Setup) (disk : List ℕ) (inputs : List Input) (p : ℕ) → p ≤ length inputs
+    → (answer_state setup disk inputs p).out ≡ told_state p (length inputs) (run setup disk inputs p)
 unfolding answer_state
 answer_state-within setup disk inputs p le = rw (le-leb p (length inputs) le) refl
 
 -- nor does telling
-pub answer_state-inputs : (setup : Setup) (disk : List ℕ) (inputs : List Input) (p : ℕ) → inputs ≡ (answer_state setup disk inputs p).inputs
+pub answer_state-inputs : (setup : Setup) (disk : List ℕ) (inputs : List Input) (p : ℕ)
+    → inputs ≡ (answer_state setup disk inputs p).inputs
 unfolding answer_state
-answer_state-inputs setup disk inputs p = elim (leb p (length inputs)) as (λ b. inputs ≡ (cond b (record { out = told_state p (length inputs) (run setup disk inputs p); inputs = inputs }) (refused inputs)).inputs) [ true ↦ refl | false ↦ refl ]
+answer_state-inputs setup disk inputs p =
+    elim (leb p (length inputs)) as
+    (λ b. inputs
+    ≡ (cond b
+    (record { out = told_state p (length inputs) (run setup disk inputs p); inputs = inputs })
+    (refused inputs)).inputs)
+    [ true ↦ refl | false ↦ refl ]
 
 pub on_ok : {X E : Type 0} {P : Type 0} (result : Result X E) → P → OnOk result P
 on_ok (Ok x) h = h
 on_ok (Err e) h = tt
 
-pub if_ok_map : {X E : Type 0} {P Q : X → Type 0} (result : Result X E) → ((x : X) → P x → Q x) → IfOk result P → IfOk result Q
+pub if_ok_map : {X E : Type 0} {P Q : X → Type 0} (result : Result X E) → ((x : X) → P x → Q x)
+    → IfOk result P → IfOk result Q
 if_ok_map (Ok x) f h = f x h
 if_ok_map (Err e) f h = h

@@ -1,29 +1,31 @@
 -- How the whole ended, put together from how its steps ended; and what each status then says.
-use Rattle.std.proofs.Common.{◌≡◌, ℕ, ◌≤◌, ◌⊎◌, inl, inr, List, [], ◌∷◌, ◌++◌, codes, Option, Some, Result, Ok, Err, refl, sym, ap, subst, ◌∙◌}
+use Rattle.std.proofs.Common.{◌≡◌, ℕ, ◌≤◌, ◌⊎◌, inl, inr, List, Result, Ok, Err, refl, sym, subst, ◌∙◌}
 use Rattle.std.specs.Option.{ForSome}
-use Rattle.w4_defs.specs.declared.refusal.CartKind.{CartKind}
 use Rattle.w4_defs.specs.Module.{WasmModule}
 use Rattle.w4_defs.specs.Recording.{spelling}
-use Rattle.w4_house.specs.World.{Files, World, Rises, Appends, LeavesReading, LeavesPrinting, LeavesReporting}
+use Rattle.w4_house.specs.World.{Files, World, Rises, LeavesReading, LeavesPrinting, LeavesReporting}
 use Rattle.w4_house.proofs.WorldLaws.{rises_later}
 use Rattle.w4_program.specs.declared.status.Status.{Status}
 use Rattle.w4_program.specs.declared.status.Status.TheVariants as status
-use Rattle.w4_program.specs.Refusals.{Refusal, Usage, NoFile, CartRefused, NotBuilt, Manner, Finished, Formless, ReadFailed, WriteFailed, NoMemory, Refused, manner_of, status_of_refusal}
+use Rattle.w4_program.specs.Refusals.{Refusal, NoFile, Manner, Finished, Formless, ReadFailed, WriteFailed, NoMemory, Refused, manner_of}
 use Rattle.w4_program.specs.Forms.{EditWords}
 use Rattle.w4_program.specs.Output.{◌>>=◌, Made, Loaded, loaded, answered, left, printed, saved, edited, CartIn, OverCart}
-use Rattle.w4_program.specs.Causes.{Does, ReadFails, Refuses, Stops, StopsWriting, Untouched, Writes, Ends, IsExact, IsRefusal, Reports, LeavesErr, Carries, Prints, status_of}
+use Rattle.w4_program.specs.Causes.{Does, ReadFails, Stops, StopsWriting, Untouched, Writes, Ends, Carries, Prints}
 use Rattle.w4_program.proofs.StepLaws.{stops_first}
 
 -- a write that stopped after other writes
-pub stops_writing_later : (first second third : World) (why : Manner) → first.write_faults ≤ second.write_faults → StopsWriting second third why → StopsWriting first third why
+pub stops_writing_later : (first second third : World) (why : Manner)
+    → first.write_faults ≤ second.write_faults → StopsWriting second third why → StopsWriting first third why
 stops_writing_later first second third Finished le h = h
 stops_writing_later first second third Formless le h = h
 stops_writing_later first second third ReadFailed le h = h
-stops_writing_later first second third WriteFailed le h = rises_later first.write_faults second.write_faults third.write_faults le h
+stops_writing_later first second third WriteFailed le h =
+    rises_later first.write_faults second.write_faults third.write_faults le h
 stops_writing_later first second third NoMemory le h = tt
 stops_writing_later first second third (Refused refusal) le h = h
 
-pub carries_stopped : (old new : World) (why : Manner) (out name bytes : List ℕ) → StopsWriting old new why → Carries old new why out name bytes
+pub carries_stopped : (old new : World) (why : Manner) (out name bytes : List ℕ) → StopsWriting old new why
+    → Carries old new why out name bytes
 carries_stopped old new Finished out name bytes h = absurd h
 carries_stopped old new Formless out name bytes h = h
 carries_stopped old new ReadFailed out name bytes h = h
@@ -31,7 +33,8 @@ carries_stopped old new WriteFailed out name bytes h = h
 carries_stopped old new NoMemory out name bytes h = tt
 carries_stopped old new (Refused refusal) out name bytes h = h
 
-pub prints_stopped : (old new : World) (why : Manner) (out : List ℕ) → StopsWriting old new why → Prints old new why out
+pub prints_stopped : (old new : World) (why : Manner) (out : List ℕ) → StopsWriting old new why
+    → Prints old new why out
 prints_stopped old new Finished out h = absurd h
 prints_stopped old new Formless out h = h
 prints_stopped old new ReadFailed out h = h
@@ -40,48 +43,70 @@ prints_stopped old new NoMemory out h = tt
 prints_stopped old new (Refused refusal) out h = h
 
 -- only words are refused as such
-pub stops_formed : {Y : Type 0} (old new : World) (why : Status) (step : Files → Result Y Refusal → Type 0) → Stops old new (manner_of why) step → why ≡ status.Usage → ⊥
+pub stops_formed : {Y : Type 0} (old new : World) (why : Status) (step : Files → Result Y Refusal → Type 0)
+    → Stops old new (manner_of why) step → why ≡ status.Usage → ⊥
 stops_formed old new why step h e = subst (λ s. Stops old new (manner_of s) step) e h
 
-pub carries_formed : (old new : World) (why : Status) (out name bytes : List ℕ) → Carries old new (manner_of why) out name bytes → why ≡ status.Usage → ⊥
+pub carries_formed : (old new : World) (why : Status) (out name bytes : List ℕ)
+    → Carries old new (manner_of why) out name bytes → why ≡ status.Usage → ⊥
 carries_formed old new why out name bytes h e = subst (λ s. Carries old new (manner_of s) out name bytes) e h
 
-pub prints_formed : (old new : World) (why : Status) (out : List ℕ) → Prints old new (manner_of why) out → why ≡ status.Usage → ⊥
+pub prints_formed : (old new : World) (why : Status) (out : List ℕ) → Prints old new (manner_of why) out
+    → why ≡ status.Usage → ⊥
 prints_formed old new why out h e = subst (λ s. Prints old new (manner_of s) out) e h
 
 -- the cart wasn't read or is none
-pub ends_unjudged : (old new : World) (why : Manner) (name : List ℕ) (make : WasmModule → Files → Result Made Refusal) → LeavesReading old new
-    → Stops old new why (λ files cart. CartIn name files cart) → Ends old new why (λ files made. OverCart name make files made)
+pub ends_unjudged : (old new : World) (why : Manner) (name : List ℕ)
+    (make : WasmModule → Files → Result Made Refusal)
+    → LeavesReading old new
+    → Stops old new why (λ files cart. CartIn name files cart)
+    → Ends old new why (λ files made. OverCart name make files made)
 ends_unjudged old new Finished name make leaves h = absurd h
 ends_unjudged old new Formless name make leaves h = absurd h
 ends_unjudged old new ReadFailed name make leaves (inl rise) = (inl rise, (leaves.out, leaves.files))
-ends_unjudged old new ReadFailed name make leaves (inr (files, told, none)) = (inr (files, told, (Err NoFile, none, refl)), (leaves.out, leaves.files))
+ends_unjudged old new ReadFailed name make leaves (inr (files, told, none)) =
+    (inr (files, told, (Err NoFile, none, refl)), (leaves.out, leaves.files))
 ends_unjudged old new WriteFailed name make leaves h = absurd h
 ends_unjudged old new NoMemory name make leaves h = tt
-ends_unjudged old new (Refused refusal) name make leaves h = ((λ files told. (Err refusal, h files told, refl)), (leaves.out, leaves.files))
+ends_unjudged old new (Refused refusal) name make leaves h =
+    ((λ files told. (Err refusal, h files told, refl)), (leaves.out, leaves.files))
 
 -- the cart was judged, and the rest ended so
-pub ends_judged : (first second third : World) (why : Manner) (name : List ℕ) (m : WasmModule) (make : WasmModule → Files → Result Made Refusal) → LeavesReading first second
-    → ForSome first.files (λ files. CartIn name files (Ok m)) → Ends second third why (Does (λ files. make m files)) → Ends first third why (λ files made. OverCart name make files made)
+pub ends_judged : (first second third : World) (why : Manner) (name : List ℕ) (m : WasmModule)
+    (make : WasmModule → Files → Result Made Refusal)
+    → LeavesReading first second
+    → ForSome first.files (λ files. CartIn name files (Ok m))
+    → Ends second third why (Does (λ files. make m files))
+    → Ends first third why (λ files made. OverCart name make files made)
 ends_judged first second third Finished name m make leaves given h = λ files told.
     let made = h files (leaves.files ∙ told) in
     (made.0, (Ok m, given files told, made.1), ((λ before t. made.2.0 before (leaves.out ∙ t)), made.2.1))
-ends_judged first second third Formless name m make leaves given h =
-    ((λ files told. (Ok m, given files told, h.0 files (leaves.files ∙ told))), (h.1.0 ∙ leaves.out, h.1.1 ∙ leaves.files))
-ends_judged first second third ReadFailed name m make leaves given (inl rise, same) =
-    (inl (rises_later first.read_faults second.read_faults third.read_faults leaves.later rise), (same.0 ∙ leaves.out, same.1 ∙ leaves.files))
-ends_judged first second third ReadFailed name m make leaves given (inr (files, told, none), same) =
-    (inr (files, sym leaves.files ∙ told, (Ok m, given files (sym leaves.files ∙ told), none)), (same.0 ∙ leaves.out, same.1 ∙ leaves.files))
+ends_judged first second third Formless name m make leaves given h = (
+  (λ files told. (Ok m, given files told, h.0 files (leaves.files ∙ told))),
+  (h.1.0 ∙ leaves.out, h.1.1 ∙ leaves.files),
+)
+ends_judged first second third ReadFailed name m make leaves given (inl rise, same) = (
+  inl (rises_later first.read_faults second.read_faults third.read_faults leaves.later rise),
+  (same.0 ∙ leaves.out, same.1 ∙ leaves.files),
+)
+ends_judged first second third ReadFailed name m make leaves given (inr (files, told, none), same) = (
+  inr (files, sym leaves.files ∙ told, (Ok m, given files (sym leaves.files ∙ told), none)),
+  (same.0 ∙ leaves.out, same.1 ∙ leaves.files),
+)
 ends_judged first second third WriteFailed name m make leaves given h = (
   subst (λ n. Rises n third.write_faults) leaves.writes h.0,
   λ files told. let made = h.1 files (leaves.files ∙ told) in (made.0, (Ok m, given files told, made.1)),
 )
 ends_judged first second third NoMemory name m make leaves given h = tt
-ends_judged first second third (Refused refusal) name m make leaves given h =
-    ((λ files told. (Ok m, given files told, h.0 files (leaves.files ∙ told))), (h.1.0 ∙ leaves.out, h.1.1 ∙ leaves.files))
+ends_judged first second third (Refused refusal) name m make leaves given h = (
+  (λ files told. (Ok m, given files told, h.0 files (leaves.files ∙ told))),
+  (h.1.0 ∙ leaves.out, h.1.1 ∙ leaves.files),
+)
 
 -- what was to be read wasn't right
-pub ends_untold : {G : Type 0} (old new : World) (why : Manner) (step : Files → Result G Refusal) (make : Files → G → Made) → LeavesReading old new
+pub ends_untold : {G : Type 0} (old new : World) (why : Manner) (step : Files → Result G Refusal)
+    (make : Files → G → Made)
+    → LeavesReading old new
     → Stops old new why (Does step) → Ends old new why (Does (λ files. step files >>= λ g. Ok (make files g)))
 ends_untold old new Finished step make leaves h = absurd h
 ends_untold old new Formless step make leaves h = absurd h
@@ -93,7 +118,8 @@ ends_untold old new (Refused refusal) step make leaves h =
     (stops_first old new (Refused refusal) step (λ files g. Ok (make files g)) h, (leaves.out, leaves.files))
 
 -- it was, and bytes were written to standard output
-pub ends_printed : (old new : World) (why : Manner) (out : List ℕ) → new.files ≡ old.files → Prints old new why out
+pub ends_printed : (old new : World) (why : Manner) (out : List ℕ) → new.files ≡ old.files
+    → Prints old new why out
     → Ends old new why (Does (λ files. Ok (printed out files)))
 ends_printed old new Finished out same h = λ files told. (printed out files, refl, (h, same ∙ told))
 ends_printed old new Formless out same h = absurd h
@@ -102,8 +128,11 @@ ends_printed old new WriteFailed out same h = (h, λ files told. (printed out fi
 ends_printed old new NoMemory out same h = tt
 ends_printed old new (Refused refusal) out same h = absurd h
 
-pub ends_told : {G : Type 0} (first second third : World) (why : Manner) (step : Files → Result G Refusal) (g : G) (out : G → List ℕ) → LeavesReading first second
-    → LeavesPrinting second third → ForSome first.files (λ files. step files ≡ Ok g) → Prints second third why (out g)
+pub ends_told : {G : Type 0} (first second third : World) (why : Manner) (step : Files → Result G Refusal)
+    (g : G) (out : G → List ℕ)
+    → LeavesReading first second
+    → LeavesPrinting second third → ForSome first.files (λ files. step files ≡ Ok g)
+    → Prints second third why (out g)
     → Ends first third why (Does (λ files. step files >>= λ g. Ok (printed (out g) files)))
 ends_told first second third Finished step g out leaves rest given h = λ files told. (
   printed (out g) files,
@@ -112,15 +141,20 @@ ends_told first second third Finished step g out leaves rest given h = λ files 
 )
 ends_told first second third Formless step g out leaves rest given h = absurd h
 ends_told first second third ReadFailed step g out leaves rest given h = absurd h
-ends_told first second third WriteFailed step g out leaves rest given h =
-    (subst (λ n. Rises n third.write_faults) leaves.writes h, λ files told. (printed (out g) files, rw (given files told) refl))
+ends_told first second third WriteFailed step g out leaves rest given h = (
+  subst (λ n. Rises n third.write_faults) leaves.writes h,
+  λ files told. (printed (out g) files, rw (given files told) refl),
+)
 ends_told first second third NoMemory step g out leaves rest given h = tt
 ends_told first second third (Refused refusal) step g out leaves rest given h = absurd h
 
 -- it was, and an edit was carried out
-pub ends_carried : (first second third : World) (why : Manner) (words : EditWords) (m : WasmModule) (l : Loaded) → LeavesReading first second
+pub ends_carried : (first second third : World) (why : Manner) (words : EditWords) (m : WasmModule)
+    (l : Loaded)
+    → LeavesReading first second
     → ForSome first.files (λ files. loaded words files ≡ Ok l)
-    → Carries second third why (answered m l).out words.out (spelling (left m l)) → Ends first third why (Does (λ files. edited words m files))
+    → Carries second third why (answered m l).out words.out (spelling (left m l))
+    → Ends first third why (Does (λ files. edited words m files))
 unfolding edited
 ends_carried first second third Finished words m l leaves given h = λ files told. (
   saved m l words.out files,
@@ -129,31 +163,45 @@ ends_carried first second third Finished words m l leaves given h = λ files tol
 )
 ends_carried first second third Formless words m l leaves given h = absurd h
 ends_carried first second third ReadFailed words m l leaves given h = absurd h
-ends_carried first second third WriteFailed words m l leaves given h =
-    (subst (λ n. Rises n third.write_faults) leaves.writes h, λ files told. (saved m l words.out files, rw (given files told) refl))
+ends_carried first second third WriteFailed words m l leaves given h = (
+  subst (λ n. Rises n third.write_faults) leaves.writes h,
+  λ files told. (saved m l words.out files, rw (given files told) refl),
+)
 ends_carried first second third NoMemory words m l leaves given h = tt
 ends_carried first second third (Refused refusal) words m l leaves given h = absurd h
 
-writes_reported : (old mid new : World) (made : Made) → LeavesReporting mid new → Writes old mid made → Writes old new made
-writes_reported old mid new made leaves h = ((λ before told. leaves.out ∙ h.0 before told), leaves.files ∙ h.1)
+writes_reported : (old mid new : World) (made : Made) → LeavesReporting mid new → Writes old mid made
+    → Writes old new made
+writes_reported old mid new made leaves h =
+    ((λ before told. leaves.out ∙ h.0 before told), leaves.files ∙ h.1)
 
 untouched_reported : (old mid new : World) → LeavesReporting mid new → Untouched old mid → Untouched old new
 untouched_reported old mid new leaves h = (leaves.out ∙ h.0, leaves.files ∙ h.1)
 
-read_fails_reported : (old mid new : World) (step : Files → Result Made Refusal → Type 0) → LeavesReporting mid new → ReadFails old mid step → ReadFails old new step
-read_fails_reported old mid new step leaves (inl rise) = inl (subst (λ n. Rises old.read_faults n) (sym leaves.reads) rise)
+read_fails_reported : (old mid new : World) (step : Files → Result Made Refusal → Type 0)
+    → LeavesReporting mid new → ReadFails old mid step → ReadFails old new step
+read_fails_reported old mid new step leaves (inl rise) =
+    inl (subst (λ n. Rises old.read_faults n) (sym leaves.reads) rise)
 read_fails_reported old mid new step leaves (inr absent) = inr absent
 
-ends_kept : (old mid new : World) (why : Manner) (step : Files → Result Made Refusal → Type 0) → LeavesReporting mid new → Ends old mid why step → Ends old new why step
-ends_kept old mid new Finished step leaves h = λ files told. let made = h files told in (made.0, made.1, writes_reported old mid new made.0 leaves made.2)
+ends_kept : (old mid new : World) (why : Manner) (step : Files → Result Made Refusal → Type 0)
+    → LeavesReporting mid new → Ends old mid why step → Ends old new why step
+ends_kept old mid new Finished step leaves h =
+    λ files told. let made = h files told in
+    (made.0, made.1, writes_reported old mid new made.0 leaves made.2)
 ends_kept old mid new Formless step leaves h = (h.0, untouched_reported old mid new leaves h.1)
-ends_kept old mid new ReadFailed step leaves h = (read_fails_reported old mid new step leaves h.0, untouched_reported old mid new leaves h.1)
-ends_kept old mid new WriteFailed step leaves h = (subst (λ n. Rises old.write_faults n) (sym leaves.writes) h.0, h.1)
+ends_kept old mid new ReadFailed step leaves h =
+    (read_fails_reported old mid new step leaves h.0, untouched_reported old mid new leaves h.1)
+ends_kept old mid new WriteFailed step leaves h =
+    (subst (λ n. Rises old.write_faults n) (sym leaves.writes) h.0, h.1)
 ends_kept old mid new NoMemory step leaves h = tt
 ends_kept old mid new (Refused refusal) step leaves h = (h.0, untouched_reported old mid new leaves h.1)
 
 -- after the report, too
-pub ends_reported : (old mid new : World) (why result : Status) (step : Files → Result Made Refusal → Type 0) → LeavesReporting mid new → (result ≡ why) ⊎ (result ≡ status.OutOfMemory)
+pub ends_reported : (old mid new : World) (why result : Status) (step : Files → Result Made Refusal → Type 0)
+    → LeavesReporting mid new → (result ≡ why) ⊎ (result ≡ status.OutOfMemory)
     → Ends old mid (manner_of why) step → Ends old new (manner_of result) step
-ends_reported old mid new why result step leaves (inl e) h = subst (λ s. Ends old new (manner_of s) step) (sym e) (ends_kept old mid new (manner_of why) step leaves h)
-ends_reported old mid new why result step leaves (inr e) h = subst (λ s. Ends old new (manner_of s) step) (sym e) tt
+ends_reported old mid new why result step leaves (inl e) h =
+    subst (λ s. Ends old new (manner_of s) step) (sym e) (ends_kept old mid new (manner_of why) step leaves h)
+ends_reported old mid new why result step leaves (inr e) h =
+    subst (λ s. Ends old new (manner_of s) step) (sym e) tt

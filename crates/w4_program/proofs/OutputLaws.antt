@@ -1,23 +1,23 @@
 -- Bytes are one cart or are refused for one cause, so the output is one too.
-use Rattle.std.proofs.Common.{◌≡◌, ℕ, ◌<◌, ◌≤◌, ◌⊎◌, inl, inr, List, length, Option, Some, None, Result, Ok, Err, refl, sym, ap, subst, ◌∙◌, arith}
+use Rattle.std.proofs.Common.{◌≡◌, ℕ, ◌<◌, ◌⊎◌, inl, inr, List, Option, Some, None, Result, Ok, Err, refl, sym, ap, subst, ◌∙◌, arith}
 use Rattle.std.proofs.lemmas.Bool.{cases_order}
 use Rattle.w4_defs.specs.declared.refusal.CartKind.{CartKind}
 use Rattle.w4_defs.specs.declared.refusal.CartKind.TheVariants.{TooLarge, Malformed, Profile, Invalid}
 use Rattle.w4_defs.specs.declared.refusal.ProfileRefusal.{ProfileRefusal}
 use Rattle.w4_defs.specs.Module.{WasmModule}
-use Rattle.w4_defs.specs.BinaryModule.{SpellsModule}
 use Rattle.w4_defs.specs.Profile.{profile_refusal}
-use Rattle.w4_defs.specs.Validity.{KeepsModuleRules, IsFirstUntyped, IsValid}
+use Rattle.w4_defs.specs.Validity.{IsFirstUntyped, IsValid}
 use Rattle.w4_defs.specs.Cart.{IsInvalid, IsCart, IsRefused}
 use Rattle.wasm_read.specs.Unique.{AtMostOneModule}
 use Rattle.w4_house.specs.World.{Files}
 use Rattle.w4_program.specs.Refusals.{Refusal, Usage, NoFile, CartRefused, FontRefused, FrameRefused, NotBuilt}
 use Rattle.w4_program.specs.Forms.{Form, form_of}
-use Rattle.w4_program.specs.Output.{Made, ◌>>=◌, JudgedCart, OverCart, OverFile, OutputsForm, cart_word, made_by}
+use Rattle.w4_program.specs.Output.{Made, ◌>>=◌, JudgedCart, OverFile, OutputsForm, cart_word, made_by}
 use Rattle.w4_program.specs.OneOutput.{AtMostOneOutput}
 
 -- the first function without a typing is one
-first_ordered : (m : WasmModule) (f g : ℕ) → IsFirstUntyped m f → IsFirstUntyped m g → (f ≡ g) ⊎ ((f < g) ⊎ (g < f)) → f ≡ g
+first_ordered : (m : WasmModule) (f g : ℕ) → IsFirstUntyped m f → IsFirstUntyped m g
+    → (f ≡ g) ⊎ ((f < g) ⊎ (g < f)) → f ≡ g
 first_ordered m f g one other (inl same) = same
 first_ordered m f g one other (inr (inl less)) = absurd (one.2 (other.1 f less))
 first_ordered m f g one other (inr (inr more)) = absurd (other.2 (one.1 g more))
@@ -26,28 +26,33 @@ invalid_once : (m : WasmModule) (f g : Option ℕ) → IsInvalid m f → IsInval
 invalid_once m None None one other = refl
 invalid_once m None (Some g) one other = absurd (one other.0)
 invalid_once m (Some f) None one other = absurd (other one.0)
-invalid_once m (Some f) (Some g) one other = ap (λ (k : ℕ). Some k) (first_ordered m f g one.1 other.1 (cases_order f g))
+invalid_once m (Some f) (Some g) one other =
+    ap (λ (k : ℕ). Some k) (first_ordered m f g one.1 other.1 (cases_order f g))
 
 no_invalid : (m : WasmModule) (f : Option ℕ) → IsValid m → IsInvalid m f → ⊥
 no_invalid m None valid invalid = invalid valid.0
 no_invalid m (Some f) valid invalid = invalid.1.2 (valid.1 f invalid.1.0)
 
-profile_once : (found : Option ProfileRefusal) (r s : ProfileRefusal) → found ≡ Some r → found ≡ Some s → r ≡ s
+profile_once : (found : Option ProfileRefusal) (r s : ProfileRefusal) → found ≡ Some r → found ≡ Some s
+    → r ≡ s
 profile_once found r s one other = cc
 
 no_profile : (found : Option ProfileRefusal) (r : ProfileRefusal) → found ≡ None → found ≡ Some r → ⊥
 no_profile found r none some = cc
 
 -- no bytes are both
-never_both : AtMostOneModule → (bytes : List ℕ) (m : WasmModule) (kind : CartKind) → IsCart bytes m → IsRefused bytes kind → ⊥
+never_both : AtMostOneModule → (bytes : List ℕ) (m : WasmModule) (kind : CartKind) → IsCart bytes m
+    → IsRefused bytes kind → ⊥
 never_both unique bytes m TooLarge cart refused = let short = cart.0 in omega arith
 never_both unique bytes m Malformed cart refused = refused.1 m cart.1
 never_both unique bytes m (Profile r) cart (short, n, spelled, some) =
-    no_profile (profile_refusal n) r (subst (λ x. profile_refusal x ≡ None) (unique bytes m n cart.1 spelled) cart.2) some
+    no_profile (profile_refusal n) r
+    (subst (λ x. profile_refusal x ≡ None) (unique bytes m n cart.1 spelled) cart.2) some
 never_both unique bytes m (Invalid f) cart (short, n, spelled, none, invalid) =
     no_invalid n f (subst (λ x. IsValid x) (unique bytes m n cart.1 spelled) cart.3) invalid
 
-refused_once : AtMostOneModule → (bytes : List ℕ) (k l : CartKind) → IsRefused bytes k → IsRefused bytes l → k ≡ l
+refused_once : AtMostOneModule → (bytes : List ℕ) (k l : CartKind) → IsRefused bytes k → IsRefused bytes l
+    → k ≡ l
 refused_once unique bytes TooLarge TooLarge one other = refl
 refused_once unique bytes TooLarge Malformed one other = absurd (let short = other.0 in omega arith)
 refused_once unique bytes TooLarge (Profile s) one other = absurd (let short = other.0 in omega arith)
@@ -55,31 +60,46 @@ refused_once unique bytes TooLarge (Invalid g) one other = absurd (let short = o
 refused_once unique bytes Malformed TooLarge one other = absurd (let short = one.0 in omega arith)
 refused_once unique bytes Malformed Malformed one other = refl
 refused_once unique bytes Malformed (Profile s) one (short, n, spelled, some) = absurd (one.1 n spelled)
-refused_once unique bytes Malformed (Invalid g) one (short, n, spelled, none, invalid) = absurd (one.1 n spelled)
+refused_once unique bytes Malformed (Invalid g) one (short, n, spelled, none, invalid) =
+    absurd (one.1 n spelled)
 refused_once unique bytes (Profile r) TooLarge one other = absurd (let short = one.0 in omega arith)
 refused_once unique bytes (Profile r) Malformed (short, m, spelled, some) other = absurd (other.1 m spelled)
 refused_once unique bytes (Profile r) (Profile s) (short, m, spelled, some) (brief, n, spelt, other) =
-    ap (λ refusal. Profile refusal) (profile_once (profile_refusal n) r s (subst (λ x. profile_refusal x ≡ Some r) (unique bytes m n spelled spelt) some) other)
+    ap (λ refusal. Profile refusal)
+    (profile_once (profile_refusal n) r s
+    (subst (λ x. profile_refusal x ≡ Some r) (unique bytes m n spelled spelt) some) other)
 refused_once unique bytes (Profile r) (Invalid g) (short, m, spelled, some) (brief, n, spelt, none, invalid) =
-    absurd (no_profile (profile_refusal n) r none (subst (λ x. profile_refusal x ≡ Some r) (unique bytes m n spelled spelt) some))
+    absurd
+    (no_profile (profile_refusal n) r none
+    (subst (λ x. profile_refusal x ≡ Some r) (unique bytes m n spelled spelt) some))
 refused_once unique bytes (Invalid f) TooLarge one other = absurd (let short = one.0 in omega arith)
-refused_once unique bytes (Invalid f) Malformed (short, m, spelled, none, invalid) other = absurd (other.1 m spelled)
+refused_once unique bytes (Invalid f) Malformed (short, m, spelled, none, invalid) other =
+    absurd (other.1 m spelled)
 refused_once unique bytes (Invalid f) (Profile s) (short, m, spelled, none, invalid) (brief, n, spelt, some) =
-    absurd (no_profile (profile_refusal n) s (subst (λ x. profile_refusal x ≡ None) (unique bytes m n spelled spelt) none) some)
-refused_once unique bytes (Invalid f) (Invalid g) (short, m, spelled, none, invalid) (brief, n, spelt, clear, other) =
-    ap (λ func. Invalid func) (invalid_once n f g (subst (λ x. IsInvalid x f) (unique bytes m n spelled spelt) invalid) other)
+    absurd
+    (no_profile (profile_refusal n) s
+    (subst (λ x. profile_refusal x ≡ None) (unique bytes m n spelled spelt) none) some)
+refused_once unique bytes (Invalid f) (Invalid g) (short, m, spelled, none, invalid)
+    (brief, n, spelt, clear, other) =
+    ap (λ func. Invalid func)
+    (invalid_once n f g (subst (λ x. IsInvalid x f) (unique bytes m n spelled spelt) invalid) other)
 
-judged_once : AtMostOneModule → (found : Result (List ℕ) Refusal) (cart other : Result WasmModule Refusal) → JudgedCart found cart → JudgedCart found other → cart ≡ other
+judged_once : AtMostOneModule → (found : Result (List ℕ) Refusal) (cart other : Result WasmModule Refusal)
+    → JudgedCart found cart → JudgedCart found other → cart ≡ other
 judged_once unique (Err refusal) cart other one two = one ∙ sym two
-judged_once unique (Ok bytes) (Ok m) (Ok n) one two = ap (λ (x : WasmModule). Ok x) (unique bytes m n one.1 two.1)
-judged_once unique (Ok bytes) (Ok m) (Err (CartRefused l)) one two = absurd (never_both unique bytes m l one two)
+judged_once unique (Ok bytes) (Ok m) (Ok n) one two =
+    ap (λ (x : WasmModule). Ok x) (unique bytes m n one.1 two.1)
+judged_once unique (Ok bytes) (Ok m) (Err (CartRefused l)) one two =
+    absurd (never_both unique bytes m l one two)
 judged_once unique (Ok bytes) (Ok m) (Err Usage) one two = absurd two
 judged_once unique (Ok bytes) (Ok m) (Err NoFile) one two = absurd two
 judged_once unique (Ok bytes) (Ok m) (Err FontRefused) one two = absurd two
 judged_once unique (Ok bytes) (Ok m) (Err (FrameRefused number n)) one two = absurd two
 judged_once unique (Ok bytes) (Ok m) (Err NotBuilt) one two = absurd two
-judged_once unique (Ok bytes) (Err (CartRefused k)) (Ok n) one two = absurd (never_both unique bytes n k two one)
-judged_once unique (Ok bytes) (Err (CartRefused k)) (Err (CartRefused l)) one two = ap (λ kind. Err (CartRefused kind)) (refused_once unique bytes k l one two)
+judged_once unique (Ok bytes) (Err (CartRefused k)) (Ok n) one two =
+    absurd (never_both unique bytes n k two one)
+judged_once unique (Ok bytes) (Err (CartRefused k)) (Err (CartRefused l)) one two =
+    ap (λ kind. Err (CartRefused kind)) (refused_once unique bytes k l one two)
 judged_once unique (Ok bytes) (Err (CartRefused k)) (Err Usage) one two = absurd two
 judged_once unique (Ok bytes) (Err (CartRefused k)) (Err NoFile) one two = absurd two
 judged_once unique (Ok bytes) (Err (CartRefused k)) (Err FontRefused) one two = absurd two
@@ -91,15 +111,22 @@ judged_once unique (Ok bytes) (Err FontRefused) other one two = absurd one
 judged_once unique (Ok bytes) (Err (FrameRefused number n)) other one two = absurd one
 judged_once unique (Ok bytes) (Err NotBuilt) other one two = absurd one
 
-over_once : AtMostOneModule → (word : Option (List ℕ)) (make : WasmModule → Files → Result Made Refusal) (files : Files) (made other : Result Made Refusal)
+over_once : AtMostOneModule
+    → (word : Option (List ℕ)) (make : WasmModule → Files → Result Made Refusal) (files : Files)
+    (made other : Result Made Refusal)
     → OverFile word make files made → OverFile word make files other → made ≡ other
 over_once unique None make files made other one two = one ∙ sym two
 over_once unique (Some name) make files made other (cart, judged, e) (again, rejudged, d) =
-    sym e ∙ ap (λ (c : Result WasmModule Refusal). c >>= λ m. make m files) (judged_once unique _ cart again judged rejudged) ∙ d
+    sym e
+    ∙ ap (λ (c : Result WasmModule Refusal). c >>= λ m. make m files)
+    (judged_once unique _ cart again judged rejudged)
+    ∙ d
 
-form_once : AtMostOneModule → (form : Option Form) (files : Files) (made other : Result Made Refusal) → OutputsForm form files made → OutputsForm form files other → made ≡ other
+form_once : AtMostOneModule → (form : Option Form) (files : Files) (made other : Result Made Refusal)
+    → OutputsForm form files made → OutputsForm form files other → made ≡ other
 form_once unique None files made other one two = one ∙ sym two
-form_once unique (Some form) files made other one two = over_once unique (cart_word form) (made_by form) files made other one two
+form_once unique (Some form) files made other one two =
+    over_once unique (cart_word form) (made_by form) files made other one two
 
 pub one_output : AtMostOneModule → AtMostOneOutput
 one_output unique words files made other one two = form_once unique (form_of words) files made other one two

@@ -26,7 +26,8 @@ abbrev pub refused : List Input → Answered
 refused inputs = record { out = no_frame; inputs = inputs }
 
 unfoldable pub answer_set : List Input → ℕ → Input → Answered
-answer_set inputs k input = if nat_lt k (length inputs) then silent (slice_set inputs k input) else refused inputs
+answer_set inputs k input =
+    if nat_lt k (length inputs) then silent (slice_set inputs k input) else refused inputs
 
 unfoldable pub answer_show : Setup → List ℕ → List Input → ℕ → Answered
 answer_show setup disk inputs p = if nat_le p (length inputs)

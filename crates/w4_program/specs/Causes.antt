@@ -31,7 +31,8 @@ Stops old new NoMemory step = ⊤
 Stops old new (Refused refusal) step = Refuses old refusal step
 
 -- what such a step gave
-abbrev pub Gives : {X Y : Type 0} → World → World → (X → Y) → Result X Status → (Files → Result Y Refusal → Type 0) → Type 0
+abbrev pub Gives : {X Y : Type 0} → World → World → (X → Y) → Result X Status
+    → (Files → Result Y Refusal → Type 0) → Type 0
 Gives old new view (Ok x) step = ForSome old.files (λ files. step files (Ok (view x)))
 Gives old new view (Err why) step = Stops old new (manner_of why) step
 
@@ -54,11 +55,13 @@ Writes old new made = Appends old.out new.out made.out × (new.files ≡ Some ma
 
 -- how a whole step ended
 abbrev pub Ends : World → World → Manner → (Files → Result Made Refusal → Type 0) → Type 0
-Ends old new Finished step = ForSome old.files (λ files. (made : Made) × step files (Ok made) × Writes old new made)
+Ends old new Finished step =
+    ForSome old.files (λ files. (made : Made) × step files (Ok made) × Writes old new made)
 Ends old new Formless step = Refuses old Usage step × Untouched old new
 Ends old new ReadFailed step = ReadFails old new step × Untouched old new
 Ends old new WriteFailed step =
-    Rises old.write_faults new.write_faults × ForSome old.files (λ files. (made : Made) × step files (Ok made))
+    Rises old.write_faults new.write_faults
+    × ForSome old.files (λ files. (made : Made) × step files (Ok made))
 Ends old new NoMemory step = ⊤
 Ends old new (Refused refusal) step = Refuses old refusal step × Untouched old new
 
@@ -87,7 +90,8 @@ status_of (Err refusal) = status_of_refusal refusal
 
 -- memory ran out, or the status is that of a result which the step allows
 abbrev pub IsExact : Status → (Result Made Refusal → Type 0) → Type 0
-IsExact result step = (result ≡ status.OutOfMemory) ⊎ ((made : Result Made Refusal) × step made × (result ≡ status_of made))
+IsExact result step =
+    (result ≡ status.OutOfMemory) ⊎ ((made : Result Made Refusal) × step made × (result ≡ status_of made))
 
 -- nothing was written to standard error
 abbrev pub LeavesErr : World → World → Type 0

@@ -1,6 +1,6 @@
 -- The number that a run ends with, and the line that it writes to standard error (own rule). Each line ends
 -- with byte 10; numbers are decimal without leading zeros.
-use Rattle.std.specs.Prelude.{◌≡◌, ℕ, List, [], ◌∷◌, ◌++◌, codes, Option, Some, None, refl}
+use Rattle.std.specs.Prelude.{◌≡◌, ℕ, List, [], ◌++◌, codes, Option, Some, None, refl}
 use Rattle.std.specs.Fmt.{digits}
 use Rattle.w4_defs.specs.declared.refusal.CartKind.{CartKind}
 use Rattle.w4_defs.specs.declared.refusal.CartKind.TheVariants as cart
@@ -61,7 +61,8 @@ line_of status = codes "w4: " ++ status_words status ++ line_end
 abbrev pub LineCases : Type 0
 LineCases =
     (line_of Usage ≡ codes "w4: usage\n")
-    × (line_of (CartRefused (cart.Profile (profile.UnknownImport 12))) ≡ codes "w4: cart: unknown import 12\n")
+    × (line_of (CartRefused (cart.Profile (profile.UnknownImport 12)))
+    ≡ codes "w4: cart: unknown import 12\n")
     × (line_of (CartRefused (cart.Invalid None)) ≡ codes "w4: cart: invalid module\n")
     × (line_of (CartRefused (cart.Invalid (Some 0))) ≡ codes "w4: cart: invalid function 0\n")
     × (line_of (FrameRefused 2 1) ≡ codes "w4: frame 2 of 1\n")

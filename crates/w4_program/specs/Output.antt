@@ -1,8 +1,8 @@
 -- What the program makes of its words and of the files that it finds, or the first refusal (own rule). The
 -- words are judged first, then the cart, the recording, the font and the script, each before the next is
 -- read, and last the places that the words name. A file is judged by its first bytes, one more than its
--- limit: 65,536 of a cart, 325,071 of a recording, 1,792 of a font, 1,048,576 of a script. What a cart's bytes are is a relation; all that
--- follows is a function of the cart's module.
+-- limit: 65,536 of a cart, 325,071 of a recording, 1,792 of a font, 1,048,576 of a script. What a cart's
+-- bytes are is a relation; all that follows is a function of the cart's module.
 use Rattle.std.specs.Prelude.{◌≡◌, ℕ, ◌+◌, ◌-◌, ◌==◌, nat_le, List, [], ◌∷◌, ◌++◌, codes, length, Option, Some, None, Result, Ok, Err, if◌then◌else◌}
 use Rattle.std.specs.FinMap.{insert}
 use Rattle.w4_defs.specs.declared.order.Order.{Order}
@@ -83,7 +83,8 @@ played words files = do
 unfoldable pub played_to : RunWords → ℕ → Files → Result Played Refusal
 played_to words place files = do
   p ← played words files
-  if nat_le place (length p.recording.inputs) then Ok p else Err (FrameRefused place (length p.recording.inputs))
+  if nat_le place (length p.recording.inputs) then Ok p
+      else Err (FrameRefused place (length p.recording.inputs))
 
 pub record Loaded : Type 0 where
   pub run : Played
@@ -169,11 +170,13 @@ made_by (Edit words) m files = edited words m files
 made_by (Make number) m files = Err NotBuilt
 
 -- the cart is judged, and then the rest
-abbrev pub OverCart : List ℕ → (WasmModule → Files → Result Made Refusal) → Files → Result Made Refusal → Type 0
+abbrev pub OverCart : List ℕ → (WasmModule → Files → Result Made Refusal) → Files → Result Made Refusal
+    → Type 0
 OverCart name make files made =
     (cart : Result WasmModule Refusal) × CartIn name files cart × ((cart >>= λ m. make m files) ≡ made)
 
-abbrev pub OverFile : Option (List ℕ) → (WasmModule → Files → Result Made Refusal) → Files → Result Made Refusal → Type 0
+abbrev pub OverFile : Option (List ℕ) → (WasmModule → Files → Result Made Refusal) → Files
+    → Result Made Refusal → Type 0
 OverFile (Some name) make files made = OverCart name make files made
 OverFile None make files made = made ≡ Err NotBuilt
 

@@ -4,7 +4,15 @@ use Rattle.w4_program.specs.declared.recording.Recording.{Recording}
 use Rattle.w4_program.specs.declared.reading.Fields.{Fields}
 
 abbrev pub recording_view : Recording → Spelled
-recording_view r = record { digest = r.digest; budget = r.budget; disk = r.disk.items; inputs = r.inputs.items }
+recording_view r =
+    record { digest = r.digest; budget = r.budget; disk = r.disk.items; inputs = r.inputs.items }
 
 abbrev pub fields_view : Fields → SpelledFields
-fields_view f = record { digest = f.digest.now; budget = f.budget; disk = f.disk.now; count = f.count; frames = f.frames.now }
+fields_view f =
+    record {
+      digest = f.digest.now;
+      budget = f.budget;
+      disk = f.disk.now;
+      count = f.count;
+      frames = f.frames.now;
+    }

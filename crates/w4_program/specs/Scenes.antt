@@ -1,7 +1,6 @@
 -- A scene as the definitions see it, and a stage that stands at a place of its run.
 use Rattle.std.specs.Prelude.{◌≡◌, ℕ, List, Some}
 use Rattle.w4_defs.specs.declared.console.Input.{Input}
-use Rattle.w4_defs.specs.Module.{WasmModule}
 use Rattle.w4_defs.specs.Reset.{Setup}
 use Rattle.w4_defs.specs.Board.{console_setup}
 use Rattle.w4_defs.specs.Run.{run}
@@ -19,4 +18,5 @@ shown stage = moment stage.console stage.made
 
 abbrev pub StandsAt : Scene → List Input → ℕ → Stage → Type 0
 StandsAt scene inputs place stage =
-    (run (scene_setup scene) scene.disk.now inputs place ≡ Some (shown stage)) × HasGlobals scene.cart.now stage.console
+    (run (scene_setup scene) scene.disk.now inputs place ≡ Some (shown stage))
+    × HasGlobals scene.cart.now stage.console

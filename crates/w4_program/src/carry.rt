@@ -39,8 +39,10 @@ use wasm_valid::Cart;
 
 /// Makes a file of just these bytes.
 fn save<H: House>(alloc: Global, house: &mut H, name: &str, bytes: &[u8]) -> Result<(), Status>
-    ensures saved { OnOk result (Puts (H.world house.old).files (H.world house.new).files name.now bytes.now) }
-    ensures stops { IfErr result (λ why. StopsWriting (H.world house.old) (H.world house.new) (manner_of why)) }
+    ensures saved { OnOk result (Puts (H.world house.old).files (H.world house.new).files
+        name.now bytes.now) }
+    ensures stops { IfErr result (λ why.
+        StopsWriting (H.world house.old) (H.world house.new) (manner_of why)) }
     ensures rest { LeavesSaving (H.world house.old) (H.world house.new) }
 {
     match house.write_file(alloc, name, bytes) {
@@ -63,9 +65,11 @@ fn show<H: House>(
     requires disk { length scene.now.disk.now ≤ 1024 }
     requires budget { 1 ≤ scene.now.budget }
     requires globals { HasGlobals scene.now.cart.now stage.old.console }
-    ensures out { OnOk result (Appends (H.world house.old).out (H.world house.new).out (answer_show (scene_setup scene.now) scene.now.disk.now inputs.now p).out) }
+    ensures out { OnOk result (Appends (H.world house.old).out (H.world house.new).out
+        (answer_show (scene_setup scene.now) scene.now.disk.now inputs.now p).out) }
     ensures globals { HasGlobals scene.now.cart.now stage.new.console }
-    ensures stops { IfErr result (λ why. StopsWriting (H.world house.old) (H.world house.new) (manner_of why)) }
+    ensures stops { IfErr result (λ why.
+        StopsWriting (H.world house.old) (H.world house.new) (manner_of why)) }
     ensures rest { LeavesPrinting (H.world house.old) (H.world house.new) }
 {
     let place = p as usize;
@@ -89,9 +93,11 @@ fn tell<H: House>(
     requires disk { length scene.now.disk.now ≤ 1024 }
     requires budget { 1 ≤ scene.now.budget }
     requires globals { HasGlobals scene.now.cart.now stage.old.console }
-    ensures out { OnOk result (Appends (H.world house.old).out (H.world house.new).out (answer_state (scene_setup scene.now) scene.now.disk.now inputs.now p).out) }
+    ensures out { OnOk result (Appends (H.world house.old).out (H.world house.new).out
+        (answer_state (scene_setup scene.now) scene.now.disk.now inputs.now p).out) }
     ensures globals { HasGlobals scene.now.cart.now stage.new.console }
-    ensures stops { IfErr result (λ why. StopsWriting (H.world house.old) (H.world house.new) (manner_of why)) }
+    ensures stops { IfErr result (λ why.
+        StopsWriting (H.world house.old) (H.world house.new) (manner_of why)) }
     ensures rest { LeavesPrinting (H.world house.old) (H.world house.new) }
 {
     let place = p as usize;
@@ -112,10 +118,12 @@ fn set<H: House>(
     k: u32,
     input: Input,
 ) -> Result<(), Status>
-    ensures out { OnOk result (Appends (H.world house.old).out (H.world house.new).out (answer_set inputs.old.items k input).out) }
+    ensures out { OnOk result (Appends (H.world house.old).out (H.world house.new).out
+        (answer_set inputs.old.items k input).out) }
     ensures inputs { OnOk result (inputs.new.items ≡ (answer_set inputs.old.items k input).inputs) }
     ensures len { vec_len inputs.new ≡ vec_len inputs.old }
-    ensures stops { IfErr result (λ why. StopsWriting (H.world house.old) (H.world house.new) (manner_of why)) }
+    ensures stops { IfErr result (λ why.
+        StopsWriting (H.world house.old) (H.world house.new) (manner_of why)) }
     ensures rest { LeavesPrinting (H.world house.old) (H.world house.new) }
 {
     let at = k as usize;
@@ -139,11 +147,14 @@ fn obey_order<H: House>(
     requires disk { length scene.now.disk.now ≤ 1024 }
     requires budget { 1 ≤ scene.now.budget }
     requires globals { HasGlobals scene.now.cart.now stage.old.console }
-    ensures out { OnOk result (Appends (H.world house.old).out (H.world house.new).out (answer (scene_setup scene.now) scene.now.disk.now inputs.old.items order.now).out) }
-    ensures inputs { OnOk result (inputs.new.items ≡ (answer (scene_setup scene.now) scene.now.disk.now inputs.old.items order.now).inputs) }
+    ensures out { OnOk result (Appends (H.world house.old).out (H.world house.new).out
+        (answer (scene_setup scene.now) scene.now.disk.now inputs.old.items order.now).out) }
+    ensures inputs { OnOk result (inputs.new.items
+        ≡ (answer (scene_setup scene.now) scene.now.disk.now inputs.old.items order.now).inputs) }
     ensures len { vec_len inputs.new ≡ vec_len inputs.old }
     ensures globals { HasGlobals scene.now.cart.now stage.new.console }
-    ensures stops { IfErr result (λ why. StopsWriting (H.world house.old) (H.world house.new) (manner_of why)) }
+    ensures stops { IfErr result (λ why.
+        StopsWriting (H.world house.old) (H.world house.new) (manner_of why)) }
     ensures rest { LeavesPrinting (H.world house.old) (H.world house.new) }
 {
     match *order {
@@ -165,10 +176,13 @@ fn obey_all<H: House>(
     requires disk { length scene.now.disk.now ≤ 1024 }
     requires budget { 1 ≤ scene.now.budget }
     requires globals { HasGlobals scene.now.cart.now stage.old.console }
-    ensures out { OnOk result (Appends (H.world house.old).out (H.world house.new).out (answers (scene_setup scene.now) scene.now.disk.now inputs.old.items orders.now).out) }
-    ensures inputs { OnOk result (inputs.new.items ≡ (answers (scene_setup scene.now) scene.now.disk.now inputs.old.items orders.now).inputs) }
+    ensures out { OnOk result (Appends (H.world house.old).out (H.world house.new).out
+        (answers (scene_setup scene.now) scene.now.disk.now inputs.old.items orders.now).out) }
+    ensures inputs { OnOk result (inputs.new.items
+        ≡ (answers (scene_setup scene.now) scene.now.disk.now inputs.old.items orders.now).inputs) }
     ensures len { vec_len inputs.new ≡ vec_len inputs.old }
-    ensures stops { IfErr result (λ why. StopsWriting (H.world house.old) (H.world house.new) (manner_of why)) }
+    ensures stops { IfErr result (λ why.
+        StopsWriting (H.world house.old) (H.world house.new) (manner_of why)) }
     ensures rest { LeavesPrinting (H.world house.old) (H.world house.new) }
 {
     for order in orders {
@@ -185,9 +199,12 @@ fn work<H: House>(
     loaded: Loaded,
     name: &str,
 ) -> Result<(), Status>
-    ensures out { OnOk result (Appends (H.world house.old).out (H.world house.new).out (answered cart.now (loaded_view loaded)).out) }
-    ensures saved { OnOk result (Puts (H.world house.old).files (H.world house.new).files name.now (spelling (left cart.now (loaded_view loaded)))) }
-    ensures stops { IfErr result (λ why. StopsWriting (H.world house.old) (H.world house.new) (manner_of why)) }
+    ensures out { OnOk result (Appends (H.world house.old).out (H.world house.new).out
+        (answered cart.now (loaded_view loaded)).out) }
+    ensures saved { OnOk result (Puts (H.world house.old).files (H.world house.new).files
+        name.now (spelling (left cart.now (loaded_view loaded)))) }
+    ensures stops { IfErr result (λ why.
+        StopsWriting (H.world house.old) (H.world house.new) (manner_of why)) }
     ensures err { LeavesErr (H.world house.old) (H.world house.new) }
 {
     let Loaded { run, orders } = loaded;
@@ -231,7 +248,9 @@ pub fn carry_out<H: House>(
     loaded: Loaded,
     name: &str,
 ) -> Status
-    ensures ends { Carries (H.world house.old) (H.world house.new) (manner_of result) (answered cart.now (loaded_view loaded)).out name.now (spelling (left cart.now (loaded_view loaded))) }
+    ensures ends { Carries (H.world house.old) (H.world house.new) (manner_of result)
+        (answered cart.now (loaded_view loaded)).out name.now
+        (spelling (left cart.now (loaded_view loaded))) }
     ensures err { LeavesErr (H.world house.old) (H.world house.new) }
 {
     match work(alloc, house, cart, loaded, name) {

@@ -2,7 +2,6 @@
 
 ghost use Rattle.std.specs.Prelude.{◌≡◌, Err, IfOk, Option, ℕ};
 ghost use Rattle.w4_defs.specs.Cart.{IsCart, IsRefused};
-ghost use Rattle.w4_defs.specs.Validity.{IsValid};
 ghost use Rattle.w4_defs.specs.declared.refusal.CartKind.{CartKind};
 ghost use Rattle.w4_program.specs.declared.cart.CartRefusal.TheVariants.{Kind as OfKind};
 
@@ -19,13 +18,6 @@ pub enum CartRefusal {
     Kind(CartKind),
     /// Memory was refused.
     OutOfMemory,
-}
-
-/// A cart is valid, as its type keeps.
-fn is_valid(cart: &Cart)
-    ensures { IsValid cart.now }
-{
-    let _code = cart.code();
 }
 
 /// The cart that the bytes are. The causes of `CartKind` are looked at in their order.
@@ -45,10 +37,7 @@ pub fn accept(alloc: Global, bytes: &[u8]) -> Result<Cart, CartRefusal>
         return Err(CartRefusal::Kind(CartKind::Profile(refusal)));
     }
     match validate(alloc, code) {
-        Ok(cart) => {
-            is_valid(&cart);
-            Ok(cart)
-        }
+        Ok(cart) => Ok(cart),
         Err(ValidRefusal::Invalid(func)) => Err(CartRefusal::Kind(CartKind::Invalid(func))),
         Err(ValidRefusal::OutOfMemory) => Err(CartRefusal::OutOfMemory),
     }

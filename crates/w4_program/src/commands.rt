@@ -34,7 +34,8 @@ use wasm_valid::Cart;
 
 /// Does what a form asks for. Nothing is written to standard error.
 pub fn run_form<H: House>(alloc: Global, house: &mut H, form: Form<'_>) -> Status
-    ensures ends { Ends (H.world house.old) (H.world house.new) (manner_of result) (λ files made. OutputsForm (Some (form_view form.entry)) files made) }
+    ensures ends { Ends (H.world house.old) (H.world house.new) (manner_of result)
+        (λ files made. OutputsForm (Some (form_view form.entry)) files made) }
     ensures formed { result ≡ Status.Usage → ⊥ }
     ensures err { LeavesErr (H.world house.old) (H.world house.new) }
 {
@@ -62,7 +63,8 @@ fn cart_name(form: Form<'_>) -> Option<&str>
 
 /// Judges the cart, and does the rest with it.
 fn over_cart<H: House>(alloc: Global, house: &mut H, name: &str, form: Form<'_>) -> Status
-    ensures ends { Ends (H.world house.old) (H.world house.new) (manner_of result) (λ files made. OverCart name.now (made_by (form_view form.entry)) files made) }
+    ensures ends { Ends (H.world house.old) (H.world house.new) (manner_of result)
+        (λ files made. OverCart name.now (made_by (form_view form.entry)) files made) }
     ensures formed { result ≡ Status.Usage → ⊥ }
     ensures err { LeavesErr (H.world house.old) (H.world house.new) }
 {
@@ -74,7 +76,8 @@ fn over_cart<H: House>(alloc: Global, house: &mut H, name: &str, form: Form<'_>)
 
 /// What a form makes of a cart.
 fn make<H: House>(alloc: Global, house: &mut H, cart: &Cart, form: Form<'_>) -> Status
-    ensures ends { Ends (H.world house.old) (H.world house.new) (manner_of result) (Does (λ files. made_by (form_view form.entry) cart.now files)) }
+    ensures ends { Ends (H.world house.old) (H.world house.new) (manner_of result)
+        (Does (λ files. made_by (form_view form.entry) cart.now files)) }
     ensures formed { result ≡ Status.Usage → ⊥ }
     ensures err { LeavesErr (H.world house.old) (H.world house.new) }
 {
@@ -92,7 +95,8 @@ fn make<H: House>(alloc: Global, house: &mut H, cart: &Cart, form: Form<'_>) -> 
 
 /// `check CART`, of a cart that is accepted.
 fn check<H: House>(alloc: Global, house: &mut H) -> Status
-    ensures ends { Ends (H.world house.old) (H.world house.new) (manner_of result) (Does (λ files. Ok (printed checked files))) }
+    ensures ends { Ends (H.world house.old) (H.world house.new) (manner_of result)
+        (Does (λ files. Ok (printed checked files))) }
     ensures formed { result ≡ Status.Usage → ⊥ }
     ensures err { LeavesErr (H.world house.old) (H.world house.new) }
 {
@@ -111,7 +115,8 @@ fn frames<H: House>(
     names: RunNames<'_>,
     places: Places,
 ) -> Status
-    ensures ends { Ends (H.world house.old) (H.world house.new) (manner_of result) (Does (λ files. framed (run_view names.entry) places.from places.to cart.now files)) }
+    ensures ends { Ends (H.world house.old) (H.world house.new) (manner_of result)
+        (Does (λ files. framed (run_view names.entry) places.from places.to cart.now files)) }
     ensures formed { result ≡ Status.Usage → ⊥ }
     ensures err { LeavesErr (H.world house.old) (H.world house.new) }
 {
@@ -131,7 +136,8 @@ fn texts<H: House>(
     names: RunNames<'_>,
     telling: Telling,
 ) -> Status
-    ensures ends { Ends (H.world house.old) (H.world house.new) (manner_of result) (Does (λ files. texts_of telling (run_view names.entry) cart.now files)) }
+    ensures ends { Ends (H.world house.old) (H.world house.new) (manner_of result)
+        (Does (λ files. texts_of telling (run_view names.entry) cart.now files)) }
     ensures formed { result ≡ Status.Usage → ⊥ }
     ensures err { LeavesErr (H.world house.old) (H.world house.new) }
 {
@@ -153,7 +159,8 @@ fn disk<H: House>(
     names: RunNames<'_>,
     place: u32,
 ) -> Status
-    ensures ends { Ends (H.world house.old) (H.world house.new) (manner_of result) (Does (λ files. disk_of (run_view names.entry) place cart.now files)) }
+    ensures ends { Ends (H.world house.old) (H.world house.new) (manner_of result)
+        (Does (λ files. disk_of (run_view names.entry) place cart.now files)) }
     ensures formed { result ≡ Status.Usage → ⊥ }
     ensures err { LeavesErr (H.world house.old) (H.world house.new) }
 {
@@ -167,7 +174,8 @@ fn disk<H: House>(
 /// `edit CART REC FONT SCRIPT OUT`.
 #[tactic(auto, unfolding(crate::specs::Output::edited))]
 fn edit<H: House>(alloc: Global, house: &mut H, cart: &Cart, names: EditNames<'_>) -> Status
-    ensures ends { Ends (H.world house.old) (H.world house.new) (manner_of result) (Does (λ files. edited (edit_view names.entry) cart.now files)) }
+    ensures ends { Ends (H.world house.old) (H.world house.new) (manner_of result)
+        (Does (λ files. edited (edit_view names.entry) cart.now files)) }
     ensures formed { result ≡ Status.Usage → ⊥ }
     ensures err { LeavesErr (H.world house.old) (H.world house.new) }
 {
@@ -189,7 +197,8 @@ fn tell_run<H: House>(
 ) -> Status
     requires order { from ≤ to }
     requires place { to ≤ length run.recording.inputs.items }
-    ensures prints { Prints (H.world house.old) (H.world house.new) (manner_of result) (told_from telling cart.now (played_view run) from (to + 1 - from)) }
+    ensures prints { Prints (H.world house.old) (H.world house.new) (manner_of result)
+        (told_from telling cart.now (played_view run) from (to + 1 - from)) }
     ensures rest { LeavesPrinting (H.world house.old) (H.world house.new) }
 {
     match try_tell_run(alloc, house, cart, run, telling, from, to) {
@@ -210,8 +219,10 @@ fn try_tell_run<H: House>(
 ) -> Result<(), Status>
     requires order { from ≤ to }
     requires place { to ≤ length run.recording.inputs.items }
-    ensures out { OnOk result (Appends (H.world house.old).out (H.world house.new).out (told_from telling cart.now (played_view run) from (to + 1 - from))) }
-    ensures stops { IfErr result (λ why. StopsWriting (H.world house.old) (H.world house.new) (manner_of why)) }
+    ensures out { OnOk result (Appends (H.world house.old).out (H.world house.new).out
+        (told_from telling cart.now (played_view run) from (to + 1 - from))) }
+    ensures stops { IfErr result (λ why.
+        StopsWriting (H.world house.old) (H.world house.new) (manner_of why)) }
     ensures rest { LeavesPrinting (H.world house.old) (H.world house.new) }
 {
     let mut stage = new_stage(alloc, cart)?;

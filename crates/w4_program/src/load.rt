@@ -54,7 +54,8 @@ fn read_file<H: House>(
     name: &str,
     most: usize,
 ) -> Result<Vec<u8>, Status>
-    ensures gives { Gives (H.world house.old) (H.world house.new) (λ bytes. bytes.items) result (Does (λ files. reading files name.now most)) }
+    ensures gives { Gives (H.world house.old) (H.world house.new) (λ bytes. bytes.items) result
+        (Does (λ files. reading files name.now most)) }
     ensures rest { LeavesReading (H.world house.old) (H.world house.new) }
 {
     match house.read_front(alloc, name, most) {
@@ -67,7 +68,8 @@ fn read_file<H: House>(
 
 /// Reads and judges a cart.
 pub fn load_cart<H: House>(alloc: Global, house: &mut H, name: &str) -> Result<Cart, Status>
-    ensures gives { Gives (H.world house.old) (H.world house.new) (λ cart. cart) result (λ files cart. CartIn name.now files cart) }
+    ensures gives { Gives (H.world house.old) (H.world house.new) (λ cart. cart) result
+        (λ files cart. CartIn name.now files cart) }
     ensures rest { LeavesReading (H.world house.old) (H.world house.new) }
 {
     let bytes = read_file(alloc, house, name, 65_537)?;
@@ -90,7 +92,8 @@ fn read_font(bytes: &[u8]) -> Result<Font, Status>
 
 #[tactic(auto, unfolding(crate::specs::Output::recording_in))]
 fn load_recording<H: House>(alloc: Global, house: &mut H, name: &str) -> Result<Recording, Status>
-    ensures gives { Gives (H.world house.old) (H.world house.new) recording_view result (Does (λ files. recording_in files name.now)) }
+    ensures gives { Gives (H.world house.old) (H.world house.new) recording_view result
+        (Does (λ files. recording_in files name.now)) }
     ensures rest { LeavesReading (H.world house.old) (H.world house.new) }
 {
     let bytes = read_file(alloc, house, name, 325_072)?;
@@ -99,7 +102,8 @@ fn load_recording<H: House>(alloc: Global, house: &mut H, name: &str) -> Result<
 
 #[tactic(auto, unfolding(crate::specs::Output::font_in))]
 fn load_font<H: House>(alloc: Global, house: &mut H, name: &str) -> Result<Font, Status>
-    ensures gives { Gives (H.world house.old) (H.world house.new) (λ font. font) result (Does (λ files. font_in files name.now)) }
+    ensures gives { Gives (H.world house.old) (H.world house.new) (λ font. font) result
+        (Does (λ files. font_in files name.now)) }
     ensures rest { LeavesReading (H.world house.old) (H.world house.new) }
 {
     let bytes = read_file(alloc, house, name, 1793)?;
@@ -108,7 +112,8 @@ fn load_font<H: House>(alloc: Global, house: &mut H, name: &str) -> Result<Font,
 
 #[tactic(auto, unfolding(crate::specs::Output::orders_in))]
 fn load_orders<H: House>(alloc: Global, house: &mut H, name: &str) -> Result<Vec<Order>, Status>
-    ensures gives { Gives (H.world house.old) (H.world house.new) (λ orders. orders.items) result (Does (λ files. orders_in files name.now)) }
+    ensures gives { Gives (H.world house.old) (H.world house.new) (λ orders. orders.items) result
+        (Does (λ files. orders_in files name.now)) }
     ensures rest { LeavesReading (H.world house.old) (H.world house.new) }
 {
     let bytes = read_file(alloc, house, name, 1_048_577)?;
@@ -122,7 +127,8 @@ pub fn load_run<H: House>(
     house: &mut H,
     names: RunNames<'_>,
 ) -> Result<Played, Status>
-    ensures gives { Gives (H.world house.old) (H.world house.new) played_view result (Does (λ files. played (run_view names.entry) files)) }
+    ensures gives { Gives (H.world house.old) (H.world house.new) played_view result
+        (Does (λ files. played (run_view names.entry) files)) }
     ensures rest { LeavesReading (H.world house.old) (H.world house.new) }
 {
     let recording = load_recording(alloc, house, names.recording)?;
@@ -138,7 +144,8 @@ pub fn load_run_to<H: House>(
     names: RunNames<'_>,
     place: u32,
 ) -> Result<Played, Status>
-    ensures gives { Gives (H.world house.old) (H.world house.new) played_view result (Does (λ files. played_to (run_view names.entry) place files)) }
+    ensures gives { Gives (H.world house.old) (H.world house.new) played_view result
+        (Does (λ files. played_to (run_view names.entry) place files)) }
     ensures place { IfOk result (λ run. place ≤ length run.recording.inputs.items) }
     ensures rest { LeavesReading (H.world house.old) (H.world house.new) }
 {
@@ -157,7 +164,8 @@ pub fn load_edit<H: House>(
     house: &mut H,
     names: EditNames<'_>,
 ) -> Result<Loaded, Status>
-    ensures gives { Gives (H.world house.old) (H.world house.new) loaded_view result (Does (λ files. loaded (edit_view names.entry) files)) }
+    ensures gives { Gives (H.world house.old) (H.world house.new) loaded_view result
+        (Does (λ files. loaded (edit_view names.entry) files)) }
     ensures rest { LeavesReading (H.world house.old) (H.world house.new) }
 {
     let run = load_run(alloc, house, names.run)?;

@@ -12,7 +12,8 @@ use w4_house::{House, WriteRefusal};
 /// Writes bytes to standard output.
 pub fn print<H: House>(alloc: Global, house: &mut H, bytes: &[u8]) -> Result<(), Status>
     ensures out { OnOk result (Appends (H.world house.old).out (H.world house.new).out bytes.now) }
-    ensures stops { IfErr result (λ why. StopsWriting (H.world house.old) (H.world house.new) (manner_of why)) }
+    ensures stops { IfErr result (λ why.
+        StopsWriting (H.world house.old) (H.world house.new) (manner_of why)) }
     ensures rest { LeavesPrinting (H.world house.old) (H.world house.new) }
 {
     match house.write_out(alloc, bytes) {

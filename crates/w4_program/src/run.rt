@@ -49,24 +49,35 @@ pub fn w4_run<R: Threads + Sync, H: House>(
 ) -> Status
     // Where it is done, standard output has got exactly the definition's bytes.
     ensures done_out { result ≡ Status.Done → ForSome (H.world house.old).files (λ files.
-        (made : Made) × Outputs (map string_bytes words.now) files (Ok made) × Appends (H.world house.old).out (H.world house.new).out made.out) }
+        (made : Made) × Outputs (map string_bytes words.now) files (Ok made)
+        × Appends (H.world house.old).out (H.world house.new).out made.out) }
     // And the files are the definition's: OUT is the recording left, and no other file has changed.
     ensures done_files { result ≡ Status.Done → ForSome (H.world house.old).files (λ files.
-        (made : Made) × Outputs (map string_bytes words.now) files (Ok made) × ((H.world house.new).files ≡ Some made.files)) }
+        (made : Made) × Outputs (map string_bytes words.now) files (Ok made)
+        × ((H.world house.new).files ≡ Some made.files)) }
     ensures done_err { result ≡ Status.Done → (H.world house.new).err ≡ (H.world house.old).err }
     // Words that have no form are refused over every house, and no others are.
     ensures usage { result ≡ Status.Usage → form_of (map string_bytes words.now) ≡ None }
-    ensures no_form { form_of (map string_bytes words.now) ≡ None → (result ≡ Status.Usage) ⊎ (result ≡ Status.OutOfMemory) }
+    ensures no_form { form_of (map string_bytes words.now) ≡ None →
+        (result ≡ Status.Usage) ⊎ (result ≡ Status.OutOfMemory) }
     ensures cart_refused { (kind : CartKind) → result ≡ Status.CartRefused kind →
-        ForSome (H.world house.old).files (λ files. Outputs (map string_bytes words.now) files (Err (CartRefused kind))) }
-    ensures font_refused { result ≡ Status.FontRefused → ForSome (H.world house.old).files (λ files. Outputs (map string_bytes words.now) files (Err FontRefused)) }
+        ForSome (H.world house.old).files (λ files.
+        Outputs (map string_bytes words.now) files (Err (CartRefused kind))) }
+    ensures font_refused { result ≡ Status.FontRefused →
+        ForSome (H.world house.old).files (λ files.
+        Outputs (map string_bytes words.now) files (Err FontRefused)) }
     ensures frame_refused { (number n : ℕ) → result ≡ Status.FrameRefused number n →
-        ForSome (H.world house.old).files (λ files. Outputs (map string_bytes words.now) files (Err (FrameRefused number n))) }
-    ensures not_built { result ≡ Status.NotBuilt → ForSome (H.world house.old).files (λ files. Outputs (map string_bytes words.now) files (Err NotBuilt)) }
+        ForSome (H.world house.old).files (λ files.
+        Outputs (map string_bytes words.now) files (Err (FrameRefused number n))) }
+    ensures not_built { result ≡ Status.NotBuilt →
+        ForSome (H.world house.old).files (λ files.
+        Outputs (map string_bytes words.now) files (Err NotBuilt)) }
     // A read failed, or a file whose turn came is absent.
-    ensures read_fault { result ≡ Status.ReadFault → ReadFails (H.world house.old) (H.world house.new) (λ files made. Outputs (map string_bytes words.now) files made) }
+    ensures read_fault { result ≡ Status.ReadFault → ReadFails (H.world house.old) (H.world house.new)
+        (λ files made. Outputs (map string_bytes words.now) files made) }
     // A write failed only where the definition asks for one.
-    ensures write_fault { result ≡ Status.WriteFault → Rises (H.world house.old).write_faults (H.world house.new).write_faults }
+    ensures write_fault { result ≡ Status.WriteFault →
+        Rises (H.world house.old).write_faults (H.world house.new).write_faults }
     ensures write_fault_made { result ≡ Status.WriteFault → ForSome (H.world house.old).files (λ files.
         (made : Made) × Outputs (map string_bytes words.now) files (Ok made)) }
     // A refusal leaves standard output and all files.
@@ -75,7 +86,8 @@ pub fn w4_run<R: Threads + Sync, H: House>(
     // Standard error gets the status's line, or a first part of it where a write to it failed.
     ensures line { IsReported result → Reports (H.world house.old) (H.world house.new) (line_of result) }
     // Where no count has risen, it is the definition's answer, or memory ran out.
-    ensures exact { ForSome (H.world house.old).files (λ files. ¬ Rises (H.world house.old).read_faults (H.world house.new).read_faults →
+    ensures exact { ForSome (H.world house.old).files (λ files.
+        ¬ Rises (H.world house.old).read_faults (H.world house.new).read_faults →
         ¬ Rises (H.world house.old).write_faults (H.world house.new).write_faults →
         IsExact result (λ made. Outputs (map string_bytes words.now) files made)) }
 {
@@ -85,7 +97,8 @@ pub fn w4_run<R: Threads + Sync, H: House>(
 
 /// What the words ask for. Nothing is written to standard error.
 fn obey<H: House>(alloc: Global, words: &[String], house: &mut H) -> Status
-    ensures ends { Ends (H.world house.old) (H.world house.new) (manner_of result) (λ files made. Outputs (map string_bytes words.now) files made) }
+    ensures ends { Ends (H.world house.old) (H.world house.new) (manner_of result)
+        (λ files made. Outputs (map string_bytes words.now) files made) }
     ensures usage { result ≡ Status.Usage → form_of (map string_bytes words.now) ≡ None }
     ensures no_form { form_of (map string_bytes words.now) ≡ None → result ≡ Status.Usage }
     ensures err { LeavesErr (H.world house.old) (H.world house.new) }

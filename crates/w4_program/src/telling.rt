@@ -36,10 +36,12 @@ pub fn tell_place<H: House>(
     telling: Telling,
     place: usize,
 ) -> Result<(), Status>
-    ensures out { OnOk result (Appends (H.world house.old).out (H.world house.new).out (told_of telling place (shown stage.old))) }
+    ensures out { OnOk result (Appends (H.world house.old).out (H.world house.new).out
+        (told_of telling place (shown stage.old))) }
     ensures console { stage.new.console ≡ stage.old.console }
     ensures made { stage.new.made ≡ stage.old.made }
-    ensures stops { IfErr result (λ why. StopsWriting (H.world house.old) (H.world house.new) (manner_of why)) }
+    ensures stops { IfErr result (λ why.
+        StopsWriting (H.world house.old) (H.world house.new) (manner_of why)) }
     ensures rest { LeavesPrinting (H.world house.old) (H.world house.new) }
 {
     match telling {
@@ -76,8 +78,11 @@ pub fn tell_places<H: House>(
     requires budget { 1 ≤ scene.now.budget }
     requires globals { HasGlobals scene.now.cart.now stage.old.console }
     ensures out { OnOk result (Appends (H.world house.old).out (H.world house.new).out
-        (told_places (λ place. told telling place (run (scene_setup scene.now) scene.now.disk.now inputs.now place)) from (to + 1 - from))) }
-    ensures stops { IfErr result (λ why. StopsWriting (H.world house.old) (H.world house.new) (manner_of why)) }
+        (told_places (λ place.
+        told telling place (run (scene_setup scene.now) scene.now.disk.now inputs.now place))
+        from (to + 1 - from))) }
+    ensures stops { IfErr result (λ why.
+        StopsWriting (H.world house.old) (H.world house.new) (manner_of why)) }
     ensures rest { LeavesPrinting (H.world house.old) (H.world house.new) }
 {
     run_to(stage, scene, inputs, from);

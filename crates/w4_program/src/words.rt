@@ -57,7 +57,8 @@ pub enum Form<'a> {
 
 /// The three names.
 fn run_names<'a>(cart: &'a String, recording: &'a String, font: &'a String) -> RunNames<'a>
-    ensures { run_view result ≡ run_words (string_bytes cart.now) (string_bytes recording.now) (string_bytes font.now) }
+    ensures { run_view result
+        ≡ run_words (string_bytes cart.now) (string_bytes recording.now) (string_bytes font.now) }
 {
     RunNames {
         cart: cart.as_str(),

@@ -1,7 +1,6 @@
-use Rattle.std.proofs.Common.{◌≡◌, List, ap, length, map, sym, ◌∙◌}
+use Rattle.std.proofs.Common.{◌≡◌, ap, map, ◌∙◌}
 use Rattle.std.proofs.lemmas.List.{with_items_is}
 use Rattle.std.specs.Vec.{with_items}
-use Rattle.w4_defs.specs.declared.value.Val.{Val}
 use Rattle.w4_defs.specs.Outcome.{Store}
 use Rattle.w4_defs.specs.RunLaws.{types_of}
 use Rattle.w4_defs.specs.State.{Board, State, Underway}
@@ -14,28 +13,37 @@ use Rattle.w4_console.proofs.calls.call.Goals as goal
 handed : (c : goal.After-rest_after) → c.deref_mut.result.now ≡ c.board_of-board.new.state.globals
 handed c = c.deref_mut.ensures.value ∙ ap (λ (s : State). s.globals) c.state.view_is
 
-first_types : (c : goal.After-rest_after) → types_of c.deref_mut.result.now ≡ map (λ g. g.global.value) c.args.cart.now.globals
-first_types c = ap types_of (handed c) ∙ ap (λ (st : Store Board). types_of st.globals) c.board_of-board.ensures ∙ c.requires.globals
+first_types : (c : goal.After-rest_after)
+    → types_of c.deref_mut.result.now ≡ map (λ g. g.global.value) c.args.cart.now.globals
+first_types c =
+    ap types_of (handed c) ∙ ap (λ (st : Store Board). types_of st.globals) c.board_of-board.ensures
+    ∙ c.requires.globals
 
-kept : (c : goal.After-rest_after) → (with_items c.state.inside.globals c.invoke-ending.new.globals).items ≡ c.invoke-ending.new.globals
+kept : (c : goal.After-rest_after)
+    → (with_items c.state.inside.globals c.invoke-ending.new.globals).items ≡ c.invoke-ending.new.globals
 kept c =
     with_items_is c.state.inside.globals c.invoke-ending.new.globals
-    (as_long c.invoke-ending.new.globals c.deref_mut.result.now (map (λ g. g.global.value) c.args.cart.now.globals) c.invoke-ending.ensures.globals (first_types c)
+    (as_long c.invoke-ending.new.globals c.deref_mut.result.now
+    (map (λ g. g.global.value) c.args.cart.now.globals) c.invoke-ending.ensures.globals
+    (first_types c)
     ∙ c.deref_mut.ensures.len)
 
 pub returns-clause-called : goal.returns-clause-called
 returns-clause-called c =
-    called c.args.cart.now c.args.font.now c.args.function (so_far c.args.state.now c.args.made.now) (so_far c.put_back.new.state c.put_back.new.made)
-    c.args.budget c.invoke-ending.result c.board_of-board.new.state c.state.inside.page c.invoke-ending.new.page c.deref_mut.result.now
-    c.invoke-ending.new.globals (with_items c.state.inside.globals c.invoke-ending.new.globals).items c.board_of-board.result c.invoke-ending.new.host
-    c.rest_after.result c.halt_after.result c.board_of-board.ensures (ap (λ (s : State). s.page) c.state.view_is) (handed c)
+    called c.args.cart.now c.args.font.now c.args.function (so_far c.args.state.now c.args.made.now)
+    (so_far c.put_back.new.state c.put_back.new.made) c.args.budget c.invoke-ending.result
+    c.board_of-board.new.state c.state.inside.page c.invoke-ending.new.page c.deref_mut.result.now
+    c.invoke-ending.new.globals (with_items c.state.inside.globals c.invoke-ending.new.globals).items
+    c.board_of-board.result c.invoke-ending.new.host c.rest_after.result c.halt_after.result
+    c.board_of-board.ensures (ap (λ (s : State). s.page) c.state.view_is) (handed c)
     c.invoke-ending.ensures.ends (kept c) c.rest_after.ensures c.halt_after.ensures c.put_back.ensures
 
 pub returns-clause-running : goal.returns-clause-running
 returns-clause-running c =
-    still_runs c.invoke-ending.result c.rest_after.result c.halt_after.result c.put_back.new.state.halt c.rest_after.ensures c.halt_after.ensures
-    (ap (λ (u : Underway). u.state.halt) c.put_back.ensures)
+    still_runs c.invoke-ending.result c.rest_after.result c.halt_after.result c.put_back.new.state.halt
+    c.rest_after.ensures c.halt_after.ensures (ap (λ (u : Underway). u.state.halt) c.put_back.ensures)
 
 pub returns-clause-globals : goal.returns-clause-globals
 returns-clause-globals c =
-    ap (λ (u : Underway). types_of u.state.globals) c.put_back.ensures ∙ ap types_of (kept c) ∙ c.invoke-ending.ensures.globals
+    ap (λ (u : Underway). types_of u.state.globals) c.put_back.ensures ∙ ap types_of (kept c)
+    ∙ c.invoke-ending.ensures.globals

@@ -4,4 +4,5 @@ use Rattle.w4_console.proofs.GlobalLaws.{first_types}
 use Rattle.w4_console.proofs.start.first_globals.Goals as goal
 
 pub returns-clause-types : goal.returns-clause-types
-returns-clause-types c = ap types_of c.first_globals.ensures ∙ first_types c.args.cart.now c.code-code.ensures.valid
+returns-clause-types c =
+    ap types_of c.first_globals.ensures ∙ first_types c.args.cart.now c.code-code.ensures.valid

@@ -6,5 +6,8 @@ use Rattle.w4_console.proofs.start.put_fresh.Goals as goal
 
 pub copy_from_slice-requires : goal.copy_from_slice-requires
 copy_from_slice-requires c =
-    c.state.inside.globals.ok.0 ∙ as_long c.state.inside.globals.items c.first_globals.result.now (map (λ g. g.global.value) c.args.cart.now.globals)
-    (ap (λ (s : State). types_of s.globals) c.state.view_is ∙ c.requires.globals) c.first_globals.ensures.types
+    c.state.inside.globals.ok.0
+    ∙ as_long c.state.inside.globals.items c.first_globals.result.now
+    (map (λ g. g.global.value) c.args.cart.now.globals)
+    (ap (λ (s : State). types_of s.globals) c.state.view_is ∙ c.requires.globals)
+    c.first_globals.ensures.types

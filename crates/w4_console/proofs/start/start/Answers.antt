@@ -10,7 +10,11 @@ use Rattle.w4_console.proofs.start.start.Goals as goal
 pub returns-clause-start : goal.returns-clause-start
 unfolding start
 returns-clause-start c =
-    subst (λ (now : Underway). call_all (console_setup c.args.cart.now c.args.font.now c.args.budget) (entries c.args.cart.now) now c.args.budget
+    subst
+    (λ (now : Underway).
+    call_all (console_setup c.args.cart.now c.args.font.now c.args.budget) (entries c.args.cart.now)
+    now c.args.budget
     ≡ Some (so_far c.call_all.new.state c.call_all.new.made))
-    (begins c.put_fresh.new.state (fresh c.args.cart.now c.args.state.now.disk) c.new.result c.put_fresh.ensures.state c.new.ensures)
+    (begins c.put_fresh.new.state (fresh c.args.cart.now c.args.state.now.disk) c.new.result
+    c.put_fresh.ensures.state c.new.ensures)
     c.call_all.ensures.called

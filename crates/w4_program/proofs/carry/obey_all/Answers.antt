@@ -21,9 +21,11 @@ loop-order-preserved g c =
     let now = g.H.House.world c.loop-order.house in
     let after = g.H.House.world c.obey_order.new.house in
     let same = c.in_ok-obey_order.ensures.inputs in (
-      answers-out-step before now after setup disk c.loop-order.inputs.items c.obey_order.new.inputs.items c.args.orders.now c.loop-order.order-index past_end whole.out
+      answers-out-step before now after setup disk c.loop-order.inputs.items c.obey_order.new.inputs.items
+          c.args.orders.now c.loop-order.order-index past_end whole.out
           c.loop-order-test.true same c.in_ok-obey_order.ensures.out c.loop-order.invariant.0,
-      answers-inputs-step setup disk c.loop-order.inputs.items c.obey_order.new.inputs.items c.args.orders.now c.loop-order.order-index past_end whole.inputs
+      answers-inputs-step setup disk c.loop-order.inputs.items c.obey_order.new.inputs.items c.args.orders.now
+          c.loop-order.order-index past_end whole.inputs
           c.loop-order-test.true same c.loop-order.invariant.1,
       c.in_ok-obey_order.ensures.len ∙ c.loop-order.invariant.2,
       printing_then before now after c.loop-order.invariant.3 c.in_ok-obey_order.ensures.rest,
@@ -34,12 +36,17 @@ pub returns-clause-out : goal.returns-clause-out
 returns-clause-out g c =
     let setup = scene_setup c.args.scene.now in
     let disk = c.args.scene.now.disk.now in
-    let end = answers-end setup disk c.loop-order.inputs.items c.args.orders.now c.loop-order.order-index c.loop-order-test.false in
+    let end =
+    answers-end setup disk c.loop-order.inputs.items c.args.orders.now c.loop-order.order-index
+    c.loop-order-test.false in
     owes_nothing (g.H.House.world c.args.house.now) (g.H.House.world c.loop-order.house)
-    (answers setup disk c.loop-order.inputs.items (drop c.loop-order.order-index c.args.orders.now)).out (answers setup disk c.args.inputs.now.items c.args.orders.now).out
-    (ap (λ (a : Answered). a.out) end) c.loop-order.invariant.0
+    (answers setup disk c.loop-order.inputs.items (drop c.loop-order.order-index c.args.orders.now)).out
+    (answers setup disk c.args.inputs.now.items c.args.orders.now).out (ap (λ (a : Answered). a.out) end)
+    c.loop-order.invariant.0
 
 pub returns-clause-inputs : goal.returns-clause-inputs
 returns-clause-inputs g c =
-    let end = answers-end (scene_setup c.args.scene.now) c.args.scene.now.disk.now c.loop-order.inputs.items c.args.orders.now c.loop-order.order-index c.loop-order-test.false in
+    let end =
+    answers-end (scene_setup c.args.scene.now) c.args.scene.now.disk.now c.loop-order.inputs.items
+    c.args.orders.now c.loop-order.order-index c.loop-order-test.false in
     sym (ap (λ (a : Answered). a.inputs) end) ∙ c.loop-order.invariant.1

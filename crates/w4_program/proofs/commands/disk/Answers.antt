@@ -10,14 +10,24 @@ use Rattle.w4_program.proofs.commands.disk.Goals as goal
 pub returns-in-Err-clause-ends : goal.returns-in-Err-clause-ends
 unfolding disk_of
 returns-in-Err-clause-ends g c =
-    ends_untold (g.H.House.world c.args.house.now) (g.H.House.world c.load_run_to.new.house) (manner_of c.in-Err.status) (λ files. played_to (run_view c.args.names) c.args.place files)
-    (λ files p. printed (told_from telling.DiskBytes c.args.cart.now p c.args.place 1) files) c.in-Err.ensures.rest c.in-Err.ensures.gives
+    ends_untold (g.H.House.world c.args.house.now) (g.H.House.world c.load_run_to.new.house)
+    (manner_of c.in-Err.status) (λ files. played_to (run_view c.args.names) c.args.place files)
+    (λ files p. printed (told_from telling.DiskBytes c.args.cart.now p c.args.place 1) files)
+    c.in-Err.ensures.rest c.in-Err.ensures.gives
 
 pub returns-in-Ok-clause-ends : goal.returns-in-Ok-clause-ends
 unfolding disk_of
 returns-in-Ok-clause-ends g c =
     let one : c.args.place + 1 - c.args.place ≡ 1 = omega arith in
-    ends_told (g.H.House.world c.args.house.now) (g.H.House.world c.load_run_to.new.house) (g.H.House.world c.tell_run.new.house) (manner_of c.tell_run.result) (λ files. played_to (run_view c.args.names) c.args.place files)
-    (played_view c.in-Ok.run') (λ p. told_from telling.DiskBytes c.args.cart.now p c.args.place 1) c.in-Ok.ensures.rest c.tell_run.ensures.rest c.in-Ok.ensures.gives
-    (subst (λ count. Prints (g.H.House.world c.load_run_to.new.house) (g.H.House.world c.tell_run.new.house) (manner_of c.tell_run.result)
-    (told_from telling.DiskBytes c.args.cart.now (played_view c.in-Ok.run') c.args.place count)) one c.tell_run.ensures.prints)
+    ends_told (g.H.House.world c.args.house.now) (g.H.House.world c.load_run_to.new.house)
+    (g.H.House.world c.tell_run.new.house) (manner_of c.tell_run.result)
+    (λ files. played_to (run_view c.args.names) c.args.place files) (played_view c.in-Ok.run')
+    (λ p. told_from telling.DiskBytes c.args.cart.now p c.args.place 1) c.in-Ok.ensures.rest
+    c.tell_run.ensures.rest c.in-Ok.ensures.gives
+    (subst
+    (λ count.
+    Prints (g.H.House.world c.load_run_to.new.house) (g.H.House.world c.tell_run.new.house)
+    (manner_of c.tell_run.result)
+    (told_from telling.DiskBytes c.args.cart.now (played_view c.in-Ok.run') c.args.place
+    count))
+    one c.tell_run.ensures.prints)

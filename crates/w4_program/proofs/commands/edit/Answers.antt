@@ -7,10 +7,14 @@ use Rattle.w4_program.proofs.commands.edit.Goals as goal
 pub returns-in-Err-clause-ends : goal.returns-in-Err-clause-ends
 unfolding edited
 returns-in-Err-clause-ends g c =
-    ends_untold (g.H.House.world c.args.house.now) (g.H.House.world c.load_edit.new.house) (manner_of c.in-Err.status) (λ files. loaded (edit_view c.args.names) files)
-    (λ files l. saved c.args.cart.now l c.args.names.out.now files) c.in-Err.ensures.rest c.in-Err.ensures.gives
+    ends_untold (g.H.House.world c.args.house.now) (g.H.House.world c.load_edit.new.house)
+    (manner_of c.in-Err.status) (λ files. loaded (edit_view c.args.names) files)
+    (λ files l. saved c.args.cart.now l c.args.names.out.now files) c.in-Err.ensures.rest
+    c.in-Err.ensures.gives
 
 pub returns-in-Ok-clause-ends : goal.returns-in-Ok-clause-ends
 returns-in-Ok-clause-ends g c =
-    ends_carried (g.H.House.world c.args.house.now) (g.H.House.world c.load_edit.new.house) (g.H.House.world c.carry_out.new.house) (manner_of c.carry_out.result) (edit_view c.args.names)
-    c.args.cart.now (loaded_view c.in-Ok.loaded) c.in-Ok.ensures.rest c.in-Ok.ensures.gives c.carry_out.ensures.ends
+    ends_carried (g.H.House.world c.args.house.now) (g.H.House.world c.load_edit.new.house)
+    (g.H.House.world c.carry_out.new.house) (manner_of c.carry_out.result) (edit_view c.args.names)
+    c.args.cart.now (loaded_view c.in-Ok.loaded) c.in-Ok.ensures.rest c.in-Ok.ensures.gives
+    c.carry_out.ensures.ends

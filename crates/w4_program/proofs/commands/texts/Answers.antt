@@ -9,14 +9,25 @@ use Rattle.w4_program.proofs.commands.texts.Goals as goal
 pub returns-in-Err-clause-ends : goal.returns-in-Err-clause-ends
 unfolding texts_of
 returns-in-Err-clause-ends g c =
-    ends_untold (g.H.House.world c.args.house.now) (g.H.House.world c.load_run.new.house) (manner_of c.in-Err.status) (λ files. played (run_view c.args.names) files)
-    (λ files p. printed (told_from c.args.telling c.args.cart.now p 0 (length p.recording.inputs + 1)) files) c.in-Err.ensures.rest c.in-Err.ensures.gives
+    ends_untold (g.H.House.world c.args.house.now) (g.H.House.world c.load_run.new.house)
+    (manner_of c.in-Err.status) (λ files. played (run_view c.args.names) files)
+    (λ files p.
+    printed (told_from c.args.telling c.args.cart.now p 0 (length p.recording.inputs + 1)) files)
+    c.in-Err.ensures.rest c.in-Err.ensures.gives
 
 pub returns-in-Ok-clause-ends : goal.returns-in-Ok-clause-ends
 unfolding texts_of
 returns-in-Ok-clause-ends g c =
-    let all : c.len-n.result + 1 - 0 ≡ length c.in-Ok.run'.recording.inputs.items + 1 = omega (arith, c.len-n.ensures) in
-    ends_told (g.H.House.world c.args.house.now) (g.H.House.world c.load_run.new.house) (g.H.House.world c.tell_run.new.house) (manner_of c.tell_run.result) (λ files. played (run_view c.args.names) files)
-    (played_view c.in-Ok.run') (λ p. told_from c.args.telling c.args.cart.now p 0 (length p.recording.inputs + 1)) c.in-Ok.ensures.rest c.tell_run.ensures.rest c.in-Ok.ensures.gives
-    (subst (λ count. Prints (g.H.House.world c.load_run.new.house) (g.H.House.world c.tell_run.new.house) (manner_of c.tell_run.result)
-    (told_from c.args.telling c.args.cart.now (played_view c.in-Ok.run') 0 count)) all c.tell_run.ensures.prints)
+    let all : c.len-n.result + 1 - 0 ≡ length c.in-Ok.run'.recording.inputs.items + 1 =
+    omega (arith, c.len-n.ensures) in
+    ends_told (g.H.House.world c.args.house.now) (g.H.House.world c.load_run.new.house)
+    (g.H.House.world c.tell_run.new.house) (manner_of c.tell_run.result)
+    (λ files. played (run_view c.args.names) files) (played_view c.in-Ok.run')
+    (λ p. told_from c.args.telling c.args.cart.now p 0 (length p.recording.inputs + 1))
+    c.in-Ok.ensures.rest c.tell_run.ensures.rest c.in-Ok.ensures.gives
+    (subst
+    (λ count.
+    Prints (g.H.House.world c.load_run.new.house) (g.H.House.world c.tell_run.new.house)
+    (manner_of c.tell_run.result)
+    (told_from c.args.telling c.args.cart.now (played_view c.in-Ok.run') 0 count))
+    all c.tell_run.ensures.prints)

@@ -10,11 +10,14 @@ pub returns-in_err-bytes-clause-gives : goal.returns-in_err-bytes-clause-gives
 unfolding recording_in
 returns-in_err-bytes-clause-gives g c =
     let p = err_from_is_err_and c.from_residual.result c.from_residual.ensures.1 in
-    rw (p.1, p.2) (stops_first (g.H.House.world c.args.house.now) (g.H.House.world c.read_file.new.house) (manner_of c.in_err-bytes.field-0.0)
-    (λ files. reading files c.args.name.now 325072) (λ files bytes. or_refuse NotBuilt (recording_of bytes)) c.in_err-bytes.ensures.gives)
+    rw (p.1, p.2)
+    (stops_first (g.H.House.world c.args.house.now) (g.H.House.world c.read_file.new.house)
+    (manner_of c.in_err-bytes.field-0.0) (λ files. reading files c.args.name.now 325072)
+    (λ files bytes. or_refuse NotBuilt (recording_of bytes)) c.in_err-bytes.ensures.gives)
 
 pub returns-clause-gives : goal.returns-clause-gives
 unfolding recording_in
 returns-clause-gives g c =
-    judged_by (g.H.House.world c.args.house.now) (g.H.House.world c.read_file.new.house) NotBuilt recording_view c.read_recording.result recording_of 325071 c.args.name.now c.in_ok-bytes.bytes.items
+    judged_by (g.H.House.world c.args.house.now) (g.H.House.world c.read_file.new.house) NotBuilt
+    recording_view c.read_recording.result recording_of 325071 c.args.name.now c.in_ok-bytes.bytes.items
     c.in_ok-bytes.ensures.gives (rw (← c.as_slice.ensures.value) c.read_recording.ensures)

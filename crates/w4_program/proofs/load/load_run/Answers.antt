@@ -11,9 +11,11 @@ pub returns-in_err-recording-clause-gives : goal.returns-in_err-recording-clause
 unfolding played
 returns-in_err-recording-clause-gives g c =
     let p = err_from_is_err_and c.from_residual.result c.from_residual.ensures.1 in
-    rw (p.1, p.2) (stops_first (g.H.House.world c.args.house.now) (g.H.House.world c.load_recording.new.house) (manner_of c.in_err-recording.field-0.0)
-    (λ files. recording_in files c.args.names.recording.now)
-    (λ files recording. font_in files c.args.names.font.now >>= λ font. Ok (record { recording = recording; font = font }))
+    rw (p.1, p.2)
+    (stops_first (g.H.House.world c.args.house.now) (g.H.House.world c.load_recording.new.house)
+    (manner_of c.in_err-recording.field-0.0) (λ files. recording_in files c.args.names.recording.now)
+    (λ files recording. font_in files c.args.names.font.now >>= λ font.
+    Ok (record { recording = recording; font = font }))
     c.in_err-recording.ensures.gives)
 
 pub returns-in_err-font-clause-gives : goal.returns-in_err-font-clause-gives
@@ -21,9 +23,14 @@ unfolding played
 returns-in_err-font-clause-gives g c =
     let p = err_from_is_err_and c.from_residual-in_err-font.result c.from_residual-in_err-font.ensures.1 in
     let recording = recording_view c.in_ok-recording.recording in
-    rw (p.1, p.2) (stops_later (g.H.House.world c.args.house.now) (g.H.House.world c.load_recording.new.house) (g.H.House.world c.load_font.new.house) (manner_of c.in_err-font.field-0.0)
+    rw (p.1, p.2)
+    (stops_later (g.H.House.world c.args.house.now) (g.H.House.world c.load_recording.new.house)
+    (g.H.House.world c.load_font.new.house) (manner_of c.in_err-font.field-0.0)
     (λ files. recording_in files c.args.names.recording.now) recording
-    (λ files recording. font_in files c.args.names.font.now >>= λ font. Ok (record { recording = recording; font = font }))
+    (λ files recording. font_in files c.args.names.font.now >>= λ font.
+    Ok (record { recording = recording; font = font }))
     c.in_ok-recording.ensures.rest c.in_ok-recording.ensures.gives
-    (stops_first (g.H.House.world c.load_recording.new.house) (g.H.House.world c.load_font.new.house) (manner_of c.in_err-font.field-0.0)
-    (λ files. font_in files c.args.names.font.now) (λ files font. Ok (record { recording = recording; font = font })) c.in_err-font.ensures.gives))
+    (stops_first (g.H.House.world c.load_recording.new.house) (g.H.House.world c.load_font.new.house)
+    (manner_of c.in_err-font.field-0.0) (λ files. font_in files c.args.names.font.now)
+    (λ files font. Ok (record { recording = recording; font = font }))
+    c.in_err-font.ensures.gives))

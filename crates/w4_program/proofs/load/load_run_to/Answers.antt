@@ -10,7 +10,9 @@ pub returns-in_err-run-clause-gives : goal.returns-in_err-run-clause-gives
 unfolding played_to
 returns-in_err-run-clause-gives g c =
     let p = err_from_is_err_and c.from_residual.result c.from_residual.ensures.1 in
-    rw (p.1, p.2) (stops_first (g.H.House.world c.args.house.now) (g.H.House.world c.load_run.new.house) (manner_of c.in_err-run.field-0.0)
-    (λ files. played (run_view c.args.names) files)
-    (λ files p. if nat_le c.args.place (length p.recording.inputs) then Ok p else Err (FrameRefused c.args.place (length p.recording.inputs)))
+    rw (p.1, p.2)
+    (stops_first (g.H.House.world c.args.house.now) (g.H.House.world c.load_run.new.house)
+    (manner_of c.in_err-run.field-0.0) (λ files. played (run_view c.args.names) files)
+    (λ files p. if nat_le c.args.place (length p.recording.inputs) then Ok p
+    else Err (FrameRefused c.args.place (length p.recording.inputs)))
     c.in_err-run.ensures.gives)

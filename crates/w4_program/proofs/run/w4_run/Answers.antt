@@ -15,14 +15,23 @@ returns g c =
     let mid = g.H.House.world c.obey-status.new.house in
     let new = g.H.House.world c.report.new.house in
     let result = c.report.result in
-    let step : Files → Result Made Refusal → Type 0 = λ files made. Outputs (map string_bytes c.args.words.now) files made in
-    let ends = ends_reported old mid new c.obey-status.result result step c.report.ensures.rest c.report.ensures.status c.obey-status.ensures.ends in
+    let step : Files → Result Made Refusal → Type 0 =
+    λ files made. Outputs (map string_bytes c.args.words.now) files made in
+    let ends =
+    ends_reported old mid new c.obey-status.result result step c.report.ensures.rest
+    c.report.ensures.status c.obey-status.ensures.ends in
     record {
       done_out = laws.done_out old new result step ends;
       done_files = laws.done_files old new result step ends;
       done_err = λ e. c.report.ensures.done e ∙ c.obey-status.ensures.err.0;
-      usage = λ e. c.obey-status.ensures.usage (laws.usage_told c.obey-status.result result c.report.ensures.status e);
-      no_form = λ none. laws.told_or_memory c.obey-status.result status.Usage result (c.obey-status.ensures.no_form none) c.report.ensures.status;
+      usage =
+          λ e.
+          c.obey-status.ensures.usage
+          (laws.usage_told c.obey-status.result result c.report.ensures.status e);
+      no_form =
+          λ none.
+          laws.told_or_memory c.obey-status.result status.Usage result
+          (c.obey-status.ensures.no_form none) c.report.ensures.status;
       cart_refused = laws.cart_refused old new result step ends;
       font_refused = laws.font_refused old new result step ends;
       frame_refused = laws.frame_refused old new result step ends;
@@ -32,6 +41,9 @@ returns g c =
       write_fault_made = λ e. (laws.write_fault old new result step ends e).1;
       refused_out = λ r. (laws.refused old new result step ends r).0;
       refused_files = λ r. (laws.refused old new result step ends r).1;
-      line = λ r. laws.line_reported old mid new (line_of result) c.obey-status.ensures.err (c.report.ensures.line r);
+      line =
+          λ r.
+          laws.line_reported old mid new (line_of result) c.obey-status.ensures.err
+          (c.report.ensures.line r);
       exact = laws.exact old new result step ends;
     }

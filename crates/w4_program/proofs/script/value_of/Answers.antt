@@ -9,5 +9,7 @@ returns-then-value-gt4294967295 c =
     let digits = c.args.digits.now in
     let i = c.loop-digit.digit-index in
     let next = 10 * c.loop-digit.value + (get_or digits i 0 - 48) in
-    let same = digits-step c.loop-digit.value i digits (digits_after 0 digits) (omega arith) (omega arith) (omega arith) c.loop-digit.invariant.1 in
+    let same =
+    digits-step c.loop-digit.value i digits (digits_after 0 digits) (omega arith) (omega arith)
+    (omega arith) c.loop-digit.invariant.1 in
     sym (too_large next (drop (i + 1) digits) (omega arith)) ∙ ap (λ found. found >>= at_most 4294967295) same

@@ -3,4 +3,5 @@ use Rattle.w4_defs.specs.Script.{digits_after}
 use Rattle.w4_program.proofs.script.value_of.Given as goal
 
 abbrev pub invariant-loop-digit : goal.invariant-loop-digit
-invariant-loop-digit l = (l.value ≤ 4294967295) × (digits_after l.value (drop l.digit-index l.digits) ≡ digits_after 0 l.digits)
+invariant-loop-digit l =
+    (l.value ≤ 4294967295) × (digits_after l.value (drop l.digit-index l.digits) ≡ digits_after 0 l.digits)

@@ -1,4 +1,5 @@
--- What was told so far and the places that are left make the whole; the stage stands at the place that was told last.
+-- What was told so far and the places that are left make the whole; the stage stands at the place that was
+-- told last.
 use Rattle.std.proofs.Common.{◌+◌, ◌-◌, List, ℕ, refl, arith}
 use Rattle.w4_defs.specs.Run.{run}
 use Rattle.w4_house.proofs.WorldLaws.{printing_then}
@@ -9,8 +10,12 @@ use Rattle.w4_program.proofs.telling.tell_places.Goals as goal
 
 pub loop-place-init : goal.loop-place-init
 loop-place-init g c =
-    let text : ℕ → List ℕ = λ place. told c.args.telling place (run (scene_setup c.args.scene.now) c.args.scene.now.disk.now c.args.inputs.now place) in (
-      told-begins (g.H.House.world c.args.house.now) (g.H.House.world c.tell_place.new.house) text (told_of c.args.telling c.args.from (shown c.run_to.new.stage)) c.args.from c.args.to
+    let text : ℕ → List ℕ =
+    λ place.
+    told c.args.telling place
+    (run (scene_setup c.args.scene.now) c.args.scene.now.disk.now c.args.inputs.now place) in (
+      told-begins (g.H.House.world c.args.house.now) (g.H.House.world c.tell_place.new.house) text
+          (told_of c.args.telling c.args.from (shown c.run_to.new.stage)) c.args.from c.args.to
           c.requires.order c.in_ok-tell_place.ensures.out (rw c.run_to.ensures.0 refl),
       c.requires.order,
       rw (c.in_ok-tell_place.ensures.console, c.in_ok-tell_place.ensures.made) c.run_to.ensures,
@@ -19,12 +24,18 @@ loop-place-init g c =
 
 pub loop-place-preserved : goal.loop-place-preserved
 loop-place-preserved g c =
-    let text : ℕ → List ℕ = λ place. told c.args.telling place (run (scene_setup c.args.scene.now) c.args.scene.now.disk.now c.args.inputs.now place) in
+    let text : ℕ → List ℕ =
+    λ place.
+    told c.args.telling place
+    (run (scene_setup c.args.scene.now) c.args.scene.now.disk.now c.args.inputs.now place) in
     let first = g.H.House.world c.args.house.now in
     let now = g.H.House.world c.loop-place.house in
     let next = g.H.House.world c.tell_place-in-loop-place.new.house in (
-      told-goes_on first now next text (told_of c.args.telling (c.loop-place.place + 1) (shown c.step.new.stage)) (told_places text c.args.from (c.args.to + 1 - c.args.from)) c.loop-place.place c.args.to
-          c.loop-place-test.true c.in_ok-tell_place-2.ensures.out (rw c.step.ensures.0 refl) c.loop-place.invariant.0,
+      told-goes_on first now next text
+          (told_of c.args.telling (c.loop-place.place + 1) (shown c.step.new.stage))
+          (told_places text c.args.from (c.args.to + 1 - c.args.from)) c.loop-place.place c.args.to
+          c.loop-place-test.true c.in_ok-tell_place-2.ensures.out (rw c.step.ensures.0 refl)
+          c.loop-place.invariant.0,
       omega (arith, c.loop-place-test.true),
       rw (c.in_ok-tell_place-2.ensures.console, c.in_ok-tell_place-2.ensures.made) c.step.ensures,
       printing_then first now next c.loop-place.invariant.3 c.in_ok-tell_place-2.ensures.rest,
@@ -32,6 +43,10 @@ loop-place-preserved g c =
 
 pub returns-clause-out : goal.returns-clause-out
 returns-clause-out g c =
-    let text : ℕ → List ℕ = λ place. told c.args.telling place (run (scene_setup c.args.scene.now) c.args.scene.now.disk.now c.args.inputs.now place) in
-    told-ends (g.H.House.world c.args.house.now) (g.H.House.world c.loop-place.house) text (told_places text c.args.from (c.args.to + 1 - c.args.from)) c.loop-place.place c.args.to
+    let text : ℕ → List ℕ =
+    λ place.
+    told c.args.telling place
+    (run (scene_setup c.args.scene.now) c.args.scene.now.disk.now c.args.inputs.now place) in
+    told-ends (g.H.House.world c.args.house.now) (g.H.House.world c.loop-place.house) text
+    (told_places text c.args.from (c.args.to + 1 - c.args.from)) c.loop-place.place c.args.to
     c.loop-place-test.false c.loop-place.invariant.0

@@ -4,4 +4,6 @@ use Rattle.w4_defs.specs.Recording.{input_bytes}
 use Rattle.w4_program.proofs.writing.push_inputs.Given as goal
 
 abbrev pub invariant-loop-input : goal.invariant-loop-input
-invariant-loop-input l = l.bytes.items ++ flat_map input_bytes (drop l.input-index l.inputs) ≡ l.fn.bytes.items ++ flat_map input_bytes l.inputs
+invariant-loop-input l =
+    l.bytes.items ++ flat_map input_bytes (drop l.input-index l.inputs) ≡ l.fn.bytes.items
+    ++ flat_map input_bytes l.inputs
