@@ -38,6 +38,9 @@ struct Rows {
     others: u8,
 }
 
+/// The greatest coordinate.
+const FAR: i32 = 2_147_483_647;
+
 const NONE: Rows = Rows {
     top: 0,
     bottom: 0,
@@ -70,103 +73,63 @@ fn wanted(parts: [Rows; 3], byte: usize) -> u8 {
     0
 }
 
-#[test]
-fn worked_pictures(rt: HostRuntime) {
-    let far = 2147483647;
-    let cases = [
-        (
-            Shape::Rect,
-            0x0032,
-            (-3, 150),
-            (10, 20),
-            [
-                strip(150, 151, 0xaa, 0x2a, 0),
-                strip(151, 160, 0x55, 0x25, 0),
-                NONE,
-            ],
-        ),
-        (
-            Shape::Line,
-            0x0002,
-            (0, 0),
-            (3, 1),
-            [strip(0, 1, 0x05, 0, 0), strip(1, 2, 0x50, 0, 0), NONE],
-        ),
-        (
-            Shape::Line,
-            0x0002,
-            (3, 1),
-            (0, 0),
-            [strip(0, 1, 0x05, 0, 0), strip(1, 2, 0x50, 0, 0), NONE],
-        ),
-        (
-            Shape::Line,
-            0x0002,
-            (-2147483648, 0),
-            (far, 159),
-            [strip(80, 81, 0x55, 0x55, 0x55), NONE, NONE],
-        ),
-        (
-            Shape::Line,
-            0x0002,
-            (far, 159),
-            (-2147483648, 0),
-            [strip(80, 81, 0x55, 0x55, 0x55), NONE, NONE],
-        ),
-        (
-            Shape::Oval,
-            0x0032,
-            (0, 0),
-            (4, 4),
-            [
-                strip(0, 1, 0x28, 0, 0),
-                strip(1, 3, 0x96, 0, 0),
-                strip(3, 4, 0x28, 0, 0),
-            ],
-        ),
-        (
-            Shape::Oval,
-            0x0032,
-            (0, 0),
-            (1, 1),
-            [strip(0, 1, 0x02, 0, 0), NONE, NONE],
-        ),
-        (Shape::Oval, 0x0032, (0, 0), (0, 5), [NONE, NONE, NONE]),
-        (
-            Shape::Rect,
-            0x0032,
-            (-5, -5),
-            (far, far),
-            [strip(0, 160, 0x55, 0x55, 0x55), NONE, NONE],
-        ),
-        (
-            Shape::Hline,
-            0x0002,
-            (-1, 5),
-            (far, 0),
-            [strip(5, 6, 0x55, 0x55, 0x55), NONE, NONE],
-        ),
-        (Shape::Oval, 0x0032, (0, 0), (far, far), [NONE, NONE, NONE]),
-        (
-            Shape::Vline,
-            0x0002,
-            (2, -1),
-            (0, far),
-            [strip(0, 160, 0x10, 0, 0), NONE, NONE],
-        ),
-    ];
-    let mut page = Box::new(rt.alloc(), [0u8; 65536]).expect(&rt, "memory");
-    for (number, (shape, colors, at, size, parts)) in cases.into_iter().enumerate() {
-        page.fill(0);
-        draw(&mut page, shape, colors, at, size);
-        for byte in 0..6400 {
-            assert_eq!(rt;
-                page[160 + byte],
-                wanted(parts, byte),
-                "byte {byte} of case {number}"
-            );
+/// Whether a shape on an empty page paints these rows alone.
+fn paints(
+    page: &mut PageBytes,
+    shape: Shape,
+    colors: u16,
+    at: (i32, i32),
+    size: (i32, i32),
+    parts: [Rows; 3],
+) -> bool {
+    page.fill(0);
+    draw(page, shape, colors, at, size);
+    for byte in 0..6400 {
+        if page[160 + byte] != wanted(parts, byte) {
+            return false;
         }
     }
+    true
+}
+
+#[test]
+fn boxes_and_spans_are_painted(rt: HostRuntime) {
+    let mut page = Box::new(rt.alloc(), [0u8; 65536]).expect(&rt, "memory");
+    let top = strip(150, 151, 0xaa, 0x2a, 0);
+    let below = strip(151, 160, 0x55, 0x25, 0);
+    let parts = [top, below, NONE];
+    assert!(rt; paints(&mut page, Shape::Rect, 0x0032, (-3, 150), (10, 20), parts));
+    let parts = [strip(0, 160, 0x55, 0x55, 0x55), NONE, NONE];
+    assert!(rt; paints(&mut page, Shape::Rect, 0x0032, (-5, -5), (FAR, FAR), parts));
+    let parts = [strip(5, 6, 0x55, 0x55, 0x55), NONE, NONE];
+    assert!(rt; paints(&mut page, Shape::Hline, 0x0002, (-1, 5), (FAR, 0), parts));
+    let parts = [strip(0, 160, 0x10, 0, 0), NONE, NONE];
+    assert!(rt; paints(&mut page, Shape::Vline, 0x0002, (2, -1), (0, FAR), parts));
+}
+
+#[test]
+fn lines_are_painted_from_either_end(rt: HostRuntime) {
+    let mut page = Box::new(rt.alloc(), [0u8; 65536]).expect(&rt, "memory");
+    let (low, high) = ((-2147483648, 0), (FAR, 159));
+    let parts = [strip(0, 1, 0x05, 0, 0), strip(1, 2, 0x50, 0, 0), NONE];
+    assert!(rt; paints(&mut page, Shape::Line, 0x0002, (0, 0), (3, 1), parts));
+    assert!(rt; paints(&mut page, Shape::Line, 0x0002, (3, 1), (0, 0), parts));
+    let parts = [strip(80, 81, 0x55, 0x55, 0x55), NONE, NONE];
+    assert!(rt; paints(&mut page, Shape::Line, 0x0002, low, high, parts));
+    assert!(rt; paints(&mut page, Shape::Line, 0x0002, high, low, parts));
+}
+
+#[test]
+fn ovals_are_painted(rt: HostRuntime) {
+    let mut page = Box::new(rt.alloc(), [0u8; 65536]).expect(&rt, "memory");
+    let (edge, middle) = (strip(0, 1, 0x28, 0, 0), strip(1, 3, 0x96, 0, 0));
+    let parts = [edge, middle, strip(3, 4, 0x28, 0, 0)];
+    assert!(rt; paints(&mut page, Shape::Oval, 0x0032, (0, 0), (4, 4), parts));
+    let parts = [strip(0, 1, 0x02, 0, 0), NONE, NONE];
+    assert!(rt; paints(&mut page, Shape::Oval, 0x0032, (0, 0), (1, 1), parts));
+    let parts = [NONE, NONE, NONE];
+    assert!(rt; paints(&mut page, Shape::Oval, 0x0032, (0, 0), (0, 5), parts));
+    assert!(rt; paints(&mut page, Shape::Oval, 0x0032, (0, 0), (FAR, FAR), parts));
 }
 
 /// Fills the page with bytes that differ from their neighbours.
