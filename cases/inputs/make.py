@@ -1,0 +1,378 @@
+#!/usr/bin/env python3
+"""Writes the carts, recordings and scripts beside it. Each cart is listed here as its bytes.
+
+Add a line and run it, or put a file here that was made in any other way.
+"""
+import hashlib
+import os
+import struct
+
+HERE = os.path.dirname(os.path.abspath(__file__))
+
+
+def write(name, data):
+    path = os.path.join(HERE, name)
+    os.makedirs(os.path.dirname(path), exist_ok=True)
+    with open(path, "wb") as file:
+        file.write(data)
+
+
+def hexed(text):
+    return bytes.fromhex(text)
+
+
+def number(n):
+    """An unsigned LEB128 number in its shortest spelling."""
+    spelled = b""
+    while n >= 128:
+        spelled += bytes([n % 128 + 128])
+        n //= 128
+    return spelled + bytes([n])
+
+
+def section(kind, contents):
+    return bytes([kind]) + number(len(contents)) + contents
+
+
+def code(*bodies):
+    """A code section of these bodies: locals, instructions, end."""
+    return section(10, number(len(bodies)) + b"".join(number(len(body)) + body for body in bodies))
+
+
+# The smallest cart: its preamble, its sections of types, imports and functions, its exports and its code.
+PREAMBLE = hexed("00 61 73 6d 01 00 00 00")
+MEMORY = hexed("02 0f 01 03 65 6e 76 06 6d 65 6d 6f 72 79 02 00 01")
+FRONT = PREAMBLE + hexed("01 04 01 60 00 00") + MEMORY + hexed("03 02 01 00")
+EXPORTS = hexed("07 0a 01 06 75 70 64 61 74 65 00 00")
+CODE = hexed("0a 04 01 02 00 0b")
+
+
+def with_body(body):
+    """The smallest cart, with this body of `update`."""
+    return FRONT + EXPORTS + code(hexed(body))
+
+
+def with_sections(middle, back):
+    """The smallest cart, with these sections before its exports and these after them."""
+    return FRONT + hexed(middle) + EXPORTS + hexed(back)
+
+
+# It stores pad 1 into the first byte of the framebuffer.
+FIRST = with_body("00 41 a0 01 41 16 2d 00 00 3a 00 00 0b")
+
+NESTED = FRONT + EXPORTS + code(b"\x00" + b"\x02\x40" * 20_000 + b"\x0b" * 20_001)
+
+# A cart that may call the tone; and 65 calls on channel 0, first frequencies 1 to 65, each one frame of
+# sustain at level 100.
+TONE_FRONT = hexed("""
+    00 61 73 6d 01 00 00 00 01 0b 02 60 00 00 60 04 7f 7f 7f 7f 00 02 1a 02 03 65 6e 76 04 74 6f 6e 65
+    00 01 03 65 6e 76 06 6d 65 6d 6f 72 79 02 00 01""")
+CALLS = [bytes([0x41, 128 + first, 0]) + hexed("41 01 41 e4 00 41 00 10 00") for first in range(1, 66)]
+MANY_TONES = b"\x00" + b"".join(CALLS) + b"\x0b"
+
+CARTS = {
+    "smallest": with_body("00 0b"),
+    "first": FIRST,
+
+    # the code section's size in five bytes, and with an unused bit; no code; a byte after the code
+    "long-size": with_sections("", "0a 84 80 80 80 00 01 02 00 0b"),
+    "size-with-an-unused-bit": with_sections("", "0a 84 80 80 80 10 01 02 00 0b"),
+    "no-code": with_sections("", ""),
+    "byte-after-the-code": with_sections("", "0a 04 01 02 00 0b 00"),
+    # i32.const 6560 in two bytes, in three, and without its last byte
+    "constant": with_body("00 41 a0 33 1a 0b"),
+    "long-constant": with_body("00 41 a0 b3 00 1a 0b"),
+    "cut-constant": with_body("00 41 a0 9a 0b"),
+
+    # f64.const after unreachable
+    "float": with_body("00 00 44 00 00 00 00 00 00 00 00 1a 0b"),
+    # i32.add after unreachable: of operands that nobody pushes, and with an i64
+    "add-after-unreachable": with_body("00 00 6a 1a 0b"),
+    "add-of-an-i64": with_body("00 00 42 00 6a 1a 0b"),
+    "if-without-else": with_body("00 41 01 04 7f 41 02 0b 1a 0b"),
+    # 2^32 - 1 locals of i32, one more, and 2^32 - 1 of f64
+    "many-locals": with_body("01 ff ff ff ff 0f 7f 0b"),
+    "too-many-locals-to-count": with_body("02 ff ff ff ff 0f 7f 01 7f 0b"),
+    "many-float-locals": with_body("01 ff ff ff ff 0f 7c 0b"),
+
+    # a table of 65,537 entries
+    "large-table": with_sections("04 06 01 70 00 81 80 04", CODE.hex()),
+    # a start function that isn't there
+    "no-such-start": with_sections("", "08 01 01" + CODE.hex()),
+    # data that begins at 65,535 and has 2 bytes
+    "data-past-the-page": with_sections("", CODE.hex() + "0b 0a 01 00 41 ff ff 03 0b 02 00 00"),
+    # a vector of types that its section hasn't room for
+    "cut-vector": PREAMBLE + hexed("01 05 ff ff ff ff 0f"),
+    "no-memory": PREAMBLE,
+    "unknown-import": PREAMBLE + MEMORY.replace(b"memory", b"memorz"),
+    "memory-of-two-pages": PREAMBLE + MEMORY[:-1] + b"\x02",
+    "no-update": PREAMBLE + MEMORY,
+    "update-is-a-memory": PREAMBLE + MEMORY + EXPORTS[:-2] + b"\x02\x00",
+    # a data count of 0, which is right, and of 1
+    "data-count": with_sections("", "0c 01 00" + CODE.hex()),
+    "wrong-data-count": with_sections("", "0c 01 01" + CODE.hex()),
+    "65536-zeros": bytes(65_536),
+    "65537-zeros": bytes(65_537),
+    "nested-blocks": NESTED,
+
+    "three-nops": with_body("00 01 01 01 0b"),
+    "endless-loop": with_body("00 03 40 0c 00 0b 0b"),
+    "calls-itself": with_body("00 10 00 0b"),
+    "unreachable": with_body("00 00 0b"),
+    "divides-by-zero": with_body("00 41 01 41 00 6d 1a 0b"),
+    # it loads at 65,535 and pad 1 more
+    "loads-by-pad": with_body("00 41 ff ff 03 41 16 2d 00 00 6a 2d 00 00 1a 0b"),
+    # four bytes stored at 65,533
+    "store-past-the-page": with_body("00 41 fd ff 03 41 7f 36 02 00 0b"),
+    # pad 1 in the first byte of the framebuffer, and then the same
+    "pixels-then-a-trap": with_body("00 41 a0 01 41 16 2d 00 00 3a 00 00 41 fd ff 03 41 7f 36 02 00 0b"),
+    # i32.extend8_s of 128 stored in the first four bytes of the framebuffer
+    "extends-a-byte": with_body("00 41 a0 01 41 80 01 c0 36 02 00 0b"),
+    # memory.fill of the framebuffer with 0x55
+    "fills": with_body("00 41 a0 01 41 d5 00 41 80 32 fc 0b 00 0b"),
+    # memory.copy of 3 bytes from address 4 to 5, in the palette; and of 4 bytes to 65,533
+    "copies-the-palette": with_body("00 41 05 41 04 41 03 fc 0a 00 00 0b"),
+    "copy-past-the-page": with_body("00 41 fd ff 03 41 00 41 04 fc 0a 00 00 0b"),
+
+    # `A`, a newline and `B` at (0, 0) in the colors 0x0002
+    "letters": hexed("""
+        00 61 73 6d 01 00 00 00 01 0a 02 60 00 00 60 03 7f 7f 7f 00 02 1a 02 03 65 6e 76 04 74 65 78 74
+        00 01 03 65 6e 76 06 6d 65 6d 6f 72 79 02 00 01 03 02 01 00 07 0a 01 06 75 70 64 61 74 65 00 01
+        0a 0e 01 0c 00 41 80 c0 00 41 00 41 00 10 00 0b
+        0b 13 02 00 41 14 0b 02 02 00 00 41 80 c0 00 0b 04 41 0a 42 00"""),
+    # `_start` calls the tone: 440 to 220 hertz, attack 4, sustain 2, release 4, volume 50
+    "one-tone": TONE_FRONT + hexed("""
+        03 03 02 00 00 07 13 02 06 75 70 64 61 74 65 00 01 06 5f 73 74 61 72 74 00 02
+        0a 17 02 02 00 0b 12 00 41 b8 83 f0 06 41 82 88 80 20 41 32 41 00 10 00 0b"""),
+    "65-tones": TONE_FRONT + hexed("03 02 01 00") + EXPORTS[:-1] + b"\x01" + code(MANY_TONES),
+    # tracef of `x=%d %x %s%%` with -5, 255 and the address of `ab`
+    "traces-a-line": hexed("""
+        00 61 73 6d 01 00 00 00 01 09 02 60 00 00 60 02 7f 7f 00 02 1c 02 03 65 6e 76 06 74 72 61 63 65 66
+        00 01 03 65 6e 76 06 6d 65 6d 6f 72 79 02 00 01 03 02 01 00 07 0a 01 06 75 70 64 61 74 65 00 01
+        0a 0e 01 0c 00 41 80 c0 00 41 90 c0 00 10 00 0b 0b 2b 01 00 41 80 c0 00 0b 23
+        78 3d 25 64 20 25 78 20 25 73 25 25 00 00 00 00 fb ff ff ff ff 00 00 00 20 20 00 00 00 00 00 00
+        61 62 00"""),
+    # diskw of 2,000 bytes at 8,192, where `abc` stands
+    "writes-a-long-disk": hexed("""
+        00 61 73 6d 01 00 00 00 01 0a 02 60 00 00 60 02 7f 7f 01 7f 02 1b 02 03 65 6e 76 05 64 69 73 6b 77
+        00 01 03 65 6e 76 06 6d 65 6d 6f 72 79 02 00 01 03 02 01 00 07 0a 01 06 75 70 64 61 74 65 00 01
+        0a 0e 01 0c 00 41 80 c0 00 41 d0 0f 10 00 1a 0b 0b 0b 01 00 41 80 c0 00 0b 03 61 62 63"""),
+    # diskw of 100 bytes at 65,530
+    "writes-a-disk-at-the-end": hexed("""
+        00 61 73 6d 01 00 00 00 01 0a 02 60 00 00 60 02 7f 7f 01 7f 02 1b 02 03 65 6e 76 05 64 69 73 6b 77
+        00 01 03 65 6e 76 06 6d 65 6d 6f 72 79 02 00 01 03 02 01 00 07 0a 01 06 75 70 64 61 74 65 00 01
+        0a 0e 01 0c 00 41 fa ff 03 41 e4 00 10 00 1a 0b"""),
+}
+
+# A cart up to its bodies. Its types are [] to [], [i32 i64] to [i32] and [] to [i64]. It has a function of
+# the first type, `update`, and one of the second, a table of one entry, an i32 that can be set, and an i64
+# that can't.
+TYPED_FRONT = hexed("""
+    00 61 73 6d 01 00 00 00 01 0e 03 60 00 00 60 02 7f 7e 01 7f 60 00 01 7e
+    02 0f 01 03 65 6e 76 06 6d 65 6d 6f 72 79 02 00 01 03 03 02 00 01 04 04 01 70 00 01
+    06 0b 02 7f 01 41 00 0b 7e 00 42 00 0b 07 0a 01 06 75 70 64 61 74 65 00 00""")
+
+# The bodies of `update`, which has a local of i32 and one of i64. The second function is `local.get 0`.
+UPDATES = """
+01
+41 00 01
+00
+41 00 00
+41 00 1a
+1a
+41 00 41 00 41 00 1b 1a
+42 00 42 00 41 00 1b 1a
+41 00 42 00 41 00 1b 1a
+41 00 41 00 42 00 1b 1a
+20 01 a7 1a
+20 00 a7 1a
+20 02 1a
+41 00 21 00
+42 00 21 00
+41 00 22 00 1a
+41 00 22 00
+23 01 a7 1a
+23 00 a7 1a
+23 02 1a
+41 00 24 00
+42 00 24 00
+42 00 24 01
+02 7f 41 00 0b 1a
+02 7f 42 00 0b 1a
+02 40 41 00 0b
+41 00 02 40 1a 0b
+03 7f 41 00 0b 1a
+03 7f 0b 1a
+03 7f 41 00 0d 00 41 00 0b 1a
+02 7f 41 00 0d 00 41 00 0b 1a
+41 00 04 40 0b
+42 00 04 40 0b
+41 00 04 7f 41 00 05 41 00 0b 1a
+41 00 04 7f 41 00 05 42 00 0b 1a
+41 00 04 7f 41 00 0b 1a
+02 7f 41 00 0c 00 0b 1a
+02 7f 0c 00 0b 1a
+0c 00
+0c 01
+41 00 0d 00
+42 00 0d 00
+41 00 0e 01 00 00
+42 00 0e 01 00 00
+02 7f 41 00 41 00 0e 01 00 00 0b 1a
+02 7f 41 00 41 00 0e 01 00 01 0b 1a
+0f
+41 00 0f
+41 00 42 00 10 01 1a
+42 00 41 00 10 01 1a
+10 02
+41 00 42 00 41 00 11 01 00 1a
+41 00 11 02 80 00 a7 1a
+41 00 42 00 42 00 11 01 00 1a
+41 00 11 03 00
+41 00 11 00 01
+42 00 a7 1a
+41 00 a7 1a
+41 00 67 1a
+42 00 67 1a
+42 00 42 00 7c a7 1a
+42 00 41 00 7c 1a
+42 00 50 67 1a
+41 00 50 1a
+42 00 42 00 51 67 1a
+42 00 42 00 51 79 1a
+42 00 a7 67 1a
+41 00 ac 79 1a
+41 00 ad 67 1a
+41 00 c0 67 1a
+42 00 c1 1a
+42 00 c4 79 1a
+41 00 c2 1a
+41 00 28 02 00 1a
+41 00 28 03 00 1a
+42 00 28 02 00 1a
+41 00 35 02 00 a7 1a
+41 00 35 03 00 a7 1a
+41 00 41 00 36 02 00
+41 00 42 00 36 02 00
+41 00 42 00 3d 01 00
+41 00 42 00 3d 02 00
+3f 00 1a
+3f 00 a7 1a
+41 00 40 00 1a
+42 00 40 00 1a
+41 00 41 00 41 00 fc 0a 00 00
+41 00 41 00 42 00 fc 0a 00 00
+41 00 41 00 41 00 fc 0b 00
+41 00 42 00 41 00 fc 0b 00
+00 6a 1a
+00 7c a7 1a
+00 41 00 6a 1a
+00 42 00 6a 1a
+00 6a a7 1a
+00 1b 6a 1a
+00 1b 7c 1a
+00 42 00 41 00 1b 7c 1a
+00 42 00 41 00 1b 6a 1a
+00 41 00 42 00 41 00 1b 1a
+00 37 03 00
+00 37 04 00
+00 10 01 1a
+00 10 01 a7 1a
+00 fc 0a 00 00
+00 42 00 fc 0b 00
+0c 00 6a 1a
+0f 42 00 6a 1a
+02 40 0c 00 6a 1a 0b 6a
+02 7f 00 0b 1a
+02 7f 00 42 00 0b 1a
+02 7f 00 41 00 41 00 0b 1a
+41 00 04 7f 41 00 0c 00 05 41 00 0b 1a
+41 00 04 7f 41 00 0c 00 05 0b 1a
+02 7f 00 0e 01 00 01 0b 1a
+02 7f 02 7e 00 0e 01 00 01 0b 1a 41 00 0b 1a
+02 7f 02 7f 00 0e 01 00 01 0b 1a 41 00 0b 1a
+00 20 02 1a
+00 0c 01
+"""
+
+# The bodies of the second function; `update` has none.
+SECONDS = """
+20 00
+20 01
+
+20 00 20 00
+20 00 0f
+20 01 0f
+0f
+20 00 0c 00
+20 01 0c 00
+00
+"""
+
+
+def two_bodies(update, second):
+    locals_of_update = hexed("02 01 7f 01 7e")
+    return TYPED_FRONT + code(locals_of_update + hexed(update) + b"\x0b", b"\x00" + hexed(second) + b"\x0b")
+
+
+def named(body):
+    return body.replace(" ", "-") or "nothing"
+
+
+def recording(cart, budget, pads, disk=b""):
+    """A recording of version 1, with this first pad in each frame."""
+    digest = hashlib.sha256(CARTS[cart]).digest()
+    front = b"W4RC\x01" + digest + struct.pack("<IH", budget, len(disk)) + disk
+    return front + struct.pack("<I", len(pads)) + b"".join(bytes([pad]) + bytes(8) for pad in pads)
+
+
+RECORDINGS = {
+    "smallest": recording("smallest", 100_000, [0]),
+    "first": recording("first", 100_000, [0, 0]),
+    "first-27": recording("first", 100_000, [27, 0]),
+    "first-0-1-2": recording("first", 100_000, [0, 1, 2]),
+    "first-without-budget": recording("first", 0, [0, 0]),
+    "first-cut": recording("first", 100_000, [0, 0])[:-1],
+    "three-nops-of-3": recording("three-nops", 3, [0]),
+    "three-nops-of-2": recording("three-nops", 2, [0]),
+    "endless-loop": recording("endless-loop", 1_000, [0]),
+    "calls-itself-of-4096": recording("calls-itself", 4_096, [0]),
+    "calls-itself-of-4095": recording("calls-itself", 4_095, [0]),
+    "nested-blocks-of-20000": recording("nested-blocks", 20_000, [0]),
+    "nested-blocks-of-19999": recording("nested-blocks", 19_999, [0]),
+    "unreachable": recording("unreachable", 100_000, [0]),
+    "divides-by-zero": recording("divides-by-zero", 100_000, [0]),
+    "loads-by-pad": recording("loads-by-pad", 100_000, [0, 1, 0]),
+    "loads-by-pad-0": recording("loads-by-pad", 100_000, [0, 0, 0]),
+    "store-past-the-page": recording("store-past-the-page", 100_000, [1, 2, 3]),
+    "pixels-then-a-trap": recording("pixels-then-a-trap", 100_000, [1, 2, 3]),
+    "extends-a-byte": recording("extends-a-byte", 100_000, [0]),
+    "fills-of-104": recording("fills", 104, [0]),
+    "fills-of-103": recording("fills", 103, [0]),
+    "copies-the-palette": recording("copies-the-palette", 100_000, [0]),
+    "copy-past-the-page": recording("copy-past-the-page", 100_000, [0]),
+    "letters": recording("letters", 100_000, [0]),
+    "one-tone": recording("one-tone", 100_000, [0] * 10),
+    "65-tones": recording("65-tones", 100_000, [0]),
+    "traces-a-line": recording("traces-a-line", 100_000, [0]),
+    "writes-a-long-disk": recording("writes-a-long-disk", 100_000, [0], b"xyz"),
+    "writes-a-disk-at-the-end": recording("writes-a-disk-at-the-end", 100_000, [0], b"xyz"),
+}
+
+
+def main():
+    for name, cart in CARTS.items():
+        write(f"carts/{name}.wasm", cart)
+    for length in range(64):
+        write(f"fronts/{length:02}.wasm", FIRST[:length])
+    for body in UPDATES.strip("\n").split("\n"):
+        write(f"bodies/{named(body)}.wasm", two_bodies(body, "20 00"))
+    for body in SECONDS.strip("\n").split("\n"):
+        write(f"results/{named(body)}.wasm", two_bodies("", body))
+    for name, bytes_of in RECORDINGS.items():
+        write(f"recordings/{name}.w4rec", bytes_of)
+    write("font.bin", bytes(1_792))
+    write("short-font.bin", bytes(1_791))
+
+
+main()

@@ -1,0 +1,57 @@
+#!/usr/bin/env python3
+"""Writes the outputs beside it that cases want, from the rules of the console and not from the program.
+
+An image is a PPM file of 160 by 160 pixels. A pixel's entry stands in two bits of the framebuffer, the lowest
+bits of a byte leftmost, and names one of the palette's four colors.
+"""
+import os
+
+HERE = os.path.dirname(os.path.abspath(__file__))
+PALETTE = ["e0f8cf", "86c06c", "306850", "071821"]
+
+
+def write(name, data):
+    with open(os.path.join(HERE, name), "wb") as file:
+        file.write(data)
+
+
+def image(entry_of, palette=PALETTE):
+    """The image whose pixel (x, y) has this entry."""
+    colors = [bytes.fromhex(color) for color in palette]
+    return b"P6\n160 160\n255\n" + b"".join(colors[entry_of(x, y)] for y in range(160) for x in range(160))
+
+
+def of_framebuffer(front):
+    """The entries of a framebuffer that begins with these bytes and is clear after them."""
+    def entry_of(x, y):
+        byte, place = divmod(160 * y + x, 4)
+        return front[byte] >> 2 * place & 3 if byte < len(front) else 0
+    return entry_of
+
+
+# A page on which nothing was painted.
+write("clear.ppm", image(of_framebuffer(b"")))
+# The first byte of the framebuffer is pad 1: 27, 1 and 2.
+write("pad-27.ppm", image(of_framebuffer(b"\x1b")))
+write("pad-1.ppm", image(of_framebuffer(b"\x01")))
+write("pad-2.ppm", image(of_framebuffer(b"\x02")))
+# Two letters of a font of zeros, which is all ink, one below the other: 8 by 16 pixels in the second color.
+write("letters.ppm", image(lambda x, y: 1 if x < 8 and y < 16 else 0))
+# 128 as a signed byte is -128: the bytes 80 ff ff ff.
+write("extended.ppm", image(of_framebuffer(bytes.fromhex("80ffffff"))))
+# Each byte of the framebuffer is 0x55.
+write("filled.ppm", image(lambda x, y: 1))
+# The palette's first entry is spelled cf f8 e0 00 at address 4. The three bytes from 4 on are copied to 5,
+# so that it is cf cf f8 e0: blue, green, red.
+write("palette.ppm", image(lambda x, y: 0, ["f8cfcf"] + PALETTE[1:]))
+
+# The disk that a recording brings; `abc` and the zeros that follow it in the page, cut at the disk's limit;
+# and the last six bytes of a page that nothing was written to.
+write("xyz.disk", b"xyz")
+write("abc.disk", b"abc" + bytes(1_021))
+write("six-zeros.disk", bytes(6))
+
+# 65 tones on channel 0, one frame each at level 100, with the frequencies 1 to 65: 64 are listed, and the
+# last one sounds.
+lines = [f"tone 0 {first} 0 0 0 1 0 100 100 0 0 0" for first in range(1, 65)]
+write("65-tones.txt", "\n".join(["frame 0", "frame 1", *lines, "dropped 1", "sound 0 100 65", ""]).encode())
