@@ -1,12 +1,4 @@
-//! What no clause says: that the clauses mean these bytes, and that a run can be done.
+//! What neither a clause nor a case of cases/ shows: houses whose calls fail, and inputs with a reset.
 
-mod bodies;
-mod bytes;
-mod carts;
 mod console;
-mod devices;
-mod edits;
-mod forms;
-mod halts;
-mod images;
-mod runs;
+mod houses;

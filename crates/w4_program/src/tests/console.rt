@@ -3,7 +3,6 @@
 ghost use Rattle.std.specs.Prelude.{◌≡◌, ◌<◌, IfOk};
 ghost use Rattle.w4_console.specs.UnderWay.{HasGlobals};
 
-use super::bytes::cart_with;
 use crate::cart::accept;
 use std::alloc::Global;
 use std::marker::Brand;
@@ -15,10 +14,25 @@ use w4_defs::{Cause, Halt, Input, Steps};
 use w4_devices::FrameRecord;
 use wasm_valid::Cart;
 
-/// The smallest cart with this body.
-fn cart(alloc: Global, body: &str) -> Result<Cart, Fail> {
-    let bytes = cart_with(alloc, body)?;
-    let cart = accept(alloc, bytes.as_slice()).map_err(|_| "no cart")?;
+/// It stores four bytes at 65,533.
+const STORING: [u8; 62] = [
+    0x00, 0x61, 0x73, 0x6d, 0x01, 0x00, 0x00, 0x00, 0x01, 0x04, 0x01, 0x60, 0x00, 0x00, 0x02, 0x0f,
+    0x01, 0x03, 0x65, 0x6e, 0x76, 0x06, 0x6d, 0x65, 0x6d, 0x6f, 0x72, 0x79, 0x02, 0x00, 0x01, 0x03,
+    0x02, 0x01, 0x00, 0x07, 0x0a, 0x01, 0x06, 0x75, 0x70, 0x64, 0x61, 0x74, 0x65, 0x00, 0x00, 0x0a,
+    0x0d, 0x01, 0x0b, 0x00, 0x41, 0xfd, 0xff, 0x03, 0x41, 0x7f, 0x36, 0x02, 0x00, 0x0b,
+];
+
+/// It loads the byte at 65,535 and as many more as pad 1 says.
+const LOADING: [u8; 67] = [
+    0x00, 0x61, 0x73, 0x6d, 0x01, 0x00, 0x00, 0x00, 0x01, 0x04, 0x01, 0x60, 0x00, 0x00, 0x02, 0x0f,
+    0x01, 0x03, 0x65, 0x6e, 0x76, 0x06, 0x6d, 0x65, 0x6d, 0x6f, 0x72, 0x79, 0x02, 0x00, 0x01, 0x03,
+    0x02, 0x01, 0x00, 0x07, 0x0a, 0x01, 0x06, 0x75, 0x70, 0x64, 0x61, 0x74, 0x65, 0x00, 0x00, 0x0a,
+    0x12, 0x01, 0x10, 0x00, 0x41, 0xff, 0xff, 0x03, 0x41, 0x16, 0x2d, 0x00, 0x00, 0x6a, 0x2d, 0x00,
+    0x00, 0x1a, 0x0b,
+];
+
+fn cart(alloc: Global, bytes: &[u8]) -> Result<Cart, Fail> {
+    let cart = accept(alloc, bytes).map_err(|_| "no cart")?;
     Ok(cart)
 }
 
@@ -79,10 +93,10 @@ fn ends(console: &Console) -> PageEnds {
     }
 }
 
-/// What the page has after the reset and after each of three frames whose pad 1 is 1, 2 and 3. The cart
-/// stores four bytes at 65,533.
+/// What the page of a cart that stores past its end has after the reset and after each of three frames whose
+/// pad 1 is 1, 2 and 3.
 fn ends_of_a_trap(alloc: Global) -> Result<[PageEnds; 4], Fail> {
-    let cart = cart(alloc, "00 41 fd ff 03 41 7f 36 02 00 0b")?;
+    let cart = cart(alloc, &STORING)?;
     let font = Font::new(&[0; 1792]).map_err(|_| "no font")?;
     let mut console = started(alloc, &cart, &font)?;
     let start = ends(&console);
@@ -105,10 +119,10 @@ fn a_store_past_the_page_stores_nothing(rt: HostRuntime) -> Result<(), Fail> {
     Ok(())
 }
 
-/// The halts after three frames whose pad 1 is 1, 0 and 0, and how many bytes the disk has then. The cart
-/// loads the byte at 65,535 and as many more as pad 1 says. The second input may have a reset.
+/// The halts after three frames whose pad 1 is 1, 0 and 0, and how many bytes the disk has then. The first
+/// frame traps. The second input may have a reset.
 fn halts(alloc: Global, reset: bool) -> Result<([Halt; 3], usize), Fail> {
-    let cart = cart(alloc, "00 41 ff ff 03 41 16 2d 00 00 6a 2d 00 00 1a 0b")?;
+    let cart = cart(alloc, &LOADING)?;
     let font = Font::new(&[0; 1792]).map_err(|_| "no font")?;
     let mut console = started(alloc, &cart, &font)?;
     play(&mut console, &cart, &font, pad(1, false));

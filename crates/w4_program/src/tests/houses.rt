@@ -1,0 +1,116 @@
+//! Edits over houses in memory.
+
+use crate::run::w4_run;
+use crate::status::Status;
+use std::alloc::Global;
+use std::process::Abort;
+use std::test::Fail;
+use std::thread::Threads;
+use w4_defs::OutOfMemory;
+use w4_house::{MemoryHouse, SureHouse};
+
+/// It stores pad 1 into the first byte of the framebuffer.
+const CART: [u8; 64] = [
+    0x00, 0x61, 0x73, 0x6d, 0x01, 0x00, 0x00, 0x00, 0x01, 0x04, 0x01, 0x60, 0x00, 0x00, 0x02, 0x0f,
+    0x01, 0x03, 0x65, 0x6e, 0x76, 0x06, 0x6d, 0x65, 0x6d, 0x6f, 0x72, 0x79, 0x02, 0x00, 0x01, 0x03,
+    0x02, 0x01, 0x00, 0x07, 0x0a, 0x01, 0x06, 0x75, 0x70, 0x64, 0x61, 0x74, 0x65, 0x00, 0x00, 0x0a,
+    0x0f, 0x01, 0x0d, 0x00, 0x41, 0xa0, 0x01, 0x41, 0x16, 0x2d, 0x00, 0x00, 0x3a, 0x00, 0x00, 0x0b,
+];
+
+/// Two frames of zeros with a budget of 100,000, of this cart.
+const RECORDING: [u8; 65] = [
+    0x57, 0x34, 0x52, 0x43, 0x01, 0xcd, 0xfa, 0xdf, 0x8a, 0xd2, 0x7d, 0x9c, 0xb2, 0xa2, 0x3a, 0xe7,
+    0xa6, 0x84, 0x74, 0xdd, 0x63, 0x34, 0x52, 0xaa, 0xa1, 0x6a, 0xac, 0xdd, 0x25, 0x92, 0x7c, 0x00,
+    0xd5, 0x9a, 0x33, 0x52, 0xfc, 0xa0, 0x86, 0x01, 0x00, 0x00, 0x00, 0x02, 0x00, 0x00, 0x00, 0x00,
+    0x00, 0x00, 0x00, 0x00, 0x00, 0x00, 0x00, 0x00, 0x00, 0x00, 0x00, 0x00, 0x00, 0x00, 0x00, 0x00,
+    0x00,
+];
+
+const SCRIPT: &[u8] = b"set 0 27 0 0 0 0 0 0\nshow 1\n";
+
+/// The words of the edit of a cart `c`, a recording `r`, a font `f` and a script `s` into `o`.
+fn edit(alloc: Global) -> Result<Vec<String>, OutOfMemory> {
+    let mut words = Vec::new(alloc);
+    for word in ["edit", "c", "r", "f", "s", "o"] {
+        words.push(String::from_str(alloc, word)?)?;
+    }
+    Ok(words)
+}
+
+#[test]
+fn an_edit_is_done_where_no_call_fails(rt: HostRuntime) -> Result<(), Fail> {
+    let mut house = SureHouse::new(rt.alloc());
+    house.put_file("c", &CART)?;
+    house.put_file("r", &RECORDING)?;
+    house.put_file("f", &[0; 1792])?;
+    house.put_file("s", SCRIPT)?;
+    let words = edit(rt.alloc())?;
+    let status = w4_run(&rt, rt.alloc(), words.as_slice(), &mut house);
+    assert_eq!(rt; status, Status::Done);
+    assert_eq!(rt; house.out().len(), 76_815);
+    let left = house.file("o").ok_or("no file was made")?;
+    let mut changed = RECORDING;
+    changed[47] = 27;
+    assert!(rt; left == changed.as_slice());
+    Ok(())
+}
+
+/// A house with the files of the edit but its script.
+fn house_without_script(alloc: Global) -> Result<MemoryHouse, OutOfMemory> {
+    let mut house = MemoryHouse::new(alloc);
+    house.put_file("c", &CART)?;
+    house.put_file("r", &RECORDING)?;
+    house.put_file("f", &[0; 1792])?;
+    Ok(house)
+}
+
+/// Tests that the edit over this house ends so, with this line and so many bytes written, and makes no file.
+fn check_fault<R: Threads + Sync + Abort>(
+    rt: &R,
+    alloc: Global,
+    mut house: MemoryHouse,
+    expected: Status,
+    line: &[u8],
+    written: usize,
+) -> Result<(), Fail> {
+    let words = edit(alloc)?;
+    let status = w4_run(rt, alloc, words.as_slice(), &mut house);
+    assert_eq!(rt; status, expected);
+    assert!(rt; house.err() == line);
+    assert_eq!(rt; house.out().len(), written);
+    assert!(rt; house.file("o").is_none());
+    Ok(())
+}
+
+/// Tests that the edit ends so where this call of the house fails.
+fn check_failing<R: Threads + Sync + Abort>(
+    rt: &R,
+    alloc: Global,
+    call: u64,
+    expected: Status,
+    line: &[u8],
+    written: usize,
+) -> Result<(), Fail> {
+    let mut house = house_without_script(alloc)?;
+    house.put_file("s", SCRIPT)?;
+    house.fail_at(call)?;
+    check_fault(rt, alloc, house, expected, line, written)
+}
+
+#[test]
+fn a_call_that_fails_is_a_fault(rt: HostRuntime) -> Result<(), Fail> {
+    let alloc = rt.alloc();
+    // the second read, the write of the image, and that of the recording
+    let (read, write) = (b"w4: cannot read\n", b"w4: cannot write\n");
+    check_failing(&rt, alloc, 2, Status::ReadFault, read, 0)?;
+    check_failing(&rt, alloc, 5, Status::WriteFault, write, 0)?;
+    check_failing(&rt, alloc, 6, Status::WriteFault, write, 76_815)?;
+    Ok(())
+}
+
+#[test]
+fn an_absent_script_is_a_read_fault(rt: HostRuntime) -> Result<(), Fail> {
+    let house = house_without_script(rt.alloc())?;
+    let line = b"w4: cannot read\n";
+    check_fault(&rt, rt.alloc(), house, Status::ReadFault, line, 0)
+}
