@@ -1,8 +1,8 @@
 #!/usr/bin/env python3
-"""Writes the carts of the cases beside it, section by section, by the binary format of WebAssembly (Core
-Specification, chapter 5). It knows no verdict: the cases say what is wanted of each cart.
+"""Writes the carts of profile/ and module/ beside it, section by section, by the binary format of WebAssembly
+(Core Specification, chapter 5). It knows no verdict: the cases say what is wanted of each cart.
 
-    python3 make_carts.py
+    python3 module_carts.py
 """
 import os
 
@@ -304,7 +304,7 @@ def main():
     for folder, carts in (("profile", PROFILE), ("module", MODULE)):
         os.makedirs(os.path.join(HERE, folder), exist_ok=True)
         for title, content in carts.items():
-            with open(os.path.join(HERE, folder, title + ".wasm"), "wb") as file:
+            with open(os.path.join(HERE, folder, title.replace("_", "-") + ".wasm"), "wb") as file:
                 file.write(content)
 
 
