@@ -4,6 +4,7 @@
 
     python3 module_carts.py
 """
+import hashlib
 import os
 
 HERE = os.path.dirname(os.path.abspath(__file__))
@@ -92,7 +93,13 @@ def section(number_of, content):
 
 
 # Types 0 to 4: none, one i32, an i64 that gives an i32, one i32 again, two i32 that give one.
-TYPES = [signature(), signature([I32]), signature([I64], [I32]), signature([I32]), signature([I32, I32], [I32])]
+TYPES = [
+    signature(),
+    signature([I32]),
+    signature([I64], [I32]),
+    signature([I32]),
+    signature([I32, I32], [I32]),
+]
 UPDATE = export("update", FUNC, 0)
 
 
@@ -173,6 +180,58 @@ def started(index, start=None):
 
 TRACE = function("env", "trace", 1)
 
+# Texts of the cart that tells its parts, one a place of 32 bytes.
+TEXTS = ["start function", "_start", "_initialize", "start"]
+TEXTS += ["entry 1", "entry 2, put twice", "i32 global", "i64 global"]
+OVERWRITTEN = "entry 2, put once"
+
+
+def place_of(text):
+    return 8192 + 32 * TEXTS.index(text)
+
+
+def tell(text):
+    """Traces a text that stands in the page."""
+    return int32(place_of(text)) + b"\x10\x00"
+
+
+def tells_its_parts():
+    """It traces from each entry, from two entries of its table, and what its two globals are."""
+    update = int32(1) + b"\x11\x00\x00" + int32(2) + b"\x11\x00\x00"  # call_indirect
+    update += b"\x23\x00\x10\x00"  # the i32 global is the place of its text
+    update += b"\x23\x01" + int64(-1) + b"\x51\x04\x40" + tell("i64 global") + b"\x0b"  # if it is 2^64 - 1
+    bodies = [body(update)] + [body(tell(text)) for text in TEXTS[:4]]
+    bodies += [body(tell("entry 1")), body(b"\x00"), body(tell("entry 2, put twice"))]
+    late = data(int32(place_of("entry 2, put twice")), b"entry 2, put twice\0")
+    return cart(
+        imports=[pages(1), TRACE],
+        functions=[0] * 8,
+        tables=[limits(4)],
+        globals_of=[of_global(I32, int32(place_of("i32 global"))), of_global(I64, int64(-1), True)],
+        exports=[
+            export("start", FUNC, 5),
+            export("_initialize", FUNC, 4),
+            export("_start", FUNC, 3),
+            export("update", FUNC, 1),
+        ],
+        start=2,
+        segments=[elements(int32(1), [6, 7, 7]), elements(int32(2), [8])],
+        bodies=bodies,
+        contents=[data(int32(8192), b"".join(padded(text) for text in TEXTS)), late],
+    )
+
+
+def padded(text):
+    first = OVERWRITTEN if text == "entry 2, put twice" else text
+    return first.encode().ljust(32, b"\0")
+
+
+def recording(of_cart):
+    """A recording of version 1 with a budget of 100,000, no disk and one input of zeros."""
+    budget, frames = (100_000).to_bytes(4, "little"), (1).to_bytes(4, "little")
+    return b"W4RC\x01" + hashlib.sha256(of_cart).digest() + budget + bytes(2) + frames + bytes(9)
+
+
 PROFILE = {
     # locals
     "locals_1024": locals_of((1024, I32)),
@@ -232,7 +291,10 @@ PROFILE = {
         exports=[export("update", FUNC, 1)],
     ),
     "wrong_import_before_an_unknown_one": cart(imports=[pages(2), function("env", "traces", 1)]),
-    "wrong_import_and_no_memory": cart(imports=[function("env", "trace", 0)], exports=[export("update", FUNC, 1)]),
+    "wrong_import_and_no_memory": cart(
+        imports=[function("env", "trace", 0)],
+        exports=[export("update", FUNC, 1)],
+    ),
     "no_update_and_a_wrong_entry": cart(exports=[export("start", MEMORY, 0)]),
     "wrong_entry_and_a_segment_outside": cart(
         exports=[UPDATE, export("start", MEMORY, 0)],
@@ -242,6 +304,7 @@ PROFILE = {
 }
 
 MODULE = {
+    "tells_its_parts": tells_its_parts(),
     # functions and the start function
     "types_of_one_i32": started(1),
     "function_of_no_type": started(5),
@@ -306,6 +369,8 @@ def main():
         for title, content in carts.items():
             with open(os.path.join(HERE, folder, title.replace("_", "-") + ".wasm"), "wb") as file:
                 file.write(content)
+    with open(os.path.join(HERE, "module", "tells-its-parts.w4rec"), "wb") as file:
+        file.write(recording(MODULE["tells_its_parts"]))
 
 
 main()
