@@ -15,6 +15,3 @@ mod signature;
 pub use exports::signature_of;
 pub use names::import_named;
 pub use profile::check_profile;
-
-#[cfg(test)]
-mod tests;

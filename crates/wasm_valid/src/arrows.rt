@@ -10,7 +10,7 @@ ghost use Rattle.wasm_valid.specs.Rows.{binary32_row, binary64_row, conversion_r
 use w4_defs::{Op, ValType};
 
 /// The types of the operands that are taken, and of those that are given, from the bottom to the top.
-#[derive(Clone, Copy, Debug)]
+#[derive(Clone, Copy)]
 pub struct Arrow<'a> {
     pub takes: &'a [ValType],
     pub gives: &'a [ValType],

@@ -6,7 +6,7 @@ ghost use Rattle.wasm_valid.specs.Counting.{AreCounts, CountKinds, FitKinds, cou
 use w4_defs::{ImportEntry, ImportKind, Limits};
 use wasm_tree::{Code, FlatGlobal};
 
-#[derive(Clone, Copy, PartialEq, Eq, Debug)]
+#[derive(Clone, Copy)]
 pub struct Counts {
     pub functions: usize,
     pub tables: usize,

@@ -10,7 +10,7 @@ use w4_defs::{OutOfMemory, ValType};
 
 /// An open list: the types of its label and of its results, how many kinds lie below its own, and whether
 /// any further ones may.
-#[derive(Clone, Copy, Debug)]
+#[derive(Clone, Copy)]
 struct Frame<'a> {
     label: &'a [ValType],
     results: &'a [ValType],
@@ -19,7 +19,7 @@ struct Frame<'a> {
 }
 
 /// The open lists; None is an unknown kind. A clause sees them from the innermost on, each with its shape.
-#[derive(Debug, Drop)]
+#[derive(Drop)]
 pub struct Frames<'a> {
     kinds: Vec<Option<ValType>>,
     inner: Option<Frame<'a>>,

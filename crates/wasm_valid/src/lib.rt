@@ -40,8 +40,3 @@ pub use laws::{
 pub use refusal::ValidRefusal;
 pub use soundness::{hosted_runs_are_sound, runs_are_sound};
 pub use validation::validate;
-
-#[cfg(test)]
-mod test_modules;
-#[cfg(test)]
-mod tests;

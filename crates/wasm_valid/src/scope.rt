@@ -14,7 +14,7 @@ use wasm_tree::Code;
 
 /// The module and the types of the parameters, of the further locals and of the results. A clause sees the
 /// context of the body.
-#[derive(Debug, Drop)]
+#[derive(Drop)]
 pub struct Scope<'a> {
     code: &'a Code,
     functions: &'a [u32],
