@@ -31,4 +31,3 @@ pub mod DirectLaws
 pub mod GlobalLaws
 pub mod EntryLaws
 pub mod RunLaws
-pub mod ReadyLaws

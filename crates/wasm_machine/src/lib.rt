@@ -22,8 +22,6 @@ mod memory;
 mod operands;
 mod plain;
 mod run;
-#[cfg(test)]
-mod run_tests;
 mod slots;
 mod table;
 #[cfg(test)]
