@@ -7,7 +7,7 @@ use crate::Board;
 use std::alloc::Global;
 use std::test::Fail;
 use w4_blit::Font;
-use w4_defs::{Import, PageBytes, Sound};
+use w4_defs::{Import, PageBytes};
 use w4_devices::{Disk, FrameRecord, ToneLog, TraceLog, schedule_text, trace_text};
 use w4_tone::Channels;
 use wasm_tree::Host;
@@ -75,7 +75,6 @@ fn shows(page: &PageBytes, rows: &[Rows]) -> bool {
 fn draws<H: Host>(
     host: &mut H,
     page: &mut PageBytes,
-    colors: [u8; 2],
     name: Import,
     args: &[u32],
     weight: u64,
@@ -83,7 +82,6 @@ fn draws<H: Host>(
 ) -> bool
     requires { length args.now ≡ length (import_type name).params }
 {
-    put(page, 0x14, &colors);
     page[160..6560].fill(0);
     ask(host, page, name, args) == (weight, None) && shows(page, rows)
 }
@@ -93,170 +91,69 @@ fn shapes_are_drawn_by_their_imports(rt: HostRuntime) -> Result<(), Fail> {
     let font = zero_font()?;
     let mut host = board(&font);
     let page = &mut Box::new(rt.alloc(), [0u8; 65536])?;
-    let (one, two) = ([0x02, 0], [0x32, 0]);
-    let line = [(0, 1, [0x05, 0]), (1, 2, [0x50, 0])];
-    assert!(rt;
-        draws(
-            &mut host,
-            page,
-            one,
-            Import::Line,
-            &[0, 0, 3, 1],
-            256,
-            &line
-        )
-    );
-    assert!(rt;
-        draws(
-            &mut host,
-            page,
-            one,
-            Import::Line,
-            &[3, 1, 0, 0],
-            256,
-            &line
-        )
-    );
-    let across = [(2, 3, [0x54, 0])];
-    assert!(rt;
-        draws(
-            &mut host,
-            page,
-            one,
-            Import::Hline,
-            &[1, 2, 3],
-            256,
-            &across
-        )
-    );
-    let down = [(2, 5, [0x04, 0])];
-    assert!(rt; draws(&mut host, page, one, Import::Vline, &[1, 2, 3], 256, &down));
-    let oval = [(5, 6, [0x28, 0]), (6, 8, [0x96, 0]), (8, 9, [0x28, 0])];
-    assert!(rt;
-        draws(
-            &mut host,
-            page,
-            two,
-            Import::Oval,
-            &[0, 5, 4, 4],
-            256,
-            &oval
-        )
-    );
-    let rect = [(150, 151, [0xaa, 0x2a]), (151, 160, [0x55, 0x25])];
-    assert!(rt;
-        draws(
-            &mut host,
-            page,
-            two,
-            Import::Rect,
-            &[4294967293, 150, 10, 20],
-            256,
-            &rect
-        )
-    );
+    page[0x14] = 0x32;
+    let rows = [(0, 1, [0x05, 0]), (1, 2, [0x50, 0])];
+    assert!(rt; draws(&mut host, page, Import::Line, &[0, 0, 3, 1], 256, &rows));
+    let rows = [(2, 3, [0x54, 0])];
+    assert!(rt; draws(&mut host, page, Import::Hline, &[1, 2, 3], 256, &rows));
+    let rows = [(2, 5, [0x04, 0])];
+    assert!(rt; draws(&mut host, page, Import::Vline, &[1, 2, 3], 256, &rows));
+    let rows = [(5, 6, [0x28, 0]), (6, 8, [0x96, 0]), (8, 9, [0x28, 0])];
+    assert!(rt; draws(&mut host, page, Import::Oval, &[0, 5, 4, 4], 256, &rows));
+    let rows = [(150, 151, [0xaa, 0x2a]), (151, 160, [0x55, 0x25])];
+    let args = [4294967293, 150, 10, 20];
+    assert!(rt; draws(&mut host, page, Import::Rect, &args, 256, &rows));
     Ok(())
 }
 
 #[test]
-fn pictures_and_texts_are_drawn_by_their_imports(rt: HostRuntime) -> Result<(), Fail> {
+fn pictures_are_drawn_by_their_imports(rt: HostRuntime) -> Result<(), Fail> {
     let font = zero_font()?;
     let mut host = board(&font);
     let page = &mut Box::new(rt.alloc(), [0u8; 65536])?;
     put(page, 65532, &[0xff, 0, 0, 1]);
     put(page, 7000, &[0x1b, 0xe4]);
-    put(page, 7100, b"A\nB\0C");
-    put(page, 7200, &[10, 0, 66, 0, 9]);
-    let picture = [(0, 1, [0xe4, 0]), (1, 2, [0x1b, 0])];
-    assert!(rt;
-        draws(
-            &mut host,
-            page,
-            [0x21, 0x43],
-            Import::Blit,
-            &[7000, 0, 0, 4, 2, 1],
-            256,
-            &picture
-        )
-    );
-    let turned = [(0, 7, [0x01, 0]), (7, 8, [0x41, 0])];
-    assert!(rt;
-        draws(
-            &mut host,
-            page,
-            [0x20, 0],
-            Import::BlitSub,
-            &[65532, 0, 0, 8, 8, 0, 0, 8, 10],
-            256,
-            &turned
-        )
-    );
-    let one = [0x02, 0];
-    let both = [(0, 16, [0x55, 0x55])];
-    assert!(rt; draws(&mut host, page, one, Import::Text, &[7100, 0, 0], 67, &both));
-    let first = [(3, 11, [0x55, 0x55])];
-    assert!(rt;
-        draws(
-            &mut host,
-            page,
-            one,
-            Import::TextUtf8,
-            &[7100, 2, 0, 3],
-            66,
-            &first
-        )
-    );
-    let second = [(8, 16, [0x55, 0x55])];
-    assert!(rt;
-        draws(
-            &mut host,
-            page,
-            one,
-            Import::TextUtf16,
-            &[7200, 5, 0, 0],
-            69,
-            &second
-        )
-    );
+    put(page, 0x14, &[0x21, 0x43]);
+    let rows = [(0, 1, [0xe4, 0]), (1, 2, [0x1b, 0])];
+    let args = [7000, 0, 0, 4, 2, 1];
+    assert!(rt; draws(&mut host, page, Import::Blit, &args, 256, &rows));
+    put(page, 0x14, &[0x20, 0]);
+    let rows = [(0, 7, [0x01, 0]), (7, 8, [0x41, 0])];
+    let args = [65532, 0, 0, 8, 8, 0, 0, 8, 10];
+    assert!(rt; draws(&mut host, page, Import::BlitSub, &args, 256, &rows));
     Ok(())
 }
 
 #[test]
-fn disk_and_channels_are_reached_by_their_imports(rt: HostRuntime) -> Result<(), Fail> {
+fn texts_are_drawn_by_their_imports(rt: HostRuntime) -> Result<(), Fail> {
+    let font = zero_font()?;
+    let mut host = board(&font);
+    let page = &mut Box::new(rt.alloc(), [0u8; 65536])?;
+    page[0x14] = 0x02;
+    put(page, 7100, b"A\nB\0C");
+    put(page, 7200, &[10, 0, 66, 0, 9]);
+    let rows = [(0, 16, [0x55, 0x55])];
+    assert!(rt; draws(&mut host, page, Import::Text, &[7100, 0, 0], 67, &rows));
+    let rows = [(3, 11, [0x55, 0x55])];
+    let args = [7100, 2, 0, 3];
+    assert!(rt; draws(&mut host, page, Import::TextUtf8, &args, 66, &rows));
+    let rows = [(8, 16, [0x55, 0x55])];
+    let args = [7200, 5, 0, 0];
+    assert!(rt; draws(&mut host, page, Import::TextUtf16, &args, 69, &rows));
+    Ok(())
+}
+
+#[test]
+fn disk_is_reached_by_its_imports(rt: HostRuntime) -> Result<(), Fail> {
     let font = zero_font()?;
     let mut host = board(&font);
     let page = &mut Box::new(rt.alloc(), [0u8; 65536])?;
     put(page, 0x2000, b"disk");
-    put(page, 65530, b"at end");
-    assert_eq!(rt;
-        ask(&mut host, page, Import::Diskw, &[0x2000, 2000]),
-        (1024, Some(1024))
-    );
-    assert_eq!(rt;
-        ask(&mut host, page, Import::Diskr, &[0x3000, 8]),
-        (1024, Some(8))
-    );
+    let answer = ask(&mut host, page, Import::Diskw, &[0x2000, 2000]);
+    assert_eq!(rt; answer, (1024, Some(1024)));
+    let answer = ask(&mut host, page, Import::Diskr, &[0x3000, 8]);
+    assert_eq!(rt; answer, (1024, Some(8)));
     assert_eq!(rt; &page[0x3000..0x3008], b"disk\0\0\0\0".as_slice());
-    assert_eq!(rt;
-        ask(&mut host, page, Import::Diskw, &[65530, 100]),
-        (1024, Some(6))
-    );
-    assert_eq!(rt; host.disk.bytes(), b"at end".as_slice());
-    let falling = [14418360, 67109890, 50, 0];
-    assert_eq!(rt; ask(&mut host, page, Import::Tone, &falling), (16, None));
-    let begun = Some(Sound {
-        level: 0,
-        frequency: 440,
-    });
-    assert_eq!(rt; host.channels.sounds(0), [begun, None, None, None]);
-    assert_eq!(rt;
-        ask(&mut host, page, Import::Tone, &[440, 0, 50, 0]),
-        (16, None)
-    );
-    assert_eq!(rt; host.channels, Channels::new());
-    let want =
-        b"frame 1\ntone 0 440 220 4 0 2 4 100 50 0 0 0\ntone 0 440 0 0 0 0 0 100 50 0 0 0\nframe 1\n";
-    assert_eq!(rt; texts(rt.alloc(), host)?.as_slice(), want.as_slice());
     Ok(())
 }
 
@@ -274,41 +171,56 @@ fn texts(alloc: Global, board: Board) -> Result<Vec<u8>, Fail> {
 }
 
 #[test]
+fn both_tones_of_a_channel_are_listed(rt: HostRuntime) -> Result<(), Fail> {
+    let font = zero_font()?;
+    let mut host = board(&font);
+    let page = &mut Box::new(rt.alloc(), [0u8; 65536])?;
+    let args = [14418360, 67109890, 50, 0];
+    assert_eq!(rt; ask(&mut host, page, Import::Tone, &args), (16, None));
+    ask(&mut host, page, Import::Tone, &[440, 0, 50, 0]);
+    assert_eq!(rt; host.channels, Channels::new());
+    let want =
+        b"frame 1\ntone 0 440 220 4 0 2 4 100 50 0 0 0\ntone 0 440 0 0 0 0 0 100 50 0 0 0\nframe 1\n";
+    assert_eq!(rt; texts(rt.alloc(), host)?.as_slice(), want.as_slice());
+    Ok(())
+}
+
+/// 65 tones in one frame, with first frequencies 1 to 65, each at level 100 for a frame: 64 are listed, one
+/// is dropped, and the dropped one sounds.
+#[test]
+fn a_dropped_tone_still_sounds(rt: HostRuntime) -> Result<(), Fail> {
+    let font = zero_font()?;
+    let mut host = board(&font);
+    let page = &mut Box::new(rt.alloc(), [0u8; 65536])?;
+    let mut want = Vec::from_slice(rt.alloc(), b"frame 1\n")?;
+    for frequency in 1..66u32 {
+        ask(&mut host, page, Import::Tone, &[frequency, 1, 100, 0]);
+        if frequency < 65 {
+            let line = format!(in rt.alloc(); "tone 0 {frequency} 0 0 0 1 0 100 100 0 0 0\n")?;
+            want.extend_from_slice(line.as_bytes())?;
+        }
+    }
+    want.extend_from_slice(b"dropped 1\nsound 0 100 65\nframe 1\n")?;
+    assert_eq!(rt; texts(rt.alloc(), host)?.as_slice(), want.as_slice());
+    Ok(())
+}
+
+#[test]
 fn lines_are_traced_by_their_imports(rt: HostRuntime) -> Result<(), Fail> {
     let font = zero_font()?;
     let mut host = board(&font);
     let page = &mut Box::new(rt.alloc(), [0u8; 65536])?;
-    put(
-        page,
-        7000,
-        &[251, 255, 255, 255, 255, 0, 0, 0, 0x7c, 0x1b, 0, 0],
-    );
+    put(page, 7000, b"\xfb\xff\xff\xff\xff\0\0\0\x7c\x1b\0\0");
     put(page, 7036, b"ab\0x=%d %x %s%%\0");
     put(page, 7100, &[65, 0, 65, 1, 66]);
     assert_eq!(rt; ask(&mut host, page, Import::Trace, &[7036]), (66, None));
-    assert_eq!(rt;
-        ask(&mut host, page, Import::TraceUtf8, &[7036, 1]),
-        (65, None)
-    );
-    assert_eq!(rt;
-        ask(&mut host, page, Import::TraceUtf16, &[7100, 5]),
-        (69, None)
-    );
-    assert_eq!(rt;
-        ask(&mut host, page, Import::Tracef, &[7039, 7000]),
-        (76, None)
-    );
-    for _ in 0..29 {
-        ask(&mut host, page, Import::Trace, &[65536]);
-    }
-    let mut want = Vec::from_slice(
-        rt.alloc(),
-        b"frame 1\nframe 1\ntrace ab\ntrace a\ntrace A?\ntrace x=-5 ff ab%\n",
-    )?;
-    for _ in 0..28 {
-        want.extend_from_slice(b"trace \n")?;
-    }
-    want.extend_from_slice(b"dropped 1\n")?;
+    let answer = ask(&mut host, page, Import::TraceUtf8, &[7036, 1]);
+    assert_eq!(rt; answer, (65, None));
+    let answer = ask(&mut host, page, Import::TraceUtf16, &[7100, 5]);
+    assert_eq!(rt; answer, (69, None));
+    let answer = ask(&mut host, page, Import::Tracef, &[7039, 7000]);
+    assert_eq!(rt; answer, (76, None));
+    let want = b"frame 1\nframe 1\ntrace ab\ntrace a\ntrace A?\ntrace x=-5 ff ab%\n";
     assert_eq!(rt; texts(rt.alloc(), host)?.as_slice(), want.as_slice());
     Ok(())
 }

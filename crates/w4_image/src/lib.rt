@@ -7,6 +7,3 @@ pub mod state;
 
 pub use ppm::{IMAGE_LEN, image_into};
 pub use state::ppm_into;
-
-#[cfg(test)]
-mod tests;

@@ -12,6 +12,3 @@ pub use colour::entry_of;
 pub use dots::{pixel, point};
 pub use runs::{clear, span};
 pub use screen::{cell, on_screen, screen_part};
-
-#[cfg(test)]
-mod tests;

@@ -1,313 +1,160 @@
-//! What no clause says: that the clauses mean the worked pictures, and that the calls do what plain programs
-//! do point by point.
-
-ghost use Rattle.std.specs.Prelude.{◌<◌};
+//! What no clause says: that the clauses mean the worked pictures, and that a line has the points of the
+//! WASM-4 runtime's loop.
 
 use crate::{hline, line, oval, rect, vline};
 use std::boxed::Box;
 use w4_defs::PageBytes;
 
-/// The calls. Each is tried at a place, with a size or, for a line, the other end. A length is the width or
-/// the height of the size.
-#[derive(Clone, Copy)]
-enum Shape {
-    Hline,
-    Vline,
-    Rect,
-    Oval,
-    Line,
-}
-
-fn draw(page: &mut PageBytes, shape: Shape, colors: u16, at: (i32, i32), size: (i32, i32)) {
-    match shape {
-        Shape::Hline => hline(page, colors, at.0, at.1, size.0),
-        Shape::Vline => vline(page, colors, at.0, at.1, size.1),
-        Shape::Rect => rect(page, colors, at.0, at.1, size.0, size.1),
-        Shape::Oval => oval(page, colors, at.0, at.1, size.0, size.1),
-        Shape::Line => line(page, colors, at.0, at.1, size.0, size.1),
-    }
-}
-
-/// Rows of the screen from `top` up to `bottom`: their first two bytes, and each of the other 38.
-#[derive(Clone, Copy)]
-struct Rows {
-    top: usize,
-    bottom: usize,
-    first: u8,
-    second: u8,
-    others: u8,
-}
+/// Rows of the screen from the first up to the end: their first two bytes, and each of the other 38.
+type Rows = (usize, usize, [u8; 3]);
 
 /// The greatest coordinate.
 const FAR: i32 = 2_147_483_647;
 
-const NONE: Rows = Rows {
-    top: 0,
-    bottom: 0,
-    first: 0,
-    second: 0,
-    others: 0,
-};
+/// The least coordinate.
+const LEAST: i32 = -2_147_483_648;
 
-const fn strip(top: usize, bottom: usize, first: u8, second: u8, others: u8) -> Rows {
-    Rows {
-        top,
-        bottom,
-        first,
-        second,
-        others,
-    }
-}
-
-/// The byte of the framebuffer that these rows show, 0 in no row of them.
-fn wanted(parts: [Rows; 3], byte: usize) -> u8 {
-    for part in parts {
-        if part.top <= byte / 40 && byte / 40 < part.bottom {
-            return match byte % 40 {
-                0 => part.first,
-                1 => part.second,
-                _ => part.others,
-            };
+/// The byte of the framebuffer that is wanted, 0 in no row of these.
+fn wanted(rows: &[Rows], byte: usize) -> u8 {
+    for (first, end, bytes) in rows {
+        if *first <= byte / 40 && byte / 40 < *end {
+            return bytes[(byte % 40).min(2)];
         }
     }
     0
 }
 
-/// Whether a shape on an empty page paints these rows alone.
-fn paints(
-    page: &mut PageBytes,
-    shape: Shape,
-    colors: u16,
-    at: (i32, i32),
-    size: (i32, i32),
-    parts: [Rows; 3],
-) -> bool {
-    page.fill(0);
-    draw(page, shape, colors, at, size);
+/// Whether the screen has these rows, and 0 everywhere else. Afterwards it is empty.
+fn shows(page: &mut PageBytes, rows: &[Rows]) -> bool {
     for byte in 0..6400 {
-        if page[160 + byte] != wanted(parts, byte) {
+        if page[160 + byte] != wanted(rows, byte) {
             return false;
         }
     }
+    page.fill(0);
     true
 }
 
 #[test]
 fn boxes_and_spans_are_painted(rt: HostRuntime) {
     let mut page = Box::new(rt.alloc(), [0u8; 65536]).expect(&rt, "memory");
-    let top = strip(150, 151, 0xaa, 0x2a, 0);
-    let below = strip(151, 160, 0x55, 0x25, 0);
-    let parts = [top, below, NONE];
-    assert!(rt; paints(&mut page, Shape::Rect, 0x0032, (-3, 150), (10, 20), parts));
-    let parts = [strip(0, 160, 0x55, 0x55, 0x55), NONE, NONE];
-    assert!(rt; paints(&mut page, Shape::Rect, 0x0032, (-5, -5), (FAR, FAR), parts));
-    let parts = [strip(5, 6, 0x55, 0x55, 0x55), NONE, NONE];
-    assert!(rt; paints(&mut page, Shape::Hline, 0x0002, (-1, 5), (FAR, 0), parts));
-    let parts = [strip(0, 160, 0x10, 0, 0), NONE, NONE];
-    assert!(rt; paints(&mut page, Shape::Vline, 0x0002, (2, -1), (0, FAR), parts));
+    rect(&mut page, 0x0032, -3, 150, 10, 20);
+    let rows = [(150, 151, [0xaa, 0x2a, 0]), (151, 160, [0x55, 0x25, 0])];
+    assert!(rt; shows(&mut page, &rows), "an outline and what it holds");
+    rect(&mut page, 0x0032, -5, -5, FAR, FAR);
+    assert!(rt;
+        shows(&mut page, &[(0, 160, [0x55; 3])]),
+        "the whole screen"
+    );
+    hline(&mut page, 0x0002, -1, 5, FAR);
+    assert!(rt; shows(&mut page, &[(5, 6, [0x55; 3])]), "a row");
+    vline(&mut page, 0x0002, 2, -1, FAR);
+    assert!(rt; shows(&mut page, &[(0, 160, [0x10, 0, 0])]), "a column");
 }
 
 #[test]
 fn lines_are_painted_from_either_end(rt: HostRuntime) {
     let mut page = Box::new(rt.alloc(), [0u8; 65536]).expect(&rt, "memory");
-    let (low, high) = ((-2147483648, 0), (FAR, 159));
-    let parts = [strip(0, 1, 0x05, 0, 0), strip(1, 2, 0x50, 0, 0), NONE];
-    assert!(rt; paints(&mut page, Shape::Line, 0x0002, (0, 0), (3, 1), parts));
-    assert!(rt; paints(&mut page, Shape::Line, 0x0002, (3, 1), (0, 0), parts));
-    let parts = [strip(80, 81, 0x55, 0x55, 0x55), NONE, NONE];
-    assert!(rt; paints(&mut page, Shape::Line, 0x0002, low, high, parts));
-    assert!(rt; paints(&mut page, Shape::Line, 0x0002, high, low, parts));
+    let steps = [(0, 1, [0x05, 0, 0]), (1, 2, [0x50, 0, 0])];
+    line(&mut page, 0x0002, 0, 0, 3, 1);
+    assert!(rt; shows(&mut page, &steps), "there");
+    line(&mut page, 0x0002, 3, 1, 0, 0);
+    assert!(rt; shows(&mut page, &steps), "and back");
+    line(&mut page, 0x0002, LEAST, 0, FAR, 159);
+    assert!(rt; shows(&mut page, &[(80, 81, [0x55; 3])]), "from far left");
+    line(&mut page, 0x0002, FAR, 159, LEAST, 0);
+    assert!(rt; shows(&mut page, &[(80, 81, [0x55; 3])]), "from far right");
 }
 
 #[test]
 fn ovals_are_painted(rt: HostRuntime) {
     let mut page = Box::new(rt.alloc(), [0u8; 65536]).expect(&rt, "memory");
-    let (edge, middle) = (strip(0, 1, 0x28, 0, 0), strip(1, 3, 0x96, 0, 0));
-    let parts = [edge, middle, strip(3, 4, 0x28, 0, 0)];
-    assert!(rt; paints(&mut page, Shape::Oval, 0x0032, (0, 0), (4, 4), parts));
-    let parts = [strip(0, 1, 0x02, 0, 0), NONE, NONE];
-    assert!(rt; paints(&mut page, Shape::Oval, 0x0032, (0, 0), (1, 1), parts));
-    let parts = [NONE, NONE, NONE];
-    assert!(rt; paints(&mut page, Shape::Oval, 0x0032, (0, 0), (0, 5), parts));
-    assert!(rt; paints(&mut page, Shape::Oval, 0x0032, (0, 0), (FAR, FAR), parts));
+    oval(&mut page, 0x0032, 0, 0, 4, 4);
+    let rows = [
+        (0, 1, [0x28, 0, 0]),
+        (1, 3, [0x96, 0, 0]),
+        (3, 4, [0x28, 0, 0]),
+    ];
+    assert!(rt; shows(&mut page, &rows), "4 by 4");
+    oval(&mut page, 0x0032, 0, 0, 1, 1);
+    assert!(rt; shows(&mut page, &[(0, 1, [0x02, 0, 0])]), "1 by 1");
+    oval(&mut page, 0x0032, 0, 0, 0, 5);
+    assert!(rt; shows(&mut page, &[]), "0 by 5");
+    oval(&mut page, 0x0032, 0, 0, FAR, FAR);
+    assert!(rt; shows(&mut page, &[]), "as wide and as high as can be");
 }
 
-/// Fills the page with bytes that differ from their neighbours.
-fn scatter(page: &mut PageBytes) {
-    for i in 0..65536 {
-        page[i] = (i * 37 % 251) as u8;
-    }
-}
-
-/// One pixel in the colour of a nibble, by a shift and a mask; nothing where it is off the screen or the
-/// nibble is 0.
-fn plain_point(page: &mut PageBytes, x: i64, y: i64, nibble: u16) {
-    if nibble != 0 && 0 <= x && x < 160 && 0 <= y && y < 160 {
+/// One pixel of palette entry 1, by a shift; nothing where it is off the screen.
+fn plain_point(page: &mut PageBytes, x: i64, y: i64) {
+    if 0 <= x && x < 160 && 0 <= y && y < 160 {
         let (x, y) = (x as usize, y as usize);
-        let at = 160 + (160 * y + x) / 4;
-        let shift = 2 * (x % 4) as u32;
-        let entry = ((nibble - 1) % 4) as u8;
-        page[at] = page[at] & !(3u8 << shift) | (entry & 3) << shift;
+        page[160 + 40 * y + x / 4] |= 1u8 << (2 * (x % 4) as u32);
     }
 }
 
-/// A box of cells, point by point.
-fn plain_box(page: &mut PageBytes, nibble: u16, at: (i32, i32), size: (i64, i64)) {
-    for v in 0..160 {
-        for u in 0..160 {
-            let (i, j) = (u as i64 - i64::from(at.0), v as i64 - i64::from(at.1));
-            if 0 <= i && i < size.0 && 0 <= j && j < size.1 {
-                plain_point(page, u as i64, v as i64, nibble);
-            }
-        }
-    }
-}
-
-/// Whether a cell is in the first or last column or row.
-fn is_side(i: i64, j: i64, size: (i64, i64)) -> bool {
-    i == 0 || j == 0 || i == size.0.wrapping_sub(1) || j == size.1.wrapping_sub(1)
-}
-
-/// The first and last columns and rows of a box of cells, point by point.
-fn plain_outline(page: &mut PageBytes, nibble: u16, at: (i32, i32), size: (i64, i64)) {
-    for v in 0..160 {
-        for u in 0..160 {
-            let (i, j) = (u as i64 - i64::from(at.0), v as i64 - i64::from(at.1));
-            if 0 <= i && i < size.0 && 0 <= j && j < size.1 && is_side(i, j, size) {
-                plain_point(page, u as i64, v as i64, nibble);
-            }
-        }
-    }
-}
-
-/// Whether a cell's middle is within the oval.
-fn plain_within(i: i64, j: i64, size: (i64, i64)) -> bool {
-    let (w, h) = (i128::from(size.0), i128::from(size.1));
-    let (a, b) = (
-        i128::from(i)
-            .wrapping_mul(2)
-            .wrapping_add(1)
-            .wrapping_sub(w),
-        i128::from(j)
-            .wrapping_mul(2)
-            .wrapping_add(1)
-            .wrapping_sub(h),
-    );
-    let (ah, bw, wh) = (a.wrapping_mul(h), b.wrapping_mul(w), w.wrapping_mul(h));
-    ah.wrapping_mul(ah).wrapping_add(bw.wrapping_mul(bw)) <= wh.wrapping_mul(wh)
-}
-
-/// The cells of an oval, or those with a neighbour outside, point by point.
-fn plain_oval(page: &mut PageBytes, nibble: u16, at: (i32, i32), size: (i64, i64), edge: bool) {
-    for v in 0..160 {
-        for u in 0..160 {
-            let (i, j) = (u as i64 - i64::from(at.0), v as i64 - i64::from(at.1));
-            let inner = plain_within(i - 1, j, size)
-                && plain_within(i + 1, j, size)
-                && plain_within(i, j - 1, size)
-                && plain_within(i, j + 1, size);
-            let cell = 0 <= i && i < size.0 && 0 <= j && j < size.1 && plain_within(i, j, size);
-            if cell && !(edge && inner) {
-                plain_point(page, u as i64, v as i64, nibble);
-            }
-        }
+/// One step of a coordinate toward another.
+fn stepped(from: i64, to: i64) -> i64 {
+    if from < to {
+        from.wrapping_add(1)
+    } else {
+        from.wrapping_sub(1)
     }
 }
 
 /// A line from its upper end down, by the loop of the WASM-4 runtime.
-fn plain_line(page: &mut PageBytes, nibble: u16, from: (i64, i64), to: (i64, i64)) {
+fn plain_line(page: &mut PageBytes, from: (i64, i64), to: (i64, i64)) {
     let (mut x, mut y) = from;
-    let wide = to.0.wrapping_sub(x).wrapping_abs();
-    let high = to.1.wrapping_sub(y);
-    let mut error = if wide > high {
-        wide / 2
+    let width = to.0.wrapping_sub(x).wrapping_abs();
+    let height = to.1.wrapping_sub(y);
+    let mut error = if width > height {
+        width / 2
     } else {
-        0i64.wrapping_sub(high / 2)
+        0i64.wrapping_sub(height / 2)
     };
-    for _step in 0..2000 {
-        plain_point(page, x, y, nibble);
+    for _step in 0..1000 {
+        plain_point(page, x, y);
         if x == to.0 && y == to.1 {
             return;
         }
         let before = error;
-        if before > 0i64.wrapping_sub(wide) {
-            error = error.wrapping_sub(high);
-            x = if x < to.0 {
-                x.wrapping_add(1)
-            } else {
-                x.wrapping_sub(1)
-            };
+        if before > 0i64.wrapping_sub(width) {
+            error = error.wrapping_sub(height);
+            x = stepped(x, to.0);
         }
-        if before < high {
-            error = error.wrapping_add(wide);
-            y = y.wrapping_add(1);
+        if before < height {
+            error = error.wrapping_add(width);
+            y = stepped(y, to.1);
         }
     }
 }
 
-fn draw_plain(page: &mut PageBytes, shape: Shape, colors: u16, at: (i32, i32), size: (i32, i32)) {
-    let (first, second) = (colors % 16, colors / 16 % 16);
-    let (wide, high) = (i64::from(size.0), i64::from(size.1));
-    match shape {
-        Shape::Hline => plain_box(page, first, at, (wide, 1)),
-        Shape::Vline => plain_box(page, first, at, (1, high)),
-        Shape::Rect => {
-            plain_box(page, first, at, (wide, high));
-            plain_outline(page, second, at, (wide, high));
-        }
-        Shape::Oval => {
-            plain_oval(page, first, at, (wide, high), false);
-            plain_oval(page, second, at, (wide, high), true);
-        }
-        Shape::Line => {
-            let from = (i64::from(at.0), i64::from(at.1));
-            if high < from.1 {
-                plain_line(page, first, (wide, high), from);
-            } else {
-                plain_line(page, first, from, (wide, high));
-            }
-        }
-    }
+/// Whether a line paints what the runtime's loop paints. Afterwards the screen is empty.
+fn is_plain(page: &mut PageBytes, plain: &mut PageBytes, from: (i32, i32), to: (i32, i32)) -> bool {
+    line(page, 0x0002, from.0, from.1, to.0, to.1);
+    plain_line(
+        plain,
+        (from.0.into(), from.1.into()),
+        (to.0.into(), to.1.into()),
+    );
+    let same = page[..] == plain[..];
+    page.fill(0);
+    plain.fill(0);
+    same
 }
 
 #[test]
-fn calls_do_what_points_do(rt: HostRuntime) {
-    let places = [
-        ((0, 0), (160, 160)),
-        ((0, 0), (1, 1)),
-        ((3, 5), (2, 9)),
-        ((-7, -4), (13, 30)),
-        ((150, 140), (40, 21)),
-        ((159, 159), (1, 1)),
-        ((159, 0), (-3, 159)),
-        ((160, 20), (5, 5)),
-        ((20, -9), (5, 9)),
-        ((40, 60), (33, 12)),
-        ((90, 30), (17, 64)),
-        ((10, 10), (0, 7)),
-        ((10, 10), (7, -1)),
-        ((-300, 100), (700, 41)),
-        ((-100, -1000), (300, 900)),
-        ((5, 150), (140, 3)),
-    ];
-    let shapes = [
-        Shape::Hline,
-        Shape::Vline,
-        Shape::Rect,
-        Shape::Oval,
-        Shape::Line,
-    ];
-    let colors = [0x0032, 0x0014, 0x0003, 0x0020, 0x00e7, 0];
-    let mut packed = Box::new(rt.alloc(), [0u8; 65536]).expect(&rt, "memory");
+fn lines_have_the_points_of_the_runtimes_loop(rt: HostRuntime) {
+    let mut page = Box::new(rt.alloc(), [0u8; 65536]).expect(&rt, "memory");
     let mut plain = Box::new(rt.alloc(), [0u8; 65536]).expect(&rt, "memory");
-    scatter(&mut packed);
-    scatter(&mut plain);
-    for (number, (at, size)) in places.into_iter().enumerate() {
-        for shape in shapes {
-            let color = colors[number % 6];
-            draw(&mut packed, shape, color, at, size);
-            draw_plain(&mut plain, shape, color, at, size);
-            assert!(rt; packed[..] == plain[..], "at place {number}");
-        }
+    for (from, to) in [
+        ((3, 5), (2, 9)),
+        ((150, 140), (40, 141)),
+        ((40, 60), (33, 72)),
+        ((90, 30), (17, 64)),
+        ((-300, 100), (700, 141)),
+        ((5, -150), (140, 300)),
+        ((7, 3), (12, 3)),
+    ] {
+        assert!(rt; is_plain(&mut page, &mut plain, from, to), "from {from:?}");
     }
 }

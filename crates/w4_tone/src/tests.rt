@@ -3,6 +3,7 @@
 ghost use Rattle.std.specs.Prelude.{◌<◌};
 
 use crate::{Channels, decode};
+use std::process::Abort;
 use w4_defs::{Sound, Tone};
 
 /// What a channel sounds at a tick, some frames after a tone began.
@@ -21,113 +22,83 @@ fn sounding(level: u8, frequency: u16) -> Option<Sound> {
     Some(Sound { level, frequency })
 }
 
-#[test]
-fn tones_have_their_levels_and_frequencies(rt: HostRuntime) {
-    let falling = [14418360, 67109890, 50, 0];
-    let decaying = [440, 0x00020001, 0x5014, 1];
-    let rising = [13172836, 2, 100, 2];
-    let still = [13172836, 2, 100, 66];
-    let loud = [50, 0xffffffff, 0xffff, 3];
-    let short = [13172836, 0x00000100, 7, 0];
-    let cases = [
-        (falling, 0, 0, sounding(0, 440)),
-        (falling, 0, 1, sounding(0, 440)),
-        (falling, 1, 0, sounding(25, 418)),
-        (falling, 2, 0, sounding(50, 396)),
-        (falling, 3, 0, sounding(75, 374)),
-        (falling, 4, 0, sounding(50, 352)),
-        (falling, 5, 0, sounding(50, 330)),
-        (falling, 6, 0, sounding(50, 308)),
-        (falling, 7, 0, sounding(37, 286)),
-        (falling, 8, 0, sounding(25, 264)),
-        (falling, 9, 0, sounding(12, 242)),
-        (falling, 9, 734, sounding(0, 221)),
-        (falling, 10, 0, None),
-        (decaying, 0, 0, sounding(80, 440)),
-        (decaying, 0, 367, sounding(65, 440)),
-        (decaying, 1, 0, sounding(50, 440)),
-        (decaying, 1, 734, sounding(20, 440)),
-        (decaying, 2, 734, sounding(20, 440)),
-        (decaying, 3, 0, None),
-        (rising, 1, 0, sounding(100, 150)),
-        (rising, 1, 734, sounding(100, 200)),
-        (still, 1, 734, sounding(100, 100)),
-        (loud, 1019, 734, sounding(0, 50)),
-        (loud, 510, 0, sounding(100, 50)),
-        (loud, 1020, 0, None),
-        (short, 0, 0, sounding(7, 100)),
-        (short, 0, 734, sounding(0, 200)),
-        (short, 1, 0, None),
-    ];
-    for (tone, frames, tick, want) in cases {
+/// A tone has these levels and frequencies, each at a frame and a tick, and is over at a frame.
+fn check(rt: &impl Abort, tone: [u32; 4], sounds: &[(u32, u32, u8, u16)], end: u32) {
+    for (frames, tick, level, frequency) in sounds {
         assert_eq!(rt;
-            heard(tone, frames, tick),
-            want,
+            heard(tone, *frames, *tick),
+            sounding(*level, *frequency),
             "{tone:?} at {frames}, {tick}"
         );
     }
+    assert_eq!(rt; heard(tone, end, 0), None, "the end of {tone:?}");
+}
+
+#[test]
+fn a_tone_rises_and_falls(rt: HostRuntime) {
+    let sounds = [
+        (0, 0, 0, 440),
+        (1, 0, 25, 418),
+        (2, 0, 50, 396),
+        (3, 0, 75, 374),
+        (4, 0, 50, 352),
+        (5, 0, 50, 330),
+        (6, 0, 50, 308),
+        (7, 0, 37, 286),
+        (8, 0, 25, 264),
+        (9, 0, 12, 242),
+        (9, 734, 0, 221),
+    ];
+    check(&rt, [14418360, 67109890, 50, 0], &sounds, 10);
+}
+
+#[test]
+fn each_part_of_a_tone_has_its_sounds(rt: HostRuntime) {
+    let decaying = [(0, 0, 80, 440), (0, 367, 65, 440), (2, 734, 20, 440)];
+    check(&rt, [440, 0x00020001, 0x5014, 1], &decaying, 3);
+    check(&rt, [13172836, 2, 100, 2], &[(1, 734, 100, 200)], 2);
+    check(&rt, [13172836, 2, 100, 66], &[(1, 734, 100, 100)], 2);
+    let loud = [(510, 0, 100, 50), (1019, 734, 0, 50)];
+    check(&rt, [50, 0xffffffff, 0xffff, 3], &loud, 1020);
+}
+
+const TONE: Tone = Tone {
+    channel: 0,
+    first: 440,
+    second: 220,
+    attack: 4,
+    decay: 3,
+    sustain: 1,
+    release: 2,
+    peak: 100,
+    level: 50,
+    duty: 0,
+    pan: 0,
+    note: false,
+};
+
+/// The tone of this volume and these flags.
+fn decoded(volume: u32, flags: u32) -> Tone {
+    decode(0x00dc01b8, 0x04030201, volume, flags)
 }
 
 #[test]
 fn arguments_have_their_parts(rt: HostRuntime) {
+    assert_eq!(rt; decoded(0xffff0032, 0xffffff80), TONE);
     let tone = Tone {
-        channel: 0,
-        first: 440,
-        second: 220,
-        attack: 4,
-        decay: 3,
-        sustain: 1,
-        release: 2,
-        peak: 100,
-        level: 50,
-        duty: 0,
-        pan: 0,
-        note: false,
+        peak: 99,
+        channel: 3,
+        ..TONE
     };
-    let (frequency, duration) = (0x00dc01b8, 0x04030201);
-    let cases = [
-        (50, 0, tone),
-        (0xffff0032, 0xffffff80, tone),
-        (
-            0x6332,
-            3,
-            Tone {
-                peak: 99,
-                channel: 3,
-                ..tone
-            },
-        ),
-        (0x6565, 0, Tone { level: 100, ..tone }),
-        (
-            0x0100,
-            16,
-            Tone {
-                peak: 1,
-                level: 0,
-                pan: 1,
-                ..tone
-            },
-        ),
-        (50, 32, Tone { pan: 2, ..tone }),
-        (50, 48, Tone { pan: 3, ..tone }),
-        (
-            50,
-            14,
-            Tone {
-                channel: 2,
-                duty: 3,
-                ..tone
-            },
-        ),
-        (50, 64, Tone { note: true, ..tone }),
-    ];
-    for (volume, flags, want) in cases {
-        assert_eq!(rt;
-            decode(frequency, duration, volume, flags),
-            want,
-            "{volume}, {flags}"
-        );
-    }
+    assert_eq!(rt; decoded(0x6332, 3), tone);
+    assert_eq!(rt; decoded(0x6565, 0), Tone { level: 100, ..TONE });
+    let tone = Tone {
+        pan: 3,
+        duty: 3,
+        ..TONE
+    };
+    assert_eq!(rt; decoded(50, 60), tone);
+    assert_eq!(rt; decoded(50, 64), Tone { note: true, ..TONE });
 }
 
 #[test]
