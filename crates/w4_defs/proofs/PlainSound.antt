@@ -1,5 +1,5 @@
 -- A memory or numeric instruction finds the operands that its type takes, and leaves what it gives.
-use Rattle.std.proofs.Common.{◌≡◌, ℕ, ◌+◌, ◌%◌, ◌^◌, List, [], ◌∷◌, Some, Bool, true, false, cond, ◌&&◌, nat_le, Result, Ok, Err, refl, ap, subst, ◌∙◌}
+use Rattle.std.proofs.Common.{◌≡◌, ℕ, ◌+◌, ◌*◌, ◌%◌, ◌^◌, List, [], ◌∷◌, Some, Bool, true, false, cond, ◌&&◌, nat_le, Result, Ok, Err, refl, ap, subst, ◌∙◌}
 use Rattle.w4_defs.specs.declared.value.Val.{Val}
 use Rattle.w4_defs.specs.declared.value.Val.TheVariants as val
 use Rattle.w4_defs.specs.declared.value.ValType.{ValType}
@@ -7,19 +7,23 @@ use Rattle.w4_defs.specs.declared.value.ValType.TheVariants.{I32, I64, F32, F64}
 use Rattle.w4_defs.specs.declared.value.Cause.{Cause}
 use Rattle.w4_defs.specs.declared.value.Cause.TheVariants as cause
 use Rattle.w4_defs.specs.declared.integer.Unary.{Unary}
-use Rattle.w4_defs.specs.declared.integer.Unary.TheVariants as unary_op
 use Rattle.w4_defs.specs.declared.integer.Binary.{Binary}
-use Rattle.w4_defs.specs.declared.integer.Binary.TheVariants as binary_op
 use Rattle.w4_defs.specs.declared.integer.Compare.{Compare}
-use Rattle.w4_defs.specs.declared.integer.Compare.TheVariants as compare_op
 use Rattle.w4_defs.specs.declared.operation.Op.TheVariants as op
+use Rattle.w4_defs.specs.declared.instruction_table.IntegerType.{IntegerType}
+use Rattle.w4_defs.specs.declared.instruction_table.IntegerType.TheVariants as integer
+use Rattle.w4_defs.specs.declared.instruction_table.Signedness.{Signedness}
+use Rattle.w4_defs.specs.declared.instruction_table.Signedness.TheVariants.{Unsigned, Signed}
+use Rattle.w4_defs.specs.declared.instruction_table.Row.{Row}
+use Rattle.w4_defs.specs.declared.instruction_table.Row.TheVariants as shape
+use Rattle.w4_defs.specs.InstructionTable.{value_type, row}
 use Rattle.w4_defs.specs.Kinds.{type_of}
 use Rattle.w4_defs.specs.Program.{value_of}
-use Rattle.w4_defs.specs.Integers.{binary, extended}
+use Rattle.w4_defs.specs.Integers.{binary}
 use Rattle.w4_defs.specs.Bytes.{number_at}
 use Rattle.w4_defs.specs.Control.{on_i32, on_number}
-use Rattle.w4_defs.specs.Effects.{Effect, Does, Traps, Lacks, Plain, width_of, in_page, load, store, calculated, eqz, comparison, one_operand, two_operands, conversion, memory_grow, memory_copy, memory_fill, copied, effect}
-use Rattle.w4_defs.specs.OperandTypes.{Arrow, arrow_if}
+use Rattle.w4_defs.specs.Effects.{Effect, Does, Traps, Lacks, Plain, width_of, in_page, load, store, calculated, eqz, comparison, one_operand, two_operands, read_as, conversion, memory_grow, memory_copy, memory_fill, copied, row_effect}
+use Rattle.w4_defs.specs.OperandTypes.{Arrow, arrow_if, row_type}
 use Rattle.w4_defs.specs.Typing.{IsInt}
 use Rattle.w4_defs.specs.RunLaws.{types_of}
 use Rattle.w4_defs.specs.Soundness.{Suits, Sound, PlainInstructionsAreSound}
@@ -44,6 +48,16 @@ type_of_value I32 n i = refl
 type_of_value I64 n i = refl
 type_of_value F32 n i = absurd i
 type_of_value F64 n i = absurd i
+
+pub is_int : (t : IntegerType) → IsInt (value_type t)
+is_int integer.I32 = tt
+is_int integer.I64 = tt
+
+type_of_read : (t : IntegerType) (sign : Signedness) (bits n : ℕ) → type_of (read_as (value_type t) sign bits n) ≡ value_type t
+type_of_read integer.I32 Unsigned bits n = refl
+type_of_read integer.I32 Signed bits n = refl
+type_of_read integer.I64 Unsigned bits n = refl
+type_of_read integer.I64 Signed bits n = refl
 
 cond_suits : (types locals : List ValType) (test : Bool) (f g : Effect) → Suits types locals f → Suits types locals g → Suits types locals (cond test f g)
 cond_suits types locals true f g h k = h
@@ -127,96 +141,37 @@ where_memory : (has : Bool) (plain : Plain) (a b : List ValType) (found : Arrow)
 where_memory true plain a b found s h = given plain (a, b) found s h
 where_memory false plain a b found s h = absurd (cc h)
 
+row_sound : (has : Bool) (r : Row) (arrow : Arrow) → row_type has r ≡ Some arrow → Sound (row_effect r) arrow
+row_sound has (shape.Const integer.I32 n) arrow h = given (row_effect (shape.Const integer.I32 n)) ([], I32 ∷ []) arrow (pushed_sound (val.I32 n)) h
+row_sound has (shape.Const integer.I64 n) arrow h = given (row_effect (shape.Const integer.I64 n)) ([], I64 ∷ []) arrow (pushed_sound (val.I64 n)) h
+row_sound has (shape.Test t) arrow h = given (eqz (value_type t)) (value_type t ∷ [], I32 ∷ []) arrow (eqz_sound (value_type t) (is_int t)) h
+row_sound has (shape.Compare t o) arrow h = given (comparison (value_type t) o) (value_type t ∷ value_type t ∷ [], I32 ∷ []) arrow (comparison_sound (value_type t) o (is_int t)) h
+row_sound has (shape.Unary t o) arrow h = given (one_operand (value_type t) o) (value_type t ∷ [], value_type t ∷ []) arrow (one_sound (value_type t) o (is_int t)) h
+row_sound has (shape.Binary t o) arrow h = given (two_operands (value_type t) o) (value_type t ∷ value_type t ∷ [], value_type t ∷ []) arrow (two_sound (value_type t) o (is_int t)) h
+row_sound has shape.Wrap arrow h = given (row_effect shape.Wrap) (I64 ∷ [], I32 ∷ []) arrow (conversion_sound I64 I32 (λ a. val.I32 (a % 2 ^ 32)) tt (λ n. refl)) h
+row_sound has (shape.Extend sign) arrow h = given (row_effect (shape.Extend sign)) (I32 ∷ [], I64 ∷ []) arrow (conversion_sound I32 I64 (read_as I64 sign 32) tt (type_of_read integer.I64 sign 32)) h
+row_sound has (shape.ExtendWithin t bits) arrow h =
+    given (row_effect (shape.ExtendWithin t bits)) (value_type t ∷ [], value_type t ∷ []) arrow
+    (conversion_sound (value_type t) (value_type t) (read_as (value_type t) Signed bits) (is_int t) (type_of_read t Signed bits)) h
+row_sound has (shape.Load t bytes sign align offset) arrow h =
+    where_memory (has && nat_le (2 ^ align) bytes) (row_effect (shape.Load t bytes sign align offset)) (I32 ∷ []) (value_type t ∷ []) arrow
+    (load_sound offset bytes (value_type t) (read_as (value_type t) sign (8 * bytes)) (type_of_read t sign (8 * bytes))) h
+row_sound has (shape.Store t bytes align offset) arrow h =
+    where_memory (has && nat_le (2 ^ align) bytes) (store (value_type t) offset bytes) (I32 ∷ value_type t ∷ []) [] arrow (store_sound offset bytes (value_type t) (is_int t)) h
+row_sound has shape.MemorySize arrow h = where_memory has (row_effect shape.MemorySize) [] (I32 ∷ []) arrow (pushed_sound (val.I32 1)) h
+row_sound has shape.MemoryGrow arrow h = where_memory has memory_grow (I32 ∷ []) (I32 ∷ []) arrow grow_sound h
+row_sound has shape.MemoryCopy arrow h = where_memory has memory_copy (I32 ∷ I32 ∷ I32 ∷ []) [] arrow copy_sound h
+row_sound has shape.MemoryFill arrow h = where_memory has memory_fill (I32 ∷ I32 ∷ I32 ∷ []) [] arrow fill_sound h
+row_sound has shape.Float arrow h = absurd (cc h)
+row_sound has shape.Missing arrow h = absurd (cc h)
+
+-- what has an effect but no row has no type here
 pub plain_sound : PlainInstructionsAreSound
-plain_sound has (op.I32Load align offset) arrow h = where_memory (has && nat_le (2 ^ align) 4) (load offset 4 val.I32) (I32 ∷ []) (I32 ∷ []) arrow (load_sound offset 4 I32 val.I32 (λ n. refl)) h
-plain_sound has (op.I64Load align offset) arrow h = where_memory (has && nat_le (2 ^ align) 8) (load offset 8 val.I64) (I32 ∷ []) (I64 ∷ []) arrow (load_sound offset 8 I64 val.I64 (λ n. refl)) h
-plain_sound has (op.I32Load8S align offset) arrow h = where_memory (has && nat_le (2 ^ align) 1) (load offset 1 (λ n. val.I32 (extended 8 32 n))) (I32 ∷ []) (I32 ∷ []) arrow (load_sound offset 1 I32 (λ n. val.I32 (extended 8 32 n)) (λ n. refl)) h
-plain_sound has (op.I32Load8U align offset) arrow h = where_memory (has && nat_le (2 ^ align) 1) (load offset 1 val.I32) (I32 ∷ []) (I32 ∷ []) arrow (load_sound offset 1 I32 val.I32 (λ n. refl)) h
-plain_sound has (op.I32Load16S align offset) arrow h = where_memory (has && nat_le (2 ^ align) 2) (load offset 2 (λ n. val.I32 (extended 16 32 n))) (I32 ∷ []) (I32 ∷ []) arrow (load_sound offset 2 I32 (λ n. val.I32 (extended 16 32 n)) (λ n. refl)) h
-plain_sound has (op.I32Load16U align offset) arrow h = where_memory (has && nat_le (2 ^ align) 2) (load offset 2 val.I32) (I32 ∷ []) (I32 ∷ []) arrow (load_sound offset 2 I32 val.I32 (λ n. refl)) h
-plain_sound has (op.I64Load8S align offset) arrow h = where_memory (has && nat_le (2 ^ align) 1) (load offset 1 (λ n. val.I64 (extended 8 64 n))) (I32 ∷ []) (I64 ∷ []) arrow (load_sound offset 1 I64 (λ n. val.I64 (extended 8 64 n)) (λ n. refl)) h
-plain_sound has (op.I64Load8U align offset) arrow h = where_memory (has && nat_le (2 ^ align) 1) (load offset 1 val.I64) (I32 ∷ []) (I64 ∷ []) arrow (load_sound offset 1 I64 val.I64 (λ n. refl)) h
-plain_sound has (op.I64Load16S align offset) arrow h = where_memory (has && nat_le (2 ^ align) 2) (load offset 2 (λ n. val.I64 (extended 16 64 n))) (I32 ∷ []) (I64 ∷ []) arrow (load_sound offset 2 I64 (λ n. val.I64 (extended 16 64 n)) (λ n. refl)) h
-plain_sound has (op.I64Load16U align offset) arrow h = where_memory (has && nat_le (2 ^ align) 2) (load offset 2 val.I64) (I32 ∷ []) (I64 ∷ []) arrow (load_sound offset 2 I64 val.I64 (λ n. refl)) h
-plain_sound has (op.I64Load32S align offset) arrow h = where_memory (has && nat_le (2 ^ align) 4) (load offset 4 (λ n. val.I64 (extended 32 64 n))) (I32 ∷ []) (I64 ∷ []) arrow (load_sound offset 4 I64 (λ n. val.I64 (extended 32 64 n)) (λ n. refl)) h
-plain_sound has (op.I64Load32U align offset) arrow h = where_memory (has && nat_le (2 ^ align) 4) (load offset 4 val.I64) (I32 ∷ []) (I64 ∷ []) arrow (load_sound offset 4 I64 val.I64 (λ n. refl)) h
-plain_sound has (op.I32Store align offset) arrow h = where_memory (has && nat_le (2 ^ align) 4) (store I32 offset 4) (I32 ∷ I32 ∷ []) [] arrow (store_sound offset 4 I32 tt) h
-plain_sound has (op.I64Store align offset) arrow h = where_memory (has && nat_le (2 ^ align) 8) (store I64 offset 8) (I32 ∷ I64 ∷ []) [] arrow (store_sound offset 8 I64 tt) h
-plain_sound has (op.I32Store8 align offset) arrow h = where_memory (has && nat_le (2 ^ align) 1) (store I32 offset 1) (I32 ∷ I32 ∷ []) [] arrow (store_sound offset 1 I32 tt) h
-plain_sound has (op.I32Store16 align offset) arrow h = where_memory (has && nat_le (2 ^ align) 2) (store I32 offset 2) (I32 ∷ I32 ∷ []) [] arrow (store_sound offset 2 I32 tt) h
-plain_sound has (op.I64Store8 align offset) arrow h = where_memory (has && nat_le (2 ^ align) 1) (store I64 offset 1) (I32 ∷ I64 ∷ []) [] arrow (store_sound offset 1 I64 tt) h
-plain_sound has (op.I64Store16 align offset) arrow h = where_memory (has && nat_le (2 ^ align) 2) (store I64 offset 2) (I32 ∷ I64 ∷ []) [] arrow (store_sound offset 2 I64 tt) h
-plain_sound has (op.I64Store32 align offset) arrow h = where_memory (has && nat_le (2 ^ align) 4) (store I64 offset 4) (I32 ∷ I64 ∷ []) [] arrow (store_sound offset 4 I64 tt) h
-plain_sound has op.MemorySize arrow h = where_memory has (effect op.MemorySize) [] (I32 ∷ []) arrow (pushed_sound (val.I32 1)) h
-plain_sound has op.MemoryGrow arrow h = where_memory has memory_grow (I32 ∷ []) (I32 ∷ []) arrow grow_sound h
-plain_sound has op.MemoryCopy arrow h = where_memory has memory_copy (I32 ∷ I32 ∷ I32 ∷ []) [] arrow copy_sound h
-plain_sound has op.MemoryFill arrow h = where_memory has memory_fill (I32 ∷ I32 ∷ I32 ∷ []) [] arrow fill_sound h
-plain_sound has (op.I32Const n) arrow h = given (effect (op.I32Const n)) ([], I32 ∷ []) arrow (pushed_sound (val.I32 n)) h
-plain_sound has (op.I64Const n) arrow h = given (effect (op.I64Const n)) ([], I64 ∷ []) arrow (pushed_sound (val.I64 n)) h
-plain_sound has op.I32Eqz arrow h = given (eqz I32) (I32 ∷ [], I32 ∷ []) arrow (eqz_sound I32 tt) h
-plain_sound has op.I32Eq arrow h = given (comparison I32 compare_op.Eq) (I32 ∷ I32 ∷ [], I32 ∷ []) arrow (comparison_sound I32 compare_op.Eq tt) h
-plain_sound has op.I32Ne arrow h = given (comparison I32 compare_op.Ne) (I32 ∷ I32 ∷ [], I32 ∷ []) arrow (comparison_sound I32 compare_op.Ne tt) h
-plain_sound has op.I32LtS arrow h = given (comparison I32 compare_op.LtS) (I32 ∷ I32 ∷ [], I32 ∷ []) arrow (comparison_sound I32 compare_op.LtS tt) h
-plain_sound has op.I32LtU arrow h = given (comparison I32 compare_op.LtU) (I32 ∷ I32 ∷ [], I32 ∷ []) arrow (comparison_sound I32 compare_op.LtU tt) h
-plain_sound has op.I32GtS arrow h = given (comparison I32 compare_op.GtS) (I32 ∷ I32 ∷ [], I32 ∷ []) arrow (comparison_sound I32 compare_op.GtS tt) h
-plain_sound has op.I32GtU arrow h = given (comparison I32 compare_op.GtU) (I32 ∷ I32 ∷ [], I32 ∷ []) arrow (comparison_sound I32 compare_op.GtU tt) h
-plain_sound has op.I32LeS arrow h = given (comparison I32 compare_op.LeS) (I32 ∷ I32 ∷ [], I32 ∷ []) arrow (comparison_sound I32 compare_op.LeS tt) h
-plain_sound has op.I32LeU arrow h = given (comparison I32 compare_op.LeU) (I32 ∷ I32 ∷ [], I32 ∷ []) arrow (comparison_sound I32 compare_op.LeU tt) h
-plain_sound has op.I32GeS arrow h = given (comparison I32 compare_op.GeS) (I32 ∷ I32 ∷ [], I32 ∷ []) arrow (comparison_sound I32 compare_op.GeS tt) h
-plain_sound has op.I32GeU arrow h = given (comparison I32 compare_op.GeU) (I32 ∷ I32 ∷ [], I32 ∷ []) arrow (comparison_sound I32 compare_op.GeU tt) h
-plain_sound has op.I64Eqz arrow h = given (eqz I64) (I64 ∷ [], I32 ∷ []) arrow (eqz_sound I64 tt) h
-plain_sound has op.I64Eq arrow h = given (comparison I64 compare_op.Eq) (I64 ∷ I64 ∷ [], I32 ∷ []) arrow (comparison_sound I64 compare_op.Eq tt) h
-plain_sound has op.I64Ne arrow h = given (comparison I64 compare_op.Ne) (I64 ∷ I64 ∷ [], I32 ∷ []) arrow (comparison_sound I64 compare_op.Ne tt) h
-plain_sound has op.I64LtS arrow h = given (comparison I64 compare_op.LtS) (I64 ∷ I64 ∷ [], I32 ∷ []) arrow (comparison_sound I64 compare_op.LtS tt) h
-plain_sound has op.I64LtU arrow h = given (comparison I64 compare_op.LtU) (I64 ∷ I64 ∷ [], I32 ∷ []) arrow (comparison_sound I64 compare_op.LtU tt) h
-plain_sound has op.I64GtS arrow h = given (comparison I64 compare_op.GtS) (I64 ∷ I64 ∷ [], I32 ∷ []) arrow (comparison_sound I64 compare_op.GtS tt) h
-plain_sound has op.I64GtU arrow h = given (comparison I64 compare_op.GtU) (I64 ∷ I64 ∷ [], I32 ∷ []) arrow (comparison_sound I64 compare_op.GtU tt) h
-plain_sound has op.I64LeS arrow h = given (comparison I64 compare_op.LeS) (I64 ∷ I64 ∷ [], I32 ∷ []) arrow (comparison_sound I64 compare_op.LeS tt) h
-plain_sound has op.I64LeU arrow h = given (comparison I64 compare_op.LeU) (I64 ∷ I64 ∷ [], I32 ∷ []) arrow (comparison_sound I64 compare_op.LeU tt) h
-plain_sound has op.I64GeS arrow h = given (comparison I64 compare_op.GeS) (I64 ∷ I64 ∷ [], I32 ∷ []) arrow (comparison_sound I64 compare_op.GeS tt) h
-plain_sound has op.I64GeU arrow h = given (comparison I64 compare_op.GeU) (I64 ∷ I64 ∷ [], I32 ∷ []) arrow (comparison_sound I64 compare_op.GeU tt) h
-plain_sound has op.I32Clz arrow h = given (one_operand I32 unary_op.Clz) (I32 ∷ [], I32 ∷ []) arrow (one_sound I32 unary_op.Clz tt) h
-plain_sound has op.I32Ctz arrow h = given (one_operand I32 unary_op.Ctz) (I32 ∷ [], I32 ∷ []) arrow (one_sound I32 unary_op.Ctz tt) h
-plain_sound has op.I32Popcnt arrow h = given (one_operand I32 unary_op.Popcnt) (I32 ∷ [], I32 ∷ []) arrow (one_sound I32 unary_op.Popcnt tt) h
-plain_sound has op.I32Add arrow h = given (two_operands I32 binary_op.Add) (I32 ∷ I32 ∷ [], I32 ∷ []) arrow (two_sound I32 binary_op.Add tt) h
-plain_sound has op.I32Sub arrow h = given (two_operands I32 binary_op.Sub) (I32 ∷ I32 ∷ [], I32 ∷ []) arrow (two_sound I32 binary_op.Sub tt) h
-plain_sound has op.I32Mul arrow h = given (two_operands I32 binary_op.Mul) (I32 ∷ I32 ∷ [], I32 ∷ []) arrow (two_sound I32 binary_op.Mul tt) h
-plain_sound has op.I32DivS arrow h = given (two_operands I32 binary_op.DivS) (I32 ∷ I32 ∷ [], I32 ∷ []) arrow (two_sound I32 binary_op.DivS tt) h
-plain_sound has op.I32DivU arrow h = given (two_operands I32 binary_op.DivU) (I32 ∷ I32 ∷ [], I32 ∷ []) arrow (two_sound I32 binary_op.DivU tt) h
-plain_sound has op.I32RemS arrow h = given (two_operands I32 binary_op.RemS) (I32 ∷ I32 ∷ [], I32 ∷ []) arrow (two_sound I32 binary_op.RemS tt) h
-plain_sound has op.I32RemU arrow h = given (two_operands I32 binary_op.RemU) (I32 ∷ I32 ∷ [], I32 ∷ []) arrow (two_sound I32 binary_op.RemU tt) h
-plain_sound has op.I32And arrow h = given (two_operands I32 binary_op.And) (I32 ∷ I32 ∷ [], I32 ∷ []) arrow (two_sound I32 binary_op.And tt) h
-plain_sound has op.I32Or arrow h = given (two_operands I32 binary_op.Or) (I32 ∷ I32 ∷ [], I32 ∷ []) arrow (two_sound I32 binary_op.Or tt) h
-plain_sound has op.I32Xor arrow h = given (two_operands I32 binary_op.Xor) (I32 ∷ I32 ∷ [], I32 ∷ []) arrow (two_sound I32 binary_op.Xor tt) h
-plain_sound has op.I32Shl arrow h = given (two_operands I32 binary_op.Shl) (I32 ∷ I32 ∷ [], I32 ∷ []) arrow (two_sound I32 binary_op.Shl tt) h
-plain_sound has op.I32ShrS arrow h = given (two_operands I32 binary_op.ShrS) (I32 ∷ I32 ∷ [], I32 ∷ []) arrow (two_sound I32 binary_op.ShrS tt) h
-plain_sound has op.I32ShrU arrow h = given (two_operands I32 binary_op.ShrU) (I32 ∷ I32 ∷ [], I32 ∷ []) arrow (two_sound I32 binary_op.ShrU tt) h
-plain_sound has op.I32Rotl arrow h = given (two_operands I32 binary_op.Rotl) (I32 ∷ I32 ∷ [], I32 ∷ []) arrow (two_sound I32 binary_op.Rotl tt) h
-plain_sound has op.I32Rotr arrow h = given (two_operands I32 binary_op.Rotr) (I32 ∷ I32 ∷ [], I32 ∷ []) arrow (two_sound I32 binary_op.Rotr tt) h
-plain_sound has op.I64Clz arrow h = given (one_operand I64 unary_op.Clz) (I64 ∷ [], I64 ∷ []) arrow (one_sound I64 unary_op.Clz tt) h
-plain_sound has op.I64Ctz arrow h = given (one_operand I64 unary_op.Ctz) (I64 ∷ [], I64 ∷ []) arrow (one_sound I64 unary_op.Ctz tt) h
-plain_sound has op.I64Popcnt arrow h = given (one_operand I64 unary_op.Popcnt) (I64 ∷ [], I64 ∷ []) arrow (one_sound I64 unary_op.Popcnt tt) h
-plain_sound has op.I64Add arrow h = given (two_operands I64 binary_op.Add) (I64 ∷ I64 ∷ [], I64 ∷ []) arrow (two_sound I64 binary_op.Add tt) h
-plain_sound has op.I64Sub arrow h = given (two_operands I64 binary_op.Sub) (I64 ∷ I64 ∷ [], I64 ∷ []) arrow (two_sound I64 binary_op.Sub tt) h
-plain_sound has op.I64Mul arrow h = given (two_operands I64 binary_op.Mul) (I64 ∷ I64 ∷ [], I64 ∷ []) arrow (two_sound I64 binary_op.Mul tt) h
-plain_sound has op.I64DivS arrow h = given (two_operands I64 binary_op.DivS) (I64 ∷ I64 ∷ [], I64 ∷ []) arrow (two_sound I64 binary_op.DivS tt) h
-plain_sound has op.I64DivU arrow h = given (two_operands I64 binary_op.DivU) (I64 ∷ I64 ∷ [], I64 ∷ []) arrow (two_sound I64 binary_op.DivU tt) h
-plain_sound has op.I64RemS arrow h = given (two_operands I64 binary_op.RemS) (I64 ∷ I64 ∷ [], I64 ∷ []) arrow (two_sound I64 binary_op.RemS tt) h
-plain_sound has op.I64RemU arrow h = given (two_operands I64 binary_op.RemU) (I64 ∷ I64 ∷ [], I64 ∷ []) arrow (two_sound I64 binary_op.RemU tt) h
-plain_sound has op.I64And arrow h = given (two_operands I64 binary_op.And) (I64 ∷ I64 ∷ [], I64 ∷ []) arrow (two_sound I64 binary_op.And tt) h
-plain_sound has op.I64Or arrow h = given (two_operands I64 binary_op.Or) (I64 ∷ I64 ∷ [], I64 ∷ []) arrow (two_sound I64 binary_op.Or tt) h
-plain_sound has op.I64Xor arrow h = given (two_operands I64 binary_op.Xor) (I64 ∷ I64 ∷ [], I64 ∷ []) arrow (two_sound I64 binary_op.Xor tt) h
-plain_sound has op.I64Shl arrow h = given (two_operands I64 binary_op.Shl) (I64 ∷ I64 ∷ [], I64 ∷ []) arrow (two_sound I64 binary_op.Shl tt) h
-plain_sound has op.I64ShrS arrow h = given (two_operands I64 binary_op.ShrS) (I64 ∷ I64 ∷ [], I64 ∷ []) arrow (two_sound I64 binary_op.ShrS tt) h
-plain_sound has op.I64ShrU arrow h = given (two_operands I64 binary_op.ShrU) (I64 ∷ I64 ∷ [], I64 ∷ []) arrow (two_sound I64 binary_op.ShrU tt) h
-plain_sound has op.I64Rotl arrow h = given (two_operands I64 binary_op.Rotl) (I64 ∷ I64 ∷ [], I64 ∷ []) arrow (two_sound I64 binary_op.Rotl tt) h
-plain_sound has op.I64Rotr arrow h = given (two_operands I64 binary_op.Rotr) (I64 ∷ I64 ∷ [], I64 ∷ []) arrow (two_sound I64 binary_op.Rotr tt) h
-plain_sound has op.I32WrapI64 arrow h = given (conversion I64 (λ a. val.I32 (a % 2 ^ 32))) (I64 ∷ [], I32 ∷ []) arrow (conversion_sound I64 I32 (λ a. val.I32 (a % 2 ^ 32)) tt (λ n. refl)) h
-plain_sound has op.I64ExtendI32S arrow h = given (conversion I32 (λ a. val.I64 (extended 32 64 a))) (I32 ∷ [], I64 ∷ []) arrow (conversion_sound I32 I64 (λ a. val.I64 (extended 32 64 a)) tt (λ n. refl)) h
-plain_sound has op.I64ExtendI32U arrow h = given (conversion I32 val.I64) (I32 ∷ [], I64 ∷ []) arrow (conversion_sound I32 I64 val.I64 tt (λ n. refl)) h
-plain_sound has op.I32Extend8S arrow h = given (conversion I32 (λ a. val.I32 (extended 8 32 a))) (I32 ∷ [], I32 ∷ []) arrow (conversion_sound I32 I32 (λ a. val.I32 (extended 8 32 a)) tt (λ n. refl)) h
-plain_sound has op.I32Extend16S arrow h = given (conversion I32 (λ a. val.I32 (extended 16 32 a))) (I32 ∷ [], I32 ∷ []) arrow (conversion_sound I32 I32 (λ a. val.I32 (extended 16 32 a)) tt (λ n. refl)) h
-plain_sound has op.I64Extend8S arrow h = given (conversion I64 (λ a. val.I64 (extended 8 64 a))) (I64 ∷ [], I64 ∷ []) arrow (conversion_sound I64 I64 (λ a. val.I64 (extended 8 64 a)) tt (λ n. refl)) h
-plain_sound has op.I64Extend16S arrow h = given (conversion I64 (λ a. val.I64 (extended 16 64 a))) (I64 ∷ [], I64 ∷ []) arrow (conversion_sound I64 I64 (λ a. val.I64 (extended 16 64 a)) tt (λ n. refl)) h
-plain_sound has op.I64Extend32S arrow h = given (conversion I64 (λ a. val.I64 (extended 32 64 a))) (I64 ∷ [], I64 ∷ []) arrow (conversion_sound I64 I64 (λ a. val.I64 (extended 32 64 a)) tt (λ n. refl)) h
-plain_sound has o arrow h = absurd (cc h)
+plain_sound has op.Unreachable arrow h = absurd (cc h)
+plain_sound has op.Nop arrow h = absurd (cc h)
+plain_sound has op.Drop arrow h = absurd (cc h)
+plain_sound has op.Select arrow h = absurd (cc h)
+plain_sound has (op.LocalGet i) arrow h = absurd (cc h)
+plain_sound has (op.LocalSet i) arrow h = absurd (cc h)
+plain_sound has (op.LocalTee i) arrow h = absurd (cc h)
+plain_sound has o arrow h = row_sound has (row o) arrow h
