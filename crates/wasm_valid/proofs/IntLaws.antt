@@ -10,6 +10,8 @@ use Rattle.w4_defs.specs.declared.value.ValType.TheVariants.{I32, I64, F32, F64}
 use Rattle.w4_defs.specs.declared.value.GlobalType.{GlobalType}
 use Rattle.w4_defs.specs.declared.operation.Op.{Op}
 use Rattle.w4_defs.specs.declared.operation.Op.TheVariants as op
+use Rattle.w4_defs.specs.declared.instruction_table.IntegerType.{IntegerType}
+use Rattle.w4_defs.specs.declared.instruction_table.IntegerType.TheVariants as integer
 use Rattle.w4_defs.specs.declared.instruction_table.Row.{Row}
 use Rattle.w4_defs.specs.declared.instruction_table.Row.TheVariants as shape
 use Rattle.w4_defs.specs.InstructionTable.{value_type, row}
@@ -20,7 +22,6 @@ use Rattle.w4_defs.specs.Floats.{is_float_result}
 use Rattle.w4_defs.specs.OperandTypes.{Arrow, arrow_if, row_type, gives, unary}
 use Rattle.w4_defs.specs.Typing.{Context, with_label, result_types, IsInt, AreInt, only_type, consumes, sets, branches, calls, calls_indirectly}
 use Rattle.w4_defs.specs.Shape.{Kind, agrees, agree, below, below_all, topmost, common_kind}
-use Rattle.w4_defs.proofs.PlainSound.{is_int}
 use Rattle.wasm_valid.specs.ShapeLaw.{HasNoFloat, IsIntKind, AreIntKinds}
 use Rattle.wasm_valid.proofs.KindLaws.{then_some, if_some}
 
@@ -122,6 +123,10 @@ int_if : (b : Bool) (taken given : List ValType) → AreInt taken → AreInt giv
     → IsIntArrow (arrow_if b taken given)
 int_if true taken given h g = (h, g)
 int_if false taken given h g = tt
+
+is_int : (t : IntegerType) → IsInt (value_type t)
+is_int integer.I32 = tt
+is_int integer.I64 = tt
 
 row_int : (has : Bool) (r : Row) → IsIntArrow (row_type has r)
 row_int has (shape.Const t n) = (tt, (is_int t, tt))
