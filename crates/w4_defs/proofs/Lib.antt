@@ -18,6 +18,8 @@ pub mod ToneLaws
 pub mod FrameLaws
 pub mod ReadingLaws
 pub mod RecordingLaws
+pub mod LineLaws
+pub mod ScriptLaws
 pub mod Faults
 pub mod GlobalTypes
 pub mod EmptyCartCount
