@@ -64,6 +64,7 @@ pub mod FrameTexts
 -- files
 pub mod Reading
 pub mod Recording
+pub mod Lines
 pub mod Script
 -- worked cases and laws
 pub mod WorkedNumbers

@@ -6,6 +6,7 @@
 pub mod console;
 pub mod console_laws;
 pub mod drawing;
+pub mod encoded;
 pub mod evaluation_laws;
 pub mod instruction;
 pub mod instruction_table;
@@ -18,7 +19,6 @@ pub mod order;
 pub mod page;
 pub mod picture;
 pub mod refusal;
-pub mod spelled;
 pub mod steps;
 pub mod value;
 
