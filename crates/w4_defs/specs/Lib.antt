@@ -64,6 +64,13 @@ pub mod FrameTexts
 pub mod Reading
 pub mod Recording
 pub mod Script
+-- made carts, netplay, memory search, batches, sound
+pub mod Generator
+pub mod MadeSummary
+pub mod Rollback
+pub mod Search
+pub mod Batch
+pub mod Sound
 -- worked cases and laws
 pub mod WorkedNumbers
 pub mod EmptyCart
