@@ -27,3 +27,4 @@ pub mod PlainSound
 pub mod RollbackLaws
 pub mod SearchLaws
 pub mod SoundLaws
+pub mod GeneratorLaws

@@ -67,6 +67,7 @@ pub mod Script
 -- made carts, netplay, memory search, batches, sound
 pub mod Generator
 pub mod MadeSummary
+pub mod MadeLaws
 pub mod Rollback
 pub mod Search
 pub mod Batch

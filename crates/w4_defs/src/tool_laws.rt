@@ -1,8 +1,10 @@
 //! What the definitions of made carts, netplay, memory search, batches and sound promise, as contracts of
 //! functions that do nothing.
 
+
 ghost use Rattle.w4_defs.specs.Batch.{BatchCases};
 ghost use Rattle.w4_defs.specs.Generator.{GeneratorCases};
+ghost use Rattle.w4_defs.specs.MadeLaws.{DrawsAreSmall, MadeInputsAreCounted, MadeModulesAreAccepted};
 ghost use Rattle.w4_defs.specs.MadeSummary.{SummaryCase};
 ghost use Rattle.w4_defs.specs.Rollback.{NothingPredictsZero, PredictionIsLatest, RollbackCases, SamePacketsSameInputs, SamePacketsSameKnown};
 ghost use Rattle.w4_defs.specs.Search.{LeftIsNarrowed, SearchCases};
@@ -35,4 +37,11 @@ pub fn rollback_laws()
 /// Silent channels give zeros.
 pub fn sound_laws()
     ensures { SilenceIsZeros }
+{}
+
+/// The made cart is accepted, whatever its number.
+pub fn generator_laws()
+    ensures accepted { MadeModulesAreAccepted }
+    ensures draws { DrawsAreSmall }
+    ensures inputs { MadeInputsAreCounted }
 {}
