@@ -68,8 +68,11 @@ pub mod Script
 pub mod Generator
 pub mod MadeSummary
 pub mod MadeLaws
+pub mod OrderWords
 pub mod Rollback
+pub mod NetLog
 pub mod Search
+pub mod RamQuery
 pub mod Batch
 pub mod Sound
 -- worked cases and laws

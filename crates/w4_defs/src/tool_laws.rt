@@ -1,11 +1,12 @@
 //! What the definitions of made carts, netplay, memory search, batches and sound promise, as contracts of
 //! functions that do nothing.
 
-
 ghost use Rattle.w4_defs.specs.Batch.{BatchCases};
 ghost use Rattle.w4_defs.specs.Generator.{GeneratorCases};
 ghost use Rattle.w4_defs.specs.MadeLaws.{DrawsAreSmall, MadeInputsAreCounted, MadeModulesAreAccepted};
 ghost use Rattle.w4_defs.specs.MadeSummary.{SummaryCase};
+ghost use Rattle.w4_defs.specs.NetLog.{BadNetOrderCases, NetOrderCases};
+ghost use Rattle.w4_defs.specs.RamQuery.{AskCases, BadAskCases};
 ghost use Rattle.w4_defs.specs.Rollback.{NothingPredictsZero, PredictionIsLatest, RollbackCases, SamePacketsSameInputs, SamePacketsSameKnown};
 ghost use Rattle.w4_defs.specs.Search.{LeftIsNarrowed, SearchCases};
 ghost use Rattle.w4_defs.specs.Sound.{HeaderCase, SampleCases, SilenceIsZeros};
@@ -44,4 +45,12 @@ pub fn generator_laws()
     ensures accepted { MadeModulesAreAccepted }
     ensures draws { DrawsAreSmall }
     ensures inputs { MadeInputsAreCounted }
+{}
+
+/// A line of each kind, and ways in which a line is bad.
+pub fn order_cases()
+    ensures log { NetOrderCases }
+    ensures bad_log { BadNetOrderCases }
+    ensures query { AskCases }
+    ensures bad_query { BadAskCases }
 {}
