@@ -28,3 +28,7 @@ pub mod EmptyCartCount
 pub mod ClearLaws
 pub mod ViewLaws
 pub mod PlainSound
+pub mod RollbackLaws
+pub mod SearchLaws
+pub mod SoundLaws
+pub mod GeneratorLaws

@@ -66,6 +66,17 @@ pub mod Reading
 pub mod Recording
 pub mod Lines
 pub mod Script
+-- made carts, netplay, memory search, batches, sound
+pub mod Generator
+pub mod MadeSummary
+pub mod MadeLaws
+pub mod OrderWords
+pub mod Rollback
+pub mod NetLog
+pub mod Search
+pub mod RamQuery
+pub mod Batch
+pub mod Sound
 -- worked cases and laws
 pub mod WorkedNumbers
 pub mod EmptyCart

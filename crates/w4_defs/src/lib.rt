@@ -3,23 +3,27 @@
 //! the rule is this project's. The definitions themselves are in `specs/`, one file a subject.
 #![tactic(auto)]
 
+pub mod batch;
 pub mod console;
 pub mod console_laws;
 pub mod drawing;
 pub mod encoded;
 pub mod evaluation_laws;
+pub mod inspect;
 pub mod instruction;
 pub mod instruction_table;
 pub mod integer;
 pub mod laws_module;
 pub mod memory;
 pub mod module;
+pub mod netplay;
 pub mod operation;
 pub mod order;
 pub mod page;
 pub mod picture;
 pub mod refusal;
 pub mod steps;
+pub mod tool_laws;
 pub mod value;
 
 pub use console::{Halt, Import, Input, Sound, TextSource, Tone, Voice};

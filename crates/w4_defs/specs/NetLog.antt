@@ -1,0 +1,64 @@
+-- The lines of a log (project rule), in which a session of rollback is written down. P is a place, a number:
+--   pad PLAYER FRAME BYTE      PLAYER and BYTE 0 to 255, FRAME a number
+--   next
+--   keep P, show P, state P
+-- Anything else makes a line bad.
+use Rattle.std.specs.Prelude.{◌≡◌, ℕ, List, [], ◌∷◌, codes, bytes_eq, if◌then◌else◌, Option, Some, None, refl}
+use Rattle.w4_defs.specs.declared.netplay.NetOrder.{NetOrder}
+use Rattle.w4_defs.specs.declared.netplay.NetOrder.TheVariants.{Pad, Next, Keep, Show, StateAt}
+use Rattle.w4_defs.specs.Reading.{◌>>=◌}
+use Rattle.w4_defs.specs.Script.{number_of, byte_of}
+use Rattle.w4_defs.specs.OrderWords.{no_word, one_number}
+
+-- a packet of three words
+abbrev pub packet_words : List (List ℕ) → Option NetOrder
+packet_words (who ∷ when ∷ pressed ∷ []) = do
+  player ← byte_of who
+  frame ← number_of when
+  pad ← byte_of pressed
+  Some (Pad (record { player = player; frame = frame; pad = pad }))
+packet_words words = None
+
+-- the order of a name and the words after it
+unfoldable pub net_order_named : List ℕ → List (List ℕ) → Option NetOrder
+net_order_named name words =
+    if bytes_eq name (codes "pad") then packet_words words else
+    if bytes_eq name (codes "next") then no_word Next words else
+    if bytes_eq name (codes "keep") then one_number Keep words else
+    if bytes_eq name (codes "show") then one_number Show words else
+    if bytes_eq name (codes "state") then one_number StateAt words else
+    None
+
+-- the order of a line's words
+abbrev pub net_order_of : List (List ℕ) → Option NetOrder
+net_order_of [] = None
+net_order_of (name ∷ words) = net_order_named name words
+
+-- Worked cases: each kind of line, and ways to be bad
+abbrev pub NetOrderCases : Type 0
+NetOrderCases =
+    (net_order_of (codes "pad" ∷ codes "4" ∷ codes "36000" ∷ codes "255" ∷ [])
+    ≡ Some (Pad (record { player = 4; frame = 36000; pad = 255 })))
+    × (net_order_of (codes "next" ∷ []) ≡ Some Next)
+    × (net_order_of (codes "keep" ∷ codes "7" ∷ []) ≡ Some (Keep 7))
+    × (net_order_of (codes "show" ∷ codes "02" ∷ []) ≡ Some (Show 2))
+    × (net_order_of (codes "state" ∷ codes "0" ∷ []) ≡ Some (StateAt 0))
+
+abbrev pub BadNetOrderCases : Type 0
+BadNetOrderCases =
+    (net_order_of (codes "pad" ∷ codes "256" ∷ codes "0" ∷ codes "0" ∷ []) ≡ None)
+    × (net_order_of (codes "pad" ∷ codes "0" ∷ codes "0" ∷ codes "256" ∷ []) ≡ None)
+    × (net_order_of (codes "pad" ∷ codes "0" ∷ codes "0" ∷ []) ≡ None)
+    × (net_order_of (codes "pad" ∷ codes "0" ∷ codes "0" ∷ codes "0" ∷ codes "0" ∷ []) ≡ None)
+    × (net_order_of (codes "pad" ∷ codes "0" ∷ codes "-1" ∷ codes "0" ∷ []) ≡ None)
+    × (net_order_of (codes "next" ∷ codes "1" ∷ []) ≡ None)
+    × (net_order_of (codes "keep" ∷ []) ≡ None)
+    × (net_order_of (codes "drop" ∷ codes "0" ∷ []) ≡ None)
+
+pub net-order-cases : NetOrderCases
+unfolding net_order_named number_of byte_of
+net-order-cases = (refl, refl, refl, refl, refl)
+
+pub bad-net-order-cases : BadNetOrderCases
+unfolding net_order_named number_of byte_of
+bad-net-order-cases = (refl, refl, refl, refl, refl, refl, refl, refl)

@@ -1,0 +1,98 @@
+-- The lines of a query (project rule), which watches the page and searches it. ADDRESS, VALUE and the places
+-- P, A, B are numbers, and WIDTH is 1, 2 or 4:
+--   watch ADDRESS WIDTH A B        A at most B
+--   start WIDTH P
+--   is P VALUE, same P, changed P, more P, less P
+--   list
+-- Anything else makes a line bad.
+use Rattle.std.specs.Prelude.{◌≡◌, ℕ, ◌==◌, ◌||◌, nat_le, List, [], ◌∷◌, codes, bytes_eq, if◌then◌else◌, Option, Some, None, refl}
+use Rattle.w4_defs.specs.declared.inspect.Ask.{Ask}
+use Rattle.w4_defs.specs.declared.inspect.Ask.TheVariants as ask
+use Rattle.w4_defs.specs.declared.inspect.Test.{Test}
+use Rattle.w4_defs.specs.declared.inspect.Test.TheVariants.{Is, Same, Changed, More, Less}
+use Rattle.w4_defs.specs.Reading.{◌>>=◌}
+use Rattle.w4_defs.specs.Script.{number_of}
+use Rattle.w4_defs.specs.OrderWords.{no_word, one_number}
+
+-- a width
+abbrev pub width_of : List ℕ → Option ℕ
+width_of word = number_of word >>= λ n. if n == 1 || n == 2 || n == 4 then Some n else None
+
+abbrev pub watch_words : List (List ℕ) → Option Ask
+watch_words (place ∷ size ∷ first ∷ last ∷ []) = do
+  address ← number_of place
+  width ← width_of size
+  a ← number_of first
+  b ← number_of last
+  if nat_le a b then Some (ask.Watch address width a b) else None
+watch_words words = None
+
+abbrev pub start_words : List (List ℕ) → Option Ask
+start_words (size ∷ place ∷ []) = do
+  width ← width_of size
+  p ← number_of place
+  Some (ask.Start width p)
+start_words words = None
+
+abbrev pub is_words : List (List ℕ) → Option Ask
+is_words (place ∷ number ∷ []) = do
+  p ← number_of place
+  value ← number_of number
+  Some (ask.Narrow p (Is value))
+is_words words = None
+
+-- a narrowing by this test, at the place of the one word
+abbrev pub test_words : Test → List (List ℕ) → Option Ask
+test_words test words = one_number (λ p. ask.Narrow p test) words
+
+-- the request of a name and the words after it
+unfoldable pub ask_named : List ℕ → List (List ℕ) → Option Ask
+ask_named name words =
+    if bytes_eq name (codes "watch") then watch_words words else
+    if bytes_eq name (codes "start") then start_words words else
+    if bytes_eq name (codes "is") then is_words words else
+    if bytes_eq name (codes "same") then test_words Same words else
+    if bytes_eq name (codes "changed") then test_words Changed words else
+    if bytes_eq name (codes "more") then test_words More words else
+    if bytes_eq name (codes "less") then test_words Less words else
+    if bytes_eq name (codes "list") then no_word ask.List words else
+    None
+
+-- the request of a line's words
+abbrev pub ask_of : List (List ℕ) → Option Ask
+ask_of [] = None
+ask_of (name ∷ words) = ask_named name words
+
+-- Worked cases: each kind of line, and ways to be bad
+abbrev pub AskCases : Type 0
+AskCases =
+    (ask_of (codes "watch" ∷ codes "160" ∷ codes "1" ∷ codes "0" ∷ codes "2" ∷ []) ≡ Some (ask.Watch 160 1 0 2))
+    × (ask_of (codes "watch" ∷ codes "4294967295" ∷ codes "4" ∷ codes "3" ∷ codes "3" ∷ [])
+    ≡ Some (ask.Watch 4294967295 4 3 3))
+    × (ask_of (codes "start" ∷ codes "2" ∷ codes "1" ∷ []) ≡ Some (ask.Start 2 1))
+    × (ask_of (codes "is" ∷ codes "3" ∷ codes "500" ∷ []) ≡ Some (ask.Narrow 3 (Is 500)))
+    × (ask_of (codes "same" ∷ codes "3" ∷ []) ≡ Some (ask.Narrow 3 Same))
+    × (ask_of (codes "changed" ∷ codes "3" ∷ []) ≡ Some (ask.Narrow 3 Changed))
+    × (ask_of (codes "more" ∷ codes "3" ∷ []) ≡ Some (ask.Narrow 3 More))
+    × (ask_of (codes "less" ∷ codes "3" ∷ []) ≡ Some (ask.Narrow 3 Less))
+    × (ask_of (codes "list" ∷ []) ≡ Some ask.List)
+
+abbrev pub BadAskCases : Type 0
+BadAskCases =
+    (ask_of (codes "watch" ∷ codes "160" ∷ codes "3" ∷ codes "0" ∷ codes "2" ∷ []) ≡ None)
+    × (ask_of (codes "watch" ∷ codes "160" ∷ codes "1" ∷ codes "2" ∷ codes "1" ∷ []) ≡ None)
+    × (ask_of (codes "watch" ∷ codes "160" ∷ codes "1" ∷ codes "2" ∷ []) ≡ None)
+    × (ask_of (codes "start" ∷ codes "8" ∷ codes "1" ∷ []) ≡ None)
+    × (ask_of (codes "is" ∷ codes "3" ∷ codes "4294967296" ∷ []) ≡ None)
+    × (ask_of (codes "is" ∷ codes "3" ∷ []) ≡ None)
+    × (ask_of (codes "more" ∷ codes "3" ∷ codes "1" ∷ []) ≡ None)
+    × (ask_of (codes "list" ∷ codes "1" ∷ []) ≡ None)
+    × (ask_of (codes "find" ∷ []) ≡ None)
+
+pub ask-cases : AskCases
+unfolding ask_named number_of
+ask-cases = (refl, refl, refl, refl, refl, refl, refl, refl, refl)
+
+pub bad-ask-cases : BadAskCases
+unfolding ask_named number_of
+bad-ask-cases = (refl, refl, refl, refl, refl, refl, refl, refl, refl)

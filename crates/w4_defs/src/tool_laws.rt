@@ -1,0 +1,56 @@
+//! What the definitions of made carts, netplay, memory search, batches and sound promise, as contracts of
+//! functions that do nothing.
+
+ghost use Rattle.w4_defs.specs.Batch.{BatchCases};
+ghost use Rattle.w4_defs.specs.Generator.{GeneratorCases};
+ghost use Rattle.w4_defs.specs.MadeLaws.{DrawsAreSmall, MadeInputsAreCounted, MadeModulesAreAccepted};
+ghost use Rattle.w4_defs.specs.MadeSummary.{SummaryCase};
+ghost use Rattle.w4_defs.specs.NetLog.{BadNetOrderCases, NetOrderCases};
+ghost use Rattle.w4_defs.specs.RamQuery.{AskCases, BadAskCases};
+ghost use Rattle.w4_defs.specs.Rollback.{NothingPredictsZero, PredictionIsLatest, RollbackCases, SamePacketsSameInputs, SamePacketsSameKnown};
+ghost use Rattle.w4_defs.specs.Search.{LeftIsNarrowed, SearchCases};
+ghost use Rattle.w4_defs.specs.Sound.{HeaderCase, SampleCases, SilenceIsZeros};
+
+/// Worked cases, by computation.
+pub fn tool_cases()
+    ensures generator { GeneratorCases }
+    ensures summary { SummaryCase }
+    ensures header { HeaderCase }
+    ensures samples { SampleCases }
+    ensures search { SearchCases }
+    ensures rollback { RollbackCases }
+    ensures batch { BatchCases }
+{}
+
+/// What a search has left doesn't depend on how it was narrowed.
+pub fn search_laws()
+    ensures { LeftIsNarrowed }
+{}
+
+/// A prediction is the latest byte that is known.
+pub fn rollback_laws()
+    ensures latest { PredictionIsLatest }
+    ensures nothing { NothingPredictsZero }
+    ensures known { SamePacketsSameKnown }
+    ensures inputs { SamePacketsSameInputs }
+{}
+
+/// Silent channels give zeros.
+pub fn sound_laws()
+    ensures { SilenceIsZeros }
+{}
+
+/// The made cart is accepted, whatever its number.
+pub fn generator_laws()
+    ensures accepted { MadeModulesAreAccepted }
+    ensures draws { DrawsAreSmall }
+    ensures inputs { MadeInputsAreCounted }
+{}
+
+/// A line of each kind, and ways in which a line is bad.
+pub fn order_cases()
+    ensures log { NetOrderCases }
+    ensures bad_log { BadNetOrderCases }
+    ensures query { AskCases }
+    ensures bad_query { BadAskCases }
+{}
