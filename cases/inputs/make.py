@@ -57,18 +57,59 @@ def with_sections(middle, back):
     return FRONT + hexed(middle) + EXPORTS + hexed(back)
 
 
+def constant(n):
+    """i32.const."""
+    spelled = b"\x41"
+    while not -64 <= n < 64:
+        spelled += bytes([n % 128 + 128])
+        n >>= 7
+    return spelled + bytes([n % 128])
+
+
+def call(function, *arguments):
+    """A call of the import with this index, with constants."""
+    return b"".join(map(constant, arguments)) + b"\x10" + number(function)
+
+
+def store(address, instructions):
+    """i32.store of what these instructions leave."""
+    return constant(address) + instructions + hexed("36 02 00")
+
+
+def importing(functions, instructions, data=()):
+    """A cart whose `update` does this. It imports functions of `env`: each has its name and how many i32 it
+    takes and gives. `data` has addresses and the bytes that stand there at first.
+    """
+    def name(text):
+        return number(len(text)) + text.encode()
+
+    types = [hexed("60 00 00")]
+    types += [b"\x60" + number(takes) + b"\x7f" * takes + number(gives) + b"\x7f" * gives
+              for _, takes, gives in functions]
+    imports = [name("env") + name(text) + b"\x00" + number(1 + at)
+               for at, (text, _, _) in enumerate(functions)]
+    imports.append(name("env") + name("memory") + hexed("02 00 01"))
+    segments = [b"\x00" + constant(address) + b"\x0b" + number(len(held)) + held for address, held in data]
+    return PREAMBLE + b"".join([
+        section(1, number(len(types)) + b"".join(types)),
+        section(2, number(len(imports)) + b"".join(imports)),
+        section(3, hexed("01 00")),
+        section(7, b"\x01" + name("update") + b"\x00" + number(len(functions))),
+        code(b"\x00" + instructions + b"\x0b"),
+        section(11, number(len(segments)) + b"".join(segments)) if segments else b"",
+    ])
+
+
 # It stores pad 1 into the first byte of the framebuffer.
 FIRST = with_body("00 41 a0 01 41 16 2d 00 00 3a 00 00 0b")
 
 NESTED = FRONT + EXPORTS + code(b"\x00" + b"\x02\x40" * 20_000 + b"\x0b" * 20_001)
 
-# A cart that may call the tone; and 65 calls on channel 0, first frequencies 1 to 65, each one frame of
-# sustain at level 100.
-TONE_FRONT = hexed("""
-    00 61 73 6d 01 00 00 00 01 0b 02 60 00 00 60 04 7f 7f 7f 7f 00 02 1a 02 03 65 6e 76 04 74 6f 6e 65
-    00 01 03 65 6e 76 06 6d 65 6d 6f 72 79 02 00 01""")
-CALLS = [bytes([0x41, 128 + first, 0]) + hexed("41 01 41 e4 00 41 00 10 00") for first in range(1, 66)]
-MANY_TONES = b"\x00" + b"".join(CALLS) + b"\x0b"
+TONE = ("tone", 4, 0)
+DISKW = ("diskw", 2, 1)
+DISKR = ("diskr", 2, 1)
+TRACE = ("trace", 1, 0)
+TRACEF = ("tracef", 2, 0)
 
 CARTS = {
     "smallest": with_body("00 0b"),
@@ -86,6 +127,9 @@ CARTS = {
 
     # f64.const after unreachable
     "float": with_body("00 00 44 00 00 00 00 00 00 00 00 1a 0b"),
+    # i32.trunc_sat_f32_s; and memory.init, which is left out
+    "saturating-truncation": with_body("00 00 fc 00 1a 0b"),
+    "memory-init": with_body("00 fc 08 00 00 0b"),
     # i32.add after unreachable: of operands that nobody pushes, and with an i64
     "add-after-unreachable": with_body("00 00 6a 1a 0b"),
     "add-of-an-i64": with_body("00 00 42 00 6a 1a 0b"),
@@ -134,34 +178,35 @@ CARTS = {
     "copies-the-palette": with_body("00 41 05 41 04 41 03 fc 0a 00 00 0b"),
     "copy-past-the-page": with_body("00 41 fd ff 03 41 00 41 04 fc 0a 00 00 0b"),
 
-    # `A`, a newline and `B` at (0, 0) in the colors 0x0002
-    "letters": hexed("""
-        00 61 73 6d 01 00 00 00 01 0a 02 60 00 00 60 03 7f 7f 7f 00 02 1a 02 03 65 6e 76 04 74 65 78 74
-        00 01 03 65 6e 76 06 6d 65 6d 6f 72 79 02 00 01 03 02 01 00 07 0a 01 06 75 70 64 61 74 65 00 01
-        0a 0e 01 0c 00 41 80 c0 00 41 00 41 00 10 00 0b
-        0b 13 02 00 41 14 0b 02 02 00 00 41 80 c0 00 0b 04 41 0a 42 00"""),
+    # DRAW_COLORS is 0x0002; `A`, a newline and `B` at (0, 0)
+    "letters": importing(
+        [("text", 3, 0)], call(0, 0x2000, 0, 0), [(0x14, b"\x02\x00"), (0x2000, b"A\nB\x00")]),
     # `_start` calls the tone: 440 to 220 hertz, attack 4, sustain 2, release 4, volume 50
-    "one-tone": TONE_FRONT + hexed("""
+    "one-tone": hexed("""
+        00 61 73 6d 01 00 00 00 01 0b 02 60 00 00 60 04 7f 7f 7f 7f 00 02 1a 02 03 65 6e 76 04 74 6f 6e 65
+        00 01 03 65 6e 76 06 6d 65 6d 6f 72 79 02 00 01
         03 03 02 00 00 07 13 02 06 75 70 64 61 74 65 00 01 06 5f 73 74 61 72 74 00 02
         0a 17 02 02 00 0b 12 00 41 b8 83 f0 06 41 82 88 80 20 41 32 41 00 10 00 0b"""),
-    "65-tones": TONE_FRONT + hexed("03 02 01 00") + EXPORTS[:-1] + b"\x01" + code(MANY_TONES),
-    # tracef of `x=%d %x %s%%` with -5, 255 and the address of `ab`
-    "traces-a-line": hexed("""
-        00 61 73 6d 01 00 00 00 01 09 02 60 00 00 60 02 7f 7f 00 02 1c 02 03 65 6e 76 06 74 72 61 63 65 66
-        00 01 03 65 6e 76 06 6d 65 6d 6f 72 79 02 00 01 03 02 01 00 07 0a 01 06 75 70 64 61 74 65 00 01
-        0a 0e 01 0c 00 41 80 c0 00 41 90 c0 00 10 00 0b 0b 2b 01 00 41 80 c0 00 0b 23
-        78 3d 25 64 20 25 78 20 25 73 25 25 00 00 00 00 fb ff ff ff ff 00 00 00 20 20 00 00 00 00 00 00
-        61 62 00"""),
+    # first frequencies 1 to 65 on channel 0, each one frame of sustain at level 100
+    "65-tones": importing([TONE], b"".join(call(0, first, 1, 100, 0) for first in range(1, 66))),
+    # the second has no duration
+    "two-tones": importing([TONE], call(0, 440, 1, 100, 0) + call(0, 440, 0, 100, 0)),
+    # tracef with -5, 255 and the address of `ab`
+    "traces-a-line": importing(
+        [TRACEF], call(0, 0x2000, 0x2010),
+        [(0x2000, b"x=%d %x %s%%\x00"), (0x2010, struct.pack("<iII", -5, 255, 0x2020)),
+         (0x2020, b"ab\x00")]),
+    "33-traces": importing([TRACE], call(0, 0x2000) * 33, [(0x2000, b"a\x00")]),
     # diskw of 2,000 bytes at 8,192, where `abc` stands
-    "writes-a-long-disk": hexed("""
-        00 61 73 6d 01 00 00 00 01 0a 02 60 00 00 60 02 7f 7f 01 7f 02 1b 02 03 65 6e 76 05 64 69 73 6b 77
-        00 01 03 65 6e 76 06 6d 65 6d 6f 72 79 02 00 01 03 02 01 00 07 0a 01 06 75 70 64 61 74 65 00 01
-        0a 0e 01 0c 00 41 80 c0 00 41 d0 0f 10 00 1a 0b 0b 0b 01 00 41 80 c0 00 0b 03 61 62 63"""),
+    "writes-a-long-disk": importing([DISKW], call(0, 0x2000, 2_000) + b"\x1a", [(0x2000, b"abc")]),
     # diskw of 100 bytes at 65,530
-    "writes-a-disk-at-the-end": hexed("""
-        00 61 73 6d 01 00 00 00 01 0a 02 60 00 00 60 02 7f 7f 01 7f 02 1b 02 03 65 6e 76 05 64 69 73 6b 77
-        00 01 03 65 6e 76 06 6d 65 6d 6f 72 79 02 00 01 03 02 01 00 07 0a 01 06 75 70 64 61 74 65 00 01
-        0a 0e 01 0c 00 41 fa ff 03 41 e4 00 10 00 1a 0b"""),
+    "writes-a-disk-at-the-end": importing([DISKW], call(0, 65_530, 100) + b"\x1a"),
+    # diskw of 2,000 bytes at 8,192, diskr of 8 at 12,288, diskw of 100 at 65,530; their answers are traced
+    "counts-of-the-disk": importing(
+        [DISKW, DISKR, TRACEF],
+        store(0x2800, call(0, 0x2000, 2_000)) + store(0x2804, call(1, 0x3000, 8))
+        + store(0x2808, call(0, 65_530, 100)) + call(2, 0x2900, 0x2800),
+        [(0x2900, b"%d %d %d\x00")]),
 }
 
 # A cart up to its bodies. Its types are [] to [], [i32 i64] to [i32] and [] to [i64]. It has a function of
@@ -354,6 +399,9 @@ RECORDINGS = {
     "letters": recording("letters", 100_000, [0]),
     "one-tone": recording("one-tone", 100_000, [0] * 10),
     "65-tones": recording("65-tones", 100_000, [0]),
+    "two-tones": recording("two-tones", 100_000, [0]),
+    "33-traces": recording("33-traces", 100_000, [0]),
+    "counts-of-the-disk": recording("counts-of-the-disk", 100_000, [0], b"xyz"),
     "traces-a-line": recording("traces-a-line", 100_000, [0]),
     "writes-a-long-disk": recording("writes-a-long-disk", 100_000, [0], b"xyz"),
     "writes-a-disk-at-the-end": recording("writes-a-disk-at-the-end", 100_000, [0], b"xyz"),

@@ -55,3 +55,6 @@ write("six-zeros.disk", bytes(6))
 # last one sounds.
 lines = [f"tone 0 {first} 0 0 0 1 0 100 100 0 0 0" for first in range(1, 65)]
 write("65-tones.txt", "\n".join(["frame 0", "frame 1", *lines, "dropped 1", "sound 0 100 65", ""]).encode())
+
+# 33 traces of `a` in a frame.
+write("33-traces.txt", b"frame 0\nframe 1\n" + b"trace a\n" * 32 + b"dropped 1\n")
