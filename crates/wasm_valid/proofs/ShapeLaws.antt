@@ -157,7 +157,7 @@ begins c (if_else r inner other rest) s outs n f k i h =
       joined_int g.0 (I32 ∷ []) (under_int q.0 g.0 (result_types r) g.1 q.1) (tt, tt),
       taken_stands (I32 ∷ []) s m.0 g.0 m.1 g.2,
       else_led c r inner other rest g.0 outs held held_other
-      (led c rest outs q.0 (g.0 ++ result_types r) g.1 q.3),
+          (led c rest outs q.0 (g.0 ++ result_types r) g.1 q.3),
     )
 
 -- the other way: the shape after a list stands for where it leads
