@@ -57,6 +57,13 @@ led c e outs ins same h t = subst (λ x. HasType c e x outs) h t
 under_int : (outs ts us : List ValType) → outs ≡ ts ++ us → AreInt outs → AreInt ts
 under_int outs ts us h i = left_int ts us (subst AreInt h i)
 
+-- an if with an else leads where the list after it does
+else_led : (c : Context) (r : Option ValType) (inner other rest : Expr) (ts outs : List ValType)
+    → HasType (with_label (result_types r) c) inner [] (result_types r)
+    → HasType (with_label (result_types r) c) other [] (result_types r)
+    → HasType c rest (ts ++ result_types r) outs → HasType c (if_else r inner other rest) (ts ++ I32 ∷ []) outs
+else_led c r inner other rest ts outs held held_other t = (ts, refl, held, held_other, t)
+
 -- what the shape after a list stands for, the list leads to from types for which the shape before it stands
 pub begins : (c : Context) (e : Expr) (s : Shape) (outs : List ValType) → HasNoFloat c → has_float e ≡ false
     → AreIntKinds s.kinds → AreInt outs
@@ -149,7 +156,8 @@ begins c (if_else r inner other rest) s outs n f k i h =
       g.0 ++ I32 ∷ [],
       joined_int g.0 (I32 ∷ []) (under_int q.0 g.0 (result_types r) g.1 q.1) (tt, tt),
       taken_stands (I32 ∷ []) s m.0 g.0 m.1 g.2,
-      (g.0, refl, held, held_other, led c rest outs q.0 (g.0 ++ result_types r) g.1 q.3),
+      else_led c r inner other rest g.0 outs held held_other
+          (led c rest outs q.0 (g.0 ++ result_types r) g.1 q.3),
     )
 
 -- the other way: the shape after a list stands for where it leads
