@@ -1,11 +1,14 @@
 //! What no clause says: that a machine is had, and that the clauses mean the ending, the page and the host
 //! of a small run.
 
-ghost use Rattle.std.specs.Prelude.{◌≡◌, slice_index};
+ghost use Rattle.std.specs.Prelude.{◌≡◌, IfSome, Some, slice_index};
+ghost use Rattle.w4_defs.specs.Lookup.{signature_of};
+ghost use Rattle.wasm_valid.specs.Carts.{nothing};
 
 use crate::{Ending, Machine};
+use std::alloc::Global;
 use std::test::Fail;
-use w4_defs::{Import, PageBytes};
+use w4_defs::{Import, PageBytes, Val};
 use wasm_link::check_profile;
 use wasm_page::Page;
 use wasm_read::read_module;
@@ -37,9 +40,23 @@ impl Host for Writer {
     fn call(&mut self, name: Import, args: &[u32], page: &mut PageBytes) -> Option<u32> {
         page[(at(args, 1) % 65_536) as usize] = (at(args, 2) % 256) as u8;
         match name {
+            Import::Blit => None,
+            Import::BlitSub => None,
+            Import::Line => None,
+            Import::Hline => None,
+            Import::Vline => None,
+            Import::Oval => None,
+            Import::Rect => None,
+            Import::Text => None,
+            Import::TextUtf8 => None,
+            Import::TextUtf16 => None,
+            Import::Tone => None,
             Import::Diskr => Some(0),
             Import::Diskw => Some(0),
-            _ => None,
+            Import::Trace => None,
+            Import::TraceUtf8 => None,
+            Import::TraceUtf16 => None,
+            Import::Tracef => None,
         }
     }
 
@@ -62,24 +79,49 @@ const CART: &[u8] = b"\0asm\x01\0\0\0\x01\x0a\x02\x60\0\0\x60\x03\x7f\x7f\x7f\0\
     \x07\x0a\x01\x06update\0\x01\
     \x0a\x13\x01\x11\0\x41\0\x41\x07\x3a\0\0\x41\x05\x41\x03\x41\x09\x10\0\x0b";
 
-/// How `update` ends under a budget. None where the cart has globals.
-fn ended(machine: &mut Machine, cart: &Cart, page: &mut Page, budget: u32) -> Option<Ending> {
-    if cart.code().global_count() > 0 {
+/// The cart that bytes spell, if they spell one.
+fn cart_of(alloc: Global, bytes: &[u8]) -> Option<Cart> {
+    let Ok(code) = read_module(alloc, bytes) else {
+        return None;
+    };
+    match check_profile(&code) {
+        Ok(()) => match validate(alloc, code) {
+            Ok(cart) => Some(cart),
+            Err(_) => None,
+        },
+        Err(_) => None,
+    }
+}
+
+/// The function that is `update`.
+fn update_of(cart: &Cart) -> Option<u32>
+    ensures { IfSome result (λ f. signature_of cart.now f ≡ Some nothing) }
+{
+    cart.entry(Entry::Update)
+}
+
+/// How `update` of the cart ends under a budget. None where the bytes spell no cart without globals.
+fn ended(alloc: Global, machine: &mut Machine, page: &mut Page, budget: u32) -> Option<Ending> {
+    let Some(cart) = cart_of(alloc, CART) else {
+        return None;
+    };
+    let code = cart.code();
+    if code.global_count() > 0 {
         return None;
     }
-    let update = cart.entry(Entry::Update)?;
-    Some(machine.invoke(cart, update, page, &mut [], &mut Writer, budget))
+    let mut globals: [Val; 0] = [];
+    let Some(func) = update_of(&cart) else {
+        return None;
+    };
+    Some(machine.invoke(&cart, func, page, &mut globals, &mut Writer, budget))
 }
 
 #[test]
 fn update_runs_to_its_end(rt: HostRuntime) -> Result<(), Fail> {
-    let code = read_module(rt.alloc(), CART)?;
-    assert!(rt; check_profile(&code).is_ok());
-    let cart = validate(rt.alloc(), code)?;
     let mut machine = Machine::new(rt.alloc())?;
     let mut page = Page::new(rt.alloc())?;
-    // Seven instructions, and the weight 5.
-    let ending = ended(&mut machine, &cart, &mut page, 13);
+    // seven instructions, and the weight 5
+    let ending = ended(rt.alloc(), &mut machine, &mut page, 13);
     assert_eq!(rt; ending, Some(Ending::Done { rest: 1 }));
     assert_eq!(rt; (page.bytes()[0], page.bytes()[3]), (7, 9));
     Ok(())

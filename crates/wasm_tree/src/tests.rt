@@ -101,9 +101,23 @@ impl Host for Still {
 
     fn call(&mut self, name: Import, _args: &[u32], _page: &mut PageBytes) -> Option<u32> {
         match name {
+            Import::Blit => None,
+            Import::BlitSub => None,
+            Import::Line => None,
+            Import::Hline => None,
+            Import::Vline => None,
+            Import::Oval => None,
+            Import::Rect => None,
+            Import::Text => None,
+            Import::TextUtf8 => None,
+            Import::TextUtf16 => None,
+            Import::Tone => None,
             Import::Diskr => Some(0),
             Import::Diskw => Some(0),
-            _ => None,
+            Import::Trace => None,
+            Import::TraceUtf8 => None,
+            Import::TraceUtf16 => None,
+            Import::Tracef => None,
         }
     }
 
