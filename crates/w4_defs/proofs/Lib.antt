@@ -20,6 +20,7 @@ pub mod ReadingLaws
 pub mod RecordingLaws
 pub mod LineLaws
 pub mod ScriptLaws
+pub mod SameStateLaws
 pub mod Faults
 pub mod GlobalTypes
 pub mod EmptyCartCount

@@ -65,6 +65,11 @@ pub mod Reading
 pub mod Recording
 pub mod Lines
 pub mod Script
+-- editing
+pub mod Session
+pub mod SameState
+pub mod KeptList
+pub mod WorkedSessions
 -- worked cases and laws
 pub mod WorkedNumbers
 pub mod EmptyCart

@@ -6,6 +6,8 @@
 pub mod console;
 pub mod console_laws;
 pub mod drawing;
+pub mod editing;
+pub mod editing_laws;
 pub mod encoded;
 pub mod evaluation_laws;
 pub mod instruction;
@@ -22,6 +24,7 @@ pub mod steps;
 pub mod value;
 
 pub use console::{Halt, Import, Input, Sound, TextSource, Tone, Voice};
+pub use editing::EditRefusal;
 pub use instruction::Instr;
 pub use integer::{Binary, Compare, Unary};
 pub use memory::OutOfMemory;
