@@ -21,6 +21,8 @@ pub mod RecordingLaws
 pub mod LineLaws
 pub mod ScriptLaws
 pub mod SameStateLaws
+pub mod SessionLaws
+pub mod PlaceLaws
 pub mod Faults
 pub mod GlobalTypes
 pub mod EmptyCartCount

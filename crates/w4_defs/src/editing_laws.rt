@@ -1,6 +1,14 @@
 //! Laws and worked cases of editing.
 
 ghost use Rattle.w4_defs.specs.SameState.{SameStateDecides};
+ghost use Rattle.w4_defs.specs.Session.{
+  HistoryStaysBounded,
+  UndoTakesBack,
+  RedoTakesBack,
+  UndoTakesBackRedo,
+  PlacesDecide,
+};
+ghost use Rattle.w4_defs.specs.KeptList.{Entry, entries};
 ghost use Rattle.w4_defs.specs.WorkedSessions.{
   DeletedCase,
   InputCases,
@@ -16,6 +24,19 @@ ghost use Rattle.w4_defs.specs.WorkedSessions.{
 /// The test of two states decides their equality.
 pub fn states_are_compared()
     ensures { SameStateDecides }
+{}
+
+/// Undo and redo take each other back, and both histories together have at most 32 drafts.
+pub fn histories_are_kept()
+    ensures bounded { HistoryStaysBounded Entry }
+    ensures undo { UndoTakesBack Entry }
+    ensures redo { RedoTakesBack Entry }
+    ensures redone { UndoTakesBackRedo Entry }
+{}
+
+/// A session of entries has the places and the refusals of the session of places alone.
+pub fn places_decide()
+    ensures { PlacesDecide entries }
 {}
 
 /// Sessions whose kept things are places alone.
