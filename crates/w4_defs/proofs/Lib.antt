@@ -23,6 +23,7 @@ pub mod ScriptLaws
 pub mod SameStateLaws
 pub mod SessionLaws
 pub mod PlaceLaws
+pub mod KeptListLaws
 pub mod Faults
 pub mod GlobalTypes
 pub mod EmptyCartCount

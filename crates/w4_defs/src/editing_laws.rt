@@ -8,7 +8,7 @@ ghost use Rattle.w4_defs.specs.Session.{
   UndoTakesBackRedo,
   PlacesDecide,
 };
-ghost use Rattle.w4_defs.specs.KeptList.{Entry, entries};
+ghost use Rattle.w4_defs.specs.KeptList.{Entry, LinkedIsRun, UnlinksOne, entries};
 ghost use Rattle.w4_defs.specs.WorkedSessions.{
   DeletedCase,
   InputCases,
@@ -37,6 +37,16 @@ pub fn histories_are_kept()
 /// A session of entries has the places and the refusals of the session of places alone.
 pub fn places_decide()
     ensures { PlacesDecide entries }
+{}
+
+/// An entry whose link and all earlier links are set has the state of a run from reset.
+pub fn linked_entries_are_of_the_run()
+    ensures { LinkedIsRun }
+{}
+
+/// An edit unlinks one entry at most, the first above its input.
+pub fn edits_unlink_one()
+    ensures { UnlinksOne }
 {}
 
 /// Sessions whose kept things are places alone.
