@@ -1,12 +1,13 @@
--- What a chain of links says, and what an edit unlinks.
+-- What a chain of links says, what an edit unlinks, and the places of a consistent kept list.
 use Rattle.std.proofs.Common.{◌≡◌, ℕ, zero, suc, ◌+◌, ◌-◌, ◌<◌, ◌≤◌, Bool, true, false, cond, not, ltb, List, [], ◌∷◌, length, take, drop, Option, Some, None, option_map, refl, sym, ap, ◌∙◌, subst, arith, add-one}
 use Rattle.std.specs.Option.{option_and_then}
+use Rattle.std.proofs.lemmas.List.{length-map}
 use Rattle.w4_defs.specs.declared.console.Input.{Input}
 use Rattle.w4_defs.specs.State.{State, Moment}
 use Rattle.w4_defs.specs.Reset.{Setup, reset}
 use Rattle.w4_defs.specs.Run.{fold, run, run_state}
-use Rattle.w4_defs.specs.Session.{unlink_above}
-use Rattle.w4_defs.specs.KeptList.{Entry, entries, place_at, state_at, linked_at, first_above, computed, IsConsistent, LinkedIsRun, unlinked_at, UnlinksOne}
+use Rattle.w4_defs.specs.Session.{Rise, unlink_above}
+use Rattle.w4_defs.specs.KeptList.{Entry, entries, place_at, places_of, state_at, linked_at, first_above, computed, IsConsistent, ConsistentPlaces, LinkedIsRun, unlinked_at, UnlinksOne}
 use Rattle.w4_defs.proofs.RunLaws.{runs_between}
 
 -- ---- linked entries
@@ -54,3 +55,34 @@ unlinks_one p [] = refl
 unlinks_one p (x ∷ kept) =
     ap (λ rest. cond (ltb p x.place) (entries.unlinked x ∷ kept) (x ∷ rest)) (unlinks_one p kept)
     ∙ unlinks_here (ltb p x.place) (first_above p kept) x kept
+
+-- ---- places
+
+-- entries that rise by index
+abbrev Rising : List Entry → Type 0
+Rising kept = (i : ℕ) → i + 1 < length kept → place_at kept i < place_at kept (i + 1)
+
+rising_after : (x : Entry) (kept : List Entry) → Rising (x ∷ kept) → Rising kept
+rising_after x kept rising i h =
+    let next : suc i + 1 ≡ suc (i + 1) = omega arith in
+    subst (λ j. place_at kept i < place_at (x ∷ kept) j) next (rising (suc i) (omega arith))
+
+-- then they rise one after another
+rise_on : (n from : ℕ) (kept : List Entry) → ((i : ℕ) → i < length kept → place_at kept i ≤ n) → from ≤ n
+    → (0 < length kept → from < place_at kept 0) → Rising kept
+    → Rise from n (places_of kept)
+rise_on n from [] within le first rising = le
+rise_on n from (x ∷ kept) within le first rising =
+    (first (omega arith),
+      rise_on n x.place kept (λ i h. within (suc i) (omega arith)) (within 0 (omega arith))
+      (λ some. rising 0 (omega arith))
+      (rising_after x kept rising))
+
+pub consistent_places : ConsistentPlaces
+consistent_places setup disk inputs [] is = absurd (omega (arith, is.some))
+consistent_places setup disk inputs (x ∷ kept) is =
+    let same : x.place ≡ 0 = is.first_place in
+    let rise = rise_on (length inputs) x.place kept (λ i h. is.within (suc i) (omega arith)) (is.within 0 (omega arith))
+    (λ some. is.rising 0 (omega arith))
+    (rising_after x kept is.rising) in
+    (same, subst (λ from. Rise from (length inputs) (places_of kept)) same rise, omega (arith, is.few, length-map kept (λ (e : Entry). e.place)))

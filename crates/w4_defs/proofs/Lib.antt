@@ -24,6 +24,7 @@ pub mod SameStateLaws
 pub mod SessionLaws
 pub mod PlaceLaws
 pub mod KeptListLaws
+pub mod RisingLaws
 pub mod Faults
 pub mod GlobalTypes
 pub mod EmptyCartCount

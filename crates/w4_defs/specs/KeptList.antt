@@ -10,7 +10,7 @@ use Rattle.w4_defs.specs.State.{State, blank_state}
 use Rattle.w4_defs.specs.SameState.{same_state}
 use Rattle.w4_defs.specs.Reset.{Setup, reset}
 use Rattle.w4_defs.specs.Run.{fold, run_state}
-use Rattle.w4_defs.specs.Session.{Kind, Draft, Session, unlink_above, without}
+use Rattle.w4_defs.specs.Session.{Kind, ArePlaces, Draft, Session, unlink_above, without}
 
 pub record Entry : Type 0 where
   pub place : ℕ
@@ -152,3 +152,8 @@ show_frames p old new = doubtful old new (last_up_to p old) + (p - place_at old 
 -- and how many a settling of all entries
 abbrev pub settle_frames : List Entry → List Entry → ℕ
 settle_frames old new = doubtful old new (length old - 1)
+
+-- the places of a consistent kept list are kept places of the recording
+abbrev pub ConsistentPlaces : Type 0
+ConsistentPlaces = (setup : Setup) (disk : List ℕ) (inputs : List Input) (kept : List Entry) → IsConsistent setup disk inputs kept
+    → ArePlaces (length inputs) (places_of kept)

@@ -7,8 +7,9 @@ ghost use Rattle.w4_defs.specs.Session.{
   RedoTakesBack,
   UndoTakesBackRedo,
   PlacesDecide,
+  PlacesStayRight,
 };
-ghost use Rattle.w4_defs.specs.KeptList.{Entry, LinkedIsRun, UnlinksOne, entries};
+ghost use Rattle.w4_defs.specs.KeptList.{ConsistentPlaces, Entry, LinkedIsRun, UnlinksOne, entries};
 ghost use Rattle.w4_defs.specs.WorkedSessions.{
   DeletedCase,
   InputCases,
@@ -37,6 +38,13 @@ pub fn histories_are_kept()
 /// A session of entries has the places and the refusals of the session of places alone.
 pub fn places_decide()
     ensures { PlacesDecide entries }
+{}
+
+/// Kept places rise from place 0 within the recording, after each edit, keep and drop too; so do those of
+/// a consistent kept list.
+pub fn places_stay_right()
+    ensures stay { PlacesStayRight }
+    ensures consistent { ConsistentPlaces }
 {}
 
 /// An entry whose link and all earlier links are set has the state of a run from reset.
