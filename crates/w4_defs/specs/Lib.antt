@@ -66,6 +66,7 @@ pub mod Reading
 pub mod Recording
 pub mod Lines
 pub mod Script
+<<<<<<< HEAD
 -- made carts, netplay, memory search, batches, sound
 pub mod Generator
 pub mod MadeSummary
@@ -77,6 +78,13 @@ pub mod Search
 pub mod RamQuery
 pub mod Batch
 pub mod Sound
+=======
+-- editing
+pub mod Session
+pub mod SameState
+pub mod KeptList
+pub mod WorkedSessions
+>>>>>>> 6274d6bfe8104c3b5a74d988ea8f4fcbf8dec3a4
 -- worked cases and laws
 pub mod WorkedNumbers
 pub mod EmptyCart
