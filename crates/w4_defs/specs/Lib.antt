@@ -66,7 +66,11 @@ pub mod Reading
 pub mod Recording
 pub mod Lines
 pub mod Script
-<<<<<<< HEAD
+-- editing
+pub mod Session
+pub mod SameState
+pub mod KeptList
+pub mod WorkedSessions
 -- made carts, netplay, memory search, batches, sound
 pub mod Generator
 pub mod MadeSummary
@@ -78,13 +82,6 @@ pub mod Search
 pub mod RamQuery
 pub mod Batch
 pub mod Sound
-=======
--- editing
-pub mod Session
-pub mod SameState
-pub mod KeptList
-pub mod WorkedSessions
->>>>>>> 6274d6bfe8104c3b5a74d988ea8f4fcbf8dec3a4
 -- worked cases and laws
 pub mod WorkedNumbers
 pub mod EmptyCart
