@@ -9,7 +9,7 @@ ghost use Rattle.w4_defs.specs.NetLog.{BadNetOrderCases, NetOrderCases};
 ghost use Rattle.w4_defs.specs.RamQuery.{AskCases, BadAskCases};
 ghost use Rattle.w4_defs.specs.Rollback.{NothingPredictsZero, PredictionIsLatest, RollbackCases, SamePacketsSameInputs, SamePacketsSameKnown};
 ghost use Rattle.w4_defs.specs.Search.{LeftIsNarrowed, SearchCases};
-ghost use Rattle.w4_defs.specs.Sound.{HeaderCase, SampleCases, SilenceIsZeros};
+ghost use Rattle.w4_defs.specs.Sound.{HeaderCase, SampleCases, SamplesAreBounded, SilenceIsZeros};
 
 /// Worked cases, by computation.
 pub fn tool_cases()
@@ -35,9 +35,10 @@ pub fn rollback_laws()
     ensures inputs { SamePacketsSameInputs }
 {}
 
-/// Silent channels give zeros.
+/// Silent channels give zeros, and all samples fit their 16 bits.
 pub fn sound_laws()
-    ensures { SilenceIsZeros }
+    ensures silence { SilenceIsZeros }
+    ensures bounded { SamplesAreBounded }
 {}
 
 /// The made cart is accepted, whatever its number.
