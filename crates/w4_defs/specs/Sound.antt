@@ -185,6 +185,16 @@ abbrev pub SamplesAreBounded : Type 0
 SamplesAreBounded = (ear : ℕ → Bool) (tick : ℕ) (wave : Wave) → IsWave wave → tick < ticks_a_frame →
     (negsuc 31999 ≤ℤ sample ear tick wave) × (sample ear tick wave ≤ℤ pos 32000)
 
+-- a frame has 2,940 bytes, and the header of a file 44
+abbrev pub FramesAreCounted : Type 0
+FramesAreCounted = (wave : Wave) → length (frame_samples wave) ≡ 2940
+
+abbrev pub SamplesAreCounted : Type 0
+SamplesAreCounted = (records : List FrameRecord) → length (samples records) ≡ samples_length (length records)
+
+abbrev pub HeaderIsCounted : Type 0
+HeaderIsCounted = (places : ℕ) → length (wav_header places) ≡ 44
+
 -- where all channels are silent, a frame has zeros alone
 abbrev pub SilenceIsZeros : Type 0
 SilenceIsZeros = (wave : Wave) → wave.channels ≡ silent → frame_samples wave ≡ replicate 2940 0
