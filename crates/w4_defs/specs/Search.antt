@@ -68,7 +68,8 @@ abbrev pub LeftRises : Type 0
 LeftRises = (width : ℕ) (page : List ℕ) (steps : List Step) → IsStrictlyIncreasing (left width page steps)
 
 -- Worked cases, over four bytes of a page: 5, 9, 200, 7, and then 6, 9, 100, 7. The byte that rose, those
--- that stayed, the one that is 100, and numbers of two bytes that fell. A value of 65,535 bytes has two addresses.
+-- that stayed, the one that is 100, and numbers of two bytes that fell. A value of 65,535 bytes has two
+-- addresses.
 abbrev pub kept_by : ℕ → Test → List ℕ → List ℕ
 kept_by width test candidates =
     (narrow (record { width = width; page = 5 ∷ 9 ∷ 200 ∷ 7 ∷ []; candidates = candidates })
