@@ -1,6 +1,6 @@
 -- Rollback (project rule; the words are those of GGPO): the pads of four players come as packets, late,
 -- again, in any order or never, and what isn't there yet is predicted.
-use Rattle.std.specs.Prelude.{◌≡◌, ◌↔◌, ◌<◌, ◌≤◌, ℕ, zero, suc, ◌==◌, nat_lt, ◌&&◌, Bool, is_none, if◌then◌else◌, List, [], ◌∷◌, map, fold, Contains, Option, Some, None, unwrap_or, option_and_then, pos, false, true, refl}
+use Rattle.std.specs.Prelude.{◌≡◌, ◌↔◌, ◌<◌, ◌≤◌, ℕ, zero, suc, ◌+◌, ◌==◌, nat_lt, ◌&&◌, Bool, is_none, if◌then◌else◌, List, [], ◌∷◌, ◌++◌, map, fold, Contains, Option, Some, None, unwrap_or, option_and_then, pos, false, true, refl}
 use Rattle.std.specs.List.{range_with_len}
 use Rattle.w4_defs.specs.declared.console.Input.{Input}
 use Rattle.w4_defs.specs.declared.netplay.Packet.{Packet}
@@ -18,7 +18,8 @@ is_of packet player frame = packet.player == player && packet.frame == frame
 -- the byte that is known where a packet's differs from it
 abbrev pub conflict : Known → Packet → Option ℕ
 conflict known packet =
-    option_and_then (λ kept. if kept == packet.pad then None else Some kept) (known packet.player packet.frame)
+    option_and_then (λ kept. if kept == packet.pad then None else Some kept)
+    (known packet.player packet.frame)
 
 -- a packet is accepted where it is of one of four players and of one of 36,000 frames, and no other byte is
 -- known
@@ -57,12 +58,19 @@ net_inputs known frames = map (net_input known) (range_with_len 0 frames)
 
 -- what was predicted is the latest byte that is known up to that frame, and 0 where none is
 abbrev pub PredictionIsLatest : Type 0
-PredictionIsLatest = (known : Known) (player frame latest byte : ℕ) → latest ≤ frame → known player latest ≡ Some byte →
-    ((later : ℕ) → latest < later → later ≤ frame → known player later ≡ None) → predicted known player frame ≡ byte
+PredictionIsLatest = (known : Known) (player frame latest byte : ℕ) →
+    latest ≤ frame → known player latest ≡ Some byte →
+    ((later : ℕ) → latest < later → later ≤ frame → known player later ≡ None) →
+    predicted known player frame ≡ byte
 
 abbrev pub NothingPredictsZero : Type 0
 NothingPredictsZero = (known : Known) (player frame : ℕ) →
     ((earlier : ℕ) → earlier ≤ frame → known player earlier ≡ None) → predicted known player frame ≡ 0
+
+-- one more frame adds its input at the end
+abbrev pub InputsGrow : Type 0
+InputsGrow = (known : Known) (frames : ℕ) →
+    net_inputs known (frames + 1) ≡ net_inputs known frames ++ net_input known frames ∷ []
 
 -- the packets that are accepted, in this order, from what is known
 abbrev pub accepted_from : Known → List Packet → List Packet

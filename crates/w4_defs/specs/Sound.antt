@@ -2,14 +2,14 @@
 -- 2 channels of 16 bits, 44,100 samples a second). Each frame has 735 ticks. Its tones are played in the
 -- order of its log, each channel that its record has silent is silenced, and then each tick gives one sample
 -- to the left and one to the right: the sum of what the channels give, each by its oscillator.
-use Rattle.std.specs.Prelude.{◌≡◌, ℕ, zero, suc, ◌+◌, ◌*◌, ◌/◌, ◌%◌, ◌==◌, not, nat_lt, Bool, if◌then◌else◌, List, [], ◌∷◌, ◌++◌, map, zip, fold, flat_map, replicate, slice_index, slice_index_or, codes, Option, Some, None, option_and_then, ℤ, pos, negsuc, neg_ℤ, ◌+ℤ◌, ◌-ℤ◌, ◌*ℤ◌, int_div, refl}
+use Rattle.std.specs.Prelude.{◌≡◌, ◌<◌, ◌≤ℤ◌, All, length, ℕ, zero, suc, ◌+◌, ◌*◌, ◌/◌, ◌%◌, ◌==◌, not, nat_lt, Bool, if◌then◌else◌, List, [], ◌∷◌, ◌++◌, map, zip, fold, flat_map, replicate, slice_index, slice_index_or, codes, Option, Some, None, option_and_then, ℤ, pos, negsuc, neg_ℤ, ◌+ℤ◌, ◌-ℤ◌, ◌*ℤ◌, int_div, refl}
 use Rattle.std.specs.List.{range_with_len}
 use Rattle.std.specs.Int.{w16, w32, to_le_bytes, cast_unsigned}
 use Rattle.w4_defs.specs.declared.console.Tone.{Tone}
 use Rattle.w4_defs.specs.declared.console.Voice.{Voice}
 use Rattle.w4_defs.specs.declared.console.Sound.{Sound}
 use Rattle.w4_defs.specs.Logs.{empty_log, logged, kept_tones}
-use Rattle.w4_defs.specs.Tones.{Channels, silent, played, all_aged, sound_of, decoded, sounds_at, level_at, frequency_at}
+use Rattle.w4_defs.specs.Tones.{Channels, IsPlaying, silent, played, all_aged, sound_of, decoded, sounds_at, level_at, frequency_at}
 use Rattle.w4_defs.specs.State.{FrameRecord}
 
 -- how many ticks a second and a frame have
@@ -70,30 +70,30 @@ oscillator wave channel tone sound =
     else if channel == 2 then triangle amplitude phase
     else noise amplitude wave.noise
 
--- the channels that the left ear hears have pan 0, 1 or 3, those of the right ear 0, 2 or 3
-abbrev pub heard_left : ℕ → Bool
-heard_left pan = not (pan == 2)
+-- the channels on the left have pan 0, 1 or 3, those on the right 0, 2 or 3
+abbrev pub on_left : ℕ → Bool
+on_left pan = not (pan == 2)
 
-abbrev pub heard_right : ℕ → Bool
-heard_right pan = not (pan == 1)
+abbrev pub on_right : ℕ → Bool
+on_right pan = not (pan == 1)
 
--- what a channel gives to one ear at a tick
-abbrev pub given : (ℕ → Bool) → ℕ → Wave → ℕ → Option Voice → ℤ
-given ear tick wave channel None = pos 0
-given ear tick wave channel (Some voice) =
-    if ear voice.tone.pan then oscillator wave channel voice.tone (sound_of tick voice) else pos 0
+-- what a channel gives to one side at a tick
+abbrev pub channel_output : (ℕ → Bool) → ℕ → Wave → ℕ → Option Voice → ℤ
+channel_output side tick wave channel None = pos 0
+channel_output side tick wave channel (Some voice) =
+    if side voice.tone.pan then oscillator wave channel voice.tone (sound_of tick voice) else pos 0
 
--- the sample of one ear at a tick, from -32,000 to 32,000
+-- the sample of one side at a tick: the sum of the four channels
 abbrev pub sample : (ℕ → Bool) → ℕ → Wave → ℤ
-sample ear tick wave =
-    let of : ℕ → ℤ = λ channel. given ear tick wave channel (heard_voice wave channel) in
+sample side tick wave =
+    let of : ℕ → ℤ = λ channel. channel_output side tick wave channel (heard_voice wave channel) in
     of 0 +ℤ of 1 +ℤ of 2 +ℤ of 3
 
 -- left, then right
 abbrev pub sample_bytes : ℕ → Wave → List ℕ
 sample_bytes tick wave =
-    to_le_bytes w16 (cast_unsigned w16 (sample heard_left tick wave))
-    ++ to_le_bytes w16 (cast_unsigned w16 (sample heard_right tick wave))
+    to_le_bytes w16 (cast_unsigned w16 (sample on_left tick wave))
+    ++ to_le_bytes w16 (cast_unsigned w16 (sample on_right tick wave))
 
 -- how far a channel's phase goes on at a tick: none where it isn't heard
 abbrev pub advance : ℕ → Option Voice → ℕ
@@ -140,7 +140,8 @@ with_record made wave =
 
 -- the bytes of a frame: 735 samples of 4 bytes
 unfoldable pub frame_samples : Wave → List ℕ
-frame_samples wave = flat_map (λ tick. sample_bytes tick (after_ticks wave tick)) (range_with_len 0 ticks_a_frame)
+frame_samples wave =
+    flat_map (λ tick. sample_bytes tick (after_ticks wave tick)) (range_with_len 0 ticks_a_frame)
 
 abbrev pub rendered : FrameRecord → Wave → List ℕ
 rendered made wave = frame_samples (with_record made wave)
@@ -148,7 +149,8 @@ rendered made wave = frame_samples (with_record made wave)
 -- after a frame, when its channels have aged
 abbrev pub after_frame : FrameRecord → Wave → Wave
 after_frame made wave =
-    let last = after_ticks (with_record made wave) ticks_a_frame in with_channels last (all_aged last.channels)
+    let last = after_ticks (with_record made wave) ticks_a_frame in
+    with_channels last (all_aged last.channels)
 
 -- the samples of records, one after another
 abbrev pub samples_from : Wave → List FrameRecord → List ℕ
@@ -172,6 +174,28 @@ wav_header places =
     ++ to_le_bytes w32 ticks_a_second ++ to_le_bytes w32 176400
     ++ to_le_bytes w16 4 ++ to_le_bytes w16 16
     ++ codes "data" ++ to_le_bytes w32 (samples_length places)
+
+-- what goes on in a wave's ranges: four channels as they play, and four phases below 44,100
+pub record IsWave (wave : Wave) : Type 0 where
+  pub four_channels : length wave.channels ≡ 4
+  pub channels : All IsPlaying wave.channels
+  pub four_phases : length wave.phases ≡ 4
+  pub phases : All (λ phase. phase < ticks_a_second) wave.phases
+
+-- each sample fits 16 bits: it lies from -32,000 to 32,000
+abbrev pub SamplesAreBounded : Type 0
+SamplesAreBounded = (side : ℕ → Bool) (tick : ℕ) (wave : Wave) → IsWave wave → tick < ticks_a_frame →
+    (negsuc 31999 ≤ℤ sample side tick wave) × (sample side tick wave ≤ℤ pos 32000)
+
+-- a frame has 2,940 bytes, and the header of a file 44
+abbrev pub FramesAreCounted : Type 0
+FramesAreCounted = (wave : Wave) → length (frame_samples wave) ≡ 2940
+
+abbrev pub SamplesAreCounted : Type 0
+SamplesAreCounted = (records : List FrameRecord) → length (samples records) ≡ samples_length (length records)
+
+abbrev pub HeaderIsCounted : Type 0
+HeaderIsCounted = (places : ℕ) → length (wav_header places) ≡ 44
 
 -- where all channels are silent, a frame has zeros alone
 abbrev pub SilenceIsZeros : Type 0
@@ -202,7 +226,7 @@ frame_of frequency flags =
     }) first_wave
 
 abbrev pub first_samples : (ℕ → Bool) → Wave → List ℤ
-first_samples ear wave = map (λ tick. sample ear tick (after_ticks wave tick)) (0 ∷ 1 ∷ 2 ∷ 3 ∷ [])
+first_samples side wave = map (λ tick. sample side tick (after_ticks wave tick)) (0 ∷ 1 ∷ 2 ∷ 3 ∷ [])
 
 -- 8,000 and -8,000
 abbrev pub high : ℤ
@@ -216,11 +240,11 @@ low = negsuc 7999
 -- and both sides of the triangle's cut toward 0.
 abbrev pub SampleCases : Type 0
 SampleCases =
-    (first_samples heard_left (frame_of 11025 24) ≡ high ∷ high ∷ low ∷ low ∷ [])
-    × (first_samples heard_right (frame_of 11025 24) ≡ pos 0 ∷ pos 0 ∷ pos 0 ∷ pos 0 ∷ [])
-    × (first_samples heard_right (frame_of 11025 2) ≡ pos 0 ∷ high ∷ pos 0 ∷ low ∷ [])
-    × (first_samples heard_right (frame_of 22050 3) ≡ high ∷ high ∷ low ∷ low ∷ [])
-    × (first_samples heard_left (frame_of 11025 72) ≡ pos 0 ∷ pos 0 ∷ pos 0 ∷ pos 0 ∷ [])
+    (first_samples on_left (frame_of 11025 24) ≡ high ∷ high ∷ low ∷ low ∷ [])
+    × (first_samples on_right (frame_of 11025 24) ≡ pos 0 ∷ pos 0 ∷ pos 0 ∷ pos 0 ∷ [])
+    × (first_samples on_right (frame_of 11025 2) ≡ pos 0 ∷ high ∷ pos 0 ∷ low ∷ [])
+    × (first_samples on_right (frame_of 22050 3) ≡ high ∷ high ∷ low ∷ low ∷ [])
+    × (first_samples on_left (frame_of 11025 72) ≡ pos 0 ∷ pos 0 ∷ pos 0 ∷ pos 0 ∷ [])
     × (sample_bytes 2 (after_ticks (frame_of 11025 8) 2) ≡ 0xc0 ∷ 0xe0 ∷ 0xc0 ∷ 0xe0 ∷ [])
     × (triangle 80 441 ≡ pos 3)
     × (triangle 80 43659 ≡ negsuc 2)
