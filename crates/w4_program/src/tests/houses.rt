@@ -26,7 +26,7 @@ const RECORDING: [u8; 65] = [
     0x00,
 ];
 
-const SCRIPT: &[u8] = b"set 0 27 0 0 0 0 0 0\nshow 1\n";
+const SCRIPT: &str = "set 0 27 0 0 0 0 0 0\nshow 1\n";
 
 /// The words of the edit of a cart `c`, a recording `r`, a font `f` and a script `s` into `o`.
 fn edit(alloc: Global) -> Result<Vec<String>, OutOfMemory> {
@@ -43,7 +43,7 @@ fn an_edit_is_done_where_no_call_fails(rt: HostRuntime) -> Result<(), Fail> {
     house.put_file("c", &CART)?;
     house.put_file("r", &RECORDING)?;
     house.put_file("f", &[0; 1792])?;
-    house.put_file("s", SCRIPT)?;
+    house.put_file("s", SCRIPT.as_bytes())?;
     let words = edit(rt.alloc())?;
     let status = w4_run(&rt, rt.alloc(), words.as_slice(), &mut house);
     assert_eq!(rt; status, Status::Done);
@@ -70,13 +70,13 @@ fn check_fault<R: Threads + Sync + Abort>(
     alloc: Global,
     mut house: MemoryHouse,
     expected: Status,
-    line: &[u8],
+    line: &str,
     written: usize,
 ) -> Result<(), Fail> {
     let words = edit(alloc)?;
     let status = w4_run(rt, alloc, words.as_slice(), &mut house);
     assert_eq!(rt; status, expected);
-    assert!(rt; house.err() == line);
+    assert!(rt; house.err() == line.as_bytes());
     assert_eq!(rt; house.out().len(), written);
     assert!(rt; house.file("o").is_none());
     Ok(())
@@ -88,29 +88,28 @@ fn check_failing<R: Threads + Sync + Abort>(
     alloc: Global,
     call: u64,
     expected: Status,
-    line: &[u8],
+    line: &str,
     written: usize,
 ) -> Result<(), Fail> {
     let mut house = house_without_script(alloc)?;
-    house.put_file("s", SCRIPT)?;
+    house.put_file("s", SCRIPT.as_bytes())?;
     house.fail_at(call)?;
     check_fault(rt, alloc, house, expected, line, written)
 }
 
 #[test]
 fn a_call_that_fails_is_a_fault(rt: HostRuntime) -> Result<(), Fail> {
-    let alloc = rt.alloc();
+    let (alloc, read, write) = (rt.alloc(), Status::ReadFault, Status::WriteFault);
     // the second read, the write of the image, and that of the recording
-    let (read, write) = (b"w4: cannot read\n", b"w4: cannot write\n");
-    check_failing(&rt, alloc, 2, Status::ReadFault, read, 0)?;
-    check_failing(&rt, alloc, 5, Status::WriteFault, write, 0)?;
-    check_failing(&rt, alloc, 6, Status::WriteFault, write, 76_815)?;
+    check_failing(&rt, alloc, 2, read, "w4: cannot read\n", 0)?;
+    check_failing(&rt, alloc, 5, write, "w4: cannot write\n", 0)?;
+    check_failing(&rt, alloc, 6, write, "w4: cannot write\n", 76_815)?;
     Ok(())
 }
 
 #[test]
 fn an_absent_script_is_a_read_fault(rt: HostRuntime) -> Result<(), Fail> {
     let house = house_without_script(rt.alloc())?;
-    let line = b"w4: cannot read\n";
-    check_fault(&rt, rt.alloc(), house, Status::ReadFault, line, 0)
+    let read = Status::ReadFault;
+    check_fault(&rt, rt.alloc(), house, read, "w4: cannot read\n", 0)
 }
