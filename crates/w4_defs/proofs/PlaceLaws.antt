@@ -1,13 +1,13 @@
 -- What is kept besides the places changes neither a place nor a refusal.
-use Rattle.std.proofs.Common.{◌≡◌, ℕ, ◌+◌, ◌-◌, Bool, true, false, cond, not, ltb, eqb, List, [], ◌∷◌, ◌++◌, map, length, take, drop, set, Option, Some, None, option_map, Result, Ok, Err, refl, sym, ap, ◌∙◌, ◌||◌, ◌&&◌}
-use Rattle.std.specs.List.{filter, list_any, slice_get, insert, remove}
+use Rattle.std.proofs.Common.{◌≡◌, ℕ, ◌+◌, ◌-◌, Bool, true, false, cond, not, ltb, eqb, List, [], ◌∷◌, ◌++◌, map, length, take, drop, set, Option, Some, None, option_map, refl, sym, ap, ◌∙◌, ◌||◌, ◌&&◌}
+use Rattle.std.specs.List.{filter, slice_get, insert, remove}
 use Rattle.std.proofs.lemmas.List.{length-map, map-append, drop-map}
 use Rattle.std.specs.List.{take-map}
 use Rattle.std.proofs.lemmas.Option.{slice_get-map}
 use Rattle.w4_defs.specs.declared.console.Input.{Input}
 use Rattle.w4_defs.specs.declared.editing.EditRefusal.{EditRefusal}
 use Rattle.w4_defs.specs.declared.editing.EditRefusal.TheVariants.{NoFrame, NothingToUndo, NothingToRedo, Kept, NotKept, FullSnapshots}
-use Rattle.w4_defs.specs.Session.{Kind, bare, is_kept, with_kept, told, without, unlink_above, raised, lowered, without_double, kept_after_set, kept_after_insert, kept_after_delete, Draft, set_draft, insert_draft, delete_draft, Session, keep_last, last_item, without_last, edited, undone, redone, with_list, set_refusal, insert_refusal, delete_refusal, keep_refusal, drop_refusal, unless, if_some, set_input, insert_input, delete_input, undo, redo, keep, drop_kept, IsPlaced, bare_draft, bare_session, bare_result, PlacesDecide}
+use Rattle.w4_defs.specs.Session.{Kind, bare, is_kept, with_kept, told, without, unlink_above, raised, lowered, without_double, kept_after_insert, kept_after_delete, Draft, set_draft, insert_draft, delete_draft, Session, keep_last, last_item, without_last, edited, undone, redone, with_list, set_refusal, insert_refusal, delete_refusal, keep_refusal, drop_refusal, unless, if_some, IsPlaced, bare_draft, bare_session, bare_result, PlacesDecide}
 
 either : {A B : Type 0} (f : A → B) (b : Bool) (x y : A) → f (cond b x y) ≡ cond b (f x) (f y)
 either f true x y = refl
@@ -177,7 +177,7 @@ module _ {A : Type 0} (kind : Kind A) (is : IsPlaced kind) where
     some_bare NothingToUndo (undone session) ∙ ap (if_some NothingToUndo) (undo_bare session),
     some_bare NothingToRedo (redone session) ∙ ap (if_some NothingToRedo) (redo_bare session),
     listed_bare (keep_refusal kind (place x) session.current) (keep_refusal bare (place x) (bare_draft kind session.current)) session
-    (with_kept kind x session.current.kept) (with_kept bare (place x) (places session.current.kept)) (keep_bare (place x) session.current) (with_places x session.current.kept),
+        (with_kept kind x session.current.kept) (with_kept bare (place x) (places session.current.kept)) (keep_bare (place x) session.current) (with_places x session.current.kept),
     listed_bare (drop_refusal kind k session.current) (drop_refusal bare k (bare_draft kind session.current)) session
-    (without kind k session.current.kept) (without bare k (places session.current.kept)) (drop_bare k session.current) (without_places k session.current.kept),
+        (without kind k session.current.kept) (without bare k (places session.current.kept)) (drop_bare k session.current) (without_places k session.current.kept),
   )

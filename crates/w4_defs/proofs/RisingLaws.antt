@@ -1,9 +1,9 @@
 -- Kept places rise from place 0 within the recording, after each edit, keep and drop too.
-use Rattle.std.proofs.Common.{◌≡◌, ◌≢◌, ℕ, ◌+◌, ◌-◌, ◌<◌, ◌≤◌, Bool, true, false, cond, not, ltb, eqb, List, [], ◌∷◌, map, length, ◌⊎◌, inl, inr, refl, sym, ap, ◌∙◌, subst, arith, ◌||◌}
-use Rattle.std.specs.List.{filter, list_any, AllByRecursion}
+use Rattle.std.proofs.Common.{◌≡◌, ◌≢◌, ℕ, ◌+◌, ◌-◌, ◌<◌, ◌≤◌, Bool, true, false, cond, not, ltb, eqb, List, [], ◌∷◌, map, length, ◌⊎◌, inl, inr, refl, sym, ap, ◌∙◌, subst, arith}
+use Rattle.std.specs.List.{filter}
 use Rattle.std.proofs.lemmas.Bool.{cases_lt, cases_eq, le-ltb, lt-ltb, eq-eqb, ne_eqb, eqb-false, or_parts}
 use Rattle.std.proofs.lemmas.Bool.Decides.{nat_tests}
-use Rattle.w4_defs.specs.Session.{bare, is_kept, with_kept, told, without, unlink_above, raised, lowered, without_double, kept_after_set, kept_after_insert, kept_after_delete, Rise, ArePlaces, PlacesStayRight}
+use Rattle.w4_defs.specs.Session.{bare, is_kept, with_kept, told, without, unlink_above, raised, lowered, without_double, kept_after_insert, kept_after_delete, Rise, ArePlaces, PlacesStayRight}
 
 -- ---- set
 
@@ -88,11 +88,11 @@ dropped : (k from n : ℕ) (places : List ℕ) → Rise from n places → RiseAp
 dropped k from n [] h = h
 dropped k from n (p ∷ places) h = elim (cases_eq p (k + 1)) [
   | inl same ↦
-    let rest : RiseApart k from n (filter (λ x. not (eqb x (k + 1))) places) = dropped k from n places (lower_start from p n places (omega (arith, h.0)) h.1) in
-    subst (λ t. RiseApart k from n (cond (not t) (p ∷ filter (λ x. not (eqb x (k + 1))) places) (filter (λ x. not (eqb x (k + 1))) places))) (sym (eq-eqb p (k + 1) same)) rest
+      let rest : RiseApart k from n (filter (λ x. not (eqb x (k + 1))) places) = dropped k from n places (lower_start from p n places (omega (arith, h.0)) h.1) in
+      subst (λ t. RiseApart k from n (cond (not t) (p ∷ filter (λ x. not (eqb x (k + 1))) places) (filter (λ x. not (eqb x (k + 1))) places))) (sym (eq-eqb p (k + 1) same)) rest
   | inr other ↦
-    let whole : RiseApart k from n (p ∷ filter (λ x. not (eqb x (k + 1))) places) = (h.0, λ here. other, dropped k p n places h.1) in
-    subst (λ t. RiseApart k from n (cond (not t) (p ∷ filter (λ x. not (eqb x (k + 1))) places) (filter (λ x. not (eqb x (k + 1))) places))) (sym (ne_eqb p (k + 1) other)) whole
+      let whole : RiseApart k from n (p ∷ filter (λ x. not (eqb x (k + 1))) places) = (h.0, λ here. other, dropped k p n places h.1) in
+      subst (λ t. RiseApart k from n (cond (not t) (p ∷ filter (λ x. not (eqb x (k + 1))) places) (filter (λ x. not (eqb x (k + 1))) places))) (sym (ne_eqb p (k + 1) other)) whole
 ]
 
 length_filter : (test : ℕ → Bool) (places : List ℕ) → length (filter test places) ≤ length places
@@ -109,17 +109,19 @@ single_are k n places h =
     let test : ℕ → Bool = λ x. not (eqb x (k + 1)) in
     elim (true_or_false (is_kept bare k (0 ∷ places))) [
       | inl kept ↦
-        let zero_stays : eqb 0 (k + 1) ≡ false = ne_eqb 0 (k + 1) (λ e. absurd (omega (arith, e))) in
-        (filter test places,
-          ap (λ t. cond t (filter test (0 ∷ places)) (0 ∷ places)) kept ∙ ap (λ t. cond (not t) (0 ∷ filter test places) (filter test places)) zero_stays,
-          dropped k 0 n places h,
-          length_filter test places)
+          let zero_stays : eqb 0 (k + 1) ≡ false = ne_eqb 0 (k + 1) (λ e. absurd (omega (arith, e))) in (
+            filter test places,
+            ap (λ t. cond t (filter test (0 ∷ places)) (0 ∷ places)) kept ∙ ap (λ t. cond (not t) (0 ∷ filter test places) (filter test places)) zero_stays,
+            dropped k 0 n places h,
+            length_filter test places,
+          )
       | inr not_kept ↦
-        let parts = or_parts (eqb 0 k) (is_kept bare k places) not_kept in
-        (places,
-          ap (λ t. cond t (filter test (0 ∷ places)) (0 ∷ places)) not_kept,
-          apart_without k 0 n places (eqb-false 0 k parts.0) parts.1 h,
-          omega arith)
+          let parts = or_parts (eqb 0 k) (is_kept bare k places) not_kept in (
+            places,
+            ap (λ t. cond t (filter test (0 ∷ places)) (0 ∷ places)) not_kept,
+            apart_without k 0 n places (eqb-false 0 k parts.0) parts.1 h,
+            omega arith,
+          )
     ]
 
 delete_from_zero : (n k : ℕ) (places : List ℕ) → k < n → Rise 0 n places → length places < 1024 → ArePlaces (n - 1) (kept_after_delete bare k (0 ∷ places))
@@ -154,12 +156,12 @@ kept_between n k from (p ∷ places) le above none h =
     let parts = or_parts (eqb p k) (is_kept bare k places) none in
     elim (cases_lt k p) [
       | inl lt ↦
-        let whole : Rise from n (k ∷ p ∷ places) = (above, (lt, h.1)) in
-        subst (λ t. Rise from n (cond t (k ∷ p ∷ places) (p ∷ with_kept bare k places))) (sym (lt-ltb k p lt)) whole
+          let whole : Rise from n (k ∷ p ∷ places) = (above, (lt, h.1)) in
+          subst (λ t. Rise from n (cond t (k ∷ p ∷ places) (p ∷ with_kept bare k places))) (sym (lt-ltb k p lt)) whole
       | inr ge ↦
-        let past : p < k = below_other p k ge (eqb-false p k parts.0) in
-        let whole : Rise from n (p ∷ with_kept bare k places) = (h.0, kept_between n k p places le past parts.1 h.1) in
-        subst (λ t. Rise from n (cond t (k ∷ p ∷ places) (p ∷ with_kept bare k places))) (sym (le-ltb k p ge)) whole
+          let past : p < k = below_other p k ge (eqb-false p k parts.0) in
+          let whole : Rise from n (p ∷ with_kept bare k places) = (h.0, kept_between n k p places le past parts.1 h.1) in
+          subst (λ t. Rise from n (cond t (k ∷ p ∷ places) (p ∷ with_kept bare k places))) (sym (le-ltb k p ge)) whole
     ]
 
 length_with : (k : ℕ) (places : List ℕ) → length (with_kept bare k places) ≡ length places + 1

@@ -4,7 +4,7 @@
 -- current one, which goes to the undo history; that has 32 drafts at most and loses its oldest where it would
 -- have more. An edit empties the redo history. Undo and redo move one draft on, kept places and all. Keeping
 -- and dropping places aren't edits: they change the current draft alone.
-use Rattle.std.specs.Prelude.{◌≡◌, ◌≢◌, ℕ, zero, suc, ◌+◌, ◌-◌, ◌≤◌, ◌<◌, ◌==◌, ◌%◌, ◌&&◌, Bool, false, not, List, [], ◌∷◌, ◌++◌, map, length, take, drop, insert, remove, slice_get, slice_set, Option, Some, None, IfSome, option_map, Result, Ok, Err, nat_le, nat_lt, if◌then◌else◌, refl}
+use Rattle.std.specs.Prelude.{◌≡◌, ◌≢◌, ℕ, ◌+◌, ◌-◌, ◌≤◌, ◌<◌, ◌==◌, ◌%◌, ◌&&◌, Bool, false, not, List, [], ◌∷◌, ◌++◌, map, length, take, drop, insert, remove, slice_get, slice_set, Option, Some, None, IfSome, option_map, Result, Ok, Err, nat_le, nat_lt, if◌then◌else◌}
 use Rattle.std.specs.List.{filter, list_any, range_with_len}
 use Rattle.w4_defs.specs.declared.console.Input.{Input}
 use Rattle.w4_defs.specs.declared.editing.EditRefusal.{EditRefusal}

@@ -1,9 +1,9 @@
 -- Worked cases of editing sessions, by computation.
-use Rattle.std.specs.Prelude.{◌≡◌, ℕ, zero, suc, ◌+◌, Bool, true, false, map, List, [], ◌∷◌, ◌++◌, length, replicate, Option, Some, None, option_map, Result, Ok, Err, pos, refl}
+use Rattle.std.specs.Prelude.{◌≡◌, ℕ, zero, suc, ◌+◌, Bool, true, false, map, List, [], ◌∷◌, replicate, Some, None, Result, Ok, Err, pos, refl}
 use Rattle.w4_defs.specs.declared.console.Input.{Input}
 use Rattle.w4_defs.specs.declared.console.Halt.TheVariants.{Running}
 use Rattle.w4_defs.specs.declared.editing.EditRefusal.{EditRefusal}
-use Rattle.w4_defs.specs.declared.editing.EditRefusal.TheVariants.{NoFrame, FullRecording, NothingToUndo, NothingToRedo, Kept, NotKept, FullSnapshots}
+use Rattle.w4_defs.specs.declared.editing.EditRefusal.TheVariants.{NoFrame, FullRecording, NothingToUndo, NothingToRedo, Kept, NotKept}
 use Rattle.w4_defs.specs.State.{State}
 use Rattle.w4_defs.specs.Tones.{silent}
 use Rattle.w4_defs.specs.Session.{Session, bare, kept_after_set, kept_after_insert, kept_after_delete, opened, insert_refusal, set_input, insert_input, delete_input, undo, redo, keep, drop_kept, keep_every, multiples}
