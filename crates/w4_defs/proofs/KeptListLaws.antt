@@ -1,13 +1,13 @@
 -- What a chain of links says, what an edit unlinks, and the places of a consistent kept list.
-use Rattle.std.proofs.Common.{◌≡◌, ℕ, zero, suc, ◌+◌, ◌-◌, ◌<◌, ◌≤◌, Bool, true, false, cond, not, ltb, List, [], ◌∷◌, length, take, drop, Option, Some, None, option_map, refl, sym, ap, ◌∙◌, subst, arith, add-one}
+use Rattle.std.proofs.Common.{◌≡◌, ℕ, zero, suc, ◌+◌, ◌-◌, ◌<◌, ◌≤◌, Bool, true, false, cond, not, ltb, List, [], ◌∷◌, length, take, drop, Option, Some, None, option_map, refl, ap, ◌∙◌, subst, arith, add-one}
 use Rattle.std.specs.Option.{option_and_then}
 use Rattle.std.proofs.lemmas.List.{length-map}
 use Rattle.w4_defs.specs.declared.console.Input.{Input}
-use Rattle.w4_defs.specs.State.{State, Moment}
+use Rattle.w4_defs.specs.State.{Moment}
 use Rattle.w4_defs.specs.Reset.{Setup, reset}
-use Rattle.w4_defs.specs.Run.{fold, run, run_state}
-use Rattle.w4_defs.specs.Session.{Rise, unlink_above}
-use Rattle.w4_defs.specs.KeptList.{Entry, entries, place_at, places_of, state_at, linked_at, first_above, computed, IsConsistent, ConsistentPlaces, LinkedIsRun, unlinked_at, UnlinksOne}
+use Rattle.w4_defs.specs.Run.{fold, run_state}
+use Rattle.w4_defs.specs.Session.{Rise}
+use Rattle.w4_defs.specs.KeptList.{Entry, entries, place_at, places_of, state_at, linked_at, first_above, computed, ConsistentPlaces, LinkedIsRun, unlinked_at, UnlinksOne}
 use Rattle.w4_defs.proofs.RunLaws.{runs_between}
 
 -- ---- linked entries
@@ -72,11 +72,12 @@ rise_on : (n from : ℕ) (kept : List Entry) → ((i : ℕ) → i < length kept 
     → (0 < length kept → from < place_at kept 0) → Rising kept
     → Rise from n (places_of kept)
 rise_on n from [] within le first rising = le
-rise_on n from (x ∷ kept) within le first rising =
-    (first (omega arith),
-      rise_on n x.place kept (λ i h. within (suc i) (omega arith)) (within 0 (omega arith))
+rise_on n from (x ∷ kept) within le first rising = (
+  first (omega arith),
+  rise_on n x.place kept (λ i h. within (suc i) (omega arith)) (within 0 (omega arith))
       (λ some. rising 0 (omega arith))
-      (rising_after x kept rising))
+      (rising_after x kept rising),
+)
 
 pub consistent_places : ConsistentPlaces
 consistent_places setup disk inputs [] is = absurd (omega (arith, is.some))

@@ -1,11 +1,11 @@
 -- What bytes encode is decoded, and what is decoded is encoded.
 use mir.Val.{Fits}
-use Rattle.std.proofs.Common.{◌≡◌, ℕ, zero, suc, ◌+◌, ◌*◌, ◌/◌, ◌%◌, ◌^◌, ◌<◌, ◌≤◌, ◌⊎◌, inl, inr, true, false, cond, eqb, leb, ◌&&◌, List, [], ◌∷◌, ◌++◌, length, get_or, Option, Some, None, refl, sym, ap, ◌∙◌, subst, append_assoc, arith, ℤ, Bool, FitsSigned, eq-eqb, ne_eqb, eqb-true}
+use Rattle.std.proofs.Common.{◌≡◌, ℕ, zero, suc, ◌+◌, ◌*◌, ◌/◌, ◌%◌, ◌^◌, ◌<◌, ◌≤◌, ◌⊎◌, inl, inr, true, false, cond, eqb, leb, ◌&&◌, List, [], ◌∷◌, ◌++◌, length, get_or, Option, Some, None, refl, sym, ap, ◌∙◌, subst, append_assoc, arith, ℤ, Bool, FitsSigned, ne_eqb, eqb-true}
 use Rattle.std.specs.Str.{bytes_eq}
 use Rattle.std.specs.List.{flat_map, AllByRecursion}
 use Rattle.std.specs.Int.{w16, w32, from_le_bytes, to_le_bytes, cast_signed, cast_unsigned}
 use Rattle.std.proofs.lemmas.Bool.{cases_eq, le-leb, leb-true}
-use Rattle.std.proofs.lemmas.List.{take_at, drop_at, length-append}
+use Rattle.std.proofs.lemmas.List.{length-append}
 use Rattle.std.proofs.lemmas.List.Concat.{flat_map-cons}
 use Rattle.std.proofs.lemmas.Slice.Eq.{bytes_eq-Decides}
 use Rattle.std.proofs.lemmas.Int.{to_z-of_z, of_z-to_z}
@@ -15,7 +15,7 @@ use Rattle.std.proofs.lemmas.Nat.{from_le_bytes-to_le_bytes_2, from_le_bytes-to_
 use Rattle.w4_defs.specs.declared.console.Input.{Input}
 use Rattle.w4_defs.specs.MemoryMap.{input_bytes}
 use Rattle.w4_defs.specs.Reading.{◌>>=◌, IsBytes, front_at, number_at}
-use Rattle.w4_defs.specs.Recording.{Recording, IsInput, IsRecording, heading, flag_of, frame_size, frame_bytes, encoding, HasNoReset, IsEncoded, EncodedIsDecoded, DecodedIsEncoded, EncodesAtMostOne, OneEncoding, RewrittenIsSame, EncodingLength, LongestEncoding, version_of, input_of, reset_of, frame_of, frames_of, recording_of}
+use Rattle.w4_defs.specs.Recording.{Recording, IsInput, IsRecording, heading, flag_of, frame_size, frame_bytes, encoding, HasNoReset, IsEncoded, EncodedIsDecoded, DecodedIsEncoded, EncodesAtMostOne, OneEncoding, RewrittenIsSame, EncodingLength, LongestEncoding, version_of, input_of, reset_of, frame_of, frames_of, is_within, recording_of}
 use Rattle.w4_defs.proofs.ReadingLaws.{front_again, number_again, bind_some, if_some, front_read, front_bytes, rest_bytes, number_read_2, number_read_4}
 
 -- a version that there is
@@ -298,12 +298,9 @@ and_true false b e = absurd cc
 abbrev with_frames : List ℕ → ℕ → List ℕ → List Input → Option Recording
 with_frames digest budget disk frames = Some (record { digest = digest; budget = budget; disk = disk; frames = frames })
 
-abbrev within : ℕ → ℕ → ℕ → Bool
-within budget size count = leb 1 budget && leb size 1024 && leb count 36000
-
 abbrev with_count : ℕ → List ℕ → ℕ → ℕ → List ℕ → (ℕ × List ℕ) → Option Recording
 with_count version digest budget size disk count =
-    cond (within budget size count.0) (frames_of version count.0 count.1) None >>= with_frames digest budget disk
+    cond (is_within budget size count.0) (frames_of version count.0 count.1) None >>= with_frames digest budget disk
 
 abbrev with_disk : ℕ → List ℕ → ℕ → ℕ → (List ℕ × List ℕ) → Option Recording
 with_disk version digest budget size disk = number_at w32 disk.1 >>= with_count version digest budget size disk.0
@@ -320,7 +317,7 @@ with_digest version digest = number_at w32 digest.1 >>= with_budget version dige
 abbrev with_version : List ℕ → ℕ → Option Recording
 with_version rest version = front_at 32 rest >>= with_digest version
 
-limits : (budget size count : ℕ) → within budget size count ≡ true → (1 ≤ budget) × (size ≤ 1024) × (count ≤ 36000)
+limits : (budget size count : ℕ) → is_within budget size count ≡ true → (1 ≤ budget) × (size ≤ 1024) × (count ≤ 36000)
 limits budget size count e =
     let all = and_true (leb 1 budget && leb size 1024) (leb count 36000) e in
     let two = and_true (leb 1 budget) (leb size 1024) all.0 in
@@ -381,8 +378,8 @@ count_parts : (version : ℕ) (digest : List ℕ) (budget size : ℕ) (disk rest
     → IsVersion version → IsBytes after → rest ≡ to_le_bytes w32 count ++ after
     → with_count version digest budget size disk (count, after) ≡ Some r → FromCount version digest budget size disk rest r
 count_parts version digest budget size disk rest after count r known small whole e =
-    let frames = bind_some (cond (within budget size count) (frames_of version count after) None) (with_frames digest budget disk) r e in
-    let tested = if_some (within budget size count) (frames_of version count after) frames.0 frames.1 in
+    let frames = bind_some (cond (is_within budget size count) (frames_of version count after) None) (with_frames digest budget disk) r e in
+    let tested = if_some (is_within budget size count) (frames_of version count after) frames.0 frames.1 in
     let fit = limits budget size count tested.0 in
     let are = frames_read version count after frames.0 known small tested.1 in
     let made : Recording = record { digest = digest; budget = budget; disk = disk; frames = frames.0 } in

@@ -1,8 +1,8 @@
 -- What undo and redo bring back, and how long the histories grow.
-use Rattle.std.proofs.Common.{◌≡◌, ℕ, zero, suc, ◌+◌, ◌-◌, ◌≤◌, List, [], ◌∷◌, ◌++◌, length, take, drop, Option, Some, None, IfSome, option_map, ◌⊎◌, inl, inr, refl, sym, ap, ◌∙◌, subst, arith}
+use Rattle.std.proofs.Common.{◌≡◌, ◌+◌, ◌-◌, ◌≤◌, List, [], ◌∷◌, ◌++◌, length, take, drop, Option, Some, None, IfSome, option_map, ◌⊎◌, inl, inr, refl, sym, ap, ◌∙◌, subst, arith}
 use Rattle.std.specs.List.{slice_get}
 use Rattle.std.proofs.lemmas.List.{length-append, length-drop, take_at, drop-append-le}
-use Rattle.w4_defs.specs.Session.{Draft, Session, keep_last, last_item, without_last, edited, undone, redone, HasBoundedHistory, HistoryStaysBounded, UndoTakesBack, RedoTakesBack, UndoTakesBackRedo}
+use Rattle.w4_defs.specs.Session.{Draft, Session, keep_last, last_item, without_last, undone, redone, HasBoundedHistory, HistoryStaysBounded, UndoTakesBack, RedoTakesBack, UndoTakesBackRedo}
 
 -- a list is empty or ends with an item
 abbrev EndsWith : {A : Type 0} → List A → Type 0
@@ -53,25 +53,25 @@ no_none a e = cc
 pub redo_takes_back : {A : Type 0} → RedoTakesBack A
 redo_takes_back {A} session other e = elim (split_last session.older) [
   | inl none ↦
-    let nothing : undone session ≡ None = ap (λ o. undone (parts session.current o session.newer)) none in
-    absurd (no_none other (sym nothing ∙ e))
+      let nothing : undone session ≡ None = ap (λ o. undone (parts session.current o session.newer)) none in
+      absurd (no_none other (sym nothing ∙ e))
   | inr some ↦
-    let whole : session ≡ parts session.current (some.0 ++ some.1 ∷ []) session.newer = ap (λ o. parts session.current o session.newer) some.2 in
-    let back : Session A = parts some.1 some.0 (session.newer ++ session.current ∷ []) in
-    let is : back ≡ other = some_same back other (sym (ap undone whole ∙ undone_from session.current some.1 some.0 session.newer) ∙ e) in
-    sym (ap redone is) ∙ redone_from some.1 session.current some.0 session.newer ∙ ap (λ (s : Session A). Some s) (sym whole)
+      let whole : session ≡ parts session.current (some.0 ++ some.1 ∷ []) session.newer = ap (λ o. parts session.current o session.newer) some.2 in
+      let back : Session A = parts some.1 some.0 (session.newer ++ session.current ∷ []) in
+      let is : back ≡ other = some_same back other (sym (ap undone whole ∙ undone_from session.current some.1 some.0 session.newer) ∙ e) in
+      sym (ap redone is) ∙ redone_from some.1 session.current some.0 session.newer ∙ ap (λ (s : Session A). Some s) (sym whole)
 ]
 
 pub undo_takes_back_redo : {A : Type 0} → UndoTakesBackRedo A
 undo_takes_back_redo {A} session other e = elim (split_last session.newer) [
   | inl none ↦
-    let nothing : redone session ≡ None = ap (λ n. redone (parts session.current session.older n)) none in
-    absurd (no_none other (sym nothing ∙ e))
+      let nothing : redone session ≡ None = ap (λ n. redone (parts session.current session.older n)) none in
+      absurd (no_none other (sym nothing ∙ e))
   | inr some ↦
-    let whole : session ≡ parts session.current session.older (some.0 ++ some.1 ∷ []) = ap (λ n. parts session.current session.older n) some.2 in
-    let on : Session A = parts some.1 (session.older ++ session.current ∷ []) some.0 in
-    let is : on ≡ other = some_same on other (sym (ap redone whole ∙ redone_from session.current some.1 session.older some.0) ∙ e) in
-    sym (ap undone is) ∙ undone_from some.1 session.current session.older some.0 ∙ ap (λ (s : Session A). Some s) (sym whole)
+      let whole : session ≡ parts session.current session.older (some.0 ++ some.1 ∷ []) = ap (λ n. parts session.current session.older n) some.2 in
+      let on : Session A = parts some.1 (session.older ++ session.current ∷ []) some.0 in
+      let is : on ≡ other = some_same on other (sym (ap redone whole ∙ redone_from session.current some.1 session.older some.0) ∙ e) in
+      sym (ap undone is) ∙ undone_from some.1 session.current session.older some.0 ∙ ap (λ (s : Session A). Some s) (sym whole)
 ]
 
 -- what is put away is the newest that is left
@@ -92,16 +92,16 @@ undo_bounded : {A : Type 0} (session : Session A) → HasBoundedHistory session 
 undo_bounded session bounded = elim (split_last session.older) [
   | inl none ↦ subst (λ o. IfSome o HasBoundedHistory) (sym (ap (λ o. undone (parts session.current o session.newer)) none)) tt
   | inr some ↦
-    subst (λ o. IfSome o HasBoundedHistory) (sym (ap (λ o. undone (parts session.current o session.newer)) some.2 ∙ undone_from session.current some.1 some.0 session.newer))
-    (omega (arith, bounded, ap length some.2, length-append some.0 (some.1 ∷ []), length-append session.newer (session.current ∷ [])))
+      subst (λ o. IfSome o HasBoundedHistory) (sym (ap (λ o. undone (parts session.current o session.newer)) some.2 ∙ undone_from session.current some.1 some.0 session.newer))
+      (omega (arith, bounded, ap length some.2, length-append some.0 (some.1 ∷ []), length-append session.newer (session.current ∷ [])))
 ]
 
 redo_bounded : {A : Type 0} (session : Session A) → HasBoundedHistory session → IfSome (redone session) HasBoundedHistory
 redo_bounded session bounded = elim (split_last session.newer) [
   | inl none ↦ subst (λ o. IfSome o HasBoundedHistory) (sym (ap (λ n. redone (parts session.current session.older n)) none)) tt
   | inr some ↦
-    subst (λ o. IfSome o HasBoundedHistory) (sym (ap (λ n. redone (parts session.current session.older n)) some.2 ∙ redone_from session.current some.1 session.older some.0))
-    (omega (arith, bounded, ap length some.2, length-append some.0 (some.1 ∷ []), length-append session.older (session.current ∷ [])))
+      subst (λ o. IfSome o HasBoundedHistory) (sym (ap (λ n. redone (parts session.current session.older n)) some.2 ∙ redone_from session.current some.1 session.older some.0))
+      (omega (arith, bounded, ap length some.2, length-append some.0 (some.1 ∷ []), length-append session.older (session.current ∷ [])))
 ]
 
 pub history_stays_bounded : {A : Type 0} → HistoryStaysBounded A

@@ -10,7 +10,7 @@
 --   film A B W                       A at most B, W 1 to 16
 --   tones A B, traces A B            A at most B
 -- Anything else makes a line bad.
-use Rattle.std.specs.Prelude.{◌≡◌, ℕ, zero, suc, ◌+◌, ◌&&◌, Bool, true, false, List, [], ◌∷◌, ◌++◌, length, replicate, codes, Option, Some, None, Result, Ok, Err, nat_le, if◌then◌else◌, refl, pos, negsuc}
+use Rattle.std.specs.Prelude.{◌≡◌, ℕ, ◌&&◌, Bool, true, false, List, [], ◌∷◌, ◌++◌, length, codes, Option, Some, None, Result, Ok, Err, nat_le, if◌then◌else◌, refl, pos, negsuc}
 use Rattle.std.specs.Str.{bytes_eq}
 use Rattle.w4_defs.specs.declared.console.Input.{Input}
 use Rattle.w4_defs.specs.declared.order.Order.{Order}
@@ -71,7 +71,13 @@ framed make (number ∷ p1 ∷ p2 ∷ p3 ∷ p4 ∷ across ∷ down ∷ pressed 
   y ← coordinate_of down
   buttons ← byte_of pressed
   reset ← reset_word rest
-  Some (make k (record { pads = pad_1 ∷ pad_2 ∷ pad_3 ∷ pad_4 ∷ []; mouse_x = x; mouse_y = y; buttons = buttons; reset = reset }))
+  Some (make k (record {
+    pads = pad_1 ∷ pad_2 ∷ pad_3 ∷ pad_4 ∷ [];
+    mouse_x = x;
+    mouse_y = y;
+    buttons = buttons;
+    reset = reset;
+  }))
 framed make words = None
 
 -- ---- orders
@@ -125,11 +131,13 @@ script_of bytes = if nat_le (length bytes) 1048576 then orders_of (lines_of byte
 
 -- the orders of lines are those of the first ones and then those of the others, and a bad line ends them
 abbrev pub OrdersInParts : Type 0
-OrdersInParts = (front lines : List Line) (before orders : List Order) → orders_of front ≡ Ok before → orders_of lines ≡ Ok orders
+OrdersInParts = (front lines : List Line) (before orders : List Order) →
+    orders_of front ≡ Ok before → orders_of lines ≡ Ok orders
     → orders_of (front ++ lines) ≡ Ok (before ++ orders)
 
 abbrev pub FirstBadLine : Type 0
-FirstBadLine = (front lines : List Line) (line : Line) (before : List Order) → orders_of front ≡ Ok before → order_of line.words ≡ None
+FirstBadLine = (front lines : List Line) (line : Line) (before : List Order) →
+    orders_of front ≡ Ok before → order_of line.words ≡ None
     → orders_of (front ++ line ∷ lines) ≡ Err (BadLine line.number)
 
 -- ---- worked cases
@@ -139,7 +147,8 @@ abbrev read : List ℕ → Option Order
 read line = order_of (words_of line)
 
 abbrev case_input : Bool → Input
-case_input reset = record { pads = 27 ∷ 0 ∷ 0 ∷ 255 ∷ []; mouse_x = negsuc 4; mouse_y = pos 0; buttons = 4; reset = reset }
+case_input reset =
+    record { pads = 27 ∷ 0 ∷ 0 ∷ 255 ∷ []; mouse_x = negsuc 4; mouse_y = pos 0; buttons = 4; reset = reset }
 
 -- each kind of line
 abbrev pub OrderCases : Type 0
@@ -193,21 +202,68 @@ BadOrderCases =
     × (read (codes "tones 1 0") ≡ None)
     × (read (codes "traces 1") ≡ None)
 
--- skipped lines are counted, and the first bad line is told; a script that is too long is told before its lines
+-- skipped lines are counted, and the first bad line is named
 abbrev pub ScriptCases : Type 0
 ScriptCases =
     (script_of [] ≡ Ok [])
-    × (script_of (codes "# two" ++ 10 ∷ 10 ∷ codes "undo" ++ 13 ∷ 10 ∷ codes "show 1") ≡ Ok (Undo ∷ Show 1 ∷ []))
+    × (script_of (codes "# two" ++ 10 ∷ 10 ∷ codes "undo" ++ 13 ∷ 10 ∷ codes "show 1")
+    ≡ Ok (Undo ∷ Show 1 ∷ []))
     × (script_of (codes "show 0" ++ 10 ∷ codes "film 3 2 1" ++ 10 ∷ codes "bad" ++ 10 ∷ []) ≡ Err (BadLine 2))
     × (script_of (codes "#" ++ 10 ∷ 10 ∷ codes "bad" ++ 10 ∷ []) ≡ Err (BadLine 3))
 
 pub order-cases : OrderCases
 unfolding order_named number_of byte_of coordinate_of
-order-cases = (refl, refl, refl, refl, refl, refl, refl, refl, refl, refl, refl, refl, refl, refl, refl, refl, refl)
+order-cases = (
+  refl,
+  refl,
+  refl,
+  refl,
+  refl,
+  refl,
+  refl,
+  refl,
+  refl,
+  refl,
+  refl,
+  refl,
+  refl,
+  refl,
+  refl,
+  refl,
+  refl,
+)
 
 pub bad-order-cases : BadOrderCases
 unfolding order_named number_of byte_of coordinate_of
-bad-order-cases = (refl, refl, refl, refl, refl, refl, refl, refl, refl, refl, refl, refl, refl, refl, refl, refl, refl, refl, refl, refl, refl, refl, refl, refl, refl, refl, refl)
+bad-order-cases = (
+  refl,
+  refl,
+  refl,
+  refl,
+  refl,
+  refl,
+  refl,
+  refl,
+  refl,
+  refl,
+  refl,
+  refl,
+  refl,
+  refl,
+  refl,
+  refl,
+  refl,
+  refl,
+  refl,
+  refl,
+  refl,
+  refl,
+  refl,
+  refl,
+  refl,
+  refl,
+  refl,
+)
 
 pub script-cases : ScriptCases
 unfolding script_of orders_of lines_from order_named number_of byte_of coordinate_of
