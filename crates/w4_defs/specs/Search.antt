@@ -1,6 +1,6 @@
--- Memory search (project rule, as the cheat finders of emulators do it): which addresses of the page hold a
--- value whose course is known. A search begins with all addresses, and each narrowing keeps those at which a
--- test holds between a new page and the last one.
+-- Memory search (project rule, as the cheat finders of emulators do it): from how a value has changed, the
+-- addresses of the page at which it may stand. A search begins with all addresses, and each narrowing keeps
+-- those at which a test holds between a new page and the last one.
 use Rattle.std.specs.Prelude.{◌≡◌, ℕ, ◌-◌, ◌==◌, not, nat_lt, ◌&&◌, Bool, true, List, [], ◌∷◌, filter, fold, refl}
 use Rattle.std.specs.List.{range_with_len}
 use Rattle.std.specs.List.Sorted.{IsStrictlyIncreasing}

@@ -10,7 +10,7 @@ use Rattle.w4_defs.specs.declared.console.Voice.{Voice}
 use Rattle.w4_defs.specs.declared.console.Sound.{Sound}
 use Rattle.w4_defs.specs.Logs.{empty_log, logged, kept_tones}
 use Rattle.w4_defs.specs.Tones.{Channels, IsPlaying, silent, played, all_aged, sound_of, decoded, sounds_at, level_at, frequency_at}
-use Rattle.w4_defs.specs.State.{FrameRecord}
+use Rattle.w4_defs.specs.State.{FrameRecord, empty_record}
 
 -- how many ticks a second and a frame have
 abbrev pub ticks_a_second : ℕ
@@ -215,15 +215,19 @@ pub header-case : HeaderCase
 unfolding wav_header
 header-case = refl
 
--- a frame of one tone, with this frequency, these flags and one frame of sustain at level 100
-abbrev pub frame_of : ℕ → ℕ → Wave
-frame_of frequency flags =
+-- the record of one tone, with this frequency, these flags and one frame of sustain at level 100; and its
+-- frame
+abbrev pub record_of : ℕ → ℕ → FrameRecord
+record_of frequency flags =
     let tone = decoded frequency 1 100 flags in
-    with_record (record {
+    record {
       tones = logged kept_tones empty_log tone;
       traces = empty_log;
       sounds = sounds_at 0 (played silent tone);
-    }) first_wave
+    }
+
+abbrev pub frame_of : ℕ → ℕ → Wave
+frame_of frequency flags = with_record (record_of frequency flags) first_wave
 
 abbrev pub first_samples : (ℕ → Bool) → Wave → List ℤ
 first_samples side wave = map (λ tick. sample side tick (after_ticks wave tick)) (0 ∷ 1 ∷ 2 ∷ 3 ∷ [])
@@ -236,8 +240,8 @@ abbrev pub low : ℤ
 low = negsuc 7999
 
 -- Four ticks of a pulse that is high for half of its period, on the left, of a triangle, of noise whose
--- register shifts after the second tick, and of a tone in note mode; the bytes of the pulse's third sample;
--- and both sides of the triangle's cut toward 0.
+-- register shifts after the second tick, and of a tone in note mode; the first three samples of the pulse in
+-- the centre, as bytes; both sides of the triangle's cut toward 0; and silence in the frame after the tone.
 abbrev pub SampleCases : Type 0
 SampleCases =
     (first_samples on_left (frame_of 11025 24) ≡ high ∷ high ∷ low ∷ low ∷ [])
@@ -245,10 +249,12 @@ SampleCases =
     × (first_samples on_right (frame_of 11025 2) ≡ pos 0 ∷ high ∷ pos 0 ∷ low ∷ [])
     × (first_samples on_right (frame_of 22050 3) ≡ high ∷ high ∷ low ∷ low ∷ [])
     × (first_samples on_left (frame_of 11025 72) ≡ pos 0 ∷ pos 0 ∷ pos 0 ∷ pos 0 ∷ [])
-    × (sample_bytes 2 (after_ticks (frame_of 11025 8) 2) ≡ 0xc0 ∷ 0xe0 ∷ 0xc0 ∷ 0xe0 ∷ [])
+    × (flat_map (λ tick. sample_bytes tick (after_ticks (frame_of 11025 8) tick)) (0 ∷ 1 ∷ 2 ∷ [])
+    ≡ 0x40 ∷ 0x1f ∷ 0x40 ∷ 0x1f ∷ 0x40 ∷ 0x1f ∷ 0x40 ∷ 0x1f ∷ 0xc0 ∷ 0xe0 ∷ 0xc0 ∷ 0xe0 ∷ [])
     × (triangle 80 441 ≡ pos 3)
     × (triangle 80 43659 ≡ negsuc 2)
+    × ((with_record empty_record (after_frame (record_of 11025 8) first_wave)).channels ≡ silent)
 
 pub sample-cases : SampleCases
 unfolding after_ticks level_at frequency_at
-sample-cases = (refl, refl, refl, refl, refl, refl, refl, refl)
+sample-cases = (refl, refl, refl, refl, refl, refl, refl, refl, refl)
