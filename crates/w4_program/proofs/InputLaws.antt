@@ -2,7 +2,7 @@
 use Rattle.std.proofs.Common.{◌≡◌, ℕ, suc, ◌+◌, ◌-◌, ◌<◌, ◌≤◌, List, [], ◌∷◌, ◌++◌, take, drop, sym, ◌∙◌, append_assoc, arith}
 use Rattle.std.proofs.lemmas.List.{append-nil}
 use Rattle.w4_defs.specs.declared.console.Input.{Input}
-use Rattle.w4_defs.specs.Recording.{input_of, inputs_of}
+use Rattle.w4_program.specs.FirstRecording.{input_of, inputs_of}
 
 pub inputs_of-step : (front whole : List Input) (count i : ℕ) (bytes : List ℕ) → i < count
     → front ++ inputs_of (count - i) bytes ≡ whole

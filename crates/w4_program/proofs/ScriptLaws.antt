@@ -2,9 +2,9 @@
 use Rattle.std.proofs.Common.{◌≡◌, ℕ, suc, ◌+◌, ◌-◌, ◌*◌, ◌<◌, ◌≤◌, true, false, cond, leb, List, [], ◌∷◌, ◌++◌, drop, Option, Some, None, refl, sym, ap, ◌∙◌, ◌&&◌, eqb, length, drop-cons, get_or, add-one, append_assoc, arith}
 use Rattle.std.proofs.lemmas.List.{append-nil}
 use Rattle.std.proofs.lemmas.Bool.{lt-leb, le-leb}
-use Rattle.w4_defs.specs.declared.order.Order.{Order}
+use Rattle.w4_program.specs.declared.order.Order.{Order}
 use Rattle.w4_defs.specs.Reading.{◌>>=◌}
-use Rattle.w4_defs.specs.Script.{at_most, digits_after, first_of, lines_of}
+use Rattle.w4_program.specs.FirstScript.{at_most, digits_after, first_of, lines_of}
 use Rattle.w4_program.specs.Refusals.{Refusal, Manner, Finished, Formless, ReadFailed, WriteFailed, NoMemory, Refused}
 use Rattle.w4_program.specs.Reads.{Unread}
 

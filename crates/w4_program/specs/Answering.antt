@@ -5,8 +5,8 @@
 -- `refused no frame` and changes nothing.
 use Rattle.std.specs.Prelude.{ℕ, List, [], ◌∷◌, ◌++◌, length, slice_set, nat_lt, nat_le, codes, if◌then◌else◌}
 use Rattle.w4_defs.specs.declared.console.Input.{Input}
-use Rattle.w4_defs.specs.declared.order.Order.{Order}
-use Rattle.w4_defs.specs.declared.order.Order.TheVariants.{Set, Show, StateAt}
+use Rattle.w4_program.specs.declared.order.Order.{Order}
+use Rattle.w4_program.specs.declared.order.Order.TheVariants.{Set, Show, StateAt}
 use Rattle.w4_defs.specs.Reset.{Setup}
 use Rattle.w4_defs.specs.Run.{run}
 use Rattle.w4_program.specs.Texts.{picture, told_state}

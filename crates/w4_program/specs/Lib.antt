@@ -1,5 +1,7 @@
 -- What the program promises, from its words and files to its answers and statuses.
 pub mod Refusals
+pub mod FirstRecording
+pub mod FirstScript
 pub mod Lines
 pub mod Forms
 pub mod Reads

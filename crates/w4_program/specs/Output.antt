@@ -5,11 +5,11 @@
 -- bytes are is a relation; all that follows is a function of the cart's module.
 use Rattle.std.specs.Prelude.{◌≡◌, ℕ, ◌+◌, ◌-◌, ◌==◌, nat_le, List, [], ◌∷◌, ◌++◌, codes, length, Option, Some, None, Result, Ok, Err, if◌then◌else◌}
 use Rattle.std.specs.FinMap.{insert}
-use Rattle.w4_defs.specs.declared.order.Order.{Order}
+use Rattle.w4_program.specs.declared.order.Order.{Order}
 use Rattle.w4_defs.specs.Module.{WasmModule}
 use Rattle.w4_defs.specs.Cart.{IsCart, IsRefused}
-use Rattle.w4_defs.specs.Recording.{Recording, recording_of, spelling}
-use Rattle.w4_defs.specs.Script.{orders_of}
+use Rattle.w4_program.specs.FirstRecording.{Recording, recording_of, spelling}
+use Rattle.w4_program.specs.FirstScript.{orders_of}
 use Rattle.w4_defs.specs.Board.{console_setup}
 use Rattle.w4_defs.specs.Reset.{Setup}
 use Rattle.w4_defs.specs.Run.{run}

@@ -1,5 +1,5 @@
 -- Recordings as the program holds them.
-use Rattle.w4_defs.specs.Recording.{Recording as Spelled, Fields as SpelledFields}
+use Rattle.w4_program.specs.FirstRecording.{Recording as Spelled, Fields as SpelledFields}
 use Rattle.w4_program.specs.declared.recording.Recording.{Recording}
 use Rattle.w4_program.specs.declared.reading.Fields.{Fields}
 

@@ -8,7 +8,7 @@ ghost use Rattle.std.specs.Prelude.{
   IfErr,
   vec_len,
 };
-ghost use Rattle.w4_defs.specs.Recording.{spelling};
+ghost use Rattle.w4_program.specs.FirstRecording.{spelling};
 ghost use Rattle.w4_console.specs.UnderWay.{HasGlobals};
 ghost use Rattle.w4_house.specs.World.{Appends, Puts, LeavesPrinting, LeavesSaving};
 ghost use Rattle.w4_program.specs.Answering.{
@@ -33,7 +33,8 @@ use crate::status::Status;
 use crate::telling::{Telling, tell_place};
 use crate::writing::write_recording;
 use std::alloc::Global;
-use w4_defs::{Input, Order};
+use crate::order::Order;
+use w4_defs::Input;
 use w4_house::{House, WriteRefusal};
 use wasm_valid::Cart;
 

@@ -2,7 +2,7 @@
 
 ghost use Rattle.std.specs.Prelude.{◌≡◌, ◌+◌, ◌≤◌, length, Result, Ok, Err, IfOk};
 ghost use Rattle.std.specs.Option.{ForSome};
-ghost use Rattle.w4_defs.specs.Script.{orders_of};
+ghost use Rattle.w4_program.specs.FirstScript.{orders_of};
 ghost use Rattle.w4_house.specs.World.{LeavesReading};
 ghost use Rattle.w4_program.specs.Output.{
   CartIn,
@@ -29,7 +29,7 @@ use crate::status::Status;
 use crate::words::{EditNames, RunNames};
 use std::alloc::Global;
 use w4_blit::{Font, FontLength};
-use w4_defs::Order;
+use crate::order::Order;
 use w4_house::{House, HouseFault};
 use wasm_valid::Cart;
 

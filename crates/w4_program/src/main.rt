@@ -10,6 +10,7 @@ mod commands;
 mod fields;
 mod line;
 mod load;
+mod order;
 mod places;
 mod printing;
 mod reading;

@@ -1,7 +1,7 @@
 //! Reading of recordings, version 1.
 
 ghost use Rattle.std.specs.Prelude.{◌≡◌, ◌*◌, ◌≤◌, length, IfOk, IfSome, option_map, vec_len};
-ghost use Rattle.w4_defs.specs.Recording.{fields_of, input_of, inputs_of, recording_of};
+ghost use Rattle.w4_program.specs.FirstRecording.{fields_of, input_of, inputs_of, recording_of};
 ghost use Rattle.w4_program.specs.Reads.{Reads};
 ghost use Rattle.w4_program.specs.Recorded.{fields_view, recording_view};
 ghost use Rattle.w4_program.specs.Refusals.{NotBuilt};

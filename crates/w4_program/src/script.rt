@@ -1,7 +1,7 @@
 //! Reading of first scripts.
 
 ghost use Rattle.std.specs.Prelude.{◌≡◌, ◌==◌, ◌≤◌, count_by, length, nat_le};
-ghost use Rattle.w4_defs.specs.Script.{
+ghost use Rattle.w4_program.specs.FirstScript.{
   value_of as value_of_digits,
   number_of,
   byte_of,
@@ -20,7 +20,8 @@ ghost use Rattle.w4_program.specs.Refusals.{NotBuilt};
 use crate::fields::cut;
 use crate::status::Status;
 use std::alloc::Global;
-use w4_defs::{Input, Order};
+use crate::order::Order;
+use w4_defs::Input;
 
 /// The value of decimal digits, or None where a byte is no digit or the value is above 4,294,967,295.
 fn value_of(digits: &[u8]) -> Option<u32>

@@ -2,7 +2,7 @@
 
 ghost use Rattle.std.specs.Prelude.{◌≡◌, ◌++◌, IfOk, OnOk};
 ghost use Rattle.std.specs.List.{flat_map};
-ghost use Rattle.w4_defs.specs.Recording.{input_bytes, spelling};
+ghost use Rattle.w4_program.specs.FirstRecording.{input_bytes, spelling};
 ghost use Rattle.w4_program.specs.Recorded.{recording_view};
 
 use crate::recording::Recording;

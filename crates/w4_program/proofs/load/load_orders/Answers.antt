@@ -1,5 +1,5 @@
 use Rattle.std.proofs.lemmas.Result.{err_from_is_err_and}
-use Rattle.w4_defs.specs.Script.{orders_of}
+use Rattle.w4_program.specs.FirstScript.{orders_of}
 use Rattle.w4_program.specs.Refusals.{NotBuilt, manner_of}
 use Rattle.w4_program.specs.Output.{or_refuse, reading, orders_in}
 use Rattle.w4_program.proofs.StepLaws.{stops_first, judged_by}

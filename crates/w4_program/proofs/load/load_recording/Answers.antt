@@ -1,5 +1,5 @@
 use Rattle.std.proofs.lemmas.Result.{err_from_is_err_and}
-use Rattle.w4_defs.specs.Recording.{recording_of}
+use Rattle.w4_program.specs.FirstRecording.{recording_of}
 use Rattle.w4_program.specs.Recorded.{recording_view}
 use Rattle.w4_program.specs.Refusals.{NotBuilt, manner_of}
 use Rattle.w4_program.specs.Output.{or_refuse, reading, recording_in}

@@ -1,5 +1,5 @@
 use Rattle.std.proofs.Common.{arith}
-use Rattle.w4_defs.specs.Recording.{inputs_of}
+use Rattle.w4_program.specs.FirstRecording.{inputs_of}
 use Rattle.w4_program.proofs.InputLaws.{inputs_of-step, inputs_of-end}
 use Rattle.w4_program.proofs.reading.inputs_at.Goals as goal
 

@@ -1,5 +1,5 @@
 use Rattle.std.proofs.Common.{◌≡◌, ◌*◌, ◌-◌, ◌++◌, length, vec_len}
-use Rattle.w4_defs.specs.Recording.{inputs_of}
+use Rattle.w4_program.specs.FirstRecording.{inputs_of}
 use Rattle.w4_program.proofs.reading.inputs_at.Given as goal
 
 abbrev pub invariant-loop : goal.invariant-loop

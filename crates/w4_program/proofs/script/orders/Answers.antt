@@ -1,6 +1,6 @@
 use Rattle.std.proofs.Common.{refl, sym, ◌∙◌}
 use Rattle.std.proofs.lemmas.Result.{err_from_is_err_and}
-use Rattle.w4_defs.specs.Script.{lines_of}
+use Rattle.w4_program.specs.FirstScript.{lines_of}
 use Rattle.w4_program.specs.Refusals.{NotBuilt, manner_of}
 use Rattle.w4_program.proofs.ScriptLaws.{lines_of-step, lines_of-stops, lines_of-end, lines_of-left}
 use Rattle.w4_program.proofs.script.orders.Goals as goal

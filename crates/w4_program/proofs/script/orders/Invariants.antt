@@ -1,5 +1,5 @@
 use Rattle.std.proofs.Common.{◌≡◌, ◌-◌}
-use Rattle.w4_defs.specs.Script.{lines_of}
+use Rattle.w4_program.specs.FirstScript.{lines_of}
 use Rattle.w4_program.proofs.ScriptLaws.{with_front}
 use Rattle.w4_program.proofs.script.orders.Given as goal
 

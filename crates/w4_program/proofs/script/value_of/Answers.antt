@@ -1,6 +1,6 @@
 use Rattle.std.proofs.Common.{◌*◌, ◌+◌, ◌-◌, drop, get_or, sym, ap, ◌∙◌, arith}
 use Rattle.w4_defs.specs.Reading.{◌>>=◌}
-use Rattle.w4_defs.specs.Script.{at_most, digits_after}
+use Rattle.w4_program.specs.FirstScript.{at_most, digits_after}
 use Rattle.w4_program.proofs.ScriptLaws.{too_large, digits-step}
 use Rattle.w4_program.proofs.script.value_of.Goals as goal
 

@@ -1,5 +1,5 @@
 use Rattle.std.proofs.Common.{◌≡◌, ◌≤◌, drop}
-use Rattle.w4_defs.specs.Script.{digits_after}
+use Rattle.w4_program.specs.FirstScript.{digits_after}
 use Rattle.w4_program.proofs.script.value_of.Given as goal
 
 abbrev pub invariant-loop-digit : goal.invariant-loop-digit

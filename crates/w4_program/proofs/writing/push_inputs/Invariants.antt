@@ -1,6 +1,6 @@
 use Rattle.std.proofs.Common.{◌≡◌, ◌++◌, drop}
 use Rattle.std.specs.List.{flat_map}
-use Rattle.w4_defs.specs.Recording.{input_bytes}
+use Rattle.w4_program.specs.FirstRecording.{input_bytes}
 use Rattle.w4_program.proofs.writing.push_inputs.Given as goal
 
 abbrev pub invariant-loop-input : goal.invariant-loop-input
