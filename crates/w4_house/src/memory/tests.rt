@@ -20,6 +20,9 @@ fn calls_fail_by_their_numbers(rt: HostRuntime) -> Result<(), Fail> {
     assert_eq!(rt; house.file("cart"), Some(b"".as_slice()));
     assert_eq!(rt; house.out(), b"out".as_slice());
     assert_eq!(rt; house.err(), b"err".as_slice());
-    assert_eq!(rt; (house.read_faults, house.write_faults, house.err_faults), (1, 1, 0));
+    assert_eq!(rt;
+        (house.read_faults, house.write_faults, house.err_faults),
+        (1, 1, 0)
+    );
     Ok(())
 }

@@ -1,10 +1,9 @@
 use Rattle.std.proofs.Common.{◌≡◌, ◌∙◌, arith, w32, to_z, of_z, pos, ap}
 use Rattle.std.specs.Prelude.{◌+ℤ◌, int_le}
-use Rattle.std.proofs.lemmas.Bool.Decides.{nat_tests}
 use Rattle.std.proofs.lemmas.Int.{to_z-of_z}
 use Rattle.w4_defs.specs.Blit.{wide, high}
 use Rattle.w4_defs.proofs.PaintLaws.{paint_off, paint_step, paint_ext}
-use Rattle.w4_pixels.proofs.BoxLaws.{row_more, boxed_down, boxed_all}
+use Rattle.w4_pixels.proofs.BoxLaws.{boxed_no_row, row_more, boxed_down, boxed_all}
 use Rattle.w4_pixels.specs.Boxes.{boxed}
 use Rattle.w4_blit.specs.Seen.{with_seen}
 use Rattle.w4_blit.specs.Unboxed.{cells_painter}
@@ -12,7 +11,11 @@ use Rattle.w4_blit.proofs.SeenLaws.{with_seen-paint}
 use Rattle.w4_blit.proofs.blit.blit_rows.Goals as goal
 
 pub loop-v-init : goal.loop-v-init
-loop-v-init c = (paint_off c.args.page.now _ c.told-page c.fits-page (λ a b ha hb. grind (arith, nat_tests)), omega arith)
+loop-v-init c =
+    let f = cells_painter (with_seen c.args.page.now c.args.seen.now) c.args.picture.now (to_z w32 (of_z w32 c.args.x)) (to_z w32 (of_z w32 c.args.y)) in
+    let columns = c.screen_part-left.result in
+    let rows = c.screen_part-top.result in
+    (paint_off c.args.page.now _ c.told-page c.fits-page (λ a b ha hb. boxed_no_row f columns.0 columns.1 rows.0 rows.0 a b (omega arith)), omega arith)
 
 pub loop-v-preserved : goal.loop-v-preserved
 loop-v-preserved c =

@@ -1,12 +1,14 @@
-use Rattle.std.proofs.Common.{arith}
-use Rattle.std.proofs.lemmas.Bool.Decides.{nat_tests}
+use Rattle.std.proofs.Common.{◌+◌, arith}
 use Rattle.w4_defs.proofs.PaintLaws.{paint_off, paint_step}
-use Rattle.w4_pixels.proofs.BoxLaws.{cell_more}
+use Rattle.w4_pixels.proofs.BoxLaws.{boxed_none, cell_more}
 use Rattle.w4_blit.specs.Unboxed.{bits_painter}
 use Rattle.w4_blit.proofs.glyphs.glyph_row.Goals as goal
 
 pub loop-u-init : goal.loop-u-init
-loop-u-init c = (paint_off c.args.page.now _ c.told-page c.fits-page (λ a b ha hb. grind (arith, nat_tests)), omega arith)
+loop-u-init c =
+    let g = c.args.glyph in
+    let f = bits_painter c.args.font.now g.colors g.code g.x g.y in
+    (paint_off c.args.page.now _ c.told-page c.fits-page (λ a b ha hb. boxed_none f c.args.left c.args.left c.args.v (c.args.v + 1) a b (omega arith)), omega arith)
 
 pub loop-u-preserved : goal.loop-u-preserved
 loop-u-preserved c =

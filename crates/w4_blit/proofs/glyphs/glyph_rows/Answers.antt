@@ -1,14 +1,17 @@
 use Rattle.std.proofs.Common.{◌∙◌, ◌≡◌, ap, w64, to_z, of_z, pos, arith}
 use Rattle.std.proofs.lemmas.Int.{ints}
 use Rattle.std.specs.Prelude.{◌+ℤ◌, int_le}
-use Rattle.std.proofs.lemmas.Bool.Decides.{nat_tests}
 use Rattle.w4_defs.proofs.PaintLaws.{paint_off, paint_step, paint_ext}
-use Rattle.w4_pixels.proofs.BoxLaws.{row_more, boxed_down, boxed_all}
+use Rattle.w4_pixels.proofs.BoxLaws.{boxed_no_row, row_more, boxed_down, boxed_all}
 use Rattle.w4_blit.specs.Unboxed.{bits_painter}
 use Rattle.w4_blit.proofs.glyphs.glyph_rows.Goals as goal
 
 pub loop-v-init : goal.loop-v-init
-loop-v-init c = (paint_off c.args.page.now _ c.told-page c.fits-page (λ a b ha hb. grind (arith, nat_tests)), omega arith)
+loop-v-init c =
+    let g = c.args.glyph in
+    let f = bits_painter c.args.font.now g.colors g.code g.x g.y in
+    let top = c.on_screen-top.result in
+    (paint_off c.args.page.now _ c.told-page c.fits-page (λ a b ha hb. boxed_no_row f c.on_screen-left.result c.on_screen-right.result top top a b (omega arith)), omega arith)
 
 pub loop-v-preserved : goal.loop-v-preserved
 loop-v-preserved c =
