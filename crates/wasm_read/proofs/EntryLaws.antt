@@ -114,18 +114,25 @@ unlabelled_sound bytes op rest e =
 labels_reads : Reads (λ (x : List ℕ × ℕ). vector (unsigned 32) x.0 then unsigned 32 x.1) (both_at (vector_at (unsigned_at 32)) (unsigned_at 32))
 labels_reads = both_reads (vector (unsigned 32)) (unsigned 32) (vector_at (unsigned_at 32)) (unsigned_at 32) (vector_reads (unsigned 32) (unsigned_at 32) (unsigned_reads 32)) (unsigned_reads 32)
 
+-- a br_table whose labels these bytes spell
+table_taken : (b : ℕ) (bs : List ℕ) (x : List ℕ × ℕ) (after labels rest : List ℕ) → b ≡ 0x0e
+    → Takes (λ (y : List ℕ × ℕ). vector (unsigned 32) y.0 then unsigned 32 y.1) bs x after
+    → read_as (with_last x) after ≡ Some (labels, rest)
+    → Takes (λ ls. entry_of BrTable ls) (b ∷ bs) labels rest
+table_taken b bs x after labels rest same t e =
+    moved (λ ls. entry_of BrTable ls) (b ∷ bs) (with_last x) labels after rest (
+      0x0e ∷ t.0,
+      ap (λ k. k ∷ bs) same ∙ ap (λ xs. 0x0e ∷ xs) t.1,
+      (0x0e ∷ [], t.0, refl, refl, (x.0, x.1, refl, t.2)),
+    ) e
+
 table_sound : (bytes labels rest : List ℕ) → table_at bytes ≡ Some (labels, rest) → Takes (λ ls. entry_of BrTable ls) bytes labels rest
 unfolding table_at
 table_sound [] labels rest e = absurd cc
 table_sound (b ∷ bs) labels rest e =
     let i = if_some (eqb b 0x0e) (mapped_at with_last (both_at (vector_at (unsigned_at 32)) (unsigned_at 32)) bs) (labels, rest) e in
     let s = bind_some (both_at (vector_at (unsigned_at 32)) (unsigned_at 32) bs) (λ (x : (List ℕ × ℕ) × List ℕ). read_as (with_last x.0) x.1) (labels, rest) i.1 in
-    let t = labels_reads.sound bs s.0.0 s.0.1 s.1 in
-    moved (λ ls. entry_of BrTable ls) (b ∷ bs) (with_last s.0.0) labels s.0.1 rest (
-      0x0e ∷ t.0,
-      ap (λ k. k ∷ bs) (eqb-true b 0x0e i.0) ∙ ap (λ xs. 0x0e ∷ xs) t.1,
-      (0x0e ∷ [], t.0, refl, refl, (s.0.0.0, s.0.0.1, refl, t.2)),
-    ) s.2
+    table_taken b bs s.0.0 s.0.1 labels rest (eqb-true b 0x0e i.0) (labels_reads.sound bs s.0.0 s.0.1 s.1) s.2
 
 entry_sound : (bytes : List ℕ) (m : Mark) (rest : List ℕ) → entry_at bytes ≡ Some (m, rest) → Takes entry bytes m rest
 unfolding entry_at
