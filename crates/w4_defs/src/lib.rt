@@ -8,6 +8,7 @@ pub mod console_laws;
 pub mod drawing;
 pub mod evaluation_laws;
 pub mod instruction;
+pub mod instruction_table;
 pub mod integer;
 pub mod laws_module;
 pub mod memory;
@@ -23,6 +24,7 @@ pub mod value;
 
 pub use console::{Halt, Import, Input, Sound, TextSource, Tone, Voice};
 pub use instruction::Instr;
+pub use instruction_table::{IntegerType, Row, Signedness};
 pub use integer::{Binary, Compare, Unary};
 pub use memory::OutOfMemory;
 pub use module::{
