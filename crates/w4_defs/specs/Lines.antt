@@ -79,6 +79,11 @@ abbrev pub LastPiece : Type 0
 LastPiece = (mark b : ℕ) (piece : List ℕ) → AllByRecursion (λ b. b ≢ mark) (b ∷ piece)
     → pieces mark (b ∷ piece) ≡ (b ∷ piece) ∷ []
 
+-- the lines of a text are those of its first pieces, and then those of the others, counted on
+abbrev pub LinesInParts : Type 0
+LinesInParts = (number : ℕ) (front rest : List (List ℕ)) →
+    lines_from number (front ++ rest) ≡ lines_from number front ++ lines_from (number + length front) rest
+
 -- ---- worked cases
 
 abbrev pub LineCases : Type 0

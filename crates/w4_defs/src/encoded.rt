@@ -12,7 +12,7 @@ ghost use Rattle.w4_defs.specs.Recording.{
   RecordingCases,
   BadRecordingCases,
 };
-ghost use Rattle.w4_defs.specs.Lines.{FirstPiece, LastPiece, LineCases, NumberCases};
+ghost use Rattle.w4_defs.specs.Lines.{FirstPiece, LastPiece, LinesInParts, LineCases, NumberCases};
 ghost use Rattle.w4_defs.specs.Script.{OrdersInParts, FirstBadLine, OrderCases, BadOrderCases, ScriptCases};
 
 /// What bytes encode is decoded, and what is decoded is encoded: bytes encode at most one recording, in
@@ -38,6 +38,7 @@ pub fn recording_cases()
 pub fn lines_in_order()
     ensures first { FirstPiece }
     ensures last { LastPiece }
+    ensures parts { LinesInParts }
 {}
 
 /// Some lines and numbers.
