@@ -5,7 +5,9 @@ use Rattle.std.specs.List.{list_any}
 use Rattle.w4_defs.specs.declared.value.ValType.{ValType}
 use Rattle.w4_defs.specs.declared.value.ValType.TheVariants.{I32, I64, F32, F64}
 use Rattle.w4_defs.specs.declared.operation.Op.{Op}
-use Rattle.w4_defs.specs.declared.operation.Op.TheVariants.{F32Const, F64Const, FloatMemory, FloatPlain, FloatCut}
+use Rattle.w4_defs.specs.declared.instruction_table.Row.{Row}
+use Rattle.w4_defs.specs.declared.instruction_table.Row.TheVariants.{Float}
+use Rattle.w4_defs.specs.InstructionTable.{row}
 use Rattle.w4_defs.specs.Tree.{Expr, done, plain, block, loop, if_then, if_else}
 use Rattle.w4_defs.specs.Module.{Signature, Function, WasmModule}
 use Rattle.w4_defs.specs.Lookup.{global_types}
@@ -20,13 +22,12 @@ abbrev pub is_float_result : Option ValType → Bool
 is_float_result None = false
 is_float_result (Some t) = is_float t
 
+abbrev pub is_float_row : Row → Bool
+is_float_row Float = true
+is_float_row _ = false
+
 abbrev pub is_float_operation : Op → Bool
-is_float_operation (F32Const bits) = true
-is_float_operation (F64Const bits) = true
-is_float_operation (FloatMemory code align offset) = true
-is_float_operation (FloatPlain code) = true
-is_float_operation (FloatCut code) = true
-is_float_operation _ = false
+is_float_operation op = is_float_row (row op)
 
 abbrev pub has_float : Expr → Bool
 has_float done = false

@@ -4,6 +4,7 @@
 pub mod Tree
 pub mod TreeCode
 pub mod Flattening
+pub mod InstructionTable
 pub mod Module
 pub mod View
 pub mod Lookup

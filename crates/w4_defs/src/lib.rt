@@ -10,6 +10,7 @@ pub mod drawing;
 pub mod evaluation_laws;
 pub mod inspect;
 pub mod instruction;
+pub mod instruction_table;
 pub mod integer;
 pub mod laws_module;
 pub mod memory;
@@ -27,6 +28,7 @@ pub mod value;
 
 pub use console::{Halt, Import, Input, Sound, TextSource, Tone, Voice};
 pub use instruction::Instr;
+pub use instruction_table::{IntegerType, Row, Signedness};
 pub use integer::{Binary, Compare, Unary};
 pub use memory::OutOfMemory;
 pub use module::{

@@ -10,11 +10,16 @@ use Rattle.w4_defs.specs.declared.value.ValType.TheVariants.{I32, I64, F32, F64}
 use Rattle.w4_defs.specs.declared.value.GlobalType.{GlobalType}
 use Rattle.w4_defs.specs.declared.operation.Op.{Op}
 use Rattle.w4_defs.specs.declared.operation.Op.TheVariants as op
+use Rattle.w4_defs.specs.declared.instruction_table.IntegerType.{IntegerType}
+use Rattle.w4_defs.specs.declared.instruction_table.IntegerType.TheVariants as integer
+use Rattle.w4_defs.specs.declared.instruction_table.Row.{Row}
+use Rattle.w4_defs.specs.declared.instruction_table.Row.TheVariants as shape
+use Rattle.w4_defs.specs.InstructionTable.{value_type, row}
 use Rattle.w4_defs.specs.Kinds.{same_type}
 use Rattle.w4_defs.specs.Module.{WasmModule}
 use Rattle.w4_defs.specs.Lookup.{signature_of, global_types, tables_of, memories_of, function_indices}
 use Rattle.w4_defs.specs.Floats.{is_float_result}
-use Rattle.w4_defs.specs.OperandTypes.{Arrow, arrow_if, numeric_type, memory_type, gives, unary}
+use Rattle.w4_defs.specs.OperandTypes.{Arrow, arrow_if, row_type, gives, unary}
 use Rattle.w4_defs.specs.Typing.{Context, with_label, result_types, IsInt, AreInt, only_type, consumes, sets, branches, calls, calls_indirectly}
 use Rattle.w4_defs.specs.Shape.{Kind, agrees, agree, below, below_all, topmost, common_kind}
 use Rattle.wasm_valid.specs.ShapeLaw.{HasNoFloat, IsIntKind, AreIntKinds}
@@ -114,89 +119,34 @@ abbrev pub IsIntArrow : Option Arrow → Type 0
 IsIntArrow None = Unit {0}
 IsIntArrow (Some arrow) = AreInt arrow.0 × AreInt arrow.1
 
-are_int : List ValType → Bool
-are_int [] = true
-are_int (I32 ∷ ts) = are_int ts
-are_int (I64 ∷ ts) = are_int ts
-are_int (F32 ∷ ts) = false
-are_int (F64 ∷ ts) = false
-
-is_int_arrow : Option Arrow → Bool
-is_int_arrow None = true
-is_int_arrow (Some arrow) = are_int arrow.0 && are_int arrow.1
-
-tested_int : (ts : List ValType) → are_int ts ≡ true → AreInt ts
-unfolding are_int
-tested_int [] h = tt
-tested_int (I32 ∷ ts) h = (tt, tested_int ts h)
-tested_int (I64 ∷ ts) h = (tt, tested_int ts h)
-tested_int (F32 ∷ ts) h = absurd (cc h)
-tested_int (F64 ∷ ts) h = absurd (cc h)
-
-tested_arrow : (o : Option Arrow) → is_int_arrow o ≡ true → IsIntArrow o
-unfolding is_int_arrow
-tested_arrow None h = tt
-tested_arrow (Some arrow) h =
-    let p = and_parts (are_int arrow.0) (are_int arrow.1) h in
-    (tested_int arrow.0 p.0, tested_int arrow.1 p.1)
-
-numeric_tested : (o : Op) → is_int_arrow (numeric_type o) ≡ true
-unfolding is_int_arrow are_int
-numeric_tested op.I32Eqz = refl
-numeric_tested _ = refl
-
-numeric_int : (o : Op) → IsIntArrow (numeric_type o)
-numeric_int o = tested_arrow (numeric_type o) (numeric_tested o)
-
 int_if : (b : Bool) (taken given : List ValType) → AreInt taken → AreInt given
     → IsIntArrow (arrow_if b taken given)
 int_if true taken given h g = (h, g)
 int_if false taken given h g = tt
 
-pub memory_int : (has : Bool) (o : Op) → IsIntArrow (memory_type has o)
-memory_int has (op.I32Load align offset) =
-    int_if (has && nat_le (2 ^ align) 4) (I32 ∷ []) (I32 ∷ []) (tt, tt) (tt, tt)
-memory_int has (op.I64Load align offset) =
-    int_if (has && nat_le (2 ^ align) 8) (I32 ∷ []) (I64 ∷ []) (tt, tt) (tt, tt)
-memory_int has (op.I32Load8S align offset) =
-    int_if (has && nat_le (2 ^ align) 1) (I32 ∷ []) (I32 ∷ []) (tt, tt) (tt, tt)
-memory_int has (op.I32Load8U align offset) =
-    int_if (has && nat_le (2 ^ align) 1) (I32 ∷ []) (I32 ∷ []) (tt, tt) (tt, tt)
-memory_int has (op.I32Load16S align offset) =
-    int_if (has && nat_le (2 ^ align) 2) (I32 ∷ []) (I32 ∷ []) (tt, tt) (tt, tt)
-memory_int has (op.I32Load16U align offset) =
-    int_if (has && nat_le (2 ^ align) 2) (I32 ∷ []) (I32 ∷ []) (tt, tt) (tt, tt)
-memory_int has (op.I64Load8S align offset) =
-    int_if (has && nat_le (2 ^ align) 1) (I32 ∷ []) (I64 ∷ []) (tt, tt) (tt, tt)
-memory_int has (op.I64Load8U align offset) =
-    int_if (has && nat_le (2 ^ align) 1) (I32 ∷ []) (I64 ∷ []) (tt, tt) (tt, tt)
-memory_int has (op.I64Load16S align offset) =
-    int_if (has && nat_le (2 ^ align) 2) (I32 ∷ []) (I64 ∷ []) (tt, tt) (tt, tt)
-memory_int has (op.I64Load16U align offset) =
-    int_if (has && nat_le (2 ^ align) 2) (I32 ∷ []) (I64 ∷ []) (tt, tt) (tt, tt)
-memory_int has (op.I64Load32S align offset) =
-    int_if (has && nat_le (2 ^ align) 4) (I32 ∷ []) (I64 ∷ []) (tt, tt) (tt, tt)
-memory_int has (op.I64Load32U align offset) =
-    int_if (has && nat_le (2 ^ align) 4) (I32 ∷ []) (I64 ∷ []) (tt, tt) (tt, tt)
-memory_int has (op.I32Store align offset) =
-    int_if (has && nat_le (2 ^ align) 4) (I32 ∷ I32 ∷ []) [] (tt, (tt, tt)) tt
-memory_int has (op.I64Store align offset) =
-    int_if (has && nat_le (2 ^ align) 8) (I32 ∷ I64 ∷ []) [] (tt, (tt, tt)) tt
-memory_int has (op.I32Store8 align offset) =
-    int_if (has && nat_le (2 ^ align) 1) (I32 ∷ I32 ∷ []) [] (tt, (tt, tt)) tt
-memory_int has (op.I32Store16 align offset) =
-    int_if (has && nat_le (2 ^ align) 2) (I32 ∷ I32 ∷ []) [] (tt, (tt, tt)) tt
-memory_int has (op.I64Store8 align offset) =
-    int_if (has && nat_le (2 ^ align) 1) (I32 ∷ I64 ∷ []) [] (tt, (tt, tt)) tt
-memory_int has (op.I64Store16 align offset) =
-    int_if (has && nat_le (2 ^ align) 2) (I32 ∷ I64 ∷ []) [] (tt, (tt, tt)) tt
-memory_int has (op.I64Store32 align offset) =
-    int_if (has && nat_le (2 ^ align) 4) (I32 ∷ I64 ∷ []) [] (tt, (tt, tt)) tt
-memory_int has op.MemorySize = int_if has [] (I32 ∷ []) tt (tt, tt)
-memory_int has op.MemoryGrow = int_if has (I32 ∷ []) (I32 ∷ []) (tt, tt) (tt, tt)
-memory_int has op.MemoryCopy = int_if has (I32 ∷ I32 ∷ I32 ∷ []) [] (tt, (tt, (tt, tt))) tt
-memory_int has op.MemoryFill = int_if has (I32 ∷ I32 ∷ I32 ∷ []) [] (tt, (tt, (tt, tt))) tt
-memory_int has o = numeric_int o
+is_int : (t : IntegerType) → IsInt (value_type t)
+is_int integer.I32 = tt
+is_int integer.I64 = tt
+
+row_int : (has : Bool) (r : Row) → IsIntArrow (row_type has r)
+row_int has (shape.Const t n) = (tt, (is_int t, tt))
+row_int has (shape.Test t) = ((is_int t, tt), (tt, tt))
+row_int has (shape.Compare t o) = ((is_int t, (is_int t, tt)), (tt, tt))
+row_int has (shape.Unary t o) = ((is_int t, tt), (is_int t, tt))
+row_int has (shape.Binary t o) = ((is_int t, (is_int t, tt)), (is_int t, tt))
+row_int has shape.Wrap = ((tt, tt), (tt, tt))
+row_int has (shape.Extend sign) = ((tt, tt), (tt, tt))
+row_int has (shape.ExtendWithin t bits) = ((is_int t, tt), (is_int t, tt))
+row_int has (shape.Load t bytes sign align offset) =
+    int_if (has && nat_le (2 ^ align) bytes) (I32 ∷ []) (value_type t ∷ []) (tt, tt) (is_int t, tt)
+row_int has (shape.Store t bytes align offset) =
+    int_if (has && nat_le (2 ^ align) bytes) (I32 ∷ value_type t ∷ []) [] (tt, (is_int t, tt)) tt
+row_int has shape.MemorySize = int_if has [] (I32 ∷ []) tt (tt, tt)
+row_int has shape.MemoryGrow = int_if has (I32 ∷ []) (I32 ∷ []) (tt, tt) (tt, tt)
+row_int has shape.MemoryCopy = int_if has (I32 ∷ I32 ∷ I32 ∷ []) [] (tt, (tt, (tt, tt))) tt
+row_int has shape.MemoryFill = int_if has (I32 ∷ I32 ∷ I32 ∷ []) [] (tt, (tt, (tt, tt))) tt
+row_int has shape.Float = tt
+row_int has shape.Missing = tt
 
 -- an arrow of what an index names
 named_int : {A : Type 0} (P : A → Type 0) (f : A → Option Arrow) (o : Option A) → IfSome o P
@@ -246,7 +196,7 @@ arrow_int c (op.GlobalGet index) n =
 arrow_int c (op.GlobalSet index) n =
     named_int (λ g. IsInt g.value) sets (slice_get (global_types c.within) index)
     (got_all (λ g. IsInt g.value) (global_types c.within) index n.globals) sets_int
-arrow_int c o n = memory_int (nat_lt 0 (length (memories_of c.within))) o
+arrow_int c o n = row_int (nat_lt 0 (length (memories_of c.within))) (row o)
 
 pub inside : (c : Context) (label : List ValType) → AreInt label → HasNoFloat c
     → HasNoFloat (with_label label c)

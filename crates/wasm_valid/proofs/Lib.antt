@@ -30,7 +30,6 @@ mod CallLaws
 pub mod FrameLaws
 pub mod OperandLaws
 pub mod ProfileLaws
-pub mod RowLaws
 pub mod BlockLaws
 pub mod TurnLaws
 pub mod EntryLaws

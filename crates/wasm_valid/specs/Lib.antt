@@ -10,6 +10,6 @@ pub mod Segments
 pub mod Instructions
 pub mod Ready
 pub mod OpenLists
-pub mod Rows
+pub mod ArrowTypes
 pub mod BodyEntries
 pub mod Untyped

@@ -1,13 +1,15 @@
 //! What memory and numeric instructions take and what they give (Core Specification, sections 3.3.1 and
-//! 3.3.5), as a table: one function for each group of rows.
+//! 3.3.5), by the rows of their table.
 
-ghost use Rattle.std.specs.Prelude.{◌^◌, ◌≡◌, ◌∷◌, None, Some, [], true};
-ghost use Rattle.w4_defs.specs.OperandTypes.{load, memory_type, store};
+ghost use Rattle.std.specs.Prelude.{◌^◌, ◌≡◌, ◌∷◌, Some, [], nat_le, true};
+ghost use Rattle.w4_defs.specs.InstructionTable.{value_type};
+ghost use Rattle.w4_defs.specs.OperandTypes.{load, memory_type, row_type, store};
 ghost use Rattle.w4_defs.specs.Typing.{result_types};
 ghost use Rattle.w4_defs.specs.declared.value.ValType.TheVariants.{I32};
-ghost use Rattle.wasm_valid.specs.Rows.{binary32_row, binary64_row, conversion_row, load_row, memory_row, memory_rows, shown, store_row, test32_row, test64_row, test_rows, unary_row, value_rows};
+ghost use Rattle.wasm_valid.specs.ArrowTypes.{shown};
 
-use w4_defs::{Op, ValType};
+use crate::instruction_table::row;
+use w4_defs::{IntegerType, Op, Row, ValType};
 
 /// The types of the operands that are taken, and of those that are given, from the bottom to the top.
 #[derive(Clone, Copy, Debug)]
@@ -38,126 +40,55 @@ pub fn one(kind: ValType) -> &'static [ValType]
     }
 }
 
-fn two(kind: ValType) -> &'static [ValType]
-    ensures { result.now ≡ kind ∷ kind ∷ [] }
+/// The value type of an integer type.
+fn value_type(number: IntegerType) -> ValType
+    ensures { result ≡ value_type number }
 {
-    match kind {
-        ValType::I32 => &[ValType::I32, ValType::I32],
-        ValType::I64 => &[ValType::I64, ValType::I64],
-        ValType::F32 => &[ValType::F32, ValType::F32],
-        ValType::F64 => &[ValType::F64, ValType::F64],
+    match number {
+        IntegerType::I32 => ValType::I32,
+        IntegerType::I64 => ValType::I64,
     }
 }
 
-fn gives(kind: ValType) -> Arrow<'static>
-    ensures { shown (Some result) ≡ Some ([], kind ∷ []) }
+fn gives(number: IntegerType) -> Arrow<'static>
+    ensures { shown (Some result) ≡ Some ([], value_type number ∷ []) }
 {
     Arrow {
         takes: &[],
-        gives: one(kind),
+        gives: one(value_type(number)),
     }
 }
 
-fn converts(from: ValType, to: ValType) -> Arrow<'static>
-    ensures { shown (Some result) ≡ Some (from ∷ [], to ∷ []) }
+fn converts(from: IntegerType, to: IntegerType) -> Arrow<'static>
+    ensures { shown (Some result) ≡ Some (value_type from ∷ [], value_type to ∷ []) }
 {
     Arrow {
-        takes: one(from),
-        gives: one(to),
+        takes: one(value_type(from)),
+        gives: one(value_type(to)),
     }
 }
 
-fn joins(kind: ValType, to: ValType) -> Arrow<'static>
-    ensures { shown (Some result) ≡ Some (kind ∷ kind ∷ [], to ∷ []) }
+fn joins(number: IntegerType, to: IntegerType) -> Arrow<'static>
+    ensures { shown (Some result) ≡ Some (value_type number ∷ value_type number ∷ [], value_type to ∷ []) }
 {
+    let takes: &[ValType] = match number {
+        IntegerType::I32 => &[ValType::I32, ValType::I32],
+        IntegerType::I64 => &[ValType::I64, ValType::I64],
+    };
     Arrow {
-        takes: two(kind),
-        gives: one(to),
+        takes,
+        gives: one(value_type(to)),
     }
 }
 
-/// A load of 2^width bytes.
-fn load(align: u32, width: u32, kind: ValType) -> Option<Arrow<'static>>
-    ensures { shown result ≡ load true align (2 ^ width) kind }
+fn stores(number: IntegerType) -> Arrow<'static>
+    ensures { shown (Some result) ≡ Some (I32 ∷ value_type number ∷ [], []) }
 {
-    if align <= width {
-        Some(converts(ValType::I32, kind))
-    } else {
-        None
-    }
-}
-
-/// A store of 2^width bytes.
-fn store(align: u32, width: u32, kind: ValType) -> Option<Arrow<'static>>
-    ensures { shown result ≡ store true align (2 ^ width) kind }
-{
-    if align <= width {
-        Some(stores(kind))
-    } else {
-        None
-    }
-}
-
-fn stores(kind: ValType) -> Arrow<'static>
-    ensures { shown (Some result) ≡ Some (I32 ∷ kind ∷ [], []) }
-{
-    let takes: &[ValType] = match kind {
-        ValType::I32 => &[ValType::I32, ValType::I32],
-        ValType::I64 => &[ValType::I32, ValType::I64],
-        ValType::F32 => &[ValType::I32, ValType::F32],
-        ValType::F64 => &[ValType::I32, ValType::F64],
+    let takes: &[ValType] = match number {
+        IntegerType::I32 => &[ValType::I32, ValType::I32],
+        IntegerType::I64 => &[ValType::I32, ValType::I64],
     };
     Arrow { takes, gives: &[] }
-}
-
-/// Loads.
-fn loads(op: Op) -> Option<Arrow<'static>>
-    ensures { shown result ≡ load_row op }
-{
-    match op {
-        Op::I32Load { align, .. } => load(align, 2, ValType::I32),
-        Op::I64Load { align, .. } => load(align, 3, ValType::I64),
-        Op::I32Load8S { align, .. } => load(align, 0, ValType::I32),
-        Op::I32Load8U { align, .. } => load(align, 0, ValType::I32),
-        Op::I32Load16S { align, .. } => load(align, 1, ValType::I32),
-        Op::I32Load16U { align, .. } => load(align, 1, ValType::I32),
-        Op::I64Load8S { align, .. } => load(align, 0, ValType::I64),
-        Op::I64Load8U { align, .. } => load(align, 0, ValType::I64),
-        Op::I64Load16S { align, .. } => load(align, 1, ValType::I64),
-        Op::I64Load16U { align, .. } => load(align, 1, ValType::I64),
-        Op::I64Load32S { align, .. } => load(align, 2, ValType::I64),
-        Op::I64Load32U { align, .. } => load(align, 2, ValType::I64),
-        _ => None,
-    }
-}
-
-/// Stores.
-fn stores_of(op: Op) -> Option<Arrow<'static>>
-    ensures { shown result ≡ store_row op }
-{
-    match op {
-        Op::I32Store { align, .. } => store(align, 2, ValType::I32),
-        Op::I64Store { align, .. } => store(align, 3, ValType::I64),
-        Op::I32Store8 { align, .. } => store(align, 0, ValType::I32),
-        Op::I32Store16 { align, .. } => store(align, 1, ValType::I32),
-        Op::I64Store8 { align, .. } => store(align, 0, ValType::I64),
-        Op::I64Store16 { align, .. } => store(align, 1, ValType::I64),
-        Op::I64Store32 { align, .. } => store(align, 2, ValType::I64),
-        _ => None,
-    }
-}
-
-/// The instructions on the whole memory.
-fn memories(op: Op) -> Option<Arrow<'static>>
-    ensures { shown result ≡ memory_row op }
-{
-    match op {
-        Op::MemorySize => Some(gives(ValType::I32)),
-        Op::MemoryGrow => Some(converts(ValType::I32, ValType::I32)),
-        Op::MemoryCopy => Some(fills()),
-        Op::MemoryFill => Some(fills()),
-        _ => None,
-    }
 }
 
 fn fills() -> Arrow<'static>
@@ -169,161 +100,67 @@ fn fills() -> Arrow<'static>
     }
 }
 
-/// Constants and conversions.
-fn conversions(op: Op) -> Option<Arrow<'static>>
-    ensures { shown result ≡ conversion_row op }
+/// Whether an alignment, by its exponent, is at most so many bytes.
+fn is_aligned(align: u32, bytes: u32) -> bool
+    ensures { result ≡ nat_le (2 ^ align) bytes }
 {
-    match op {
-        Op::I32Const { .. } => Some(gives(ValType::I32)),
-        Op::I64Const { .. } => Some(gives(ValType::I64)),
-        Op::I32WrapI64 => Some(converts(ValType::I64, ValType::I32)),
-        Op::I64ExtendI32S => Some(converts(ValType::I32, ValType::I64)),
-        Op::I64ExtendI32U => Some(converts(ValType::I32, ValType::I64)),
-        _ => None,
+    match 2u32.checked_pow(align) {
+        Some(aligned) => aligned <= bytes,
+        None => false,
     }
 }
 
-/// Counts of bits, and sign extensions.
-fn unaries(op: Op) -> Option<Arrow<'static>>
-    ensures { shown result ≡ unary_row op }
+fn load(align: u32, bytes: u32, number: IntegerType) -> Option<Arrow<'static>>
+    ensures { shown result ≡ load true align bytes (value_type number) }
 {
-    match op {
-        Op::I32Clz => Some(converts(ValType::I32, ValType::I32)),
-        Op::I32Ctz => Some(converts(ValType::I32, ValType::I32)),
-        Op::I32Popcnt => Some(converts(ValType::I32, ValType::I32)),
-        Op::I64Clz => Some(converts(ValType::I64, ValType::I64)),
-        Op::I64Ctz => Some(converts(ValType::I64, ValType::I64)),
-        Op::I64Popcnt => Some(converts(ValType::I64, ValType::I64)),
-        Op::I32Extend8S => Some(converts(ValType::I32, ValType::I32)),
-        Op::I32Extend16S => Some(converts(ValType::I32, ValType::I32)),
-        Op::I64Extend8S => Some(converts(ValType::I64, ValType::I64)),
-        Op::I64Extend16S => Some(converts(ValType::I64, ValType::I64)),
-        Op::I64Extend32S => Some(converts(ValType::I64, ValType::I64)),
-        _ => None,
+    if is_aligned(align, bytes) {
+        Some(converts(IntegerType::I32, number))
+    } else {
+        None
     }
 }
 
-/// Arithmetic of 32 bits.
-fn binaries32(op: Op) -> Option<Arrow<'static>>
-    ensures { shown result ≡ binary32_row op }
+fn store(align: u32, bytes: u32, number: IntegerType) -> Option<Arrow<'static>>
+    ensures { shown result ≡ store true align bytes (value_type number) }
 {
-    match op {
-        Op::I32Add => Some(joins(ValType::I32, ValType::I32)),
-        Op::I32Sub => Some(joins(ValType::I32, ValType::I32)),
-        Op::I32Mul => Some(joins(ValType::I32, ValType::I32)),
-        Op::I32DivS => Some(joins(ValType::I32, ValType::I32)),
-        Op::I32DivU => Some(joins(ValType::I32, ValType::I32)),
-        Op::I32RemS => Some(joins(ValType::I32, ValType::I32)),
-        Op::I32RemU => Some(joins(ValType::I32, ValType::I32)),
-        Op::I32And => Some(joins(ValType::I32, ValType::I32)),
-        Op::I32Or => Some(joins(ValType::I32, ValType::I32)),
-        Op::I32Xor => Some(joins(ValType::I32, ValType::I32)),
-        Op::I32Shl => Some(joins(ValType::I32, ValType::I32)),
-        Op::I32ShrS => Some(joins(ValType::I32, ValType::I32)),
-        Op::I32ShrU => Some(joins(ValType::I32, ValType::I32)),
-        Op::I32Rotl => Some(joins(ValType::I32, ValType::I32)),
-        Op::I32Rotr => Some(joins(ValType::I32, ValType::I32)),
-        _ => None,
+    if is_aligned(align, bytes) {
+        Some(stores(number))
+    } else {
+        None
     }
 }
 
-/// Arithmetic of 64 bits.
-fn binaries64(op: Op) -> Option<Arrow<'static>>
-    ensures { shown result ≡ binary64_row op }
+/// What the instructions of a row take and give, where there is a memory.
+fn row_arrow(row: Row) -> Option<Arrow<'static>>
+    ensures { shown result ≡ row_type true row }
 {
-    match op {
-        Op::I64Add => Some(joins(ValType::I64, ValType::I64)),
-        Op::I64Sub => Some(joins(ValType::I64, ValType::I64)),
-        Op::I64Mul => Some(joins(ValType::I64, ValType::I64)),
-        Op::I64DivS => Some(joins(ValType::I64, ValType::I64)),
-        Op::I64DivU => Some(joins(ValType::I64, ValType::I64)),
-        Op::I64RemS => Some(joins(ValType::I64, ValType::I64)),
-        Op::I64RemU => Some(joins(ValType::I64, ValType::I64)),
-        Op::I64And => Some(joins(ValType::I64, ValType::I64)),
-        Op::I64Or => Some(joins(ValType::I64, ValType::I64)),
-        Op::I64Xor => Some(joins(ValType::I64, ValType::I64)),
-        Op::I64Shl => Some(joins(ValType::I64, ValType::I64)),
-        Op::I64ShrS => Some(joins(ValType::I64, ValType::I64)),
-        Op::I64ShrU => Some(joins(ValType::I64, ValType::I64)),
-        Op::I64Rotl => Some(joins(ValType::I64, ValType::I64)),
-        Op::I64Rotr => Some(joins(ValType::I64, ValType::I64)),
-        _ => None,
-    }
-}
-
-/// Tests and comparisons of 32 bits.
-fn tests32(op: Op) -> Option<Arrow<'static>>
-    ensures { shown result ≡ test32_row op }
-{
-    match op {
-        Op::I32Eqz => Some(converts(ValType::I32, ValType::I32)),
-        Op::I32Eq => Some(joins(ValType::I32, ValType::I32)),
-        Op::I32Ne => Some(joins(ValType::I32, ValType::I32)),
-        Op::I32LtS => Some(joins(ValType::I32, ValType::I32)),
-        Op::I32LtU => Some(joins(ValType::I32, ValType::I32)),
-        Op::I32GtS => Some(joins(ValType::I32, ValType::I32)),
-        Op::I32GtU => Some(joins(ValType::I32, ValType::I32)),
-        Op::I32LeS => Some(joins(ValType::I32, ValType::I32)),
-        Op::I32LeU => Some(joins(ValType::I32, ValType::I32)),
-        Op::I32GeS => Some(joins(ValType::I32, ValType::I32)),
-        Op::I32GeU => Some(joins(ValType::I32, ValType::I32)),
-        _ => None,
-    }
-}
-
-/// Tests and comparisons of 64 bits.
-fn tests64(op: Op) -> Option<Arrow<'static>>
-    ensures { shown result ≡ test64_row op }
-{
-    match op {
-        Op::I64Eqz => Some(converts(ValType::I64, ValType::I32)),
-        Op::I64Eq => Some(joins(ValType::I64, ValType::I32)),
-        Op::I64Ne => Some(joins(ValType::I64, ValType::I32)),
-        Op::I64LtS => Some(joins(ValType::I64, ValType::I32)),
-        Op::I64LtU => Some(joins(ValType::I64, ValType::I32)),
-        Op::I64GtS => Some(joins(ValType::I64, ValType::I32)),
-        Op::I64GtU => Some(joins(ValType::I64, ValType::I32)),
-        Op::I64LeS => Some(joins(ValType::I64, ValType::I32)),
-        Op::I64LeU => Some(joins(ValType::I64, ValType::I32)),
-        Op::I64GeS => Some(joins(ValType::I64, ValType::I32)),
-        Op::I64GeU => Some(joins(ValType::I64, ValType::I32)),
-        _ => None,
-    }
-}
-
-fn memory_rows(op: Op) -> Option<Arrow<'static>>
-    ensures { shown result ≡ memory_rows op }
-{
-    match loads(op) {
-        Some(arrow) => Some(arrow),
-        None => match stores_of(op) {
-            Some(arrow) => Some(arrow),
-            None => memories(op),
-        },
-    }
-}
-
-fn test_rows(op: Op) -> Option<Arrow<'static>>
-    ensures { shown result ≡ test_rows op }
-{
-    match tests32(op) {
-        Some(arrow) => Some(arrow),
-        None => tests64(op),
-    }
-}
-
-fn value_rows(op: Op) -> Option<Arrow<'static>>
-    ensures { shown result ≡ value_rows op }
-{
-    match unaries(op) {
-        Some(arrow) => Some(arrow),
-        None => match binaries32(op) {
-            Some(arrow) => Some(arrow),
-            None => match binaries64(op) {
-                Some(arrow) => Some(arrow),
-                None => conversions(op),
-            },
-        },
+    match row {
+        Row::Const(number, _) => Some(gives(number)),
+        Row::Test(number) => Some(converts(number, IntegerType::I32)),
+        Row::Compare(number, _) => Some(joins(number, IntegerType::I32)),
+        Row::Unary(number, _) => Some(converts(number, number)),
+        Row::Binary(number, _) => Some(joins(number, number)),
+        Row::Wrap => Some(converts(IntegerType::I64, IntegerType::I32)),
+        Row::Extend(_) => Some(converts(IntegerType::I32, IntegerType::I64)),
+        Row::ExtendWithin(number, _) => Some(converts(number, number)),
+        Row::Load {
+            number,
+            bytes,
+            align,
+            ..
+        } => load(align, bytes, number),
+        Row::Store {
+            number,
+            bytes,
+            align,
+            ..
+        } => store(align, bytes, number),
+        Row::MemorySize => Some(gives(IntegerType::I32)),
+        Row::MemoryGrow => Some(converts(IntegerType::I32, IntegerType::I32)),
+        Row::MemoryCopy => Some(fills()),
+        Row::MemoryFill => Some(fills()),
+        Row::Float => None,
+        Row::Missing => None,
     }
 }
 
@@ -331,11 +168,5 @@ fn value_rows(op: Op) -> Option<Arrow<'static>>
 pub fn table_arrow(op: Op) -> Option<Arrow<'static>>
     ensures { shown result ≡ memory_type true op }
 {
-    match memory_rows(op) {
-        Some(arrow) => Some(arrow),
-        None => match test_rows(op) {
-            Some(arrow) => Some(arrow),
-            None => value_rows(op),
-        },
-    }
+    row_arrow(row(op))
 }

@@ -16,6 +16,7 @@ mod exports;
 mod frames;
 mod functions;
 mod globals;
+mod instruction_table;
 mod labels;
 mod laws;
 mod limits;

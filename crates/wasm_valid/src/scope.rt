@@ -4,7 +4,7 @@ ghost use Rattle.std.specs.Prelude.{◌++◌, ◌≡◌, ◌∷◌, IfOk, None, 
 ghost use Rattle.w4_defs.specs.Lookup.{function_indices, global_types, local_types, memories_of, signature_of, tables_of};
 ghost use Rattle.w4_defs.specs.OperandTypes.{memory_type};
 ghost use Rattle.w4_defs.specs.Profile.{profile_refusal};
-ghost use Rattle.wasm_valid.specs.Rows.{shown};
+ghost use Rattle.wasm_valid.specs.ArrowTypes.{shown};
 
 use crate::arrows::{Arrow, table_arrow};
 use std::alloc::Global;

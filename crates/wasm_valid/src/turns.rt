@@ -7,7 +7,7 @@ ghost use Rattle.w4_defs.specs.Shape.{anything, ends, selected};
 ghost use Rattle.w4_defs.specs.Typing.{branches, calls, consumes, only_type, sets};
 ghost use Rattle.wasm_valid.specs.OpenLists.{Becomes, at_top, chosen_if, direct_type, passes, shared, stepped, turned, with_condition};
 ghost use Rattle.wasm_valid.specs.Pass.{labels_of};
-ghost use Rattle.wasm_valid.specs.Rows.{shown};
+ghost use Rattle.wasm_valid.specs.ArrowTypes.{shown};
 
 use crate::arrows::{Arrow, one, result_types};
 use crate::frames::Frames;
