@@ -9,6 +9,7 @@ pub mod Entries
 pub mod EmptyCartSections
 pub mod EmptyCartValid
 pub mod TypingInParts
+pub mod JudgedFiles
 pub mod LongNumbers
 pub mod PaintLaws
 pub mod RegisterLaws
@@ -19,6 +20,7 @@ pub mod FrameLaws
 pub mod ReadingLaws
 pub mod RecordingLaws
 pub mod Faults
+pub mod RefusedCalls
 pub mod GlobalTypes
 pub mod EmptyCartCount
 pub mod ClearLaws

@@ -25,3 +25,9 @@ IsRefused bytes (Invalid func) =
 -- the bytes are a cart with this module: none of the causes holds
 abbrev pub IsCart : List ℕ → WasmModule → Type 0
 IsCart bytes m = (length bytes ≤ 65536) × SpellsModule bytes m × (profile_refusal m ≡ None) × IsValid m
+
+-- every list of bytes is a cart or is refused for a kind: it can't be neither
+abbrev pub EveryFileIsJudged : Type 0
+EveryFileIsJudged =
+    (bytes : List ℕ) → ((m : WasmModule) → IsCart bytes m → ⊥)
+    → ((kind : CartKind) → IsRefused bytes kind → ⊥) → ⊥

@@ -1,5 +1,5 @@
 -- Worked cases of resets and frames: small carts on the console, by computation.
-use Rattle.std.specs.Prelude.{◌≡◌, ℕ, ◌+◌, Bool, map, length, pos, List, [], ◌∷◌, slice_index, true, false, Option, Some, None, option_map, codes, refl}
+use Rattle.std.specs.Prelude.{◌≡◌, ℕ, ◌+◌, Bool, map, length, pos, negsuc, List, [], ◌∷◌, slice_index, true, false, Option, Some, None, option_map, codes, refl}
 use Rattle.w4_defs.specs.declared.value.ValType.TheVariants as type
 use Rattle.w4_defs.specs.declared.value.Cause.TheVariants as cause
 use Rattle.w4_defs.specs.declared.module.ImportKind.TheVariants as kind
@@ -136,3 +136,37 @@ LineCases =
 pub line-cases : LineCases
 unfolding eval eval_within zero_page first_page start_page start reset cleared frame weight effect
 line-cases = (refl, refl, refl, refl, refl)
+
+-- mouse x of -2, mouse y of 300, and the left and middle buttons stand in their registers
+abbrev pub MouseCase : Type 0
+MouseCase =
+    let mouse : Input = record { pads = 0 ∷ 0 ∷ 0 ∷ 0 ∷ []; mouse_x = negsuc 1; mouse_y = pos 300; buttons = 5; reset = false } in
+    let after = last ((codes "update", done) ∷ []) [] 9 (mouse ∷ []) in
+    (page_byte 26 after ≡ Some 254)
+    × (page_byte 27 after ≡ Some 255)
+    × (page_byte 28 after ≡ Some 44)
+    × (page_byte 29 after ≡ Some 1)
+    × (page_byte 30 after ≡ Some 5)
+
+pub mouse-case : MouseCase
+unfolding eval eval_within zero_page first_page start_page start reset cleared frame
+mouse-case = (refl, refl, refl, refl, refl)
+
+-- the start function is called before `_start`
+abbrev started_by : ℕ → List (List ℕ × Expr) → List DataSegment → WasmModule
+started_by function rows segments = record (small_cart rows segments) { start = Some function }
+
+-- the text at an address as a trace line
+abbrev tracing_at : ℕ → Expr
+tracing_at address = plain (mark (op.I32Const address)) (plain (mark (op.Call 0)) done)
+
+abbrev pub StartCase : Type 0
+StartCase =
+    let rows = (codes "update", done) ∷ (codes "_start", tracing_at 0) ∷ (codes "boot", tracing_at 2) ∷ [] in
+    let texts = bytes_at 0 (65 ∷ 0 ∷ 66 ∷ 0 ∷ []) ∷ [] in
+    let setup = console_setup (started_by 3 rows texts) [] 134 in
+    lines_of (run setup [] [] 0) ≡ Some ((66 ∷ []) ∷ (65 ∷ []) ∷ [])
+
+pub start-case : StartCase
+unfolding eval eval_within zero_page first_page start_page start reset cleared frame weight effect
+start-case = refl

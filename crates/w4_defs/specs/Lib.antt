@@ -81,5 +81,7 @@ pub mod WorkedNumbers
 pub mod EmptyCart
 pub mod WorkedRuns
 pub mod WorkedBodies
+pub mod WorkedCalls
+pub mod WorkedPictures
 pub mod RunLaws
 pub mod FrameCases

@@ -135,6 +135,23 @@ pub ten-frames : TenFrames
 unfolding level_at frequency_at
 ten-frames = refl
 
+-- 100 to 900 hertz with decay 4 and sustain 1, from peak 80 to level 20: the level falls and the frequency rises
+abbrev pub DecayCase : Type 0
+DecayCase = heard 6 (played silent (decoded 58982500 262145 20500 0)) ≡
+    sounding 80 100 ∷ sounding 65 260 ∷ sounding 50 420 ∷ sounding 35 580 ∷ sounding 20 740 ∷ None ∷ []
+
+pub decay-case : DecayCase
+unfolding level_at frequency_at
+decay-case = refl
+
+-- in note mode the first frequency stays
+abbrev pub NoteCase : Type 0
+NoteCase = heard 2 (played silent (decoded 58982500 262145 20500 64)) ≡ sounding 80 100 ∷ sounding 65 100 ∷ []
+
+pub note-case : NoteCase
+unfolding level_at frequency_at
+note-case = refl
+
 -- a second tone on the channel, of length 0, makes it silent
 abbrev pub SilencedCase : Type 0
 SilencedCase = played (played silent (decoded 14418360 67109890 50 0)) (decoded 14418360 0 50 0) ≡ silent

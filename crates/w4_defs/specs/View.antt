@@ -1,6 +1,7 @@
 -- The public instructions of `src/`, with the lists that they hold, as trees: each is the operation of
 -- its name, and the default label of a br_table stands behind the others.
-use Rattle.std.specs.Prelude.{List, [], ◌∷◌, ◌++◌, Option}
+use Rattle.std.specs.Prelude.{◌≡◌, ℕ, List, [], ◌∷◌, ◌++◌, Option, None, Vec, refl}
+use Rattle.std.specs.declared.alloc.Global.{Global}
 use Rattle.w4_defs.specs.declared.value.ValType.{ValType}
 use Rattle.w4_defs.specs.declared.operation.Op.TheVariants as op
 use Rattle.w4_defs.specs.declared.instruction.Instr.{Instr, Held-Instr-If-2, None', Some', Row_of-Instr, end_of-Instr, more_of-Instr}
@@ -138,3 +139,15 @@ unfoldable mutual
 abbrev pub expression_of : List Instr → Expr
 expression_of [] = done
 expression_of (i ∷ others) = before i (expression_of others)
+
+-- a br_table before a nop: its default is the last label; and an if without an else has one list
+abbrev pub ViewCase : Type 0
+ViewCase =
+    (labels : Vec ℕ Global) (taken rest : Expr)
+    → (tree_of (more_of-Instr (instr.BrTable labels 7) (more_of-Instr instr.Nop end_of-Instr))
+    ≡ plain (op.BrTable, labels.items ++ 7 ∷ []) (plain (mark op.Nop) done))
+    × (choice None taken None' rest ≡ if_then None taken rest)
+
+pub view-case : ViewCase
+unfolding before choice tree_of
+view-case labels taken rest = (refl, refl)

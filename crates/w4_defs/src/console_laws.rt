@@ -5,12 +5,12 @@ ghost use Rattle.w4_defs.specs.declared.console.Tone.{Tone as ATone};
 ghost use Rattle.w4_defs.specs.Board.{BoardCases};
 ghost use Rattle.w4_defs.specs.Disk.{DiskCases};
 ghost use Rattle.w4_defs.specs.Frame.{ClearedIsPainted, HaltStays, ResetKeepsDisk};
-ghost use Rattle.w4_defs.specs.FrameCases.{BudgetCases, EntryCases, LineCases, PageCases};
+ghost use Rattle.w4_defs.specs.FrameCases.{BudgetCases, EntryCases, LineCases, MouseCase, PageCases, StartCase};
 ghost use Rattle.w4_defs.specs.FrameTexts.{TextCases};
 ghost use Rattle.w4_defs.specs.Logs.{DroppedCase, LogsInOrder};
 ghost use Rattle.w4_defs.specs.Reset.{FirstRegisters};
 ghost use Rattle.w4_defs.specs.Run.{FoldsInParts, FoldsState, PlaysInParts, RunsBetween, RunsOn};
-ghost use Rattle.w4_defs.specs.Tones.{SilencedCase, TenFrames, aged_often, decoded, frequency_at, IsTone, level_at, mix, slide, started, ticks, tone_frames};
+ghost use Rattle.w4_defs.specs.Tones.{DecayCase, NoteCase, SilencedCase, TenFrames, aged_often, decoded, frequency_at, IsTone, level_at, mix, slide, started, ticks, tone_frames};
 ghost use Rattle.w4_defs.specs.Traces.{PlaceCases, TraceCase, TracefCase};
 ghost use Rattle.w4_defs.specs.Words.{WordCases};
 
@@ -84,6 +84,8 @@ pub fn console_cases()
     ensures logs { DroppedCase }
     ensures ten_frames { TenFrames }
     ensures silenced { SilencedCase }
+    ensures decay { DecayCase }
+    ensures note { NoteCase }
     ensures disk { DiskCases }
     ensures trace { TraceCase }
     ensures tracef { TracefCase }
@@ -95,4 +97,6 @@ pub fn console_cases()
     ensures entries { EntryCases }
     ensures pages { PageCases }
     ensures lines { LineCases }
+    ensures mouse { MouseCase }
+    ensures start { StartCase }
 {}

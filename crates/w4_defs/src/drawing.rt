@@ -7,6 +7,7 @@ ghost use Rattle.w4_defs.specs.Image.{ImageLength};
 ghost use Rattle.w4_defs.specs.MemoryMap.{InputIsPut, PaintLeavesRegisters};
 ghost use Rattle.w4_defs.specs.Shapes.{LineCase, MinorStepIsCeiling, OvalCase, RectCase};
 ghost use Rattle.w4_defs.specs.Text.{SourceCase, TextCase};
+ghost use Rattle.w4_defs.specs.WorkedPictures.{CutPicture, OblongOvals, OneSidedGlyph, SteepAndLeftLines, TurnedPictures};
 
 /// Painting gives the one page whose pixels are the painter's where it gives an entry and as before
 /// where it gives none, with all bytes outside the framebuffer as before.
@@ -44,4 +45,9 @@ pub fn drawing_cases()
     ensures overlap { OverlapCase }
     ensures text { TextCase }
     ensures source { SourceCase }
+    ensures ovals { OblongOvals }
+    ensures lines { SteepAndLeftLines }
+    ensures pictures { TurnedPictures }
+    ensures cut { CutPicture }
+    ensures glyph { OneSidedGlyph }
 {}

@@ -3,9 +3,10 @@
 ghost use Rattle.w4_defs.specs.Bytes.{PutIsFound, PutKeepsLength, PutKeepsOthers};
 ghost use Rattle.w4_defs.specs.Flattening.{FlatteningDetermines, FlatteningIsReadBack};
 ghost use Rattle.w4_defs.specs.Integers.{BinaryInRange, ExtendedInRange, UnaryInRange};
-ghost use Rattle.w4_defs.specs.RunLaws.{BudgetOnlyFalls, EvalTakesSteps, FaultsChangeNothing, GlobalsKeepTypes, LargeEntryTraps, ResumedTakesSteps, RunIsResumed, SpentImportsChangeNothing};
+ghost use Rattle.w4_defs.specs.RunLaws.{BudgetOnlyFalls, EvalTakesSteps, FaultsChangeNothing, ForbiddenCallLeavesStore, GlobalsKeepTypes, LargeEntryTraps, RefusedCallsLeaveStore, ResumedTakesSteps, RunIsResumed, SpentImportsChangeNothing};
 ghost use Rattle.w4_defs.specs.Soundness.{PlainInstructionsAreSound};
 ghost use Rattle.w4_defs.specs.WorkedBodies as bodies;
+ghost use Rattle.w4_defs.specs.WorkedCalls as calls;
 ghost use Rattle.w4_defs.specs.WorkedNumbers as numbers;
 ghost use Rattle.w4_defs.specs.WorkedRuns as runs;
 
@@ -73,6 +74,11 @@ pub fn call_cases()
     ensures depth { runs.DepthIsBounded }
     ensures indirect { runs.IndirectCallsAreJudged }
     ensures reserve { runs.ReserveCounts }
+    ensures arguments { calls.ArgumentsAreInOrder }
+    ensures global { calls.GlobalIsSet }
+    ensures kept { calls.BranchKeepsValue }
+    ensures import { calls.ImportIsCalledIndirectly }
+    ensures bounds { calls.StackRuleHasTwoBounds }
 {}
 
 /// Laws of all runs, for any host.
@@ -84,6 +90,8 @@ pub fn run_laws<H>()
     ensures large_entry { LargeEntryTraps H }
     ensures faults { FaultsChangeNothing H }
     ensures imports { SpentImportsChangeNothing H }
+    ensures forbidden { ForbiddenCallLeavesStore H }
+    ensures refused { RefusedCallsLeaveStore H }
     ensures globals { GlobalsKeepTypes H }
 {}
 

@@ -1,8 +1,10 @@
 //! Laws of the definitions of modules, and worked cases of them.
 
 ghost use Rattle.w4_defs.specs.BinaryNumber.{NumberCases, TooLongNumber};
+ghost use Rattle.w4_defs.specs.Cart.{EveryFileIsJudged};
 ghost use Rattle.w4_defs.specs.EmptyCart.{DataCountIsSpelled, EmptyCartIsCart, EmptyCartIsSpelled, LongSizeIsSpelled, MixedCodeHasNoShape, PreambleIsRefused, UnreachableCodeHasType};
 ghost use Rattle.w4_defs.specs.Typing.{TypesInParts};
+ghost use Rattle.w4_defs.specs.View.{ViewCase};
 
 /// Numbers in one, two and five bytes.
 pub fn numbers_are_spelled()
@@ -52,4 +54,15 @@ pub fn mixed_code_has_no_shape()
 /// A list has a type where its two parts have, wherever it is cut.
 pub fn lists_have_types_in_parts()
     ensures { TypesInParts }
+{}
+
+/// Every list of bytes is a cart or is refused for a kind. Stated as it can be without the excluded middle:
+/// it is never neither.
+pub fn every_file_is_judged()
+    ensures { EveryFileIsJudged }
+{}
+
+/// The default of a br_table is its last label, and an `if` without an `else` has one list.
+pub fn instructions_are_seen_as_trees()
+    ensures { ViewCase }
 {}

@@ -1,12 +1,12 @@
 use Rattle.w4_defs.specs.Words.{word-cases}
 use Rattle.w4_defs.specs.Logs.{dropped-case}
-use Rattle.w4_defs.specs.Tones.{ten-frames, silenced-case}
+use Rattle.w4_defs.specs.Tones.{ten-frames, decay-case, note-case, silenced-case}
 use Rattle.w4_defs.specs.Disk.{disk-cases}
 use Rattle.w4_defs.specs.Traces.{trace-case, tracef-case, place-cases}
 use Rattle.w4_defs.specs.FrameTexts.{text-cases}
 use Rattle.w4_defs.specs.Reset.{first-registers}
 use Rattle.w4_defs.specs.Board.{board-cases}
-use Rattle.w4_defs.specs.FrameCases.{budget-cases, entry-cases, page-cases, line-cases}
+use Rattle.w4_defs.specs.FrameCases.{budget-cases, entry-cases, page-cases, line-cases, mouse-case, start-case}
 use Rattle.w4_defs.proofs.console_laws.console_cases.Goals as goal
 
 pub returns-clause-words : goal.returns-clause-words
@@ -53,3 +53,15 @@ returns-clause-pages c = page-cases
 
 pub returns-clause-lines : goal.returns-clause-lines
 returns-clause-lines c = line-cases
+
+pub returns-clause-decay : goal.returns-clause-decay
+returns-clause-decay c = decay-case
+
+pub returns-clause-note : goal.returns-clause-note
+returns-clause-note c = note-case
+
+pub returns-clause-mouse : goal.returns-clause-mouse
+returns-clause-mouse c = mouse-case
+
+pub returns-clause-start : goal.returns-clause-start
+returns-clause-start c = start-case

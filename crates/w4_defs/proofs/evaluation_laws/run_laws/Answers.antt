@@ -1,5 +1,6 @@
 use Rattle.w4_defs.proofs.GlobalTypes.{globals_keep_types}
 use Rattle.w4_defs.proofs.Faults.{faults_change_nothing, spent_imports_change_nothing}
+use Rattle.w4_defs.proofs.RefusedCalls.{forbidden_call_leaves_store, refused_calls_leave_store}
 use Rattle.w4_defs.proofs.Budgets.{eval_keeps}
 use Rattle.w4_defs.proofs.Unfolding.{eval_unfolds}
 use Rattle.w4_defs.proofs.Entries.{run_is_resumed, large_entry_traps}
@@ -29,3 +30,9 @@ returns-clause-imports g c = spent_imports_change_nothing
 
 pub returns-clause-globals : goal.returns-clause-globals
 returns-clause-globals g c = globals_keep_types
+
+pub returns-clause-forbidden : goal.returns-clause-forbidden
+returns-clause-forbidden g c = forbidden_call_leaves_store
+
+pub returns-clause-refused : goal.returns-clause-refused
+returns-clause-refused g c = refused_calls_leave_store
