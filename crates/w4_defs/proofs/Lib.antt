@@ -19,6 +19,8 @@ pub mod ToneLaws
 pub mod FrameLaws
 pub mod ReadingLaws
 pub mod RecordingLaws
+pub mod LineLaws
+pub mod ScriptLaws
 pub mod Faults
 pub mod RefusedCalls
 pub mod GlobalTypes

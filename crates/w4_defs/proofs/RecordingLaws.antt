@@ -1,99 +1,584 @@
--- A recording that is spelled is read back.
-use Rattle.std.proofs.Common.{◌≡◌, ℕ, ◌*◌, ◌^◌, ◌<◌, ◌≤◌, true, false, List, [], ◌∷◌, ◌++◌, length, Some, refl, sym, ap, ◌∙◌, append_assoc, arith, eq-eqb, ℤ, Bool, FitsSigned}
+-- What bytes encode is decoded, and what is decoded is encoded.
+use mir.Val.{Fits}
+use Rattle.std.proofs.Common.{◌≡◌, ℕ, zero, suc, ◌+◌, ◌*◌, ◌/◌, ◌%◌, ◌^◌, ◌<◌, ◌≤◌, ◌⊎◌, inl, inr, true, false, cond, eqb, leb, ◌&&◌, List, [], ◌∷◌, ◌++◌, length, get_or, Option, Some, None, refl, sym, ap, ◌∙◌, subst, append_assoc, arith, ℤ, Bool, FitsSigned, eq-eqb, ne_eqb, eqb-true}
 use Rattle.std.specs.Str.{bytes_eq}
 use Rattle.std.specs.List.{flat_map, AllByRecursion}
 use Rattle.std.specs.Int.{w16, w32, from_le_bytes, to_le_bytes, cast_signed, cast_unsigned}
-use Rattle.std.proofs.lemmas.Bool.{le-leb}
+use Rattle.std.proofs.lemmas.Bool.{cases_eq, le-leb, leb-true}
 use Rattle.std.proofs.lemmas.List.{take_at, drop_at, length-append}
 use Rattle.std.proofs.lemmas.List.Concat.{flat_map-cons}
-use Rattle.std.proofs.lemmas.Int.{to_z-of_z}
-use Rattle.std.proofs.Math.Facts.{Fits-of_z}
+use Rattle.std.proofs.lemmas.Slice.Eq.{bytes_eq-Decides}
+use Rattle.std.proofs.lemmas.Int.{to_z-of_z, of_z-to_z}
+use Rattle.std.proofs.Math.Facts.{sfits_to_z}
+use Rattle.std.proofs.Math.Nat.{mul-suc}
 use Rattle.std.proofs.lemmas.Nat.{from_le_bytes-to_le_bytes_2, from_le_bytes-to_le_bytes_4}
 use Rattle.w4_defs.specs.declared.console.Input.{Input}
-use Rattle.w4_defs.specs.Recording.{heading, input_bytes, spelling, IsPlain, input_of, inputs_of, fields_of, recording_of, SpelledRecordingsAreRead}
-use Rattle.w4_defs.proofs.ReadingLaws.{front_again, number_again}
+use Rattle.w4_defs.specs.MemoryMap.{input_bytes}
+use Rattle.w4_defs.specs.Reading.{◌>>=◌, IsBytes, front_at, number_at}
+use Rattle.w4_defs.specs.Recording.{Recording, IsInput, IsRecording, heading, flag_of, frame_size, frame_bytes, encoding, HasNoReset, IsEncoded, EncodedIsDecoded, DecodedIsEncoded, EncodesAtMostOne, OneEncoding, RewrittenIsSame, EncodingLength, LongestEncoding, version_of, input_of, reset_of, frame_of, frames_of, recording_of}
+use Rattle.w4_defs.proofs.ReadingLaws.{front_again, number_again, bind_some, if_some, front_read, front_bytes, rest_bytes, number_read_2, number_read_4}
 
-regroup : (a b c d e f g : List ℕ) → a ++ b ++ c ++ d ++ e ++ f ++ g ≡ a ++ (b ++ (c ++ (d ++ (e ++ (f ++ g)))))
-regroup a b c d e f g = simp append_assoc refl
+-- a version that there is
+abbrev pub IsVersion : ℕ → Type 0
+IsVersion version = (version ≡ 1) ⊎ (version ≡ 2)
 
--- the fields are read, each from its own bytes
-fields_again : (head digest b s disk c frames : List ℕ) (budget count : ℕ) → length head ≡ 5 → bytes_eq head heading ≡ true → length digest ≡ 32
-    → length b ≡ 4 → from_le_bytes w32 b ≡ budget → length s ≡ 2 → from_le_bytes w16 s ≡ length disk → length c ≡ 4 → from_le_bytes w32 c ≡ count
-    → 1 ≤ budget → length disk ≤ 1024 → count ≤ 36000 → length frames ≡ 9 * count
-    → fields_of (head ++ (digest ++ (b ++ (s ++ (disk ++ (c ++ frames))))))
-    ≡ Some (record { digest = digest; budget = budget; disk = disk; count = count; frames = frames })
-unfolding fields_of
-fields_again head digest b s disk c frames budget count hl he dl bl bv sl sv cl cv least size most len =
-    rw (
-      front_again head (digest ++ (b ++ (s ++ (disk ++ (c ++ frames))))) 5 hl,
-      front_again digest (b ++ (s ++ (disk ++ (c ++ frames)))) 32 dl,
-      number_again w32 b (s ++ (disk ++ (c ++ frames))) budget bl bv,
-      number_again w16 s (disk ++ (c ++ frames)) (length disk) sl sv,
-      front_again disk (c ++ frames) (length disk) refl,
-      number_again w32 c frames count cl cv,
-      he,
-      le-leb 1 budget least,
-      le-leb (length disk) 1024 size,
-      le-leb count 36000 most,
-      eq-eqb (length frames) (9 * count) len,
-    ) refl
+-- a frame that is decoded from its own bytes
+abbrev pub IsDecoded : ℕ → Input → Type 0
+IsDecoded version input = (length (frame_bytes version input) ≡ frame_size version)
+    × (frame_of version (frame_bytes version input) ≡ Some input)
 
--- a coordinate of the mouse is read back from its two bytes
-coordinate_again : (z : ℤ) → FitsSigned w16 z → cast_signed w16 (from_le_bytes w16 (to_le_bytes w16 (cast_unsigned w16 z))) ≡ z
+-- ---- a frame's bytes are decoded
+
+-- a coordinate of the mouse is decoded from its two bytes
+coordinate_again : (z : ℤ) → FitsSigned w16 z → cast_signed w16 (cast_unsigned w16 z % 256 + 256 * (cast_unsigned w16 z / 256)) ≡ z
 coordinate_again z fits =
-    let lt : cast_unsigned w16 z < 2 ^ 16 = (Fits-of_z fits).fits in
-    ap (cast_signed w16) (from_le_bytes-to_le_bytes_2 (cast_unsigned w16 z) lt) ∙ to_z-of_z w16 z fits
+    let n : ℕ = cast_unsigned w16 z in
+    let whole : n % 256 + 256 * (n / 256) ≡ n = omega arith in
+    ap (cast_signed w16) whole ∙ to_z-of_z w16 z fits
 
 input_with : List ℕ → ℕ → Bool → ℤ → ℤ → Input
 input_with pads buttons reset x y = record { pads = pads; mouse_x = x; mouse_y = y; buttons = buttons; reset = reset }
 
-plain_fields : (pads : List ℕ) (buttons : ℕ) (reset : Bool) (x y : ℤ) → length pads ≡ 4 → FitsSigned w16 x → FitsSigned w16 y → reset ≡ false
-    → input_of (input_bytes (input_with pads buttons reset x y)) ≡ input_with pads buttons reset x y
+-- the nine bytes, and whatever follows them
+fields_again : (pads tail : List ℕ) (buttons : ℕ) (reset : Bool) (x y : ℤ) → length pads ≡ 4 → FitsSigned w16 x → FitsSigned w16 y
+    → input_of (input_bytes (input_with pads buttons reset x y) ++ tail) reset ≡ input_with pads buttons reset x y
 unfolding input_with
-plain_fields [] buttons reset x y h fx fy plain = absurd cc
-plain_fields (a ∷ []) buttons reset x y h fx fy plain = absurd cc
-plain_fields (a ∷ b ∷ []) buttons reset x y h fx fy plain = absurd cc
-plain_fields (a ∷ b ∷ c ∷ []) buttons reset x y h fx fy plain = absurd cc
-plain_fields (a ∷ b ∷ c ∷ d ∷ []) buttons reset x y h fx fy plain =
+fields_again [] tail buttons reset x y h fx fy = absurd cc
+fields_again (a ∷ []) tail buttons reset x y h fx fy = absurd cc
+fields_again (a ∷ b ∷ []) tail buttons reset x y h fx fy = absurd cc
+fields_again (a ∷ b ∷ c ∷ []) tail buttons reset x y h fx fy = absurd cc
+fields_again (a ∷ b ∷ c ∷ d ∷ []) tail buttons reset x y h fx fy =
     let pads : List ℕ = a ∷ b ∷ c ∷ d ∷ [] in
-    ap (λ x'. input_with pads buttons false x' (cast_signed w16 (from_le_bytes w16 (to_le_bytes w16 (cast_unsigned w16 y))))) (coordinate_again x fx)
-    ∙ ap (λ y'. input_with pads buttons false x y') (coordinate_again y fy)
-    ∙ ap (λ r. input_with pads buttons r x y) (sym plain)
-plain_fields (a ∷ b ∷ c ∷ d ∷ e ∷ pads) buttons reset x y h fx fy plain = absurd (omega arith)
+    let n : ℕ = cast_unsigned w16 y in
+    ap (λ x'. input_with pads buttons reset x' (cast_signed w16 (n % 256 + 256 * (n / 256)))) (coordinate_again x fx)
+    ∙ ap (λ y'. input_with pads buttons reset x y') (coordinate_again y fy)
+fields_again (a ∷ b ∷ c ∷ d ∷ e ∷ pads) tail buttons reset x y h fx fy = absurd (omega arith)
 
-plain_again : (input : Input) → IsPlain input → input_of (input_bytes input) ≡ input
+input_again : (input : Input) (tail : List ℕ) → IsInput input → input_of (input_bytes input ++ tail) input.reset ≡ input
 unfolding input_with
-plain_again input plain = plain_fields input.pads input.buttons input.reset input.mouse_x input.mouse_y plain.pads plain.mouse_x plain.mouse_y plain.reset
+input_again input tail is = fields_again input.pads tail input.buttons input.reset input.mouse_x input.mouse_y is.four_pads is.mouse_x is.mouse_y
 
-nine_long : (pads xs ys : List ℕ) (b : ℕ) → length pads ≡ 4 → length xs ≡ 2 → length ys ≡ 2 → length (pads ++ xs ++ ys ++ b ∷ []) ≡ 9
-nine_long pads xs ys b hp hx hy =
-    omega (arith, hp, hx, hy, length-append (pads ++ xs ++ ys) (b ∷ []), length-append (pads ++ xs) ys, length-append pads xs)
+reset_again : (reset : Bool) → reset_of (flag_of reset) ≡ Some reset
+reset_again true = refl
+reset_again false = refl
 
-nine_bytes : (input : Input) → IsPlain input → length (input_bytes input) ≡ 9
-nine_bytes input plain = nine_long input.pads (to_le_bytes w16 (cast_unsigned w16 input.mouse_x)) (to_le_bytes w16 (cast_unsigned w16 input.mouse_y)) input.buttons plain.pads refl refl
+decoded_1 : (input : Input) → IsInput input → input.reset ≡ false → IsDecoded 1 input
+decoded_1 input is none = (refl, ap (λ (i : Input). Some i) (ap (input_of (input_bytes input)) (sym none) ∙ input_again input [] is))
 
-frames_long : (inputs : List Input) → AllByRecursion IsPlain inputs → length (flat_map input_bytes inputs) ≡ 9 * length inputs
-frames_long [] all = refl
-frames_long (input ∷ inputs) all =
-    rw (flat_map-cons input_bytes input inputs) (omega (arith, length-append (input_bytes input) (flat_map input_bytes inputs), nine_bytes input all.0, frames_long inputs all.1))
+decoded_2 : (input : Input) → IsInput input → IsDecoded 2 input
+decoded_2 input is =
+    let bytes : List ℕ = input_bytes input ++ flag_of input.reset ∷ [] in (
+      refl,
+      ap (λ o. o >>= λ reset. Some (input_of bytes reset)) (reset_again input.reset)
+          ∙ ap (λ (i : Input). Some i) (input_again input (flag_of input.reset ∷ []) is),
+    )
 
-inputs_again : (inputs : List Input) → AllByRecursion IsPlain inputs → inputs_of (length inputs) (flat_map input_bytes inputs) ≡ inputs
-unfolding inputs_of
-inputs_again [] all = refl
-inputs_again (input ∷ inputs) all =
-    let nine = nine_bytes input all.0 in
-    let frame = input_bytes input in
-    let frames = flat_map input_bytes inputs in
-    rw (flat_map-cons input_bytes input inputs, take_at frame frames 9 nine, drop_at frame frames 9 nine, plain_again input all.0, inputs_again inputs all.1) refl
+all_decoded_1 : (inputs : List Input) → AllByRecursion IsInput inputs → AllByRecursion (λ (i : Input). i.reset ≡ false) inputs → AllByRecursion (IsDecoded 1) inputs
+all_decoded_1 [] all none = tt
+all_decoded_1 (input ∷ inputs) all none = (decoded_1 input all.0 none.0, all_decoded_1 inputs all.1 none.1)
 
-pub read_back : SpelledRecordingsAreRead
-unfolding spelling recording_of
-read_back r within =
-    let frames = flat_map input_bytes r.inputs in
-    let fields = fields_again heading r.digest (to_le_bytes w32 r.budget) (to_le_bytes w16 (length r.disk)) r.disk (to_le_bytes w32 (length r.inputs)) frames
-    r.budget (length r.inputs) refl refl within.digest refl (from_le_bytes-to_le_bytes_4 r.budget within.budget)
-    refl (from_le_bytes-to_le_bytes_2 (length r.disk) (omega (arith, within.disk)))
-    refl (from_le_bytes-to_le_bytes_4 (length r.inputs) (omega (arith, within.frames)))
-    within.some_budget within.disk within.frames (frames_long r.inputs within.inputs) in
-    let whole = ap fields_of (regroup heading r.digest (to_le_bytes w32 r.budget) (to_le_bytes w16 (length r.disk)) r.disk (to_le_bytes w32 (length r.inputs)) frames) ∙ fields in
-    rw (whole, inputs_again r.inputs within.inputs) refl
+all_decoded_2 : (inputs : List Input) → AllByRecursion IsInput inputs → AllByRecursion (IsDecoded 2) inputs
+all_decoded_2 [] all = tt
+all_decoded_2 (input ∷ inputs) all = (decoded_2 input all.0, all_decoded_2 inputs all.1)
+
+frames_again : (version : ℕ) (inputs : List Input) → AllByRecursion (IsDecoded version) inputs
+    → frames_of version (length inputs) (flat_map (frame_bytes version) inputs) ≡ Some inputs
+unfolding frames_of
+frames_again version [] all = refl
+frames_again version (input ∷ inputs) all =
+    let frame = frame_bytes version input in
+    let frames = flat_map (frame_bytes version) inputs in
+    rw (flat_map-cons (frame_bytes version) input inputs, front_again frame frames (frame_size version) all.0.0, all.0.1, frames_again version inputs all.1) refl
+
+-- ---- a recording's bytes are decoded
+
+regroup : (a b c d e f g : List ℕ) → a ++ b ++ c ++ d ++ e ++ f ++ g ≡ a ++ (b ++ (c ++ (d ++ (e ++ (f ++ g)))))
+regroup a b c d e f g = simp append_assoc refl
+
+-- the fields are decoded, each from its own bytes
+parts_again : (version : ℕ) (head digest b s disk c frames : List ℕ) (budget : ℕ) (inputs : List Input)
+    → length head ≡ 5 → version_of head ≡ Some version → length digest ≡ 32
+    → length b ≡ 4 → from_le_bytes w32 b ≡ budget → length s ≡ 2 → from_le_bytes w16 s ≡ length disk
+    → length c ≡ 4 → from_le_bytes w32 c ≡ length inputs
+    → 1 ≤ budget → length disk ≤ 1024 → length inputs ≤ 36000 → frames_of version (length inputs) frames ≡ Some inputs
+    → recording_of (head ++ (digest ++ (b ++ (s ++ (disk ++ (c ++ frames))))))
+    ≡ Some (record { digest = digest; budget = budget; disk = disk; frames = inputs })
+unfolding recording_of
+parts_again version head digest b s disk c frames budget inputs hl he dl bl bv sl sv cl cv least size most read =
+    rw (
+      front_again head (digest ++ (b ++ (s ++ (disk ++ (c ++ frames))))) 5 hl,
+      he,
+      front_again digest (b ++ (s ++ (disk ++ (c ++ frames)))) 32 dl,
+      number_again w32 b (s ++ (disk ++ (c ++ frames))) budget bl bv,
+      number_again w16 s (disk ++ (c ++ frames)) (length disk) sl sv,
+      front_again disk (c ++ frames) (length disk) refl,
+      number_again w32 c frames (length inputs) cl cv,
+      le-leb 1 budget least,
+      le-leb (length disk) 1024 size,
+      le-leb (length inputs) 36000 most,
+      read,
+    ) refl
+
+whole_again : (version : ℕ) (r : Recording) → version_of (heading version) ≡ Some version → IsRecording r → AllByRecursion (IsDecoded version) r.frames
+    → recording_of (encoding version r) ≡ Some r
+unfolding encoding
+whole_again version r known is all =
+    let frames = flat_map (frame_bytes version) r.frames in
+    let disk = to_le_bytes w16 (length r.disk) in
+    let count = to_le_bytes w32 (length r.frames) in
+    ap recording_of (regroup (heading version) r.digest (to_le_bytes w32 r.budget) disk r.disk count frames)
+    ∙ parts_again version (heading version) r.digest (to_le_bytes w32 r.budget) disk r.disk count frames r.budget r.frames
+    refl known is.digest_length refl (from_le_bytes-to_le_bytes_4 r.budget is.budget)
+    refl (from_le_bytes-to_le_bytes_2 (length r.disk) (omega (arith, is.small_disk)))
+    refl (from_le_bytes-to_le_bytes_4 (length r.frames) (omega (arith, is.few_frames)))
+    is.some_budget is.small_disk is.few_frames (frames_again version r.frames all)
+
+pub again_1 : (r : Recording) → IsRecording r → HasNoReset r → recording_of (encoding 1 r) ≡ Some r
+again_1 r is none = whole_again 1 r refl is (all_decoded_1 r.frames is.frames none)
+
+pub again_2 : (r : Recording) → IsRecording r → recording_of (encoding 2 r) ≡ Some r
+again_2 r is = whole_again 2 r refl is (all_decoded_2 r.frames is.frames)
+
+-- ---- a frame that is decoded has these bytes
+
+-- what was decoded from a frame's bytes
+abbrev pub IsFrame : ℕ → List ℕ → Input → Type 0
+IsFrame version bytes input = (frame_bytes version input ≡ bytes) × IsInput input × (version ≡ 1 → input.reset ≡ false)
+
+-- two bytes, from the coordinate that they are
+low_byte : (n a b : ℕ) → n ≡ a + 256 * b → a < 256 → n % 256 ≡ a
+low_byte n a b e h = omega arith
+
+high_byte : (n a b : ℕ) → n ≡ a + 256 * b → a < 256 → n / 256 ≡ b
+high_byte n a b e h = omega arith
+
+coordinate_back : (a b : ℕ) → a < 256 → b < 256 → cast_unsigned w16 (cast_signed w16 (a + 256 * b)) ≡ a + 256 * b
+coordinate_back a b ha hb = of_z-to_z w16 (a + 256 * b) (omega arith)
+
+coordinate_fits : (a b : ℕ) → a < 256 → b < 256 → FitsSigned w16 (cast_signed w16 (a + 256 * b))
+coordinate_fits a b ha hb = let fits : Fits w16 (a + 256 * b) = record { fits = omega arith } in sfits_to_z fits
+
+nine_back : (a b c d e f g h i : ℕ) (tail : List ℕ) (reset : Bool) → IsBytes (a ∷ b ∷ c ∷ d ∷ e ∷ f ∷ g ∷ h ∷ i ∷ tail)
+    → input_bytes (input_of (a ∷ b ∷ c ∷ d ∷ e ∷ f ∷ g ∷ h ∷ i ∷ tail) reset) ≡ a ∷ b ∷ c ∷ d ∷ e ∷ f ∷ g ∷ h ∷ i ∷ []
+nine_back a b c d e f g h i tail reset small =
+    let x : ℕ = cast_unsigned w16 (cast_signed w16 (e + 256 * f)) in
+    let y : ℕ = cast_unsigned w16 (cast_signed w16 (g + 256 * h)) in
+    let is_x : x ≡ e + 256 * f = coordinate_back e f (small 4) (small 5) in
+    let is_y : y ≡ g + 256 * h = coordinate_back g h (small 6) (small 7) in
+    let p : x % 256 ≡ e = low_byte x e f is_x (small 4) in
+    let q : x / 256 ≡ f = high_byte x e f is_x (small 4) in
+    let r : y % 256 ≡ g = low_byte y g h is_y (small 6) in
+    let s : y / 256 ≡ h = high_byte y g h is_y (small 6) in
+    λ k. a ∷ b ∷ c ∷ d ∷ p k ∷ q k ∷ r k ∷ s k ∷ i ∷ []
+
+input_fits : (a b c d e f g h i : ℕ) (tail : List ℕ) (reset : Bool) → IsBytes (a ∷ b ∷ c ∷ d ∷ e ∷ f ∷ g ∷ h ∷ i ∷ tail)
+    → IsInput (input_of (a ∷ b ∷ c ∷ d ∷ e ∷ f ∷ g ∷ h ∷ i ∷ tail) reset)
+input_fits a b c d e f g h i tail reset small = record {
+  four_pads = refl;
+  pads = front_bytes (a ∷ b ∷ c ∷ d ∷ []) (e ∷ f ∷ g ∷ h ∷ i ∷ tail) small;
+  mouse_x = coordinate_fits e f (small 4) (small 5);
+  mouse_y = coordinate_fits g h (small 6) (small 7);
+  buttons = small 8;
+}
+
+some_same : {A : Type 0} (a b : A) → Some a ≡ Some b → a ≡ b
+some_same {A} a b e = let inside : Option A → A = λ o. elim o [ Some x ↦ x | None ↦ a ] in ap inside e
+
+no_none : {A : Type 0} (a : A) → None ≡ Some a → ⊥
+no_none a e = cc
+
+two_not_one : (n : ℕ) → n ≡ 2 → n ≡ 1 → ⊥
+two_not_one n two one = omega (arith, two, one)
+
+flag_back : (flag : ℕ) (reset : Bool) → reset_of flag ≡ Some reset → flag_of reset ≡ flag
+flag_back flag reset e = elim (cases_eq flag 0) [
+  | inl zero_flag ↦
+      let read : reset_of flag ≡ Some false = ap reset_of zero_flag in
+      ap flag_of (sym (some_same false reset (sym read ∙ e))) ∙ sym zero_flag
+  | inr other ↦ elim (cases_eq flag 1) [
+    | inl one_flag ↦
+        let read : reset_of flag ≡ Some true = ap reset_of one_flag in
+        ap flag_of (sym (some_same true reset (sym read ∙ e))) ∙ sym one_flag
+    | inr neither ↦
+        let read : reset_of flag ≡ None = rw (ne_eqb flag 0 other, ne_eqb flag 1 neither) refl in
+        absurd (no_none reset (sym read ∙ e))
+  ]
+]
+
+frame_1 : (bytes : List ℕ) (input : Input) → length bytes ≡ 9 → IsBytes bytes → Some (input_of bytes false) ≡ Some input → IsFrame 1 bytes input
+frame_1 (a ∷ b ∷ c ∷ d ∷ e ∷ f ∷ g ∷ h ∷ i ∷ []) input len small read =
+    let bytes : List ℕ = a ∷ b ∷ c ∷ d ∷ e ∷ f ∷ g ∷ h ∷ i ∷ [] in
+    subst (IsFrame 1 bytes) (some_same (input_of bytes false) input read)
+    (nine_back a b c d e f g h i [] false small, input_fits a b c d e f g h i [] false small, λ _. refl)
+frame_1 (a ∷ b ∷ c ∷ d ∷ e ∷ f ∷ g ∷ h ∷ i ∷ j ∷ more) input len small read = absurd (omega arith)
+frame_1 bytes input len small read = absurd (omega arith)
+
+frame_2 : (bytes : List ℕ) (input : Input) → length bytes ≡ 10 → IsBytes bytes
+    → (reset_of (get_or bytes 9 0) >>= λ reset. Some (input_of bytes reset)) ≡ Some input → IsFrame 2 bytes input
+frame_2 (a ∷ b ∷ c ∷ d ∷ e ∷ f ∷ g ∷ h ∷ i ∷ j ∷ []) input len small read =
+    let bytes : List ℕ = a ∷ b ∷ c ∷ d ∷ e ∷ f ∷ g ∷ h ∷ i ∷ j ∷ [] in
+    let both = bind_some (reset_of j) (λ reset. Some (input_of bytes reset)) input read in
+    let reset : Bool = both.0 in
+    let nine = nine_back a b c d e f g h i (j ∷ []) reset small in
+    let ten : frame_bytes 2 (input_of bytes reset) ≡ bytes = λ k. nine k ++ flag_back j reset both.1 k ∷ [] in
+    subst (IsFrame 2 bytes) (some_same (input_of bytes reset) input both.2)
+    (ten, input_fits a b c d e f g h i (j ∷ []) reset small, λ no. absurd (two_not_one 2 refl no))
+frame_2 (a ∷ b ∷ c ∷ d ∷ e ∷ f ∷ g ∷ h ∷ i ∷ j ∷ k ∷ more) input len small read = absurd (omega arith)
+frame_2 bytes input len small read = absurd (omega arith)
+
+-- a frame of either version
+abbrev FrameReads : List ℕ → Input → ℕ → Type 0
+FrameReads bytes input version = length bytes ≡ frame_size version → IsBytes bytes → frame_of version bytes ≡ Some input → IsFrame version bytes input
+
+frame_read : (version : ℕ) (bytes : List ℕ) (input : Input) → IsVersion version → FrameReads bytes input version
+frame_read version bytes input known = elim known [
+  | inl one ↦ subst (FrameReads bytes input) (sym one) (frame_1 bytes input)
+  | inr two ↦ subst (FrameReads bytes input) (sym two) (frame_2 bytes input)
+]
+
+-- what was decoded from the bytes of frames
+pub record AreFrames (version count : ℕ) (bytes : List ℕ) (inputs : List Input) : Type 0 where
+  pub bytes_are : bytes ≡ flat_map (frame_bytes version) inputs
+  pub many : length inputs ≡ count
+  pub fit : AllByRecursion IsInput inputs
+  pub plain : version ≡ 1 → AllByRecursion (λ (input : Input). input.reset ≡ false) inputs
+
+no_bytes : (bytes : List ℕ) → length bytes ≡ 0 → bytes ≡ []
+no_bytes [] e = refl
+no_bytes (b ∷ bytes) e = absurd (omega arith)
+
+one_more : (version count : ℕ) (bytes front rest : List ℕ) (input : Input) (inputs : List Input) → bytes ≡ front ++ rest
+    → IsFrame version front input → AreFrames version count rest inputs → AreFrames version (suc count) bytes (input ∷ inputs)
+one_more version count bytes front rest input inputs whole frame are = record {
+  bytes_are = whole ∙ (λ k. sym frame.0 k ++ are.bytes_are k) ∙ sym (flat_map-cons (frame_bytes version) input inputs);
+  many = omega (arith, are.many);
+  fit = (frame.1, are.fit);
+  plain = λ one. (frame.2 one, are.plain one);
+}
+
+frames_read : (version count : ℕ) (bytes : List ℕ) (inputs : List Input) → IsVersion version → IsBytes bytes
+    → frames_of version count bytes ≡ Some inputs → AreFrames version count bytes inputs
+unfolding frames_of
+frames_read version zero bytes inputs known small read =
+    let both = if_some (eqb (length bytes) 0) (Some []) inputs read in
+    let none : [] ≡ inputs = some_same [] inputs both.1 in
+    subst (AreFrames version 0 bytes) none (record { bytes_are = no_bytes bytes (eqb-true _ _ both.0); many = refl; fit = tt; plain = λ _. tt })
+frames_read version (suc count) bytes inputs known small read =
+    let after_input : (List ℕ × List ℕ) → Input → Option (List Input) =
+    λ first input. frames_of version count first.1 >>= λ more. Some (input ∷ more) in
+    let after_front : (List ℕ × List ℕ) → Option (List Input) = λ first. frame_of version first.0 >>= after_input first in
+    let first = bind_some (front_at (frame_size version) bytes) after_front inputs read in
+    let parts = front_read (frame_size version) bytes first.0.0 first.0.1 first.1 in
+    let small_parts : IsBytes (first.0.0 ++ first.0.1) = subst IsBytes parts.0 small in
+    let second = bind_some (frame_of version first.0.0) (after_input first.0) inputs first.2 in
+    let third = bind_some (frames_of version count first.0.1) (λ more. Some (second.0 ∷ more)) inputs second.2 in
+    let frame = frame_read version first.0.0 second.0 known parts.1 (front_bytes first.0.0 first.0.1 small_parts) second.1 in
+    let rest = frames_read version count first.0.1 third.0 known (rest_bytes first.0.0 first.0.1 small_parts) third.1 in
+    subst (AreFrames version (suc count) bytes) (some_same (second.0 ∷ third.0) inputs third.2)
+    (one_more version count bytes first.0.0 first.0.1 second.0 third.0 parts.0 frame rest)
+
+-- ---- a recording that is decoded has these bytes
+
+picked : (a b : Bool) (version : ℕ) → cond a (Some 1) (cond b (Some 2) None) ≡ Some version → ((a ≡ true) × (version ≡ 1)) ⊎ ((b ≡ true) × (version ≡ 2))
+picked true b version e = inl (refl, sym (some_same 1 version e))
+picked false true version e = inr (refl, sym (some_same 2 version e))
+picked false false version e = absurd (no_none version e)
+
+version_read : (head : List ℕ) (version : ℕ) → version_of head ≡ Some version → (head ≡ heading version) × IsVersion version
+version_read head version e = elim (picked (bytes_eq head (heading 1)) (bytes_eq head (heading 2)) version e) [
+  | inl one ↦ ((bytes_eq-Decides head (heading 1)).0 one.0 ∙ ap heading (sym one.1), inl one.1)
+  | inr two ↦ ((bytes_eq-Decides head (heading 2)).0 two.0 ∙ ap heading (sym two.1), inr two.1)
+]
+
+and_true : (a b : Bool) → (a && b) ≡ true → (a ≡ true) × (b ≡ true)
+and_true true b e = (refl, e)
+and_true false b e = absurd cc
+
+-- the steps of decoding, each from what the one before it read
+abbrev with_frames : List ℕ → ℕ → List ℕ → List Input → Option Recording
+with_frames digest budget disk frames = Some (record { digest = digest; budget = budget; disk = disk; frames = frames })
+
+abbrev within : ℕ → ℕ → ℕ → Bool
+within budget size count = leb 1 budget && leb size 1024 && leb count 36000
+
+abbrev with_count : ℕ → List ℕ → ℕ → ℕ → List ℕ → (ℕ × List ℕ) → Option Recording
+with_count version digest budget size disk count =
+    cond (within budget size count.0) (frames_of version count.0 count.1) None >>= with_frames digest budget disk
+
+abbrev with_disk : ℕ → List ℕ → ℕ → ℕ → (List ℕ × List ℕ) → Option Recording
+with_disk version digest budget size disk = number_at w32 disk.1 >>= with_count version digest budget size disk.0
+
+abbrev with_size : ℕ → List ℕ → ℕ → (ℕ × List ℕ) → Option Recording
+with_size version digest budget size = front_at size.0 size.1 >>= with_disk version digest budget size.0
+
+abbrev with_budget : ℕ → List ℕ → (ℕ × List ℕ) → Option Recording
+with_budget version digest budget = number_at w16 budget.1 >>= with_size version digest budget.0
+
+abbrev with_digest : ℕ → (List ℕ × List ℕ) → Option Recording
+with_digest version digest = number_at w32 digest.1 >>= with_budget version digest.0
+
+abbrev with_version : List ℕ → ℕ → Option Recording
+with_version rest version = front_at 32 rest >>= with_digest version
+
+limits : (budget size count : ℕ) → within budget size count ≡ true → (1 ≤ budget) × (size ≤ 1024) × (count ≤ 36000)
+limits budget size count e =
+    let all = and_true (leb 1 budget && leb size 1024) (leb count 36000) e in
+    let two = and_true (leb 1 budget) (leb size 1024) all.0 in
+    (leb-true _ _ two.0, leb-true _ _ two.1, leb-true _ _ all.1)
+
+-- the encoding from each field on
+abbrev count_on : ℕ → Recording → List ℕ
+count_on version r = to_le_bytes w32 (length r.frames) ++ flat_map (frame_bytes version) r.frames
+
+abbrev disk_on : ℕ → Recording → List ℕ
+disk_on version r = r.disk ++ count_on version r
+
+abbrev size_on : ℕ → Recording → List ℕ
+size_on version r = to_le_bytes w16 (length r.disk) ++ disk_on version r
+
+abbrev budget_on : ℕ → Recording → List ℕ
+budget_on version r = to_le_bytes w32 r.budget ++ size_on version r
+
+abbrev digest_on : ℕ → Recording → List ℕ
+digest_on version r = r.digest ++ budget_on version r
+
+-- what is known of a recording that was decoded from its frames, from its disk on, and so forth to its front
+pub record FromCount (version : ℕ) (digest_read : List ℕ) (budget_read size : ℕ) (disk_read rest : List ℕ) (r : Recording) : Type 0 where
+  pub bytes_are : rest ≡ count_on version r
+  pub digest : r.digest ≡ digest_read
+  pub budget : r.budget ≡ budget_read
+  pub disk : r.disk ≡ disk_read
+  pub some_budget : 1 ≤ budget_read
+  pub small_disk : size ≤ 1024
+  pub few_frames : length r.frames ≤ 36000
+  pub frames : AllByRecursion IsInput r.frames
+  pub plain : version ≡ 1 → HasNoReset r
+
+pub record FromDisk (version : ℕ) (digest_read : List ℕ) (budget_read size : ℕ) (rest : List ℕ) (r : Recording) : Type 0 where
+  pub bytes_are : rest ≡ disk_on version r
+  pub digest : r.digest ≡ digest_read
+  pub budget : r.budget ≡ budget_read
+  pub disk_length : length r.disk ≡ size
+  pub disk : IsBytes r.disk
+  pub some_budget : 1 ≤ budget_read
+  pub small_disk : size ≤ 1024
+  pub few_frames : length r.frames ≤ 36000
+  pub frames : AllByRecursion IsInput r.frames
+  pub plain : version ≡ 1 → HasNoReset r
+
+pub record FromSize (version : ℕ) (digest_read : List ℕ) (budget_read : ℕ) (rest : List ℕ) (r : Recording) : Type 0 where
+  pub bytes_are : rest ≡ size_on version r
+  pub digest : r.digest ≡ digest_read
+  pub budget : r.budget ≡ budget_read
+  pub disk : IsBytes r.disk
+  pub some_budget : 1 ≤ budget_read
+  pub small_disk : length r.disk ≤ 1024
+  pub few_frames : length r.frames ≤ 36000
+  pub frames : AllByRecursion IsInput r.frames
+  pub plain : version ≡ 1 → HasNoReset r
+
+count_parts : (version : ℕ) (digest : List ℕ) (budget size : ℕ) (disk rest after : List ℕ) (count : ℕ) (r : Recording)
+    → IsVersion version → IsBytes after → rest ≡ to_le_bytes w32 count ++ after
+    → with_count version digest budget size disk (count, after) ≡ Some r → FromCount version digest budget size disk rest r
+count_parts version digest budget size disk rest after count r known small whole e =
+    let frames = bind_some (cond (within budget size count) (frames_of version count after) None) (with_frames digest budget disk) r e in
+    let tested = if_some (within budget size count) (frames_of version count after) frames.0 frames.1 in
+    let fit = limits budget size count tested.0 in
+    let are = frames_read version count after frames.0 known small tested.1 in
+    let made : Recording = record { digest = digest; budget = budget; disk = disk; frames = frames.0 } in
+    let few : length frames.0 ≤ 36000 = subst (λ n. n ≤ 36000) (sym are.many) fit.2 in
+    subst (FromCount version digest budget size disk rest) (some_same made r frames.2) (record {
+      bytes_are = whole ∙ (λ k. to_le_bytes w32 (sym are.many k) ++ are.bytes_are k);
+      digest = refl;
+      budget = refl;
+      disk = refl;
+      some_budget = fit.0;
+      small_disk = fit.1;
+      few_frames = few;
+      frames = are.fit;
+      plain = are.plain;
+    })
+
+from_count : (version : ℕ) (digest : List ℕ) (budget size : ℕ) (disk rest : List ℕ) (r : Recording) → IsVersion version → IsBytes rest
+    → (number_at w32 rest >>= with_count version digest budget size disk) ≡ Some r → FromCount version digest budget size disk rest r
+from_count version digest budget size disk rest r known small e =
+    let count = bind_some (number_at w32 rest) (with_count version digest budget size disk) r e in
+    let parts = number_read_4 rest count.0.1 count.0.0 small count.1 in
+    count_parts version digest budget size disk rest count.0.1 count.0.0 r known
+    (rest_bytes (to_le_bytes w32 count.0.0) count.0.1 (subst IsBytes parts.0 small)) parts.0 count.2
+
+disk_parts : (version : ℕ) (digest : List ℕ) (budget size : ℕ) (disk rest after : List ℕ) (r : Recording) → length disk ≡ size → IsBytes disk
+    → rest ≡ disk ++ after → FromCount version digest budget size disk after r → FromDisk version digest budget size rest r
+disk_parts version digest budget size disk rest after r len small whole from = record {
+  bytes_are = whole ∙ (λ k. sym from.disk k ++ from.bytes_are k);
+  digest = from.digest;
+  budget = from.budget;
+  disk_length = ap length from.disk ∙ len;
+  disk = subst IsBytes (sym from.disk) small;
+  some_budget = from.some_budget;
+  small_disk = from.small_disk;
+  few_frames = from.few_frames;
+  frames = from.frames;
+  plain = from.plain;
+}
+
+from_disk : (version : ℕ) (digest : List ℕ) (budget size : ℕ) (rest : List ℕ) (r : Recording) → IsVersion version → IsBytes rest
+    → (front_at size rest >>= with_disk version digest budget size) ≡ Some r → FromDisk version digest budget size rest r
+from_disk version digest budget size rest r known small e =
+    let disk = bind_some (front_at size rest) (with_disk version digest budget size) r e in
+    let parts = front_read size rest disk.0.0 disk.0.1 disk.1 in
+    let both : IsBytes (disk.0.0 ++ disk.0.1) = subst IsBytes parts.0 small in
+    disk_parts version digest budget size disk.0.0 rest disk.0.1 r parts.1 (front_bytes disk.0.0 disk.0.1 both) parts.0
+    (from_count version digest budget size disk.0.0 disk.0.1 r known (rest_bytes disk.0.0 disk.0.1 both) disk.2)
+
+size_parts : (version : ℕ) (digest : List ℕ) (budget size : ℕ) (rest after : List ℕ) (r : Recording) → rest ≡ to_le_bytes w16 size ++ after
+    → FromDisk version digest budget size after r → FromSize version digest budget rest r
+size_parts version digest budget size rest after r whole from = record {
+  bytes_are = whole ∙ (λ k. to_le_bytes w16 (sym from.disk_length k) ++ from.bytes_are k);
+  digest = from.digest;
+  budget = from.budget;
+  disk = from.disk;
+  some_budget = from.some_budget;
+  small_disk = subst (λ n. n ≤ 1024) (sym from.disk_length) from.small_disk;
+  few_frames = from.few_frames;
+  frames = from.frames;
+  plain = from.plain;
+}
+
+from_size : (version : ℕ) (digest : List ℕ) (budget : ℕ) (rest : List ℕ) (r : Recording) → IsVersion version → IsBytes rest
+    → (number_at w16 rest >>= with_size version digest budget) ≡ Some r → FromSize version digest budget rest r
+from_size version digest budget rest r known small e =
+    let size = bind_some (number_at w16 rest) (with_size version digest budget) r e in
+    let parts = number_read_2 rest size.0.1 size.0.0 small size.1 in
+    size_parts version digest budget size.0.0 rest size.0.1 r parts
+    (from_disk version digest budget size.0.0 size.0.1 r known (rest_bytes (to_le_bytes w16 size.0.0) size.0.1 (subst IsBytes parts small)) size.2)
+
+-- what is known of a recording that was decoded from its digest on
+abbrev FromDigest : ℕ → List ℕ → Recording → Type 0
+FromDigest version rest r = IsRecording r × (rest ≡ digest_on version r) × (version ≡ 1 → HasNoReset r)
+
+budget_parts : (version : ℕ) (digest : List ℕ) (budget : ℕ) (whole rest after : List ℕ) (r : Recording)
+    → length digest ≡ 32 → IsBytes digest → whole ≡ digest ++ rest → rest ≡ to_le_bytes w32 budget ++ after → budget < 2 ^ 32
+    → FromSize version digest budget after r → FromDigest version whole r
+budget_parts version digest budget whole rest after r len small first second below from = (
+  record {
+    digest_length = ap length from.digest ∙ len;
+    digest = subst IsBytes (sym from.digest) small;
+    some_budget = subst (λ n. 1 ≤ n) (sym from.budget) from.some_budget;
+    budget = subst (λ n. n < 2 ^ 32) (sym from.budget) below;
+    small_disk = from.small_disk;
+    disk = from.disk;
+    few_frames = from.few_frames;
+    frames = from.frames;
+  },
+  first ∙ (λ k. sym from.digest k ++ (second ∙ (λ k. to_le_bytes w32 (sym from.budget k) ++ from.bytes_are k)) k),
+  from.plain,
+)
+
+from_digest : (version : ℕ) (rest : List ℕ) (r : Recording) → IsVersion version → IsBytes rest → with_version rest version ≡ Some r → FromDigest version rest r
+from_digest version rest r known small e =
+    let digest = bind_some (front_at 32 rest) (with_digest version) r e in
+    let parts = front_read 32 rest digest.0.0 digest.0.1 digest.1 in
+    let both : IsBytes (digest.0.0 ++ digest.0.1) = subst IsBytes parts.0 small in
+    let small_rest : IsBytes digest.0.1 = rest_bytes digest.0.0 digest.0.1 both in
+    let budget = bind_some (number_at w32 digest.0.1) (with_budget version digest.0.0) r digest.2 in
+    let number = number_read_4 digest.0.1 budget.0.1 budget.0.0 small_rest budget.1 in
+    budget_parts version digest.0.0 budget.0.0 rest digest.0.1 budget.0.1 r parts.1 (front_bytes digest.0.0 digest.0.1 both) parts.0 number.0 number.1
+    (from_size version digest.0.0 budget.0.0 budget.0.1 r known (rest_bytes (to_le_bytes w32 budget.0.0) budget.0.1 (subst IsBytes number.0 small_rest)) budget.2)
+
+encoded_from : (version : ℕ) (bytes head rest : List ℕ) (r : Recording) → IsVersion version → bytes ≡ head ++ rest → head ≡ heading version
+    → FromDigest version rest r → IsEncoded r bytes
+unfolding encoding
+encoded_from version bytes head rest r known whole is from =
+    let all : bytes ≡ encoding version r = whole ∙ (λ k. is k ++ from.1 k)
+    ∙ sym (regroup (heading version) r.digest (to_le_bytes w32 r.budget) (to_le_bytes w16 (length r.disk)) r.disk (to_le_bytes w32 (length r.frames)) (flat_map (frame_bytes version) r.frames)) in (
+      from.0,
+      elim known [
+        | inl one ↦ inl (from.2 one, all ∙ ap (λ v. encoding v r) one)
+        | inr two ↦ inr (all ∙ ap (λ v. encoding v r) two)
+      ],
+    )
+
+-- ---- the laws
+
+pub decoded_is_encoded : DecodedIsEncoded
+unfolding recording_of
+decoded_is_encoded r bytes small e =
+    let head = bind_some (front_at 5 bytes) (λ (head : List ℕ × List ℕ). version_of head.0 >>= with_version head.1) r e in
+    let parts = front_read 5 bytes head.0.0 head.0.1 head.1 in
+    let version = bind_some (version_of head.0.0) (with_version head.0.1) r head.2 in
+    let known = version_read head.0.0 version.0 version.1 in
+    encoded_from version.0 bytes head.0.0 head.0.1 r known.1 parts.0 known.0
+    (from_digest version.0 head.0.1 r known.1 (rest_bytes head.0.0 head.0.1 (subst IsBytes parts.0 small)) version.2)
+
+pub encoded_is_decoded : EncodedIsDecoded
+encoded_is_decoded r bytes encodes = elim encodes.1 [
+  | inl first ↦ ap recording_of first.1 ∙ again_1 r encodes.0 first.0
+  | inr second ↦ ap recording_of second ∙ again_2 r encodes.0
+]
+
+pub encodes_at_most_one : EncodesAtMostOne
+encodes_at_most_one r s bytes one other =
+    some_same r s (sym (encoded_is_decoded r bytes one) ∙ encoded_is_decoded s bytes other)
+
+first_version : (r : Recording) → get_or (encoding 1 r) 4 0 ≡ 1
+unfolding encoding
+first_version r = refl
+
+pub one_encoding : OneEncoding
+one_encoding r bytes encodes byte = elim encodes.1 [
+  | inl first ↦ absurd (two_not_one 2 refl (sym byte ∙ ap (λ xs. get_or xs 4 0) first.1 ∙ first_version r))
+  | inr second ↦ second
+]
+
+pub rewritten_is_same : RewrittenIsSame
+rewritten_is_same r bytes small e = again_2 r (decoded_is_encoded r bytes small e).0
+
+frames_length : (size : ℕ) (bytes : Input → List ℕ) (inputs : List Input) → ((input : Input) → length (bytes input) ≡ size)
+    → length (flat_map bytes inputs) ≡ size * length inputs
+frames_length size bytes [] each = omega arith
+frames_length size bytes (input ∷ inputs) each =
+    rw (flat_map-cons bytes input inputs, mul-suc size (length inputs))
+    (omega (arith, length-append (bytes input) (flat_map bytes inputs), each input, frames_length size bytes inputs each))
+
+parts_length : (head digest b s disk c frames : List ℕ) → length head ≡ 5 → length digest ≡ 32 → length b ≡ 4 → length s ≡ 2 → length c ≡ 4
+    → length (head ++ digest ++ b ++ s ++ disk ++ c ++ frames) ≡ 47 + length disk + length frames
+parts_length head digest b s disk c frames hl dl bl sl cl = omega (
+  arith,
+  hl,
+  dl,
+  bl,
+  sl,
+  cl,
+  length-append head digest,
+  length-append (head ++ digest) b,
+  length-append (head ++ digest ++ b) s,
+  length-append (head ++ digest ++ b ++ s) disk,
+  length-append (head ++ digest ++ b ++ s ++ disk) c,
+  length-append (head ++ digest ++ b ++ s ++ disk ++ c) frames,
+)
+
+encoding_size : (version size : ℕ) (r : Recording) → IsRecording r → ((input : Input) → length (frame_bytes version input) ≡ size)
+    → length (encoding version r) ≡ 47 + length r.disk + size * length r.frames
+unfolding encoding
+encoding_size version size r is each =
+    parts_length (heading version) r.digest (to_le_bytes w32 r.budget) (to_le_bytes w16 (length r.disk)) r.disk (to_le_bytes w32 (length r.frames))
+    (flat_map (frame_bytes version) r.frames) refl is.digest_length refl refl refl
+    ∙ ap (λ n. 47 + length r.disk + n) (frames_length size (frame_bytes version) r.frames each)
+
+pub encoding_length : EncodingLength
+encoding_length r is = (encoding_size 1 9 r is (λ _. refl), encoding_size 2 10 r is (λ _. refl))
+
+longest_1 : (n disk frames : ℕ) → n ≡ 47 + disk + 9 * frames → disk ≤ 1024 → frames ≤ 36000 → n ≤ 361071
+longest_1 n disk frames e small few = omega (arith, e)
+
+longest_2 : (n disk frames : ℕ) → n ≡ 47 + disk + 10 * frames → disk ≤ 1024 → frames ≤ 36000 → n ≤ 361071
+longest_2 n disk frames e small few = omega (arith, e)
+
+pub longest_encoding : LongestEncoding
+longest_encoding r bytes encodes =
+    let sizes = encoding_length r encodes.0 in
+    elim encodes.1 [
+      | inl first ↦ longest_1 (length bytes) (length r.disk) (length r.frames) (ap length first.1 ∙ sizes.0) encodes.0.small_disk encodes.0.few_frames
+      | inr second ↦ longest_2 (length bytes) (length r.disk) (length r.frames) (ap length second ∙ sizes.1) encodes.0.small_disk encodes.0.few_frames
+    ]

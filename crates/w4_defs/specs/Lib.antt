@@ -64,6 +64,7 @@ pub mod FrameTexts
 -- files
 pub mod Reading
 pub mod Recording
+pub mod Lines
 pub mod Script
 -- made carts, netplay, memory search, batches, sound
 pub mod Generator

@@ -1,5 +1,5 @@
 -- Reading from the front: a field is a value and the bytes after it, or None where the bytes don't have it.
-use Rattle.std.specs.Prelude.{ℕ, ◌+◌, ◌==◌, List, length, take, drop, Option, Some, None, nat_lt, if◌then◌else◌}
+use Rattle.std.specs.Prelude.{ℕ, ◌+◌, ◌<◌, ◌==◌, List, length, take, drop, slice_index, Option, Some, None, nat_lt, if◌then◌else◌}
 use Rattle.std.specs.List.{position}
 use Rattle.std.specs.Int.{Width, byte_len, from_le_bytes}
 
@@ -7,6 +7,10 @@ infixl 10 ◌>>=◌
 abbrev pub ◌>>=◌ : {A B : Type 0} → Option A → (A → Option B) → Option B
 (Some x) >>= f = f x
 None >>= f = None
+
+-- numbers that are bytes
+abbrev pub IsBytes : List ℕ → Type 0
+IsBytes bytes = (i : ℕ) → slice_index bytes i < 256
 
 -- the first n bytes
 abbrev pub front_at : ℕ → List ℕ → Option (List ℕ × List ℕ)

@@ -1,105 +1,200 @@
--- A recording, version 1 (own rule): `W4RC`, a byte 1, the cart's SHA-256, the budget of a frame, the disk's
--- length and bytes, how many frames, then nine bytes for each: pads 1 to 4, mouse x and y, mouse buttons.
--- Numbers are little-endian, the lengths and the budget of 2, 4 and 4 bytes. Nothing follows. The budget is
--- at least 1, the disk has at most 1,024 bytes, and there are at most 36,000 frames. No frame has a reset.
-use Rattle.std.specs.Prelude.{◌≡◌, ℕ, zero, suc, ◌*◌, ◌^◌, ◌<◌, ◌≤◌, ◌==◌, ◌&&◌, List, [], ◌∷◌, ◌++◌, length, take, drop, replicate, slice_index, Option, Some, None, false, nat_le, if◌then◌else◌, refl, pos, FitsSigned}
+-- Recordings (project rule): the SHA-256 digest of a cart, the budget of the reset and of each frame, the
+-- bytes of the disk at the reset, and one input for each frame. In a file they stand one after another:
+-- `W4RC`, a version byte, the 32 bytes of the digest, the budget in 4 bytes, the length of the disk in 2 and
+-- its bytes, the number of frames in 4, and the frames. Numbers are little-endian, and nothing follows.
+-- In version 1 a frame has the nine bytes of its input's registers, and no frame has a reset. In version 2 a
+-- tenth byte follows them: 1 where the frame begins with a reset, else 0.
+use Rattle.std.specs.Prelude.{◌≡◌, ℕ, zero, suc, ◌+◌, ◌*◌, ◌^◌, ◌<◌, ◌≤◌, ◌⊎◌, ◌==◌, ◌&&◌, Bool, true, false, List, [], ◌∷◌, ◌++◌, length, take, drop, replicate, slice_index, codes, Option, Some, None, nat_le, if◌then◌else◌, refl, pos, negsuc, FitsSigned}
 use Rattle.std.specs.Str.{bytes_eq}
 use Rattle.std.specs.List.{flat_map, AllByRecursion}
-use Rattle.std.specs.Int.{w16, w32, to_le_bytes, from_le_bytes, cast_signed, cast_unsigned}
+use Rattle.std.specs.Int.{w16, w32, to_le_bytes, cast_signed}
 use Rattle.w4_defs.specs.declared.console.Input.{Input}
-use Rattle.w4_defs.specs.Reading.{◌>>=◌, front_at, number_at}
+use Rattle.w4_defs.specs.MemoryMap.{input_bytes}
+use Rattle.w4_defs.specs.Reading.{◌>>=◌, IsBytes, front_at, number_at}
 
 pub record Recording : Type 0 where
   pub digest : List ℕ
   pub budget : ℕ
   pub disk : List ℕ
-  pub inputs : List Input
+  pub frames : List Input
 
--- `W4RC` and the version
-abbrev pub heading : List ℕ
-heading = 87 ∷ 52 ∷ 82 ∷ 67 ∷ 1 ∷ []
+-- ---- the limits
 
--- the nine bytes of an input
-abbrev pub input_bytes : Input → List ℕ
-input_bytes input = input.pads
-    ++ to_le_bytes w16 (cast_unsigned w16 input.mouse_x) ++ to_le_bytes w16 (cast_unsigned w16 input.mouse_y)
-    ++ input.buttons ∷ []
-
--- the one spelling of a recording
-unfoldable pub spelling : Recording → List ℕ
-spelling r = heading ++ r.digest ++ to_le_bytes w32 r.budget
-    ++ to_le_bytes w16 (length r.disk) ++ r.disk
-    ++ to_le_bytes w32 (length r.inputs) ++ flat_map input_bytes r.inputs
-
--- an input that version 1 spells
-pub record IsPlain (input : Input) : Type 0 where
-  pub pads : length input.pads ≡ 4
+-- an input whose fields have their ranges
+pub record IsInput (input : Input) : Type 0 where
+  pub four_pads : length input.pads ≡ 4
+  pub pads : IsBytes input.pads
   pub mouse_x : FitsSigned w16 input.mouse_x
   pub mouse_y : FitsSigned w16 input.mouse_y
-  pub reset : input.reset ≡ false
+  pub buttons : input.buttons < 256
 
--- a recording that version 1 spells
-pub record IsWithinLimits (r : Recording) : Type 0 where
-  pub digest : length r.digest ≡ 32
+-- a recording within its limits: a budget of at least 1, at most 1,024 bytes of disk and 36,000 frames
+pub record IsRecording (r : Recording) : Type 0 where
+  pub digest_length : length r.digest ≡ 32
+  pub digest : IsBytes r.digest
   pub some_budget : 1 ≤ r.budget
   pub budget : r.budget < 2 ^ 32
-  pub disk : length r.disk ≤ 1024
-  pub frames : length r.inputs ≤ 36000
-  pub inputs : AllByRecursion IsPlain r.inputs
+  pub small_disk : length r.disk ≤ 1024
+  pub disk : IsBytes r.disk
+  pub few_frames : length r.frames ≤ 36000
+  pub frames : AllByRecursion IsInput r.frames
 
--- Reading it back. The input that nine bytes spell:
-abbrev pub input_of : List ℕ → Input
-input_of bytes = record {
+-- ---- encoding
+
+-- `W4RC` and the version
+abbrev pub heading : ℕ → List ℕ
+heading version = codes "W4RC" ++ version ∷ []
+
+abbrev pub flag_of : Bool → ℕ
+flag_of reset = if reset then 1 else 0
+
+-- how many bytes a frame has, and which
+abbrev pub frame_size : ℕ → ℕ
+frame_size version = if version == 1 then 9 else 10
+
+abbrev pub frame_bytes : ℕ → Input → List ℕ
+frame_bytes version input =
+    if version == 1 then input_bytes input else input_bytes input ++ flag_of input.reset ∷ []
+
+-- the bytes of a recording in version 1 or 2
+unfoldable pub encoding : ℕ → Recording → List ℕ
+encoding version r = heading version ++ r.digest ++ to_le_bytes w32 r.budget
+    ++ to_le_bytes w16 (length r.disk) ++ r.disk
+    ++ to_le_bytes w32 (length r.frames) ++ flat_map (frame_bytes version) r.frames
+
+abbrev pub HasNoReset : Recording → Type 0
+HasNoReset r = AllByRecursion (λ input. input.reset ≡ false) r.frames
+
+-- which bytes encode which recording: those of version 1 where no frame has a reset, and those of version 2
+abbrev pub IsEncoded : Recording → List ℕ → Type 0
+IsEncoded r bytes = IsRecording r × ((HasNoReset r × (bytes ≡ encoding 1 r)) ⊎ (bytes ≡ encoding 2 r))
+
+-- ---- decoding
+
+-- the version of a heading
+abbrev pub version_of : List ℕ → Option ℕ
+version_of head = if bytes_eq head (heading 1) then Some 1 else if bytes_eq head (heading 2) then Some 2 else None
+
+-- the input of the nine bytes
+abbrev pub input_of : List ℕ → Bool → Input
+input_of bytes reset = record {
   pads = slice_index bytes 0 ∷ slice_index bytes 1 ∷ slice_index bytes 2 ∷ slice_index bytes 3 ∷ [];
-  mouse_x = cast_signed w16 (from_le_bytes w16 (slice_index bytes 4 ∷ slice_index bytes 5 ∷ []));
-  mouse_y = cast_signed w16 (from_le_bytes w16 (slice_index bytes 6 ∷ slice_index bytes 7 ∷ []));
+  mouse_x = cast_signed w16 (slice_index bytes 4 + 256 * slice_index bytes 5);
+  mouse_y = cast_signed w16 (slice_index bytes 6 + 256 * slice_index bytes 7);
   buttons = slice_index bytes 8;
-  reset = false;
+  reset = reset;
 }
 
--- so many inputs, one after another
-unfoldable pub inputs_of : ℕ → List ℕ → List Input
-inputs_of zero bytes = []
-inputs_of (suc count) bytes = input_of (take 9 bytes) ∷ inputs_of count (drop 9 bytes)
+-- whether the flag says that the frame has a reset
+abbrev pub reset_of : ℕ → Option Bool
+reset_of flag = if flag == 0 then Some false else if flag == 1 then Some true else None
 
--- the fields, the inputs among them as bytes
-pub record Fields : Type 0 where
-  pub digest : List ℕ
-  pub budget : ℕ
-  pub disk : List ℕ
-  pub count : ℕ
-  pub frames : List ℕ
+-- the input of a frame's bytes
+abbrev pub frame_of : ℕ → List ℕ → Option Input
+frame_of version bytes = if version == 1 then Some (input_of bytes false)
+    else (reset_of (slice_index bytes 9) >>= λ reset. Some (input_of bytes reset))
 
--- the fields that the bytes spell, all of the bytes; None where they spell no recording
-unfoldable pub fields_of : List ℕ → Option Fields
-fields_of bytes = do
+-- so many frames, which are all of the bytes
+unfoldable pub frames_of : ℕ → ℕ → List ℕ → Option (List Input)
+frames_of version zero bytes = if length bytes == 0 then Some [] else None
+frames_of version (suc count) bytes = do
+  first ← front_at (frame_size version) bytes
+  input ← frame_of version first.0
+  more ← frames_of version count first.1
+  Some (input ∷ more)
+
+-- the recording that the bytes encode; None where they encode none
+unfoldable pub recording_of : List ℕ → Option Recording
+recording_of bytes = do
   head ← front_at 5 bytes
+  version ← version_of head.0
   digest ← front_at 32 head.1
   budget ← number_at w32 digest.1
   size ← number_at w16 budget.1
   disk ← front_at size.0 size.1
   count ← number_at w32 disk.1
-  if bytes_eq head.0 heading && nat_le 1 budget.0 && nat_le size.0 1024 && nat_le count.0 36000 && length count.1 == 9 * count.0
-      then Some (record { digest = digest.0; budget = budget.0; disk = disk.0; count = count.0; frames = count.1 })
-      else None
+  frames ← if nat_le 1 budget.0 && nat_le size.0 1024 && nat_le count.0 36000 then frames_of version count.0 count.1 else None
+  Some (record { digest = digest.0; budget = budget.0; disk = disk.0; frames = frames })
 
--- the recording that the bytes spell
-unfoldable pub recording_of : List ℕ → Option Recording
-recording_of bytes = do
-  fields ← fields_of bytes
-  Some (record { digest = fields.digest; budget = fields.budget; disk = fields.disk; inputs = inputs_of fields.count fields.frames })
+-- ---- laws
 
--- A recording that is spelled is read back.
-abbrev pub SpelledRecordingsAreRead : Type 0
-SpelledRecordingsAreRead = (r : Recording) → IsWithinLimits r → recording_of (spelling r) ≡ Some r
+-- what bytes encode is decoded, and nothing else is; so bytes encode at most one recording
+abbrev pub EncodedIsDecoded : Type 0
+EncodedIsDecoded = (r : Recording) (bytes : List ℕ) → IsEncoded r bytes → recording_of bytes ≡ Some r
 
--- one frame with pad 1 down and the mouse at (-1, 2), of a budget of 256
-abbrev pub RecordingCase : Type 0
-RecordingCase =
-    let input : Input = record { pads = 2 ∷ 0 ∷ 0 ∷ 0 ∷ []; mouse_x = cast_signed w16 65535; mouse_y = pos 2; buttons = 1; reset = false } in
-    let recording : Recording = record { digest = replicate 32 7; budget = 256; disk = []; inputs = input ∷ [] } in
-    recording_of (heading ++ replicate 32 7 ++ 0 ∷ 1 ∷ 0 ∷ 0 ∷ 0 ∷ 0 ∷ 1 ∷ 0 ∷ 0 ∷ 0 ∷ 2 ∷ 0 ∷ 0 ∷ 0 ∷ 255 ∷ 255 ∷ 2 ∷ 0 ∷ 1 ∷ []) ≡ Some recording
+abbrev pub DecodedIsEncoded : Type 0
+DecodedIsEncoded = (r : Recording) (bytes : List ℕ) → IsBytes bytes → recording_of bytes ≡ Some r → IsEncoded r bytes
 
-pub recording-case : RecordingCase
-unfolding recording_of fields_of inputs_of
-recording-case = refl
+abbrev pub EncodesAtMostOne : Type 0
+EncodesAtMostOne = (r s : Recording) (bytes : List ℕ) → IsEncoded r bytes → IsEncoded s bytes → r ≡ s
+
+-- a recording within its limits has one encoding of version 2, and it is decoded again
+abbrev pub OneEncoding : Type 0
+OneEncoding = (r : Recording) (bytes : List ℕ) → IsEncoded r bytes → slice_index bytes 4 ≡ 2 → bytes ≡ encoding 2 r
+
+abbrev pub EncodingIsDecoded : Type 0
+EncodingIsDecoded = (r : Recording) → IsRecording r → recording_of (encoding 2 r) ≡ Some r
+
+-- a file of either version, written in version 2, is the same recording
+abbrev pub RewrittenIsSame : Type 0
+RewrittenIsSame = (r : Recording) (bytes : List ℕ) → IsBytes bytes → recording_of bytes ≡ Some r
+    → recording_of (encoding 2 r) ≡ Some r
+
+-- how long an encoding is
+abbrev pub EncodingLength : Type 0
+EncodingLength = (r : Recording) → IsRecording r → (length (encoding 1 r) ≡ 47 + length r.disk + 9 * length r.frames)
+    × (length (encoding 2 r) ≡ 47 + length r.disk + 10 * length r.frames)
+
+abbrev pub LongestEncoding : Type 0
+LongestEncoding = (r : Recording) (bytes : List ℕ) → IsEncoded r bytes → length bytes ≤ 361071
+
+-- ---- worked cases: frames with pad 1 down and the mouse at (-1, 2), of a budget of 256
+
+abbrev case_input : Bool → Input
+case_input reset = record { pads = 2 ∷ 0 ∷ 0 ∷ 0 ∷ []; mouse_x = negsuc 0; mouse_y = pos 2; buttons = 1; reset = reset }
+
+abbrev case_recording : List Input → Recording
+case_recording frames = record { digest = replicate 32 7; budget = 256; disk = 9 ∷ []; frames = frames }
+
+abbrev case_front : ℕ → List ℕ
+case_front version = 87 ∷ 52 ∷ 82 ∷ 67 ∷ version ∷ replicate 32 7 ++ 0 ∷ 1 ∷ 0 ∷ 0 ∷ 1 ∷ 0 ∷ 9 ∷ 1 ∷ 0 ∷ 0 ∷ 0 ∷ []
+
+abbrev case_frame : List ℕ
+case_frame = 2 ∷ 0 ∷ 0 ∷ 0 ∷ 255 ∷ 255 ∷ 2 ∷ 0 ∷ 1 ∷ []
+
+abbrev pub RecordingCases : Type 0
+RecordingCases =
+    let plain : Recording = case_recording (case_input false ∷ []) in
+    let reset : Recording = case_recording (case_input true ∷ []) in
+    (encoding 1 plain ≡ case_front 1 ++ case_frame)
+    × (encoding 2 plain ≡ case_front 2 ++ case_frame ++ 0 ∷ [])
+    × (encoding 2 reset ≡ case_front 2 ++ case_frame ++ 1 ∷ [])
+    × (recording_of (case_front 1 ++ case_frame) ≡ Some plain)
+    × (recording_of (case_front 2 ++ case_frame ++ 0 ∷ []) ≡ Some plain)
+    × (recording_of (case_front 2 ++ case_frame ++ 1 ∷ []) ≡ Some reset)
+
+-- another version, a flag of 2, a byte too many or too few, a budget of 0, a disk of 1,025 bytes, 36,001 frames
+abbrev front_with : List ℕ → List ℕ → List ℕ → List ℕ → List ℕ
+front_with budget size disk count = heading 1 ++ replicate 32 7 ++ budget ++ size ++ disk ++ count
+
+abbrev pub BadRecordingCases : Type 0
+BadRecordingCases =
+    let one = 1 ∷ 0 ∷ 0 ∷ 0 ∷ [] in
+    let none = 0 ∷ 0 ∷ 0 ∷ 0 ∷ [] in
+    (recording_of [] ≡ None)
+    × (recording_of (case_front 3 ++ case_frame ++ 0 ∷ []) ≡ None)
+    × (recording_of (case_front 2 ++ case_frame ++ 2 ∷ []) ≡ None)
+    × (recording_of (case_front 1 ++ case_frame ++ 0 ∷ []) ≡ None)
+    × (recording_of (case_front 2 ++ case_frame) ≡ None)
+    × (recording_of (front_with one (0 ∷ 0 ∷ []) [] none) ≡ Some (record { digest = replicate 32 7; budget = 1; disk = []; frames = [] }))
+    × (recording_of (front_with none (0 ∷ 0 ∷ []) [] none) ≡ None)
+    × (recording_of (front_with one (1 ∷ 4 ∷ []) (replicate 1025 0) none) ≡ None)
+    × (recording_of (front_with one (0 ∷ 0 ∷ []) [] (161 ∷ 140 ∷ 0 ∷ 0 ∷ [])) ≡ None)
+
+pub recording-cases : RecordingCases
+unfolding encoding recording_of frames_of
+recording-cases = (refl, refl, refl, refl, refl, refl)
+
+pub bad-recording-cases : BadRecordingCases
+unfolding recording_of frames_of
+bad-recording-cases = (refl, refl, refl, refl, refl, refl, refl, refl, refl)

@@ -1,105 +1,214 @@
--- A first script (own rule): at most 1,048,576 bytes, lines each ended by a byte 10. A line is
--- `set K P1 P2 P3 P4 X Y B`, `show P` or `state P`, its words parted by one space each. A number has 1 to 10 decimal
--- digits, leading zeros among them, and is at most 4,294,967,295. Pads and B are 0 to 255, X and Y -32768 to
--- 32767 with a `-` directly before the digits, of 0 too.
-use Rattle.std.specs.Prelude.{◌≡◌, ℕ, zero, suc, ◌+◌, ◌-◌, ◌*◌, ◌==◌, ◌&&◌, List, [], ◌∷◌, ◌++◌, length, Option, Some, None, false, nat_le, count_by, codes, if◌then◌else◌, refl, ℤ, pos, neg_ℤ}
+-- Edit scripts (project rule): at most 1,048,576 bytes of lines, one order in each line that isn't skipped.
+-- K is an input and P, A, B are places, each a number:
+--   set K P1 P2 P3 P4 X Y B, insert K P1 P2 P3 P4 X Y B    pads and B 0 to 255, X and Y -32768 to 32767;
+--                                    the frame has a reset if and only if the word `reset` follows B
+--   delete K, undo, redo
+--   keep P, drop P
+--   keep-every E                     E at least 1
+--   settle W                         W 1 to 16
+--   show P, disk P, state P
+--   film A B W                       A at most B, W 1 to 16
+--   tones A B, traces A B            A at most B
+-- Anything else makes a line bad.
+use Rattle.std.specs.Prelude.{◌≡◌, ℕ, zero, suc, ◌+◌, ◌&&◌, Bool, true, false, List, [], ◌∷◌, ◌++◌, length, replicate, codes, Option, Some, None, Result, Ok, Err, nat_le, if◌then◌else◌, refl, pos, negsuc}
 use Rattle.std.specs.Str.{bytes_eq}
 use Rattle.w4_defs.specs.declared.console.Input.{Input}
 use Rattle.w4_defs.specs.declared.order.Order.{Order}
-use Rattle.w4_defs.specs.declared.order.Order.TheVariants.{Set, Show, StateAt}
-use Rattle.w4_defs.specs.Reading.{◌>>=◌, cut_at}
+use Rattle.w4_defs.specs.declared.order.Order.TheVariants.{Set, Insert, Delete, Undo, Redo, Keep, KeepEvery, DropKept, Settle, Show, Film, Tones, Traces, DiskAt, StateAt}
+use Rattle.w4_defs.specs.Reading.{◌>>=◌}
+use Rattle.w4_defs.specs.Lines.{Line, words_of, lines_from, lines_of, number_of, byte_of, coordinate_of}
 
--- a value that a limit lets through
-abbrev pub at_most : ℕ → ℕ → Option ℕ
-at_most limit n = if nat_le n limit then Some n else None
+-- ---- the words after an order's name
 
--- the decimal digits, behind those whose value is n
-abbrev pub digits_after : ℕ → List ℕ → Option ℕ
-digits_after n [] = Some n
-digits_after n (d ∷ ds) = if nat_le 48 d && nat_le d 57 then digits_after (10 * n + (d - 48)) ds else None
+-- no word
+abbrev pub alone : Order → List (List ℕ) → Option Order
+alone order [] = Some order
+alone order (word ∷ words) = None
 
--- the value of decimal digits, within the limit of every number
-abbrev pub value_of : List ℕ → Option ℕ
-value_of digits = digits_after 0 digits >>= at_most 4294967295
+-- one number, from least to most
+abbrev pub numbered : (ℕ → Order) → ℕ → ℕ → List (List ℕ) → Option Order
+numbered make least most (word ∷ []) = do
+  n ← number_of word
+  if nat_le least n && nat_le n most then Some (make n) else None
+numbered make least most words = None
 
-unfoldable pub number_of : List ℕ → Option ℕ
-number_of word = if nat_le 1 (length word) && nat_le (length word) 10 then value_of word else None
+-- one number
+abbrev pub placed : (ℕ → Order) → List (List ℕ) → Option Order
+placed make words = numbered make 0 4294967295 words
 
-unfoldable pub byte_of : List ℕ → Option ℕ
-byte_of word = number_of word >>= at_most 255
+-- two places, the first at most the second
+abbrev pub ranged : (ℕ → ℕ → Order) → List (List ℕ) → Option Order
+ranged make (first ∷ last ∷ []) = do
+  a ← number_of first
+  b ← number_of last
+  if nat_le a b then Some (make a b) else None
+ranged make words = None
 
--- a number, or a number behind a `-`
-unfoldable pub coordinate_of : List ℕ → Option ℤ
-coordinate_of [] = None
-coordinate_of (first ∷ rest) = if first == 45
-    then (number_of rest >>= at_most 32768 >>= λ n. Some (neg_ℤ (pos n)))
-    else (number_of (first ∷ rest) >>= at_most 32767 >>= λ n. Some (pos n))
+-- two places, the first at most the second, and a number of workers
+abbrev pub filmed : List (List ℕ) → Option Order
+filmed (first ∷ last ∷ workers ∷ []) = do
+  a ← number_of first
+  b ← number_of last
+  w ← number_of workers
+  if nat_le a b && nat_le 1 w && nat_le w 16 then Some (Film a b w) else None
+filmed words = None
 
--- `K P1 P2 P3 P4 X Y B`
-unfoldable pub set_of : List ℕ → Option Order
-set_of words = do
-  k ← cut_at 32 words
-  number ← number_of k.0
-  first ← cut_at 32 k.1
-  pad_1 ← byte_of first.0
-  second ← cut_at 32 first.1
-  pad_2 ← byte_of second.0
-  third ← cut_at 32 second.1
-  pad_3 ← byte_of third.0
-  fourth ← cut_at 32 third.1
-  pad_4 ← byte_of fourth.0
-  across ← cut_at 32 fourth.1
-  x ← coordinate_of across.0
-  down ← cut_at 32 across.1
-  y ← coordinate_of down.0
-  buttons ← byte_of down.1
-  Some (Set number (record { pads = pad_1 ∷ pad_2 ∷ pad_3 ∷ pad_4 ∷ []; mouse_x = x; mouse_y = y; buttons = buttons; reset = false }))
+-- the word `reset`, or no word
+abbrev pub reset_word : List (List ℕ) → Option Bool
+reset_word [] = Some false
+reset_word (word ∷ []) = if bytes_eq word (codes "reset") then Some true else None
+reset_word words = None
 
--- `P`
-unfoldable pub show_of : List ℕ → Option Order
-show_of words = number_of words >>= λ p. Some (Show p)
+-- an input's number, the input, and whether its frame has a reset
+abbrev pub framed : (ℕ → Input → Order) → List (List ℕ) → Option Order
+framed make (number ∷ p1 ∷ p2 ∷ p3 ∷ p4 ∷ across ∷ down ∷ pressed ∷ rest) = do
+  k ← number_of number
+  pad_1 ← byte_of p1
+  pad_2 ← byte_of p2
+  pad_3 ← byte_of p3
+  pad_4 ← byte_of p4
+  x ← coordinate_of across
+  y ← coordinate_of down
+  buttons ← byte_of pressed
+  reset ← reset_word rest
+  Some (make k (record { pads = pad_1 ∷ pad_2 ∷ pad_3 ∷ pad_4 ∷ []; mouse_x = x; mouse_y = y; buttons = buttons; reset = reset }))
+framed make words = None
 
--- `P`
-unfoldable pub state_of : List ℕ → Option Order
-state_of words = number_of words >>= λ p. Some (StateAt p)
+-- ---- orders
 
--- the order of a line
-unfoldable pub order_of : List ℕ → Option Order
-order_of line = do
-  name ← cut_at 32 line
-  if bytes_eq name.0 (codes "set") then set_of name.1
-      else if bytes_eq name.0 (codes "show") then show_of name.1
-      else if bytes_eq name.0 (codes "state") then state_of name.1
-      else None
+-- the order of a name and the words after it
+unfoldable pub order_named : List ℕ → List (List ℕ) → Option Order
+order_named name words =
+    if bytes_eq name (codes "set") then framed Set words else
+    if bytes_eq name (codes "insert") then framed Insert words else
+    if bytes_eq name (codes "delete") then placed Delete words else
+    if bytes_eq name (codes "undo") then alone Undo words else
+    if bytes_eq name (codes "redo") then alone Redo words else
+    if bytes_eq name (codes "keep") then placed Keep words else
+    if bytes_eq name (codes "keep-every") then numbered KeepEvery 1 4294967295 words else
+    if bytes_eq name (codes "drop") then placed DropKept words else
+    if bytes_eq name (codes "settle") then numbered Settle 1 16 words else
+    if bytes_eq name (codes "show") then placed Show words else
+    if bytes_eq name (codes "film") then filmed words else
+    if bytes_eq name (codes "tones") then ranged Tones words else
+    if bytes_eq name (codes "traces") then ranged Traces words else
+    if bytes_eq name (codes "disk") then placed DiskAt words else
+    if bytes_eq name (codes "state") then placed StateAt words else
+    None
 
--- the order of the first line, and the bytes after the line
-unfoldable pub first_of : List ℕ → Option (Order × List ℕ)
-first_of bytes = do
-  line ← cut_at 10 bytes
-  order ← order_of line.0
-  Some (order, line.1)
+-- the order of a line's words
+abbrev pub order_of : List (List ℕ) → Option Order
+order_of [] = None
+order_of (name ∷ words) = order_named name words
 
--- the orders of so many lines, which are all of the bytes
-unfoldable pub lines_of : ℕ → List ℕ → Option (List Order)
-lines_of zero bytes = if length bytes == 0 then Some [] else None
-lines_of (suc count) bytes = do
-  first ← first_of bytes
-  more ← lines_of count first.1
-  Some (first.0 ∷ more)
+-- why bytes are no script: they are too many, or this line is the first bad one
+pub data ScriptFault : Type 0 where
+  TooLong : ScriptFault
+  BadLine : (number : ℕ) → ScriptFault
 
--- the orders of a script: it has as many lines as bytes 10
-unfoldable pub orders_of : List ℕ → Option (List Order)
-orders_of bytes = if nat_le (length bytes) 1048576 then lines_of (count_by (λ b. b == 10) bytes) bytes else None
+-- an order before those that follow it, or the number of the first bad line
+abbrev pub with_order : ℕ → Option Order → Result (List Order) ScriptFault → Result (List Order) ScriptFault
+with_order number None more = Err (BadLine number)
+with_order number (Some order) (Ok orders) = Ok (order ∷ orders)
+with_order number (Some order) (Err fault) = Err fault
 
--- three lines, a line that isn't ended, and a number that is too large
-abbrev pub ScriptCase : Type 0
-ScriptCase =
-    let input : Input = record { pads = 27 ∷ 0 ∷ 0 ∷ 0 ∷ []; mouse_x = neg_ℤ (pos 5); mouse_y = pos 0; buttons = 4; reset = false } in
-    (lines_of 3 (codes "set 0 27 0 0 0 -5 -0 4" ++ 10 ∷ codes "show 01" ++ 10 ∷ codes "state 9" ++ 10 ∷ [])
-    ≡ Some (Set 0 input ∷ Show 1 ∷ StateAt 9 ∷ []))
-    × (lines_of 0 (codes "show 1") ≡ None)
-    × (lines_of 1 (codes "show 4294967296" ++ 10 ∷ []) ≡ None)
+-- the orders of these lines
+unfoldable pub orders_of : List Line → Result (List Order) ScriptFault
+orders_of [] = Ok []
+orders_of (line ∷ lines) = with_order line.number (order_of line.words) (orders_of lines)
 
-pub script-case : ScriptCase
-unfolding lines_of first_of order_of show_of state_of set_of coordinate_of byte_of number_of
-script-case = (refl, refl, refl)
+-- the orders of a script
+unfoldable pub script_of : List ℕ → Result (List Order) ScriptFault
+script_of bytes = if nat_le (length bytes) 1048576 then orders_of (lines_of bytes) else Err TooLong
+
+-- ---- laws
+
+-- the orders of lines are those of the first ones and then those of the others, and a bad line ends them
+abbrev pub OrdersInParts : Type 0
+OrdersInParts = (front lines : List Line) (before orders : List Order) → orders_of front ≡ Ok before → orders_of lines ≡ Ok orders
+    → orders_of (front ++ lines) ≡ Ok (before ++ orders)
+
+abbrev pub FirstBadLine : Type 0
+FirstBadLine = (front lines : List Line) (line : Line) (before : List Order) → orders_of front ≡ Ok before → order_of line.words ≡ None
+    → orders_of (front ++ line ∷ lines) ≡ Err (BadLine line.number)
+
+-- ---- worked cases
+
+-- the order of a line's words
+abbrev read : List ℕ → Option Order
+read line = order_of (words_of line)
+
+abbrev case_input : Bool → Input
+case_input reset = record { pads = 27 ∷ 0 ∷ 0 ∷ 255 ∷ []; mouse_x = negsuc 4; mouse_y = pos 0; buttons = 4; reset = reset }
+
+-- each kind of line
+abbrev pub OrderCases : Type 0
+OrderCases =
+    (read (codes "set 0 27 0 0 255 -5 -0 4") ≡ Some (Set 0 (case_input false)))
+    × (read (codes "set 0 27 0 0 255 -5 -0 4 reset") ≡ Some (Set 0 (case_input true)))
+    × (read (codes "insert 7 27 0 0 255 -00005 0 4") ≡ Some (Insert 7 (case_input false)))
+    × (read (codes "insert 7 27 0 0 255 -5 0 4 reset") ≡ Some (Insert 7 (case_input true)))
+    × (read (codes "delete 3") ≡ Some (Delete 3))
+    × (read (codes "undo") ≡ Some Undo)
+    × (read (codes "redo") ≡ Some Redo)
+    × (read (codes "keep 4294967295") ≡ Some (Keep 4294967295))
+    × (read (codes "keep-every 60") ≡ Some (KeepEvery 60))
+    × (read (codes "drop 0") ≡ Some (DropKept 0))
+    × (read (codes "settle 16") ≡ Some (Settle 16))
+    × (read (codes "show 01") ≡ Some (Show 1))
+    × (read (codes "film 2 2 1") ≡ Some (Film 2 2 1))
+    × (read (codes "tones 0 9") ≡ Some (Tones 0 9))
+    × (read (codes "traces 9 9") ≡ Some (Traces 9 9))
+    × (read (codes "disk 5") ≡ Some (DiskAt 5))
+    × (read (codes "  state   5 ") ≡ Some (StateAt 5))
+
+-- each way in which a line is bad
+abbrev pub BadOrderCases : Type 0
+BadOrderCases =
+    (read (codes "Show 1") ≡ None)
+    × (read (codes "shows 1") ≡ None)
+    × (read (codes "show") ≡ None)
+    × (read (codes "show 1 2") ≡ None)
+    × (read (codes "show -1") ≡ None)
+    × (read (codes "show 4294967296") ≡ None)
+    × (read (codes "undo 1") ≡ None)
+    × (read (codes "redo reset") ≡ None)
+    × (read (codes "set 0 256 0 0 0 0 0 0") ≡ None)
+    × (read (codes "set 0 0 0 0 0 -32769 0 0") ≡ None)
+    × (read (codes "set 0 0 0 0 0 0 32768 0") ≡ None)
+    × (read (codes "set 0 0 0 0 0 0 0 256") ≡ None)
+    × (read (codes "set 0 -0 0 0 0 0 0 0") ≡ None)
+    × (read (codes "set 0 0 0 0 0 0 0") ≡ None)
+    × (read (codes "set 0 0 0 0 0 0 0 0 Reset") ≡ None)
+    × (read (codes "insert 0 0 0 0 0 0 0 0 reset reset") ≡ None)
+    × (read (codes "insert -1 0 0 0 0 0 0 0") ≡ None)
+    × (read (codes "delete") ≡ None)
+    × (read (codes "keep-every 0") ≡ None)
+    × (read (codes "settle 0") ≡ None)
+    × (read (codes "settle 17") ≡ None)
+    × (read (codes "film 3 2 1") ≡ None)
+    × (read (codes "film 2 3 0") ≡ None)
+    × (read (codes "film 2 3 17") ≡ None)
+    × (read (codes "film 2 3") ≡ None)
+    × (read (codes "tones 1 0") ≡ None)
+    × (read (codes "traces 1") ≡ None)
+
+-- skipped lines are counted, and the first bad line is told; a script that is too long is told before its lines
+abbrev pub ScriptCases : Type 0
+ScriptCases =
+    (script_of [] ≡ Ok [])
+    × (script_of (codes "# two" ++ 10 ∷ 10 ∷ codes "undo" ++ 13 ∷ 10 ∷ codes "show 1") ≡ Ok (Undo ∷ Show 1 ∷ []))
+    × (script_of (codes "show 0" ++ 10 ∷ codes "film 3 2 1" ++ 10 ∷ codes "bad" ++ 10 ∷ []) ≡ Err (BadLine 2))
+    × (script_of (codes "#" ++ 10 ∷ 10 ∷ codes "bad" ++ 10 ∷ []) ≡ Err (BadLine 3))
+
+pub order-cases : OrderCases
+unfolding order_named number_of byte_of coordinate_of
+order-cases = (refl, refl, refl, refl, refl, refl, refl, refl, refl, refl, refl, refl, refl, refl, refl, refl, refl)
+
+pub bad-order-cases : BadOrderCases
+unfolding order_named number_of byte_of coordinate_of
+bad-order-cases = (refl, refl, refl, refl, refl, refl, refl, refl, refl, refl, refl, refl, refl, refl, refl, refl, refl, refl, refl, refl, refl, refl, refl, refl, refl, refl, refl)
+
+pub script-cases : ScriptCases
+unfolding script_of orders_of lines_from order_named number_of byte_of coordinate_of
+script-cases = (refl, refl, refl, refl)
