@@ -11,7 +11,7 @@ use Rattle.w4_defs.specs.Tones.{silent}
 use Rattle.w4_defs.specs.State.{State}
 use Rattle.w4_defs.specs.Run.{run_state}
 use Rattle.w4_defs.specs.Board.{console_setup}
-use Rattle.w4_defs.specs.Recording.{Recording, fields_of, inputs_of, recording_of}
+use Rattle.w4_defs.specs.Recording.{Recording, frames_of, recording_of}
 use Rattle.w4_defs.specs.EmptyCart.{empty_module}
 
 -- the row of a recording that was run: how many frames, and of the state after the last of them whether
@@ -22,8 +22,8 @@ ran_row sha256 frames state = Ran frames state.halt (sha256 (image state.page)) 
 -- the run of a recording on a cart with a font; an accepted cart always has one
 abbrev pub run_row : (List ℕ → List ℕ) → WasmModule → List ℕ → Recording → Option BatchRow
 run_row sha256 cart font r =
-    let frames = length r.inputs in
-    option_map (ran_row sha256 frames) (run_state (console_setup cart font r.budget) r.disk r.inputs frames)
+    let frames = length r.frames in
+    option_map (ran_row sha256 frames) (run_state (console_setup cart font r.budget) r.disk r.frames frames)
 
 -- of a recording that was decoded, or wasn't: it is run where it is of the cart with this digest
 abbrev pub row_of : (List ℕ → List ℕ) → WasmModule → List ℕ → List ℕ → Option Recording → Option BatchRow
@@ -55,5 +55,5 @@ BatchCases =
     × (ran_row (take 2) 3 trapped_state ≡ Ran 3 (Trapped Memory) (80 ∷ 54 ∷ []) 2)
 
 pub batch-cases : BatchCases
-unfolding row recording_of fields_of inputs_of image shown_from
+unfolding row recording_of frames_of image shown_from
 batch-cases = (refl, refl, refl)

@@ -7,7 +7,7 @@ use Rattle.std.specs.Prelude.{◌≡◌, ℕ, List, [], ◌∷◌, codes, bytes_
 use Rattle.w4_defs.specs.declared.netplay.NetOrder.{NetOrder}
 use Rattle.w4_defs.specs.declared.netplay.NetOrder.TheVariants.{Pad, Next, Keep, Show, StateAt}
 use Rattle.w4_defs.specs.Reading.{◌>>=◌}
-use Rattle.w4_defs.specs.Script.{number_of, byte_of}
+use Rattle.w4_defs.specs.Lines.{number_of, byte_of}
 use Rattle.w4_defs.specs.OrderWords.{no_word, one_number}
 
 -- a packet of three words

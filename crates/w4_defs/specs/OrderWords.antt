@@ -1,6 +1,6 @@
 -- The words that follow the name of an order in a line (project rule): none, or one number.
 use Rattle.std.specs.Prelude.{ℕ, List, [], ◌∷◌, Option, Some, None, option_map}
-use Rattle.w4_defs.specs.Script.{number_of}
+use Rattle.w4_defs.specs.Lines.{number_of}
 
 abbrev pub no_word : {Order : Type 0} → Order → List (List ℕ) → Option Order
 no_word order [] = Some order

@@ -11,7 +11,7 @@ use Rattle.w4_defs.specs.declared.inspect.Ask.TheVariants as ask
 use Rattle.w4_defs.specs.declared.inspect.Test.{Test}
 use Rattle.w4_defs.specs.declared.inspect.Test.TheVariants.{Is, Same, Changed, More, Less}
 use Rattle.w4_defs.specs.Reading.{◌>>=◌}
-use Rattle.w4_defs.specs.Script.{number_of}
+use Rattle.w4_defs.specs.Lines.{number_of}
 use Rattle.w4_defs.specs.OrderWords.{no_word, one_number}
 
 -- a width
