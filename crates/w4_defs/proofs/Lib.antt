@@ -32,3 +32,4 @@ pub mod RollbackLaws
 pub mod SearchLaws
 pub mod SoundLaws
 pub mod GeneratorLaws
+pub mod SampleLaws

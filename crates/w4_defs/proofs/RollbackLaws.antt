@@ -2,9 +2,10 @@
 use Rattle.std.proofs.Common.{◌≡◌, ◌⊎◌, refl, ℕ, zero, suc, inl, inr, Bool, true, false, cond, ◌&&◌, nat_lt, List, [], ◌∷◌, Option, Some, None, sym, ◌∙◌, ap, arith}
 use Rattle.std.specs.Prelude.{◌==◌, All, Contains, fold, unwrap_or, option_and_then, is_none}
 use Rattle.std.proofs.lemmas.Bool.{true≢false, cases_lt, cases_Bool, eqb-true, eq-eqb, and_parts, and_from, cond-true, cond-false, cond_both}
+use Rattle.std.proofs.lemmas.List.FromFn.{map-range_with_len_more}
 use Rattle.std.proofs.lemmas.List.Elements.{All-nil, All-cons, All-contains, Contains-append_right}
 use Rattle.w4_defs.specs.declared.netplay.Packet.{Packet}
-use Rattle.w4_defs.specs.Rollback.{Known, nothing_known, is_of, conflict, is_accepted, learned, received, predicted, net_inputs, accepted_from, accepted, packet_of, PredictionIsLatest, NothingPredictsZero, SamePacketsSameKnown, SamePacketsSameInputs}
+use Rattle.w4_defs.specs.Rollback.{Known, nothing_known, is_of, conflict, is_accepted, learned, received, predicted, net_input, net_inputs, accepted_from, accepted, packet_of, PredictionIsLatest, NothingPredictsZero, InputsGrow, SamePacketsSameKnown, SamePacketsSameInputs}
 
 -- where a frame isn't known, its prediction is that of the frame before
 predicted-unknown : (known : Known) (player frame : ℕ) → known player (suc frame) ≡ None →
@@ -35,6 +36,10 @@ nothing_predicts_zero known player zero none = ap (λ found. unwrap_or found 0) 
 nothing_predicts_zero known player (suc frame) none =
     predicted-unknown known player frame (none (suc frame) (omega arith))
     ∙ nothing_predicts_zero known player frame (λ earlier up. none earlier (omega (arith, up)))
+
+pub inputs_grow : InputsGrow
+unfolding net_inputs
+inputs_grow known frames = map-range_with_len_more (net_input known) 0 frames frames (omega arith)
 
 -- ---- packets in whatever order
 

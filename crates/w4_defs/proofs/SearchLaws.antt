@@ -1,7 +1,11 @@
 -- What a search has left, however it was narrowed.
-use Rattle.std.proofs.Common.{◌≡◌, refl, ℕ, Bool, true, false, cond, ◌&&◌, List, [], ◌∷◌, sym, ◌∙◌, ap}
+use Rattle.std.proofs.Common.{◌≡◌, ◌+◌, ◌-◌, ◌<◌, arith, refl, ℕ, Bool, true, false, cond, ◌&&◌, List, [], ◌∷◌, sym, ◌∙◌, ap}
 use Rattle.std.specs.Prelude.{filter, fold}
-use Rattle.w4_defs.specs.Search.{Step, begin, narrow, addresses, holds_throughout, LeftIsNarrowed}
+use Rattle.std.specs.List.{range_with_len}
+use Rattle.std.specs.List.Sorted.{IsStrictlyIncreasing}
+use Rattle.std.proofs.lemmas.List.FromFn.{length-range_with_len, get_or-range_with_len}
+use Rattle.std.proofs.lemmas.List.Kept.{IsStrictlyIncreasing-filter}
+use Rattle.w4_defs.specs.Search.{Step, begin, narrow, addresses, holds_throughout, LeftIsNarrowed, LeftRises}
 
 -- all pass where every one passes
 filter_all : {X : Type 0} (xs : List X) → filter (λ x. true) xs ≡ xs
@@ -29,3 +33,13 @@ narrowed_from width page candidates (step ∷ steps) =
 pub left_is_narrowed : LeftIsNarrowed
 unfolding begin
 left_is_narrowed width page steps = narrowed_from width page (addresses width) steps
+
+-- ---- in rising order
+
+range_rises : (count : ℕ) → IsStrictlyIncreasing (range_with_len 0 count)
+range_rises count k below =
+    let within : k + 1 < count = omega (arith, below, length-range_with_len 0 count) in
+    omega (arith, get_or-range_with_len 0 count k 0 (omega (arith, within)), get_or-range_with_len 0 count (k + 1) 0 within)
+
+pub left_rises : LeftRises
+left_rises width page steps = IsStrictlyIncreasing-filter (holds_throughout width page steps) (addresses width) (range_rises (65537 - width))

@@ -1,9 +1,10 @@
--- A frame of silence.
-use Rattle.std.proofs.Common.{◌≡◌, refl, ℕ, zero, suc, ◌+◌, ◌*◌, List, ◌++◌, replicate, ◌∙◌, ap, arith}
+-- How many bytes samples have, and a frame of silence.
+use Rattle.std.proofs.Common.{◌≡◌, refl, ℕ, zero, suc, ◌+◌, ◌*◌, List, [], ◌∷◌, ◌++◌, replicate, ◌∙◌, ap, arith, length, length-append}
 use Rattle.std.specs.Prelude.{flat_map}
 use Rattle.std.specs.List.{range_with_len}
 use Rattle.w4_defs.specs.Tones.{silent}
-use Rattle.w4_defs.specs.Sound.{Wave, after_ticks, sample_bytes, frame_samples, ticks_a_frame, SilenceIsZeros}
+use Rattle.w4_defs.specs.State.{FrameRecord}
+use Rattle.w4_defs.specs.Sound.{FramesAreCounted, SamplesAreCounted, HeaderIsCounted, first_wave, with_record, after_frame, rendered, samples_from, samples, samples_length, wav_header, Wave, after_ticks, sample_bytes, frame_samples, ticks_a_frame, SilenceIsZeros}
 
 -- no tick changes the channels
 channels-after_ticks : (wave : Wave) (tick : ℕ) → (after_ticks wave tick).channels ≡ wave.channels
@@ -36,3 +37,32 @@ zeros-from f zeros start (suc count) =
 pub silence_is_zeros : SilenceIsZeros
 unfolding frame_samples
 silence_is_zeros wave silence = zeros-from _ (zeros-at wave silence) 0 ticks_a_frame
+
+-- ---- lengths
+
+-- so many pieces of four bytes
+fours-from : (f : ℕ → List ℕ) → ((tick : ℕ) → length (f tick) ≡ 4) → (start count : ℕ) →
+    length (flat_map f (range_with_len start count)) ≡ 4 * count
+fours-from f fours start zero = refl
+fours-from f fours start (suc count) =
+    let rest : List ℕ = flat_map f (range_with_len (start + 1) count) in
+    omega (arith, length-append (f start) rest, fours start, fours-from f fours (start + 1) count)
+
+pub frames_are_counted : FramesAreCounted
+unfolding frame_samples
+frames_are_counted wave =
+    fours-from (λ tick. sample_bytes tick (after_ticks wave tick)) (λ tick. refl) 0 ticks_a_frame
+
+counted-from : (wave : Wave) (records : List FrameRecord) → length (samples_from wave records) ≡ samples_length (length records)
+counted-from wave [] = refl
+counted-from wave (made ∷ records) =
+    let rest : List ℕ = samples_from (after_frame made wave) records in
+    omega (arith, length-append (rendered made wave) rest, frames_are_counted (with_record made wave), counted-from (after_frame made wave) records)
+
+pub samples_are_counted : SamplesAreCounted
+unfolding samples
+samples_are_counted records = counted-from first_wave records
+
+pub header_is_counted : HeaderIsCounted
+unfolding wav_header
+header_is_counted places = refl

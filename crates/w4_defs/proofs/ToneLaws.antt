@@ -86,7 +86,7 @@ frequency_below tone t h = of_both ((tone.second == 0) || tone.note) (λ n. n �
     (λ still. omega arith) (λ slides. slide_below tone.first tone.second t (ticks (tone_frames tone)) h)
 
 -- a quotient of a number that isn't positive is cut toward zero
-neg_part : (n len : ℕ) → int_div (neg_ℤ (pos n)) (pos len) ≡ neg_ℤ (pos (n / len))
+pub neg_part : (n len : ℕ) → int_div (neg_ℤ (pos n)) (pos len) ≡ neg_ℤ (pos (n / len))
 neg_part zero len = ap pos (zero-div len) ∙ ap (λ q. neg_ℤ (pos q)) (sym (zero-div len))
 neg_part (suc n) len = refl
 

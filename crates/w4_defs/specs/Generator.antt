@@ -126,7 +126,7 @@ made_input number k = record {
 unfoldable pub made_inputs : ℕ → List Input
 made_inputs number = map (made_input number) (range_with_len 0 made_frames)
 
--- the budget of each frame, which is far more than the 1,033 units that one costs
+-- the budget of the reset and of each frame
 abbrev pub made_budget : ℕ
 made_budget = 100000
 

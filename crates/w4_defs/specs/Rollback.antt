@@ -1,6 +1,6 @@
 -- Rollback (project rule; the words are those of GGPO): the pads of four players come as packets, late,
 -- again, in any order or never, and what isn't there yet is predicted.
-use Rattle.std.specs.Prelude.{◌≡◌, ◌↔◌, ◌<◌, ◌≤◌, ℕ, zero, suc, ◌==◌, nat_lt, ◌&&◌, Bool, is_none, if◌then◌else◌, List, [], ◌∷◌, map, fold, Contains, Option, Some, None, unwrap_or, option_and_then, pos, false, true, refl}
+use Rattle.std.specs.Prelude.{◌≡◌, ◌↔◌, ◌<◌, ◌≤◌, ℕ, zero, suc, ◌+◌, ◌==◌, nat_lt, ◌&&◌, Bool, is_none, if◌then◌else◌, List, [], ◌∷◌, ◌++◌, map, fold, Contains, Option, Some, None, unwrap_or, option_and_then, pos, false, true, refl}
 use Rattle.std.specs.List.{range_with_len}
 use Rattle.w4_defs.specs.declared.console.Input.{Input}
 use Rattle.w4_defs.specs.declared.netplay.Packet.{Packet}
@@ -63,6 +63,11 @@ PredictionIsLatest = (known : Known) (player frame latest byte : ℕ) → latest
 abbrev pub NothingPredictsZero : Type 0
 NothingPredictsZero = (known : Known) (player frame : ℕ) →
     ((earlier : ℕ) → earlier ≤ frame → known player earlier ≡ None) → predicted known player frame ≡ 0
+
+-- one more frame adds its input at the end
+abbrev pub InputsGrow : Type 0
+InputsGrow = (known : Known) (frames : ℕ) →
+    net_inputs known (frames + 1) ≡ net_inputs known frames ++ net_input known frames ∷ []
 
 -- the packets that are accepted, in this order, from what is known
 abbrev pub accepted_from : Known → List Packet → List Packet

@@ -3,6 +3,7 @@
 -- test holds between a new page and the last one.
 use Rattle.std.specs.Prelude.{◌≡◌, ℕ, ◌-◌, ◌==◌, not, nat_lt, ◌&&◌, Bool, true, List, [], ◌∷◌, filter, fold, refl}
 use Rattle.std.specs.List.{range_with_len}
+use Rattle.std.specs.List.Sorted.{IsStrictlyIncreasing}
 use Rattle.w4_defs.specs.declared.inspect.Test.{Test}
 use Rattle.w4_defs.specs.declared.inspect.Test.TheVariants.{Is, Same, Changed, More, Less}
 use Rattle.w4_defs.specs.Bytes.{number_at}
@@ -61,6 +62,10 @@ left width page steps = filter (holds_throughout width page steps) (addresses wi
 abbrev pub LeftIsNarrowed : Type 0
 LeftIsNarrowed = (width : ℕ) (page : List ℕ) (steps : List Step) →
     (fold narrow (begin width page) steps).candidates ≡ left width page steps
+
+-- the addresses that are left rise
+abbrev pub LeftRises : Type 0
+LeftRises = (width : ℕ) (page : List ℕ) (steps : List Step) → IsStrictlyIncreasing (left width page steps)
 
 -- Worked cases, over four bytes of a page: 5, 9, 200, 7, and then 6, 9, 100, 7. The byte that rose, those
 -- that stayed, the one that is 100, and numbers of two bytes that fell. A value of 65,535 bytes has two addresses.

@@ -2,14 +2,14 @@
 -- 2 channels of 16 bits, 44,100 samples a second). Each frame has 735 ticks. Its tones are played in the
 -- order of its log, each channel that its record has silent is silenced, and then each tick gives one sample
 -- to the left and one to the right: the sum of what the channels give, each by its oscillator.
-use Rattle.std.specs.Prelude.{◌≡◌, ℕ, zero, suc, ◌+◌, ◌*◌, ◌/◌, ◌%◌, ◌==◌, not, nat_lt, Bool, if◌then◌else◌, List, [], ◌∷◌, ◌++◌, map, zip, fold, flat_map, replicate, slice_index, slice_index_or, codes, Option, Some, None, option_and_then, ℤ, pos, negsuc, neg_ℤ, ◌+ℤ◌, ◌-ℤ◌, ◌*ℤ◌, int_div, refl}
+use Rattle.std.specs.Prelude.{◌≡◌, ◌<◌, ◌≤ℤ◌, All, length, ℕ, zero, suc, ◌+◌, ◌*◌, ◌/◌, ◌%◌, ◌==◌, not, nat_lt, Bool, if◌then◌else◌, List, [], ◌∷◌, ◌++◌, map, zip, fold, flat_map, replicate, slice_index, slice_index_or, codes, Option, Some, None, option_and_then, ℤ, pos, negsuc, neg_ℤ, ◌+ℤ◌, ◌-ℤ◌, ◌*ℤ◌, int_div, refl}
 use Rattle.std.specs.List.{range_with_len}
 use Rattle.std.specs.Int.{w16, w32, to_le_bytes, cast_unsigned}
 use Rattle.w4_defs.specs.declared.console.Tone.{Tone}
 use Rattle.w4_defs.specs.declared.console.Voice.{Voice}
 use Rattle.w4_defs.specs.declared.console.Sound.{Sound}
 use Rattle.w4_defs.specs.Logs.{empty_log, logged, kept_tones}
-use Rattle.w4_defs.specs.Tones.{Channels, silent, played, all_aged, sound_of, decoded, sounds_at, level_at, frequency_at}
+use Rattle.w4_defs.specs.Tones.{Channels, IsPlaying, silent, played, all_aged, sound_of, decoded, sounds_at, level_at, frequency_at}
 use Rattle.w4_defs.specs.State.{FrameRecord}
 
 -- how many ticks a second and a frame have
@@ -172,6 +172,28 @@ wav_header places =
     ++ to_le_bytes w32 ticks_a_second ++ to_le_bytes w32 176400
     ++ to_le_bytes w16 4 ++ to_le_bytes w16 16
     ++ codes "data" ++ to_le_bytes w32 (samples_length places)
+
+-- what goes on in a wave's ranges: four channels as they play, and four phases below 44,100
+pub record IsWave (wave : Wave) : Type 0 where
+  pub four_channels : length wave.channels ≡ 4
+  pub channels : All IsPlaying wave.channels
+  pub four_phases : length wave.phases ≡ 4
+  pub phases : All (λ phase. phase < ticks_a_second) wave.phases
+
+-- each sample fits 16 bits: it lies from -32,000 to 32,000
+abbrev pub SamplesAreBounded : Type 0
+SamplesAreBounded = (ear : ℕ → Bool) (tick : ℕ) (wave : Wave) → IsWave wave → tick < ticks_a_frame →
+    (negsuc 31999 ≤ℤ sample ear tick wave) × (sample ear tick wave ≤ℤ pos 32000)
+
+-- a frame has 2,940 bytes, and the header of a file 44
+abbrev pub FramesAreCounted : Type 0
+FramesAreCounted = (wave : Wave) → length (frame_samples wave) ≡ 2940
+
+abbrev pub SamplesAreCounted : Type 0
+SamplesAreCounted = (records : List FrameRecord) → length (samples records) ≡ samples_length (length records)
+
+abbrev pub HeaderIsCounted : Type 0
+HeaderIsCounted = (places : ℕ) → length (wav_header places) ≡ 44
 
 -- where all channels are silent, a frame has zeros alone
 abbrev pub SilenceIsZeros : Type 0

@@ -7,9 +7,24 @@ ghost use Rattle.w4_defs.specs.MadeLaws.{DrawsAreSmall, MadeInputsAreCounted, Ma
 ghost use Rattle.w4_defs.specs.MadeSummary.{SummaryCase};
 ghost use Rattle.w4_defs.specs.NetLog.{BadNetOrderCases, NetOrderCases};
 ghost use Rattle.w4_defs.specs.RamQuery.{AskCases, BadAskCases};
-ghost use Rattle.w4_defs.specs.Rollback.{NothingPredictsZero, PredictionIsLatest, RollbackCases, SamePacketsSameInputs, SamePacketsSameKnown};
-ghost use Rattle.w4_defs.specs.Search.{LeftIsNarrowed, SearchCases};
-ghost use Rattle.w4_defs.specs.Sound.{HeaderCase, SampleCases, SilenceIsZeros};
+ghost use Rattle.w4_defs.specs.Rollback.{
+  InputsGrow,
+  NothingPredictsZero,
+  PredictionIsLatest,
+  RollbackCases,
+  SamePacketsSameInputs,
+  SamePacketsSameKnown,
+};
+ghost use Rattle.w4_defs.specs.Search.{LeftIsNarrowed, LeftRises, SearchCases};
+ghost use Rattle.w4_defs.specs.Sound.{
+  FramesAreCounted,
+  HeaderCase,
+  HeaderIsCounted,
+  SampleCases,
+  SamplesAreBounded,
+  SamplesAreCounted,
+  SilenceIsZeros,
+};
 
 /// Worked cases, by computation.
 pub fn tool_cases()
@@ -22,22 +37,28 @@ pub fn tool_cases()
     ensures batch { BatchCases }
 {}
 
-/// What a search has left doesn't depend on how it was narrowed.
+/// What a search has left are, in rising order, the addresses at which each test holds.
 pub fn search_laws()
-    ensures { LeftIsNarrowed }
+    ensures left { LeftIsNarrowed }
+    ensures rising { LeftRises }
 {}
 
-/// A prediction is the latest byte that is known.
+/// A prediction is the latest byte that is known, and the same accepted packets give the same inputs.
 pub fn rollback_laws()
     ensures latest { PredictionIsLatest }
     ensures nothing { NothingPredictsZero }
     ensures known { SamePacketsSameKnown }
     ensures inputs { SamePacketsSameInputs }
+    ensures grow { InputsGrow }
 {}
 
-/// Silent channels give zeros.
+/// Silent channels give zeros, and all samples fit their 16 bits.
 pub fn sound_laws()
-    ensures { SilenceIsZeros }
+    ensures silence { SilenceIsZeros }
+    ensures bounded { SamplesAreBounded }
+    ensures frames { FramesAreCounted }
+    ensures counted { SamplesAreCounted }
+    ensures header { HeaderIsCounted }
 {}
 
 /// The made cart is accepted, whatever its number.

@@ -1,4 +1,4 @@
-use Rattle.w4_defs.proofs.RollbackLaws.{prediction_is_latest, nothing_predicts_zero, same_packets_same_known, same_packets_same_inputs}
+use Rattle.w4_defs.proofs.RollbackLaws.{prediction_is_latest, nothing_predicts_zero, same_packets_same_known, same_packets_same_inputs, inputs_grow}
 use Rattle.w4_defs.proofs.tool_laws.rollback_laws.Goals as goal
 
 pub returns-clause-latest : goal.returns-clause-latest
@@ -12,3 +12,6 @@ returns-clause-known c = same_packets_same_known
 
 pub returns-clause-inputs : goal.returns-clause-inputs
 returns-clause-inputs c = same_packets_same_inputs
+
+pub returns-clause-grow : goal.returns-clause-grow
+returns-clause-grow c = inputs_grow
