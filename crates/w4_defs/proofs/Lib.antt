@@ -21,6 +21,7 @@ pub mod ReadingLaws
 pub mod RecordingLaws
 pub mod LineLaws
 pub mod ScriptLaws
+pub mod SameStateLaws
 pub mod Faults
 pub mod RefusedCalls
 pub mod GlobalTypes

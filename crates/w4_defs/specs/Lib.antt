@@ -77,6 +77,11 @@ pub mod Search
 pub mod RamQuery
 pub mod Batch
 pub mod Sound
+-- editing
+pub mod Session
+pub mod SameState
+pub mod KeptList
+pub mod WorkedSessions
 -- worked cases and laws
 pub mod WorkedNumbers
 pub mod EmptyCart

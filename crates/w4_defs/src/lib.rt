@@ -7,6 +7,8 @@ pub mod batch;
 pub mod console;
 pub mod console_laws;
 pub mod drawing;
+pub mod editing;
+pub mod editing_laws;
 pub mod encoded;
 pub mod evaluation_laws;
 pub mod inspect;
@@ -27,6 +29,7 @@ pub mod tool_laws;
 pub mod value;
 
 pub use console::{Halt, Import, Input, Sound, TextSource, Tone, Voice};
+pub use editing::EditRefusal;
 pub use instruction::Instr;
 pub use instruction_table::{IntegerType, Row, Signedness};
 pub use integer::{Binary, Compare, Unary};

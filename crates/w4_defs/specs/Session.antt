@@ -1,0 +1,222 @@
+-- Editing sessions (project rule; input, frame, undo and redo are the words of TAS editors). Place P is the
+-- state after the first P inputs, so that a recording of n inputs has the places 0 to n, and input K leads from
+-- place K to place K + 1. Some places are kept, place 0 always. An edit puts a new draft in the place of the
+-- current one, which goes to the undo history; that has 32 drafts at most and loses its oldest where it would
+-- have more. An edit empties the redo history. Undo and redo move one draft on, kept places and all. Keeping
+-- and dropping places aren't edits: they change the current draft alone.
+use Rattle.std.specs.Prelude.{◌≡◌, ℕ, zero, suc, ◌+◌, ◌-◌, ◌≤◌, ◌<◌, ◌==◌, ◌%◌, ◌&&◌, Bool, not, List, [], ◌∷◌, ◌++◌, map, length, take, drop, insert, remove, slice_get, slice_set, slice_index, Option, Some, None, option_map, Result, Ok, Err, nat_le, nat_lt, if◌then◌else◌, refl}
+use Rattle.std.specs.List.{filter, list_any, range_with_len}
+use Rattle.w4_defs.specs.declared.console.Input.{Input}
+use Rattle.w4_defs.specs.declared.editing.EditRefusal.{EditRefusal}
+use Rattle.w4_defs.specs.declared.editing.EditRefusal.TheVariants.{NoFrame, FullRecording, NothingToUndo, NothingToRedo, Kept, NotKept, FullSnapshots}
+
+-- ---- kept things
+
+-- A kind of kept things. Each stands at a place. A link ties a thing to the one before it in the kept list.
+pub record Kind (A : Type 0) : Type 0 where
+  -- its place
+  pub place : A → ℕ
+  -- the same thing at this place
+  pub at : ℕ → A → A
+  -- the same thing without its link
+  pub unlinked : A → A
+  -- the second thing, after the first, which stood before it, is dropped
+  pub after_drop : A → A → A
+
+-- places alone, without links
+abbrev pub bare : Kind ℕ
+bare = record { place = λ p. p; at = λ p old. p; unlinked = λ p. p; after_drop = λ dropped next. next }
+
+-- places of a recording with this many inputs: they rise from place 0, and are at most 1,024
+pub record ArePlaces (inputs : ℕ) (places : List ℕ) : Type 0 where
+  pub some : 0 < length places
+  pub few : length places ≤ 1024
+  pub first : slice_index places 0 ≡ 0
+  pub rising : (i : ℕ) → i + 1 < length places → slice_index places i < slice_index places (i + 1)
+  pub within : (i : ℕ) → i < length places → slice_index places i ≤ inputs
+
+abbrev pub is_kept : {A : Type 0} → Kind A → ℕ → List A → Bool
+is_kept kind p kept = list_any (λ x. kind.place x == p) kept
+
+-- the kept list with this thing, before the first above its place
+abbrev pub with_kept : {A : Type 0} → Kind A → A → List A → List A
+with_kept kind x [] = x ∷ []
+with_kept kind x (y ∷ kept) = if nat_lt (kind.place x) (kind.place y) then x ∷ y ∷ kept else y ∷ with_kept kind x kept
+
+-- the kept list without the thing at a place; the next one is told
+abbrev pub told : {A : Type 0} → Kind A → A → List A → List A
+told kind dropped [] = []
+told kind dropped (x ∷ kept) = kind.after_drop dropped x ∷ kept
+
+abbrev pub without : {A : Type 0} → Kind A → ℕ → List A → List A
+without kind p [] = []
+without kind p (x ∷ kept) = if kind.place x == p then told kind x kept else x ∷ without kind p kept
+
+-- ---- what an edit of input K does to the kept list
+
+-- the first thing above place K loses its link
+abbrev pub unlink_above : {A : Type 0} → Kind A → ℕ → List A → List A
+unlink_above kind k [] = []
+unlink_above kind k (x ∷ kept) = if nat_lt k (kind.place x) then kind.unlinked x ∷ kept else x ∷ unlink_above kind k kept
+
+-- those above place K rise by 1, or fall by 1
+abbrev pub raised : {A : Type 0} → Kind A → ℕ → A → A
+raised kind k x = if nat_lt k (kind.place x) then kind.at (kind.place x + 1) x else x
+
+abbrev pub lowered : {A : Type 0} → Kind A → ℕ → A → A
+lowered kind k x = if nat_lt k (kind.place x) then kind.at (kind.place x - 1) x else x
+
+-- where places K and K + 1 are kept, both would stand on K after a delete: the later one is dropped
+abbrev pub without_double : {A : Type 0} → Kind A → ℕ → List A → List A
+without_double kind k kept = if is_kept kind k kept then filter (λ x. not (kind.place x == k + 1)) kept else kept
+
+abbrev pub kept_after_set : {A : Type 0} → Kind A → ℕ → List A → List A
+kept_after_set kind k kept = unlink_above kind k kept
+
+abbrev pub kept_after_insert : {A : Type 0} → Kind A → ℕ → List A → List A
+kept_after_insert kind k kept = map (raised kind k) (unlink_above kind k kept)
+
+abbrev pub kept_after_delete : {A : Type 0} → Kind A → ℕ → List A → List A
+kept_after_delete kind k kept = map (lowered kind k) (unlink_above kind k (without_double kind k kept))
+
+-- ---- drafts
+
+-- the inputs of a recording and its kept list
+pub record Draft (A : Type 0) : Type 0 where
+  pub inputs : List Input
+  pub kept : List A
+
+abbrev pub set_draft : {A : Type 0} → Kind A → ℕ → Input → Draft A → Draft A
+set_draft kind k input draft = record { inputs = slice_set draft.inputs k input; kept = kept_after_set kind k draft.kept }
+
+abbrev pub insert_draft : {A : Type 0} → Kind A → ℕ → Input → Draft A → Draft A
+insert_draft kind k input draft = record { inputs = insert draft.inputs k input; kept = kept_after_insert kind k draft.kept }
+
+abbrev pub delete_draft : {A : Type 0} → Kind A → ℕ → Draft A → Draft A
+delete_draft kind k draft = record { inputs = remove draft.inputs k; kept = kept_after_delete kind k draft.kept }
+
+-- ---- sessions
+
+-- the current draft, the undo history with the newest last, and the redo history with the next last
+pub record Session (A : Type 0) : Type 0 where
+  pub current : Draft A
+  pub older : List (Draft A)
+  pub newer : List (Draft A)
+
+-- how a recording is opened, with what is kept at place 0
+abbrev pub opened : {A : Type 0} → List Input → A → Session A
+opened inputs first = record { current = record { inputs = inputs; kept = first ∷ [] }; older = []; newer = [] }
+
+-- the last so many
+abbrev pub keep_last : {A : Type 0} → ℕ → List A → List A
+keep_last n xs = drop (length xs - n) xs
+
+abbrev pub last_item : {A : Type 0} → List A → Option A
+last_item xs = slice_get xs (length xs - 1)
+
+abbrev pub without_last : {A : Type 0} → List A → List A
+without_last xs = take (length xs - 1) xs
+
+-- the session after an edit that makes this draft
+abbrev pub edited : {A : Type 0} → Session A → Draft A → Session A
+edited session draft = record { current = draft; older = keep_last 32 (session.older ++ session.current ∷ []); newer = [] }
+
+-- the session one draft back, and one draft on
+abbrev pub undone : {A : Type 0} → Session A → Option (Session A)
+undone session = option_map (λ draft. record {
+  current = draft;
+  older = without_last session.older;
+  newer = session.newer ++ session.current ∷ [];
+}) (last_item session.older)
+
+abbrev pub redone : {A : Type 0} → Session A → Option (Session A)
+redone session = option_map (λ draft. record {
+  current = draft;
+  older = session.older ++ session.current ∷ [];
+  newer = without_last session.newer;
+}) (last_item session.newer)
+
+-- the session with another kept list
+abbrev pub with_list : {A : Type 0} → Session A → List A → Session A
+with_list session kept = record {
+  current = record { inputs = session.current.inputs; kept = kept };
+  older = session.older;
+  newer = session.newer;
+}
+
+-- ---- refusals, in their order: an input or a place that isn't there, then a limit or what is kept
+
+abbrev pub set_refusal : {A : Type 0} → ℕ → Draft A → Option EditRefusal
+set_refusal k draft = if nat_lt k (length draft.inputs) then None else Some NoFrame
+
+abbrev pub insert_refusal : {A : Type 0} → ℕ → Draft A → Option EditRefusal
+insert_refusal k draft =
+    if nat_lt (length draft.inputs) k then Some NoFrame else
+    if nat_lt (length draft.inputs) 36000 then None else
+    Some FullRecording
+
+abbrev pub delete_refusal : {A : Type 0} → ℕ → Draft A → Option EditRefusal
+delete_refusal k draft = set_refusal k draft
+
+abbrev pub place_refusal : {A : Type 0} → ℕ → Draft A → Option EditRefusal
+place_refusal p draft = if nat_le p (length draft.inputs) then None else Some NoFrame
+
+abbrev pub keep_refusal : {A : Type 0} → Kind A → ℕ → Draft A → Option EditRefusal
+keep_refusal kind p draft =
+    if nat_lt (length draft.inputs) p then Some NoFrame else
+    if is_kept kind p draft.kept then Some Kept else
+    if nat_lt (length draft.kept) 1024 then None else
+    Some FullSnapshots
+
+abbrev pub drop_refusal : {A : Type 0} → Kind A → ℕ → Draft A → Option EditRefusal
+drop_refusal kind p draft = if not (p == 0) && is_kept kind p draft.kept then None else Some NotKept
+
+-- ---- the orders that change a session: what it is afterwards, or why they are refused
+
+abbrev pub unless : {A : Type 0} → Option EditRefusal → A → Result A EditRefusal
+unless None after = Ok after
+unless (Some refusal) after = Err refusal
+
+abbrev pub if_some : {A : Type 0} → EditRefusal → Option A → Result A EditRefusal
+if_some refusal None = Err refusal
+if_some refusal (Some after) = Ok after
+
+abbrev pub set_input : {A : Type 0} → Kind A → ℕ → Input → Session A → Result (Session A) EditRefusal
+set_input kind k input session =
+    unless (set_refusal k session.current) (edited session (set_draft kind k input session.current))
+
+abbrev pub insert_input : {A : Type 0} → Kind A → ℕ → Input → Session A → Result (Session A) EditRefusal
+insert_input kind k input session =
+    unless (insert_refusal k session.current) (edited session (insert_draft kind k input session.current))
+
+abbrev pub delete_input : {A : Type 0} → Kind A → ℕ → Session A → Result (Session A) EditRefusal
+delete_input kind k session =
+    unless (delete_refusal k session.current) (edited session (delete_draft kind k session.current))
+
+abbrev pub undo : {A : Type 0} → Session A → Result (Session A) EditRefusal
+undo session = if_some NothingToUndo (undone session)
+
+abbrev pub redo : {A : Type 0} → Session A → Result (Session A) EditRefusal
+redo session = if_some NothingToRedo (redone session)
+
+-- the thing is kept at its place
+abbrev pub keep : {A : Type 0} → Kind A → A → Session A → Result (Session A) EditRefusal
+keep kind x session =
+    unless (keep_refusal kind (kind.place x) session.current) (with_list session (with_kept kind x session.current.kept))
+
+abbrev pub drop_kept : {A : Type 0} → Kind A → ℕ → Session A → Result (Session A) EditRefusal
+drop_kept kind p session =
+    unless (drop_refusal kind p session.current) (with_list session (without kind p session.current.kept))
+
+-- each multiple of `every` is kept that isn't; none where more than 1,024 places would be
+abbrev pub multiples : ℕ → ℕ → List ℕ
+multiples every last = filter (λ p. p % every == 0) (range_with_len 0 (last + 1))
+
+abbrev pub all_kept : List ℕ → List ℕ → List ℕ
+all_kept [] kept = kept
+all_kept (p ∷ places) kept = all_kept places (if is_kept bare p kept then kept else with_kept bare p kept)
+
+abbrev pub keep_every : ℕ → Session ℕ → Result (Session ℕ) EditRefusal
+keep_every every session =
+    let kept = all_kept (multiples every (length session.current.inputs)) session.current.kept in
+    unless (if nat_le (length kept) 1024 then None else Some FullSnapshots) (with_list session kept)

@@ -1,0 +1,31 @@
+//! Editing of recordings.
+
+use crate::memory::OutOfMemory;
+
+/// Why an edit, or a change of the kept places, is refused. The causes are looked at in this order, and a
+/// refusal changes nothing.
+#[derive(Clone, Copy, PartialEq, Eq, Debug)]
+pub enum EditRefusal {
+    /// There is no such input, or no such place.
+    NoFrame,
+    /// The recording has 36,000 inputs.
+    FullRecording,
+    /// The undo history is empty.
+    NothingToUndo,
+    /// The redo history is empty.
+    NothingToRedo,
+    /// The place is kept.
+    Kept,
+    /// The place isn't kept, or is place 0.
+    NotKept,
+    /// 1,024 places are kept, or more would be.
+    FullSnapshots,
+    /// Memory was refused; always permitted.
+    OutOfMemory,
+}
+
+impl From<OutOfMemory> for EditRefusal {
+    fn from(_refusal: OutOfMemory) -> EditRefusal {
+        EditRefusal::OutOfMemory
+    }
+}
