@@ -10,7 +10,7 @@ use Rattle.w4_defs.specs.declared.value.ValType.TheVariants.{I32}
 use Rattle.w4_defs.specs.declared.operation.Op.{Op}
 use Rattle.w4_defs.specs.declared.operation.Op.TheVariants.{Call, I32Add}
 use Rattle.w4_defs.specs.declared.refusal.ProfileRefusal.TheVariants.{Floats}
-use Rattle.w4_defs.specs.Module.{Signature, WasmModule}
+use Rattle.w4_defs.specs.Module.{Signature, Function, WasmModule}
 use Rattle.w4_defs.specs.Lookup.{function_indices, signature_of}
 use Rattle.w4_defs.specs.Floats.{is_float_operation, function_has_float, module_has_float}
 use Rattle.w4_defs.specs.Profile.{if_so, causes, first_of, profile_refusal}
@@ -34,7 +34,9 @@ made_inputs_are_counted number = length-map-range_with_len (made_input number) 0
 
 -- no float, and two i32 to an i32
 IsChoice : Op → Type 0
-IsChoice op = (is_float_operation op ≡ false) × ((c : Context) → OperationHasType c op [] (I32 ∷ I32 ∷ []) (I32 ∷ []))
+IsChoice op =
+    (is_float_operation op ≡ false)
+    × ((c : Context) → OperationHasType c op [] (I32 ∷ I32 ∷ []) (I32 ∷ []))
 
 all_choices : AllByRecursion IsChoice operations
 unfolding IsChoice
@@ -83,17 +85,21 @@ update-no_float : function_has_float update_function ≡ false
 unfolding update_function
 update-no_float = refl
 
-smalls-no_float : (number start count : ℕ) →
-    list_any function_has_float (map (small_function number) (range_with_len start count) ++ update_function ∷ []) ≡ false
+abbrev bodies_from : ℕ → ℕ → ℕ → List Function
+bodies_from number start count = map (small_function number) (range_with_len start count) ++ update_function ∷ []
+
+smalls-no_float : (number start count : ℕ) → list_any function_has_float (bodies_from number start count) ≡ false
 smalls-no_float number start zero = or_from _ false update-no_float refl
-smalls-no_float number start (suc count) = or_from _ _ (small-no_float number start) (smalls-no_float number (start + 1) count)
+smalls-no_float number start (suc count) =
+    or_from _ _ (small-no_float number start) (smalls-no_float number (start + 1) count)
 
 made-no_float : (number : ℕ) → module_has_float (made_module number) ≡ false
 made-no_float number = ap (λ b. b || false) (smalls-no_float number 0 small_functions)
 
 made-profile : (number : ℕ) → profile_refusal (made_module number) ≡ None
 unfolding small_function update_function
-made-profile number = ap (λ b. first_of (if_so b Floats ∷ drop 1 (causes (made_module number)))) (made-no_float number)
+made-profile number =
+    ap (λ b. first_of (if_so b Floats ∷ drop 1 (causes (made_module number)))) (made-no_float number)
 
 -- ---- typing
 
@@ -123,7 +129,11 @@ small-typed m number g =
           (
             I32 ∷ I32 ∷ [],
             (I32 ∷ [], [], I32 ∷ [], refl, refl, refl),
-            (I32 ∷ [], ([], I32 ∷ I32 ∷ [], I32 ∷ [], refl, chosen-type (draw number (3 * g + 2)) c, refl), refl),
+            (
+              I32 ∷ [],
+              ([], I32 ∷ I32 ∷ [], I32 ∷ [], refl, chosen-type (draw number (3 * g + 2)) c, refl),
+              refl,
+            ),
           ),
         ),
       ),
@@ -133,12 +143,14 @@ update_context : ℕ → Context
 update_context number = body_context (made_module number) none_to_none update_function
 
 -- functions 1 to 64 take two i32 to an i32
-replicated : {X : Type 0} (x : X) (rest : List X) (n k : ℕ) → k < n → slice_get (replicate n x ++ rest) k ≡ Some x
+replicated : {X : Type 0} (x : X) (rest : List X) (n k : ℕ) → k < n →
+    slice_get (replicate n x ++ rest) k ≡ Some x
 replicated x rest zero k below = absurd (omega (arith, below))
 replicated x rest (suc n) zero below = refl
 replicated x rest (suc n) (suc k) below = replicated x rest n k (omega (arith, below))
 
-small-signature : (number g : ℕ) → g < small_functions → signature_of (made_module number) (g + 1) ≡ Some two_to_one
+small-signature : (number g : ℕ) → g < small_functions →
+    signature_of (made_module number) (g + 1) ≡ Some two_to_one
 unfolding two_to_one
 small-signature number g below =
     let next : suc g ≡ g + 1 = omega arith in
@@ -152,7 +164,8 @@ unfolding update_context two_to_one
 call-typed number g below = ap (λ found. option_and_then calls found) (small-signature number g below)
 
 -- a step takes nothing and leaves nothing, so that what follows it goes on from there
-step-typed : (number g : ℕ) (rest : List Op) → g < small_functions → HasType (update_context number) (sequence rest) [] [] →
+step-typed : (number g : ℕ) (rest : List Op) → g < small_functions →
+    HasType (update_context number) (sequence rest) [] [] →
     HasType (update_context number) (sequence (step_of g ++ rest)) [] []
 unfolding update_context none_to_none
 step-typed number g rest below after = (
@@ -186,7 +199,8 @@ steps-typed : (number start count : ℕ) (rest : List Op) → start + count ≤ 
     HasType (update_context number) (sequence (flat_map step_of (range_with_len start count) ++ rest)) [] []
 steps-typed number start zero rest within after = after
 steps-typed number start (suc count) rest within after =
-    step-typed number start (flat_map step_of (range_with_len (start + 1) count) ++ rest) (omega (arith, within))
+    step-typed number start (flat_map step_of (range_with_len (start + 1) count) ++ rest)
+    (omega (arith, within))
     (steps-typed number (start + 1) count rest (omega (arith, within)) after)
 
 -- the rectangle
@@ -225,7 +239,8 @@ update-typed number = steps-typed number 0 small_functions rectangle (omega arit
 mapped : {X : Type 0} (f : ℕ → X) (rest : List X) (start n k : ℕ) → k < n →
     slice_get (map f (range_with_len start n) ++ rest) k ≡ Some (f (start + k))
 mapped f rest start zero k below = absurd (omega (arith, below))
-mapped f rest start (suc n) zero below = let same : start ≡ start + 0 = omega arith in ap (λ i. Some (f i)) same
+mapped f rest start (suc n) zero below =
+    let same : start ≡ start + 0 = omega arith in ap (λ i. Some (f i)) same
 mapped f rest start (suc n) (suc k) below =
     let same : start + 1 + k ≡ start + suc k = omega arith in
     mapped f rest (start + 1) n k (omega (arith, below)) ∙ ap (λ i. Some (f i)) same
@@ -256,11 +271,14 @@ typed_at number k below = elim (cases_lt k small_functions) [
 
 -- ---- module rules
 
-made-functions : (number : ℕ) → All (λ index. index < length (made_module number).types) (function_indices (made_module number))
+made-functions : (number : ℕ) →
+    All (λ index. index < length (made_module number).types) (function_indices (made_module number))
 made-functions number =
     let P : ℕ → Type 0 = λ index. index < 3 in
     All-cons P 2 (replicate small_functions 1 ++ 0 ∷ []) (omega arith)
-    (All-append P (replicate small_functions 1) (0 ∷ []) (All-replicate P small_functions 1 (omega arith)) (all_one P 0 (omega arith)))
+    (All-append P (replicate small_functions 1) (0 ∷ [])
+    (All-replicate P small_functions 1 (omega arith))
+    (all_one P 0 (omega arith)))
 
 made-rules : (number : ℕ) → KeepsModuleRules (made_module number)
 made-rules number = record {

@@ -13,23 +13,28 @@ predicted-unknown : (known : Known) (player frame : ℕ) → known player (suc f
 predicted-unknown known player frame none = ap (λ byte. unwrap_or byte (predicted known player frame)) none
 
 -- where it is known, it is that byte
-predicted-known : (known : Known) (player frame byte : ℕ) → known player frame ≡ Some byte → predicted known player frame ≡ byte
+predicted-known : (known : Known) (player frame byte : ℕ) → known player frame ≡ Some byte →
+    predicted known player frame ≡ byte
 predicted-known known player zero byte some = ap (λ found. unwrap_or found 0) some
-predicted-known known player (suc frame) byte some = ap (λ found. unwrap_or found (predicted known player frame)) some
+predicted-known known player (suc frame) byte some =
+    ap (λ found. unwrap_or found (predicted known player frame)) some
 
-same_known : (known : Known) (player frame other byte : ℕ) → frame ≡ other → known player frame ≡ Some byte → known player other ≡ Some byte
+same_known : (known : Known) (player frame other byte : ℕ) → frame ≡ other →
+    known player frame ≡ Some byte → known player other ≡ Some byte
 same_known known player frame other byte same some = ap (λ k. known player k) (sym same) ∙ some
 
 pub prediction_is_latest : PredictionIsLatest
 prediction_is_latest known player zero latest byte within some none =
-    predicted-known known player zero byte (same_known known player latest zero byte (omega (arith, within)) some)
-prediction_is_latest known player (suc frame) latest byte within some none = elim (cases_lt latest (suc frame)) [
-  | inl before ↦ predicted-unknown known player frame (none (suc frame) before (omega arith))
-      ∙ prediction_is_latest known player frame latest byte (omega (arith, before)) some
-      (λ later after up. none later after (omega (arith, up)))
-  | inr not_before ↦ predicted-known known player (suc frame) byte
-      (same_known known player latest (suc frame) byte (omega (arith, within, not_before)) some)
-]
+    predicted-known known player zero byte
+    (same_known known player latest zero byte (omega (arith, within)) some)
+prediction_is_latest known player (suc frame) latest byte within some none =
+    elim (cases_lt latest (suc frame)) [
+      | inl before ↦ predicted-unknown known player frame (none (suc frame) before (omega arith))
+          ∙ prediction_is_latest known player frame latest byte (omega (arith, before)) some
+          (λ later after up. none later after (omega (arith, up)))
+      | inr not_before ↦ predicted-known known player (suc frame) byte
+          (same_known known player latest (suc frame) byte (omega (arith, within, not_before)) some)
+    ]
 
 pub nothing_predicts_zero : NothingPredictsZero
 nothing_predicts_zero known player zero none = ap (λ found. unwrap_or found 0) (none zero (omega arith))
@@ -50,20 +55,24 @@ no_conflict kept pad none = elim (cases_Bool (kept == pad)) [
   | inr other ↦ absurd (true≢false (sym none ∙ ap (λ b. is_none (cond b None (Some kept))) other))
 ]
 
-accepted-has_none : (known : Known) (packet : Packet) → is_accepted known packet ≡ true → is_none (conflict known packet) ≡ true
+accepted-has_none : (known : Known) (packet : Packet) → is_accepted known packet ≡ true →
+    is_none (conflict known packet) ≡ true
 accepted-has_none known packet taken =
-    (and_parts (nat_lt packet.player 4 && nat_lt packet.frame 36000) (is_none (conflict known packet)) taken).1
+    let of_range = nat_lt packet.player 4 && nat_lt packet.frame 36000 in
+    (and_parts of_range (is_none (conflict known packet)) taken).1
 
 -- whether a packet is accepted and speaks of this frame
 takes : Known → Packet → ℕ → ℕ → Bool
 takes known packet player frame = is_accepted known packet && is_of packet player frame
 
-learned-taken : (known : Known) (packet : Packet) (player frame : ℕ) → takes known packet player frame ≡ true →
+learned-taken : (known : Known) (packet : Packet) (player frame : ℕ) →
+    takes known packet player frame ≡ true →
     learned known packet player frame ≡ Some packet.pad
 unfolding takes
 learned-taken known packet player frame taken = cond-true (takes known packet player frame) _ _ taken
 
-learned-other : (known : Known) (packet : Packet) (player frame : ℕ) → takes known packet player frame ≡ false →
+learned-other : (known : Known) (packet : Packet) (player frame : ℕ) →
+    takes known packet player frame ≡ false →
     learned known packet player frame ≡ known player frame
 unfolding takes
 learned-other known packet player frame left = cond-false (takes known packet player frame) _ _ left
@@ -76,11 +85,14 @@ taken-player known packet player frame taken =
     let of = and_parts (packet.player == player) (packet.frame == frame) parts.1 in
     (parts.0, eqb-true packet.player player of.0, eqb-true packet.frame frame of.1)
 
-taken-own : (known : Known) (packet : Packet) → is_accepted known packet ≡ true → takes known packet packet.player packet.frame ≡ true
+taken-own : (known : Known) (packet : Packet) → is_accepted known packet ≡ true →
+    takes known packet packet.player packet.frame ≡ true
 unfolding takes
 taken-own known packet taken =
     and_from (is_accepted known packet) _ taken
-    (and_from (packet.player == packet.player) _ (eq-eqb packet.player packet.player refl) (eq-eqb packet.frame packet.frame refl))
+    (and_from (packet.player == packet.player) _
+    (eq-eqb packet.player packet.player refl)
+    (eq-eqb packet.frame packet.frame refl))
 
 -- what is known stays known
 learned-stays : (known : Known) (packet : Packet) (player frame byte : ℕ) → known player frame ≡ Some byte →
@@ -91,7 +103,8 @@ learned-stays known packet player frame byte some = elim (cases_Bool (takes know
       let here : known packet.player packet.frame ≡ Some byte =
       ap (λ p. known p packet.frame) is.1 ∙ (ap (λ f. known player f) is.2 ∙ some) in
       let free : is_none (cond (byte == packet.pad) None (Some byte)) ≡ true =
-      sym (ap (λ found. is_none (option_and_then (λ kept. cond (kept == packet.pad) None (Some kept)) found)) here)
+      sym
+      (ap (λ found. is_none (option_and_then (λ k. cond (k == packet.pad) None (Some k)) found)) here)
       ∙ accepted-has_none known packet is.0 in
       learned-taken known packet player frame taken ∙ ap Some (sym (no_conflict byte packet.pad free))
   | inr left ↦ learned-other known packet player frame left ∙ some
@@ -101,15 +114,18 @@ all-stays : (known : Known) (packets : List Packet) (player frame byte : ℕ) �
     fold learned known packets player frame ≡ Some byte
 all-stays known [] player frame byte some = some
 all-stays known (packet ∷ packets) player frame byte some =
-    all-stays (learned known packet) packets player frame byte (learned-stays known packet player frame byte some)
+    all-stays (learned known packet) packets player frame byte
+    (learned-stays known packet player frame byte some)
 
 -- each accepted packet is known afterwards
 accepted-is_known : (known : Known) (packets : List Packet) →
-    All (λ packet. fold learned known packets packet.player packet.frame ≡ Some packet.pad) (accepted_from known packets)
+    All (λ packet. fold learned known packets packet.player packet.frame ≡ Some packet.pad)
+    (accepted_from known packets)
 accepted-is_known known [] = All-nil _
 accepted-is_known known (packet ∷ packets) =
     let others = accepted_from (learned known packet) packets in
-    let P : Packet → Type 0 = λ p. fold learned (learned known packet) packets p.player p.frame ≡ Some p.pad in
+    let P : Packet → Type 0 =
+    λ p. fold learned (learned known packet) packets p.player p.frame ≡ Some p.pad in
     let rest : All P others = accepted-is_known (learned known packet) packets in
     cond_both (is_accepted known packet) (packet ∷ others) others (λ list. All P list)
     (λ taken. All-cons P packet others
@@ -122,11 +138,13 @@ accepted-is_known known (packet ∷ packets) =
 some_same : (a b : ℕ) → Some a ≡ Some b → a ≡ b
 some_same a b same = ap (λ found. unwrap_or found 0) same
 
-packet_same : (packet : Packet) (player frame pad : ℕ) → packet.player ≡ player → packet.frame ≡ frame → packet.pad ≡ pad →
+packet_same : (packet : Packet) (player frame pad : ℕ) → packet.player ≡ player → packet.frame ≡ frame →
+    packet.pad ≡ pad →
     packet ≡ packet_of player frame pad
 packet_same packet player frame pad p f b = λ i. record { player = p i; frame = f i; pad = b i }
 
-first-contained : (packet other : Packet) (packets : List Packet) → packet ≡ other → Contains (packet ∷ packets) other
+first-contained : (packet other : Packet) (packets : List Packet) → packet ≡ other →
+    Contains (packet ∷ packets) other
 first-contained packet other packets same = (0, omega arith, same)
 
 known-from : (known : Known) (packets : List Packet) (player frame byte : ℕ) →
@@ -146,12 +164,14 @@ known-from known (packet ∷ packets) player frame byte some =
             (λ not_ok. absurd (true≢false (sym is.0 ∙ not_ok))))
         | inr left ↦ inl (sym (learned-other known packet player frame left) ∙ now)
       ]
-      | inr later ↦ inr (cond_both (is_accepted known packet) (packet ∷ others) others (λ list. Contains list wanted)
+      | inr later ↦ inr
+          (cond_both (is_accepted known packet) (packet ∷ others) others (λ list. Contains list wanted)
           (λ ok. Contains-append_right (packet ∷ []) others wanted later)
           (λ not_ok. later))
     ]
 
-same_option : (x y : Option ℕ) → ((b : ℕ) → x ≡ Some b → y ≡ Some b) → ((b : ℕ) → y ≡ Some b → x ≡ Some b) → x ≡ y
+same_option : (x y : Option ℕ) → ((b : ℕ) → x ≡ Some b → y ≡ Some b) → ((b : ℕ) → y ≡ Some b → x ≡ Some b) →
+    x ≡ y
 same_option None None f g = refl
 same_option None (Some b) f g = g b refl
 same_option (Some a) y f g = sym (f a refl)
@@ -159,17 +179,22 @@ same_option (Some a) y f g = sym (f a refl)
 -- what the one has received the other has
 received-by_other : (first second : List Packet) →
     ((packet : Packet) → Contains (accepted first) packet → Contains (accepted second) packet) →
-    (player frame byte : ℕ) → received first player frame ≡ Some byte → received second player frame ≡ Some byte
-received-by_other first second over player frame byte some = elim (known-from nothing_known first player frame byte some) [
-  | inl before ↦ absurd (true≢false (ap is_none before))
-  | inr said ↦ All-contains (λ p. received second p.player p.frame ≡ Some p.pad) (accepted second) (packet_of player frame byte)
-      (accepted-is_known nothing_known second) (over (packet_of player frame byte) said)
-]
+    (player frame byte : ℕ) → received first player frame ≡ Some byte →
+    received second player frame ≡ Some byte
+received-by_other first second over player frame byte some =
+    elim (known-from nothing_known first player frame byte some) [
+      | inl before ↦ absurd (true≢false (ap is_none before))
+      | inr said ↦ All-contains (λ p. received second p.player p.frame ≡ Some p.pad) (accepted second)
+          (packet_of player frame byte)
+          (accepted-is_known nothing_known second) (over (packet_of player frame byte) said)
+    ]
 
 pub same_packets_same_known : SamePacketsSameKnown
-same_packets_same_known first second same = λ i player frame. same_option (received first player frame) (received second player frame)
+same_packets_same_known first second same =
+    λ i player frame. same_option (received first player frame) (received second player frame)
     (received-by_other first second (λ packet. (same packet).0) player frame)
     (received-by_other second first (λ packet. (same packet).1) player frame) i
 
 pub same_packets_same_inputs : SamePacketsSameInputs
-same_packets_same_inputs first second frames same = ap (λ known. net_inputs known frames) (same_packets_same_known first second same)
+same_packets_same_inputs first second frames same =
+    ap (λ known. net_inputs known frames) (same_packets_same_known first second same)

@@ -8,7 +8,7 @@ use Rattle.std.proofs.Math.Nat.{div-le_of_le-mul}
 use Rattle.w4_defs.specs.declared.console.Voice.{Voice}
 use Rattle.w4_defs.specs.Tones.{IsPlaying, ticks, tone_frames, level_at, sound_of}
 use Rattle.w4_defs.proofs.ToneLaws.{neg_part, level_small}
-use Rattle.w4_defs.specs.Sound.{Wave, IsWave, heard_voice, duty_parts, high_or_low, pulse, triangle_height, triangle, noise, oscillator, given, ticks_a_second, ticks_a_frame, SamplesAreBounded}
+use Rattle.w4_defs.specs.Sound.{Wave, IsWave, heard_voice, high_or_low, pulse, triangle_height, triangle, noise, oscillator, channel_output, ticks_a_second, ticks_a_frame, SamplesAreBounded}
 
 -- from -8,000 to 8,000
 IsSmall : ℤ → Type 0
@@ -56,7 +56,8 @@ times_neg : (a n : ℕ) → pos a *ℤ neg_ℤ (pos n) ≡ neg_ℤ (pos (a * n))
 times_neg a zero = ap pos (mul-zero a) ∙ ap (λ m. neg_ℤ (pos m)) (sym (mul-zero a))
 times_neg a (suc n) = refl
 
-small-triangle : (amplitude phase : ℕ) → amplitude ≤ 8000 → phase < ticks_a_second → IsSmall (triangle amplitude phase)
+small-triangle : (amplitude phase : ℕ) → amplitude ≤ 8000 → phase < ticks_a_second →
+    IsSmall (triangle amplitude phase)
 unfolding IsHeight
 small-triangle amplitude phase most within =
     let height = triangle_height-height phase within in
@@ -66,15 +67,18 @@ small-triangle amplitude phase most within =
       | inl up ↦ subst (λ z. IsSmall (int_div (pos amplitude *ℤ z) (pos 11025))) (sym up)
           (small_up (amplitude * n / 11025) part)
       | inr down ↦ subst (λ z. IsSmall (int_div (pos amplitude *ℤ z) (pos 11025))) (sym down)
-          (subst IsSmall (sym (ap (λ z. int_div z (pos 11025)) (times_neg amplitude n) ∙ neg_part (amplitude * n) 11025))
+          (subst IsSmall
+          (sym (ap (λ z. int_div z (pos 11025)) (times_neg amplitude n) ∙ neg_part (amplitude * n) 11025))
           (small_down (amplitude * n / 11025) part))
     ]
 
 -- what a channel gives
-small-given : (ear : ℕ → Bool) (tick : ℕ) (wave : Wave) (channel : ℕ) (voice : Option Voice) → tick < ticks_a_frame →
-    slice_index wave.phases channel < ticks_a_second → IsPlaying voice → IsSmall (given ear tick wave channel voice)
-small-given ear tick wave channel None in_frame in_period plays = small_up 0 (omega arith)
-small-given ear tick wave channel (Some voice) in_frame in_period plays =
+small-output : (side : ℕ → Bool) (tick : ℕ) (wave : Wave) (channel : ℕ) (voice : Option Voice) →
+    tick < ticks_a_frame →
+    slice_index wave.phases channel < ticks_a_second → IsPlaying voice →
+    IsSmall (channel_output side tick wave channel voice)
+small-output side tick wave channel None in_frame in_period plays = small_up 0 (omega arith)
+small-output side tick wave channel (Some voice) in_frame in_period plays =
     let tone = voice.tone in
     let t = ticks voice.age + tick in
     let in_tone : t < ticks (tone_frames tone) = omega (arith, in_frame, plays.lasts) in
@@ -82,9 +86,9 @@ small-given ear tick wave channel (Some voice) in_frame in_period plays =
     let amplitude = 80 * level_at tone t in
     let most : amplitude ≤ 8000 = omega (arith, level) in
     let phase = slice_index wave.phases channel in
-    cond_both (ear tone.pan) (oscillator wave channel tone (sound_of tick voice)) (pos 0) IsSmall
+    cond_both (side tone.pan) (oscillator wave channel tone (sound_of tick voice)) (pos 0) IsSmall
     (λ heard. cond_both (nat_lt channel 2) (pulse amplitude tone.duty phase) _ IsSmall
-    (λ is_pulse. small-high_or_low (nat_lt (8 * phase) (ticks_a_second * duty_parts tone.duty)) amplitude most)
+    (λ is_pulse. small-high_or_low _ amplitude most)
     (λ others. cond_both (channel == 2) (triangle amplitude phase) (noise amplitude wave.noise) IsSmall
     (λ is_triangle. small-triangle amplitude phase most in_period)
     (λ is_noise. small-high_or_low _ amplitude most)))
@@ -93,20 +97,23 @@ small-given ear tick wave channel (Some voice) in_frame in_period plays =
 heard-plays : (voice : Option Voice) → IsPlaying voice →
     IsPlaying (option_and_then (λ (v : Voice). cond v.tone.note None (Some v)) voice)
 heard-plays None plays = tt
-heard-plays (Some voice) plays = cond_both voice.tone.note None (Some voice) IsPlaying (λ note. tt) (λ sounds. plays)
+heard-plays (Some voice) plays =
+    cond_both voice.tone.note None (Some voice) IsPlaying (λ note. tt) (λ sounds. plays)
 
-small-channel : (ear : ℕ → Bool) (tick : ℕ) (wave : Wave) (channel : ℕ) → tick < ticks_a_frame → IsWave wave → channel < 4 →
-    IsSmall (given ear tick wave channel (heard_voice wave channel))
-small-channel ear tick wave channel in_frame is below =
-    small-given ear tick wave channel (heard_voice wave channel) in_frame
+small-channel : (side : ℕ → Bool) (tick : ℕ) (wave : Wave) (channel : ℕ) → tick < ticks_a_frame →
+    IsWave wave → channel < 4 →
+    IsSmall (channel_output side tick wave channel (heard_voice wave channel))
+small-channel side tick wave channel in_frame is below =
+    small-output side tick wave channel (heard_voice wave channel) in_frame
     (is.phases channel 0 (omega (arith, below, is.four_phases)))
-    (heard-plays (slice_index_or wave.channels channel None) (is.channels channel None (omega (arith, below, is.four_channels))))
+    (heard-plays (slice_index_or wave.channels channel None)
+    (is.channels channel None (omega (arith, below, is.four_channels))))
 
 pub samples_are_bounded : SamplesAreBounded
 unfolding IsSmall
-samples_are_bounded ear tick wave is in_frame =
-    let a = small-channel ear tick wave 0 in_frame is (omega arith) in
-    let b = small-channel ear tick wave 1 in_frame is (omega arith) in
-    let c = small-channel ear tick wave 2 in_frame is (omega arith) in
-    let d = small-channel ear tick wave 3 in_frame is (omega arith) in
+samples_are_bounded side tick wave is in_frame =
+    let a = small-channel side tick wave 0 in_frame is (omega arith) in
+    let b = small-channel side tick wave 1 in_frame is (omega arith) in
+    let c = small-channel side tick wave 2 in_frame is (omega arith) in
+    let d = small-channel side tick wave 3 in_frame is (omega arith) in
     (omega (arith, ints, a.0, b.0, c.0, d.0), omega (arith, ints, a.1, b.1, c.1, d.1))

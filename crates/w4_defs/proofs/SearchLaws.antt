@@ -13,14 +13,18 @@ filter_all [] = refl
 filter_all (x ∷ xs) = ap (λ rest. x ∷ rest) (filter_all xs)
 
 -- what passes two tests, one after the other
-filter_both_at : {X : Type 0} (first second : Bool) (x : X) (others both : List X) (q : X → Bool) → filter q others ≡ both → second ≡ q x →
+filter_both_at : {X : Type 0} (first second : Bool) (x : X) (others both : List X) (q : X → Bool) →
+    filter q others ≡ both → second ≡ q x →
     filter q (cond first (x ∷ others) others) ≡ cond (first && second) (x ∷ both) both
-filter_both_at true second x others both q p s = ap (λ b. cond b (x ∷ filter q others) (filter q others)) (sym s) ∙ ap (λ ys. cond second (x ∷ ys) ys) p
+filter_both_at true second x others both q p s =
+    ap (λ b. cond b (x ∷ filter q others) (filter q others)) (sym s) ∙ ap (λ ys. cond second (x ∷ ys) ys) p
 filter_both_at false second x others both q p s = p
 
-filter_both : {X : Type 0} (p q : X → Bool) (xs : List X) → filter q (filter p xs) ≡ filter (λ x. p x && q x) xs
+filter_both : {X : Type 0} (p q : X → Bool) (xs : List X) →
+    filter q (filter p xs) ≡ filter (λ x. p x && q x) xs
 filter_both p q [] = refl
-filter_both p q (x ∷ xs) = filter_both_at (p x) (q x) x (filter p xs) (filter (λ y. p y && q y) xs) q (filter_both p q xs) refl
+filter_both p q (x ∷ xs) =
+    filter_both_at (p x) (q x) x (filter p xs) (filter (λ y. p y && q y) xs) q (filter_both p q xs) refl
 
 -- from any search on
 narrowed_from : (width : ℕ) (page : List ℕ) (candidates : List ℕ) (steps : List Step) →
@@ -39,7 +43,10 @@ left_is_narrowed width page steps = narrowed_from width page (addresses width) s
 range_rises : (count : ℕ) → IsStrictlyIncreasing (range_with_len 0 count)
 range_rises count k below =
     let within : k + 1 < count = omega (arith, below, length-range_with_len 0 count) in
-    omega (arith, get_or-range_with_len 0 count k 0 (omega (arith, within)), get_or-range_with_len 0 count (k + 1) 0 within)
+    let here = get_or-range_with_len 0 count k 0 (omega (arith, within)) in
+    omega (arith, here, get_or-range_with_len 0 count (k + 1) 0 within)
 
 pub left_rises : LeftRises
-left_rises width page steps = IsStrictlyIncreasing-filter (holds_throughout width page steps) (addresses width) (range_rises (65537 - width))
+left_rises width page steps =
+    IsStrictlyIncreasing-filter (holds_throughout width page steps) (addresses width)
+    (range_rises (65537 - width))

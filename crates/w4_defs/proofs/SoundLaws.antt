@@ -14,13 +14,17 @@ channels-after_ticks wave (suc tick) = channels-after_ticks wave tick
 
 -- silent channels give zeros
 sample_bytes-silent : (tick : ℕ) (phases : List ℕ) (noise : ℕ) →
-    let wave : Wave = record { channels = silent; phases = phases; noise = noise } in sample_bytes tick wave ≡ replicate 4 0
+    let wave : Wave = record { channels = silent; phases = phases; noise = noise } in
+    sample_bytes tick wave ≡ replicate 4 0
 sample_bytes-silent tick phases noise = refl
 
-zeros-at : (wave : Wave) → wave.channels ≡ silent → (tick : ℕ) → sample_bytes tick (after_ticks wave tick) ≡ replicate 4 0
+zeros-at : (wave : Wave) → wave.channels ≡ silent → (tick : ℕ) →
+    sample_bytes tick (after_ticks wave tick) ≡ replicate 4 0
 zeros-at wave silence tick =
     let now = after_ticks wave tick in
-    ap (λ channels. let w : Wave = record { channels = channels; phases = now.phases; noise = now.noise } in sample_bytes tick w)
+    ap
+    (λ channels. let w : Wave = record { channels = channels; phases = now.phases; noise = now.noise } in
+    sample_bytes tick w)
     (channels-after_ticks wave tick ∙ silence)
     ∙ sample_bytes-silent tick now.phases now.noise
 
@@ -53,11 +57,13 @@ unfolding frame_samples
 frames_are_counted wave =
     fours-from (λ tick. sample_bytes tick (after_ticks wave tick)) (λ tick. refl) 0 ticks_a_frame
 
-counted-from : (wave : Wave) (records : List FrameRecord) → length (samples_from wave records) ≡ samples_length (length records)
+counted-from : (wave : Wave) (records : List FrameRecord) →
+    length (samples_from wave records) ≡ samples_length (length records)
 counted-from wave [] = refl
 counted-from wave (made ∷ records) =
     let rest : List ℕ = samples_from (after_frame made wave) records in
-    omega (arith, length-append (rendered made wave) rest, frames_are_counted (with_record made wave), counted-from (after_frame made wave) records)
+    let more = counted-from (after_frame made wave) records in
+    omega (arith, length-append (rendered made wave) rest, frames_are_counted (with_record made wave), more)
 
 pub samples_are_counted : SamplesAreCounted
 unfolding samples

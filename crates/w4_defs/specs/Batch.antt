@@ -46,7 +46,8 @@ worked_file =
     codes "W4RC" ++ 1 ∷ replicate 32 7 ++ 16 ∷ 0 ∷ 0 ∷ 0 ∷ 0 ∷ 0 ∷ 0 ∷ 0 ∷ 0 ∷ 0 ∷ []
 
 abbrev pub trapped_state : State
-trapped_state = record { page = []; globals = []; channels = silent; disk = 5 ∷ 6 ∷ []; halt = Trapped Memory }
+trapped_state =
+    record { page = []; globals = []; channels = silent; disk = 5 ∷ 6 ∷ []; halt = Trapped Memory }
 
 abbrev pub BatchCases : Type 0
 BatchCases =

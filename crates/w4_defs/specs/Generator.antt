@@ -1,8 +1,8 @@
 -- The generator (project rule): from a number, a made cart and its inputs, as a large valid case that anyone
 -- can make again. A linear congruential generator (Numerical Recipes, section 7.1) gives the draws: the next
--- number is 1664525 times the last and 1013904223 more, modulo 2^32, and a draw is its upper 16 bits. The made
--- cart has 64 small functions, three draws each; its `update` calls each of them on a word of the page and on
--- gamepad 1, and then draws a rectangle. Each frame's gamepad 1 is one more draw.
+-- number is 1664525 times the last and 1013904223 more, modulo 2^32, and a draw is its upper 16 bits. The
+-- made cart has 64 small functions of three draws each; its `update` calls each of them on a word of the page
+-- and on gamepad 1, and then draws a rectangle. Each frame's gamepad 1 is one more draw.
 use Rattle.std.specs.Prelude.{◌≡◌, ℕ, zero, suc, ◌+◌, ◌*◌, ◌/◌, ◌%◌, ◌^◌, List, [], ◌∷◌, ◌++◌, map, flat_map, replicate, slice_index_or, codes, pos, Some, None, false, refl}
 use Rattle.std.specs.List.{range_with_len}
 use Rattle.w4_defs.specs.declared.console.Input.{Input}
@@ -131,8 +131,8 @@ abbrev pub made_budget : ℕ
 made_budget = 100000
 
 -- Worked cases: number 0 draws 15,470, 18,256 and 53,708 first, so that its first function is `local.get 0`,
--- `local.get 1`, `i32.or`, `i32.const 18256`, `i32.shl`; its 193rd draw is 65,044, so that its first frame has
--- gamepad 1 at 20.
+-- `local.get 1`, `i32.or`, `i32.const 18256`, `i32.shl`; its 193rd draw is 65,044, so that its first frame
+-- has gamepad 1 at 20.
 abbrev pub GeneratorCases : Type 0
 GeneratorCases =
     (map (draw 0) (0 ∷ 1 ∷ 2 ∷ 192 ∷ []) ≡ 15470 ∷ 18256 ∷ 53708 ∷ 65044 ∷ [])

@@ -6,7 +6,8 @@ use Rattle.w4_defs.specs.Validity.{IsValid}
 use Rattle.w4_defs.specs.Generator.{draw, made_module, made_inputs, made_frames}
 
 abbrev pub MadeModulesAreAccepted : Type 0
-MadeModulesAreAccepted = (number : ℕ) → (profile_refusal (made_module number) ≡ None) × IsValid (made_module number)
+MadeModulesAreAccepted =
+    (number : ℕ) → (profile_refusal (made_module number) ≡ None) × IsValid (made_module number)
 
 abbrev pub DrawsAreSmall : Type 0
 DrawsAreSmall = (number k : ℕ) → draw number k < 2 ^ 16

@@ -40,7 +40,8 @@ made_setup number = console_setup (made_module number) (replicate 1792 0) made_b
 -- the summary of a number, whose cart has so many bytes
 abbrev pub made_summary : (List ℕ → List ℕ) → ℕ → ℕ → Option (List ℕ)
 made_summary digest number cart_length =
-    option_map (summary_text digest cart_length) (run_state (made_setup number) [] (made_inputs number) made_frames)
+    option_map (summary_text digest cart_length)
+    (run_state (made_setup number) [] (made_inputs number) made_frames)
 
 -- Worked case: a page whose framebuffer begins with the bytes 228 and 1 has four lit pixels, and a digest of
 -- two bytes stands in for one of 32.

@@ -66,7 +66,8 @@ ask_of (name ∷ words) = ask_named name words
 -- Worked cases: each kind of line, and ways to be bad
 abbrev pub AskCases : Type 0
 AskCases =
-    (ask_of (codes "watch" ∷ codes "160" ∷ codes "1" ∷ codes "0" ∷ codes "2" ∷ []) ≡ Some (ask.Watch 160 1 0 2))
+    (ask_of (codes "watch" ∷ codes "160" ∷ codes "1" ∷ codes "0" ∷ codes "2" ∷ [])
+    ≡ Some (ask.Watch 160 1 0 2))
     × (ask_of (codes "watch" ∷ codes "4294967295" ∷ codes "4" ∷ codes "3" ∷ codes "3" ∷ [])
     ≡ Some (ask.Watch 4294967295 4 3 3))
     × (ask_of (codes "start" ∷ codes "2" ∷ codes "1" ∷ []) ≡ Some (ask.Start 2 1))

@@ -18,7 +18,8 @@ is_of packet player frame = packet.player == player && packet.frame == frame
 -- the byte that is known where a packet's differs from it
 abbrev pub conflict : Known → Packet → Option ℕ
 conflict known packet =
-    option_and_then (λ kept. if kept == packet.pad then None else Some kept) (known packet.player packet.frame)
+    option_and_then (λ kept. if kept == packet.pad then None else Some kept)
+    (known packet.player packet.frame)
 
 -- a packet is accepted where it is of one of four players and of one of 36,000 frames, and no other byte is
 -- known
@@ -57,8 +58,10 @@ net_inputs known frames = map (net_input known) (range_with_len 0 frames)
 
 -- what was predicted is the latest byte that is known up to that frame, and 0 where none is
 abbrev pub PredictionIsLatest : Type 0
-PredictionIsLatest = (known : Known) (player frame latest byte : ℕ) → latest ≤ frame → known player latest ≡ Some byte →
-    ((later : ℕ) → latest < later → later ≤ frame → known player later ≡ None) → predicted known player frame ≡ byte
+PredictionIsLatest = (known : Known) (player frame latest byte : ℕ) →
+    latest ≤ frame → known player latest ≡ Some byte →
+    ((later : ℕ) → latest < later → later ≤ frame → known player later ≡ None) →
+    predicted known player frame ≡ byte
 
 abbrev pub NothingPredictsZero : Type 0
 NothingPredictsZero = (known : Known) (player frame : ℕ) →

@@ -1,6 +1,6 @@
--- Memory search (project rule, as the cheat finders of emulators do it): which addresses of the page hold a
--- value whose course is known. A search begins with all addresses, and each narrowing keeps those at which a
--- test holds between a new page and the last one.
+-- Memory search (project rule, as the cheat finders of emulators do it): from how a value has changed, the
+-- addresses of the page at which it may stand. A search begins with all addresses, and each narrowing keeps
+-- those at which a test holds between a new page and the last one.
 use Rattle.std.specs.Prelude.{◌≡◌, ℕ, ◌-◌, ◌==◌, not, nat_lt, ◌&&◌, Bool, true, List, [], ◌∷◌, filter, fold, refl}
 use Rattle.std.specs.List.{range_with_len}
 use Rattle.std.specs.List.Sorted.{IsStrictlyIncreasing}
@@ -68,7 +68,8 @@ abbrev pub LeftRises : Type 0
 LeftRises = (width : ℕ) (page : List ℕ) (steps : List Step) → IsStrictlyIncreasing (left width page steps)
 
 -- Worked cases, over four bytes of a page: 5, 9, 200, 7, and then 6, 9, 100, 7. The byte that rose, those
--- that stayed, the one that is 100, and numbers of two bytes that fell. A value of 65,535 bytes has two addresses.
+-- that stayed, the one that is 100, and numbers of two bytes that fell. A value of 65,535 bytes has two
+-- addresses.
 abbrev pub kept_by : ℕ → Test → List ℕ → List ℕ
 kept_by width test candidates =
     (narrow (record { width = width; page = 5 ∷ 9 ∷ 200 ∷ 7 ∷ []; candidates = candidates })

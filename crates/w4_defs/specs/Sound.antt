@@ -10,7 +10,7 @@ use Rattle.w4_defs.specs.declared.console.Voice.{Voice}
 use Rattle.w4_defs.specs.declared.console.Sound.{Sound}
 use Rattle.w4_defs.specs.Logs.{empty_log, logged, kept_tones}
 use Rattle.w4_defs.specs.Tones.{Channels, IsPlaying, silent, played, all_aged, sound_of, decoded, sounds_at, level_at, frequency_at}
-use Rattle.w4_defs.specs.State.{FrameRecord}
+use Rattle.w4_defs.specs.State.{FrameRecord, empty_record}
 
 -- how many ticks a second and a frame have
 abbrev pub ticks_a_second : ℕ
@@ -70,30 +70,30 @@ oscillator wave channel tone sound =
     else if channel == 2 then triangle amplitude phase
     else noise amplitude wave.noise
 
--- the channels that the left ear hears have pan 0, 1 or 3, those of the right ear 0, 2 or 3
-abbrev pub heard_left : ℕ → Bool
-heard_left pan = not (pan == 2)
+-- the channels on the left have pan 0, 1 or 3, those on the right 0, 2 or 3
+abbrev pub on_left : ℕ → Bool
+on_left pan = not (pan == 2)
 
-abbrev pub heard_right : ℕ → Bool
-heard_right pan = not (pan == 1)
+abbrev pub on_right : ℕ → Bool
+on_right pan = not (pan == 1)
 
--- what a channel gives to one ear at a tick
-abbrev pub given : (ℕ → Bool) → ℕ → Wave → ℕ → Option Voice → ℤ
-given ear tick wave channel None = pos 0
-given ear tick wave channel (Some voice) =
-    if ear voice.tone.pan then oscillator wave channel voice.tone (sound_of tick voice) else pos 0
+-- what a channel gives to one side at a tick
+abbrev pub channel_output : (ℕ → Bool) → ℕ → Wave → ℕ → Option Voice → ℤ
+channel_output side tick wave channel None = pos 0
+channel_output side tick wave channel (Some voice) =
+    if side voice.tone.pan then oscillator wave channel voice.tone (sound_of tick voice) else pos 0
 
--- the sample of one ear at a tick, from -32,000 to 32,000
+-- the sample of one side at a tick: the sum of the four channels
 abbrev pub sample : (ℕ → Bool) → ℕ → Wave → ℤ
-sample ear tick wave =
-    let of : ℕ → ℤ = λ channel. given ear tick wave channel (heard_voice wave channel) in
+sample side tick wave =
+    let of : ℕ → ℤ = λ channel. channel_output side tick wave channel (heard_voice wave channel) in
     of 0 +ℤ of 1 +ℤ of 2 +ℤ of 3
 
 -- left, then right
 abbrev pub sample_bytes : ℕ → Wave → List ℕ
 sample_bytes tick wave =
-    to_le_bytes w16 (cast_unsigned w16 (sample heard_left tick wave))
-    ++ to_le_bytes w16 (cast_unsigned w16 (sample heard_right tick wave))
+    to_le_bytes w16 (cast_unsigned w16 (sample on_left tick wave))
+    ++ to_le_bytes w16 (cast_unsigned w16 (sample on_right tick wave))
 
 -- how far a channel's phase goes on at a tick: none where it isn't heard
 abbrev pub advance : ℕ → Option Voice → ℕ
@@ -140,7 +140,8 @@ with_record made wave =
 
 -- the bytes of a frame: 735 samples of 4 bytes
 unfoldable pub frame_samples : Wave → List ℕ
-frame_samples wave = flat_map (λ tick. sample_bytes tick (after_ticks wave tick)) (range_with_len 0 ticks_a_frame)
+frame_samples wave =
+    flat_map (λ tick. sample_bytes tick (after_ticks wave tick)) (range_with_len 0 ticks_a_frame)
 
 abbrev pub rendered : FrameRecord → Wave → List ℕ
 rendered made wave = frame_samples (with_record made wave)
@@ -148,7 +149,8 @@ rendered made wave = frame_samples (with_record made wave)
 -- after a frame, when its channels have aged
 abbrev pub after_frame : FrameRecord → Wave → Wave
 after_frame made wave =
-    let last = after_ticks (with_record made wave) ticks_a_frame in with_channels last (all_aged last.channels)
+    let last = after_ticks (with_record made wave) ticks_a_frame in
+    with_channels last (all_aged last.channels)
 
 -- the samples of records, one after another
 abbrev pub samples_from : Wave → List FrameRecord → List ℕ
@@ -182,8 +184,8 @@ pub record IsWave (wave : Wave) : Type 0 where
 
 -- each sample fits 16 bits: it lies from -32,000 to 32,000
 abbrev pub SamplesAreBounded : Type 0
-SamplesAreBounded = (ear : ℕ → Bool) (tick : ℕ) (wave : Wave) → IsWave wave → tick < ticks_a_frame →
-    (negsuc 31999 ≤ℤ sample ear tick wave) × (sample ear tick wave ≤ℤ pos 32000)
+SamplesAreBounded = (side : ℕ → Bool) (tick : ℕ) (wave : Wave) → IsWave wave → tick < ticks_a_frame →
+    (negsuc 31999 ≤ℤ sample side tick wave) × (sample side tick wave ≤ℤ pos 32000)
 
 -- a frame has 2,940 bytes, and the header of a file 44
 abbrev pub FramesAreCounted : Type 0
@@ -213,18 +215,22 @@ pub header-case : HeaderCase
 unfolding wav_header
 header-case = refl
 
--- a frame of one tone, with this frequency, these flags and one frame of sustain at level 100
-abbrev pub frame_of : ℕ → ℕ → Wave
-frame_of frequency flags =
+-- the record of one tone, with this frequency, these flags and one frame of sustain at level 100; and its
+-- frame
+abbrev pub record_of : ℕ → ℕ → FrameRecord
+record_of frequency flags =
     let tone = decoded frequency 1 100 flags in
-    with_record (record {
+    record {
       tones = logged kept_tones empty_log tone;
       traces = empty_log;
       sounds = sounds_at 0 (played silent tone);
-    }) first_wave
+    }
+
+abbrev pub frame_of : ℕ → ℕ → Wave
+frame_of frequency flags = with_record (record_of frequency flags) first_wave
 
 abbrev pub first_samples : (ℕ → Bool) → Wave → List ℤ
-first_samples ear wave = map (λ tick. sample ear tick (after_ticks wave tick)) (0 ∷ 1 ∷ 2 ∷ 3 ∷ [])
+first_samples side wave = map (λ tick. sample side tick (after_ticks wave tick)) (0 ∷ 1 ∷ 2 ∷ 3 ∷ [])
 
 -- 8,000 and -8,000
 abbrev pub high : ℤ
@@ -234,19 +240,21 @@ abbrev pub low : ℤ
 low = negsuc 7999
 
 -- Four ticks of a pulse that is high for half of its period, on the left, of a triangle, of noise whose
--- register shifts after the second tick, and of a tone in note mode; the bytes of the pulse's third sample;
--- and both sides of the triangle's cut toward 0.
+-- register shifts after the second tick, and of a tone in note mode; the first three samples of the pulse in
+-- the centre, as bytes; both sides of the triangle's cut toward 0; and silence in the frame after the tone.
 abbrev pub SampleCases : Type 0
 SampleCases =
-    (first_samples heard_left (frame_of 11025 24) ≡ high ∷ high ∷ low ∷ low ∷ [])
-    × (first_samples heard_right (frame_of 11025 24) ≡ pos 0 ∷ pos 0 ∷ pos 0 ∷ pos 0 ∷ [])
-    × (first_samples heard_right (frame_of 11025 2) ≡ pos 0 ∷ high ∷ pos 0 ∷ low ∷ [])
-    × (first_samples heard_right (frame_of 22050 3) ≡ high ∷ high ∷ low ∷ low ∷ [])
-    × (first_samples heard_left (frame_of 11025 72) ≡ pos 0 ∷ pos 0 ∷ pos 0 ∷ pos 0 ∷ [])
-    × (sample_bytes 2 (after_ticks (frame_of 11025 8) 2) ≡ 0xc0 ∷ 0xe0 ∷ 0xc0 ∷ 0xe0 ∷ [])
+    (first_samples on_left (frame_of 11025 24) ≡ high ∷ high ∷ low ∷ low ∷ [])
+    × (first_samples on_right (frame_of 11025 24) ≡ pos 0 ∷ pos 0 ∷ pos 0 ∷ pos 0 ∷ [])
+    × (first_samples on_right (frame_of 11025 2) ≡ pos 0 ∷ high ∷ pos 0 ∷ low ∷ [])
+    × (first_samples on_right (frame_of 22050 3) ≡ high ∷ high ∷ low ∷ low ∷ [])
+    × (first_samples on_left (frame_of 11025 72) ≡ pos 0 ∷ pos 0 ∷ pos 0 ∷ pos 0 ∷ [])
+    × (flat_map (λ tick. sample_bytes tick (after_ticks (frame_of 11025 8) tick)) (0 ∷ 1 ∷ 2 ∷ [])
+    ≡ 0x40 ∷ 0x1f ∷ 0x40 ∷ 0x1f ∷ 0x40 ∷ 0x1f ∷ 0x40 ∷ 0x1f ∷ 0xc0 ∷ 0xe0 ∷ 0xc0 ∷ 0xe0 ∷ [])
     × (triangle 80 441 ≡ pos 3)
     × (triangle 80 43659 ≡ negsuc 2)
+    × ((with_record empty_record (after_frame (record_of 11025 8) first_wave)).channels ≡ silent)
 
 pub sample-cases : SampleCases
 unfolding after_ticks level_at frequency_at
-sample-cases = (refl, refl, refl, refl, refl, refl, refl, refl)
+sample-cases = (refl, refl, refl, refl, refl, refl, refl, refl, refl)

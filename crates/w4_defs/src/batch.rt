@@ -9,7 +9,8 @@ pub enum BatchRow {
     Bad,
     /// The recording is of another cart.
     WrongCart,
-    /// After all `frames`: whether the cart still runs, the SHA-256 of the image, and the disk's length in bytes.
+    /// After all `frames`: whether the cart still runs, the SHA-256 of the image, and the disk's length in
+    /// bytes.
     Ran {
         frames: u32,
         halt: Halt,
