@@ -10,6 +10,7 @@ pub mod EmptyCartSections
 pub mod EmptyCartValid
 pub mod TypingInParts
 pub mod JudgedFiles
+pub mod CauseLaws
 pub mod LongNumbers
 pub mod PaintLaws
 pub mod RegisterLaws

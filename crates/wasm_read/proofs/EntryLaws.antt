@@ -181,7 +181,7 @@ pub entry_reads : Reads entry entry_at
 entry_reads = record { sound = entry_sound; complete = λ text rest m h. entry_found m.0 m.1 text rest h }
 
 -- an entry has a byte
-entry_long : (op : Op) (labels text : List ℕ) → entry_of op labels text → 1 ≤ length text
+pub entry_long : (op : Op) (labels text : List ℕ) → entry_of op labels text → 1 ≤ length text
 unfolding entry_at unlabelled_at operation_at table_at
 entry_long op labels [] h = let e : mark_as op labels [] ≡ None = sym (entry_found op labels [] [] h) in absurd cc
 entry_long op labels (b ∷ text) h = omega arith

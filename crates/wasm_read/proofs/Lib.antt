@@ -13,3 +13,5 @@ pub mod LoopLaws
 pub mod SectionLaws
 pub mod PartLaws
 pub mod ModuleLaws
+pub mod ReserveLaws
+pub mod MalformedLaws

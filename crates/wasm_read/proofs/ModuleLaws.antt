@@ -230,7 +230,7 @@ module_sound bytes m e =
       },
     )
 
-module_complete : (bytes : List ℕ) (m : WasmModule) → SpellsModule bytes m → module_at bytes ≡ Some m
+pub module_complete : (bytes : List ℕ) (m : WasmModule) → SpellsModule bytes m → module_at bytes ≡ Some m
 unfolding module_at sections_at
 module_complete bytes m (ss, rest, e, spelled, c) =
     let order = ordered_complete ss (length rest) 0 rest spelled c.order (omega arith) in
@@ -254,7 +254,7 @@ module_complete bytes m (ss, rest, e, spelled, c) =
     let all = collected_complete (contents_in rest) m (gathers_moved (λ id. contents id ss) (contents_in rest) m back g) in
     ap (λ b. after_these preamble b >>= λ t. sections_at t) e ∙ ap (λ o. o >>= λ t. sections_at t) (these_found preamble rest) ∙ (rw last all)
 
-no_module : (bytes : List ℕ) (m : WasmModule) → module_at bytes ≡ None → module_at bytes ≡ Some m → ⊥
+pub no_module : (bytes : List ℕ) (m : WasmModule) → module_at bytes ≡ None → module_at bytes ≡ Some m → ⊥
 no_module bytes m none some = let e : Some m ≡ None = sym some ∙ none in absurd cc
 
 pub read_exactly : (bytes : List ℕ) (r : Result WasmModule ReadRefusal) → Answers (λ c. module_at bytes ≡ Some c) (module_at bytes ≡ None) r

@@ -10,3 +10,5 @@ pub mod ReadPart
 pub mod ReadSection
 pub mod ReadModule
 pub mod Unique
+pub mod Reserves
+pub mod MalformedCases

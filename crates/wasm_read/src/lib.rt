@@ -5,6 +5,7 @@
 pub mod brackets;
 pub mod expression;
 pub mod item;
+pub mod laws;
 pub mod module;
 pub mod number;
 pub mod operation;

@@ -15,6 +15,7 @@ use Rattle.w4_defs.specs.Floats.{module_has_float}
 use Rattle.w4_defs.specs.Lookup.{signature_of}
 use Rattle.w4_defs.specs.Module.{Signature, Imported, Exported, ElementSegment, DataSegment, WasmModule}
 use Rattle.w4_defs.specs.Profile.{if_so, causes, first_of, profile_refusal, has_many_locals, first_wrong_import, is_known_entry, is_memory, is_update, is_entry_name, is_wrong_entry, is_entry_function, takes_nothing, outside, is_right, passes, single_constant, table_size}
+use Rattle.w4_defs.proofs.CauseLaws.{none_there, not_so}
 use Rattle.wasm_valid.specs.Carts.{nothing}
 use Rattle.wasm_valid.proofs.NoneLaws.{none_by_position, any_mapped}
 use Rattle.wasm_valid.proofs.TypeLaws.{same_signature_is}
@@ -40,18 +41,6 @@ pub record NoCause (m : WasmModule) : Type 0 where
   pub entries : list_any (is_wrong_entry m) m.exports ≡ false
   pub elements : list_any (element_passes m) m.elements ≡ false
   pub segments : list_any data_passes m.segments ≡ false
-
--- where no cause is a refusal, the one at a place is none
-none_there : (os : List (Option ProfileRefusal)) (k : ℕ) (o : Option ProfileRefusal)
-    → first_of os ≡ None → slice_get os k ≡ Some o → o ≡ None
-none_there [] k o e is = absurd cc
-none_there (None ∷ os) zero o e is = sym (same_Some _ _ is)
-none_there (None ∷ os) (suc k) o e is = none_there os k o e is
-none_there (Some r ∷ os) k o e is = absurd cc
-
-not_so : (b : Bool) (r : ProfileRefusal) → if_so b r ≡ None → b ≡ false
-not_so true r e = absurd cc
-not_so false r e = refl
 
 mapped_none : {A B : Type 0} (f : A → B) (o : Option A) → option_map f o ≡ None → o ≡ None
 mapped_none f None e = refl

@@ -1,0 +1,21 @@
+-- Bytes from which no module is read are refused as malformed.
+use Rattle.std.proofs.Common.{◌≡◌, ℕ, ◌≤◌, List, length, None, refl, arith}
+use Rattle.w4_defs.specs.declared.refusal.CartKind.TheVariants.{Malformed}
+use Rattle.w4_defs.specs.Cart.{IsRefused}
+use Rattle.wasm_read.specs.Combine.{cut_at, vector_at}
+use Rattle.wasm_read.specs.ReadNumber.{unsigned_at}
+use Rattle.wasm_read.specs.ReadSection.{section_at, rank_after}
+use Rattle.wasm_read.specs.ReadModule.{module_at, sections_at, collected, front_of}
+use Rattle.wasm_read.specs.MalformedCases.{MalformedCases, size_too_long, last_byte_wrong, section_past_the_end}
+use Rattle.wasm_read.proofs.ModuleLaws.{module_complete, no_module}
+
+unread : (bytes : List ℕ) → length bytes ≤ 65536 → module_at bytes ≡ None → IsRefused bytes Malformed
+unread bytes small none = (small, λ m spelled. no_module bytes m none (module_complete bytes m spelled))
+
+pub malformed_cases : MalformedCases
+unfolding module_at sections_at section_at cut_at unsigned_at rank_after collected front_of vector_at
+malformed_cases = (
+  unread size_too_long (omega arith) refl,
+  unread last_byte_wrong (omega arith) refl,
+  unread section_past_the_end (omega arith) refl,
+)
