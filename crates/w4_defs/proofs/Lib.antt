@@ -23,6 +23,10 @@ pub mod RecordingLaws
 pub mod LineLaws
 pub mod ScriptLaws
 pub mod SameStateLaws
+pub mod SessionLaws
+pub mod PlaceLaws
+pub mod KeptListLaws
+pub mod RisingLaws
 pub mod Faults
 pub mod RefusedCalls
 pub mod GlobalTypes

@@ -1,10 +1,9 @@
 -- The test of two states decides their equality.
-use lib.Pointwise.{pointwise, pointwise_decides}
-use Rattle.std.proofs.Common.{◌≡◌, ℕ, Bool, true, false, List, [], ◌∷◌, get_or, Option, Some, None, refl, sym, ap, ◌∙◌}
-use Rattle.std.specs.Bool.{Decides, beq}
+use lib.Pointwise.{pointwise_decides}
+use Rattle.std.proofs.Common.{◌≡◌, ℕ, Bool, List, [], ◌∷◌, get_or, Option, Some, None, refl, sym, ap, ◌∙◌}
+use Rattle.std.specs.Bool.{Decides}
 use Rattle.std.specs.Cmp.{booleans_Decides}
 use Rattle.std.specs.Option.{option_eq}
-use Rattle.std.specs.Str.{bytes_eq}
 use Rattle.std.proofs.lemmas.Bool.Decides.{Decides-eqb, Decides-and, Decides-like}
 use Rattle.std.proofs.lemmas.Slice.Eq.{bytes_eq-Decides}
 use Rattle.w4_defs.specs.declared.value.Val.{Val}

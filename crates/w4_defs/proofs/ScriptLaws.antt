@@ -1,7 +1,6 @@
 -- Orders are read line by line, up to the first bad one.
 use Rattle.std.proofs.Common.{◌≡◌, ℕ, List, [], ◌∷◌, ◌++◌, Option, Some, None, Result, Ok, Err, refl, sym, ap, ◌∙◌}
 use Rattle.w4_defs.specs.declared.order.Order.{Order}
-use Rattle.w4_defs.specs.Lines.{Line}
 use Rattle.w4_defs.specs.Script.{ScriptFault, with_order, order_of, orders_of, OrdersInParts, FirstBadLine}
 
 -- a first line whose orders are read has an order, and so have the others

@@ -1,7 +1,7 @@
 -- Kept lists with states and links (project rule). An entry has a place, a state and a link. A linked entry
 -- says: my state is what the inputs between make of the state of the entry before me. Entry 0 has the state of
 -- the reset and is always linked. An unlinked state needn't belong to any run; showing it may find it again.
-use Rattle.std.specs.Prelude.{◌≡◌, ◌≢◌, ◌⊎◌, ℕ, zero, suc, ◌+◌, ◌-◌, ◌≤◌, ◌<◌, ◌&&◌, Bool, true, false, List, [], ◌∷◌, map, length, slice_index_or, slice_range, slice_set, Option, Some, option_map, nat_lt, if◌then◌else◌}
+use Rattle.std.specs.Prelude.{◌≡◌, ℕ, zero, suc, ◌+◌, ◌-◌, ◌≤◌, ◌<◌, ◌&&◌, Bool, true, false, List, [], map, length, slice_index_or, slice_range, slice_set, Option, Some, option_map, nat_lt, if◌then◌else◌}
 use Rattle.std.specs.List.{position_or_len, All}
 use Rattle.w4_defs.specs.declared.console.Input.{Input}
 use Rattle.w4_defs.specs.Module.{WasmModule}
@@ -10,7 +10,7 @@ use Rattle.w4_defs.specs.State.{State, blank_state}
 use Rattle.w4_defs.specs.SameState.{same_state}
 use Rattle.w4_defs.specs.Reset.{Setup, reset}
 use Rattle.w4_defs.specs.Run.{fold, run_state}
-use Rattle.w4_defs.specs.Session.{Kind, Draft, Session, unlink_above, without}
+use Rattle.w4_defs.specs.Session.{Kind, ArePlaces, Draft, Session, unlink_above, without}
 
 pub record Entry : Type 0 where
   pub place : ℕ
@@ -79,7 +79,7 @@ pub record IsConsistent (setup : Setup) (disk : List ℕ) (inputs : List Input) 
   pub within : (i : ℕ) → i < length kept → place_at kept i ≤ length inputs
   pub globals : (i : ℕ) → i < length kept → HasCartGlobals setup.cart (state_at kept i)
   pub links : (i : ℕ) → i + 1 < length kept → linked_at kept (i + 1) ≡ true
-    → computed setup inputs kept i ≡ Some (state_at kept (i + 1))
+      → computed setup inputs kept i ≡ Some (state_at kept (i + 1))
 
 -- a draft within its limits, with a consistent kept list
 pub record IsDraft (setup : Setup) (disk : List ℕ) (draft : Draft Entry) : Type 0 where
@@ -152,3 +152,8 @@ show_frames p old new = doubtful old new (last_up_to p old) + (p - place_at old 
 -- and how many a settling of all entries
 abbrev pub settle_frames : List Entry → List Entry → ℕ
 settle_frames old new = doubtful old new (length old - 1)
+
+-- the places of a consistent kept list are kept places of the recording
+abbrev pub ConsistentPlaces : Type 0
+ConsistentPlaces = (setup : Setup) (disk : List ℕ) (inputs : List Input) (kept : List Entry) → IsConsistent setup disk inputs kept
+    → ArePlaces (length inputs) (places_of kept)

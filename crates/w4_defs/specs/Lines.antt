@@ -2,7 +2,7 @@
 -- Byte 10 ends a line, and the last line may lack it; one byte 13 at the end of a line isn't part of it. Words
 -- are parted by one or more spaces, which may also stand at either end of a line. A line without words, or
 -- whose first word begins with `#`, is skipped; lines are counted from 1, skipped ones too.
-use Rattle.std.specs.Prelude.{◌≡◌, ℕ, ◌+◌, ◌-◌, ◌*◌, ◌==◌, ◌&&◌, ◌≢◌, not, Bool, true, false, List, [], ◌∷◌, ◌++◌, length, slice_index, codes, Option, Some, None, nat_le, nat_lt, if◌then◌else◌, refl, ℤ, pos, neg_ℤ, map}
+use Rattle.std.specs.Prelude.{◌≡◌, ℕ, ◌+◌, ◌-◌, ◌*◌, ◌==◌, ◌&&◌, ◌≢◌, Bool, true, List, [], ◌∷◌, ◌++◌, length, slice_index, codes, Option, Some, None, nat_le, nat_lt, if◌then◌else◌, refl, ℤ, pos, neg_ℤ, map}
 use Rattle.std.specs.List.{filter, AllByRecursion}
 use Rattle.std.specs.Io.BufRead.{strip_last}
 use Rattle.w4_defs.specs.Reading.{◌>>=◌}

@@ -4,7 +4,7 @@
 -- its bytes, the number of frames in 4, and the frames. Numbers are little-endian, and nothing follows.
 -- In version 1 a frame has the nine bytes of its input's registers, and no frame has a reset. In version 2 a
 -- tenth byte follows them: 1 where the frame begins with a reset, else 0.
-use Rattle.std.specs.Prelude.{◌≡◌, ℕ, zero, suc, ◌+◌, ◌*◌, ◌^◌, ◌<◌, ◌≤◌, ◌⊎◌, ◌==◌, ◌&&◌, Bool, true, false, List, [], ◌∷◌, ◌++◌, length, take, drop, replicate, slice_index, codes, Option, Some, None, nat_le, if◌then◌else◌, refl, pos, negsuc, FitsSigned}
+use Rattle.std.specs.Prelude.{◌≡◌, ℕ, zero, suc, ◌+◌, ◌*◌, ◌^◌, ◌<◌, ◌≤◌, ◌⊎◌, ◌==◌, ◌&&◌, Bool, true, false, List, [], ◌∷◌, ◌++◌, length, replicate, slice_index, codes, Option, Some, None, nat_le, if◌then◌else◌, refl, pos, negsuc, FitsSigned}
 use Rattle.std.specs.Str.{bytes_eq}
 use Rattle.std.specs.List.{flat_map, AllByRecursion}
 use Rattle.std.specs.Int.{w16, w32, to_le_bytes, cast_signed}

@@ -1,6 +1,5 @@
 -- Whether two states are equal in page, globals, channels, disk and halt: the test that decides their equality.
 use Rattle.std.specs.Prelude.{◌≡◌, ℕ, ◌==◌, ◌&&◌, Bool, false, true, List, [], ◌∷◌}
-
 use lib.Pointwise.{pointwise}
 use Rattle.std.specs.Bool.{Decides, beq}
 use Rattle.std.specs.Option.{option_eq}

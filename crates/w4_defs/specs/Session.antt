@@ -4,7 +4,7 @@
 -- current one, which goes to the undo history; that has 32 drafts at most and loses its oldest where it would
 -- have more. An edit empties the redo history. Undo and redo move one draft on, kept places and all. Keeping
 -- and dropping places aren't edits: they change the current draft alone.
-use Rattle.std.specs.Prelude.{◌≡◌, ℕ, zero, suc, ◌+◌, ◌-◌, ◌≤◌, ◌<◌, ◌==◌, ◌%◌, ◌&&◌, Bool, not, List, [], ◌∷◌, ◌++◌, map, length, take, drop, insert, remove, slice_get, slice_set, slice_index, Option, Some, None, option_map, Result, Ok, Err, nat_le, nat_lt, if◌then◌else◌, refl}
+use Rattle.std.specs.Prelude.{◌≡◌, ◌≢◌, ℕ, ◌+◌, ◌-◌, ◌≤◌, ◌<◌, ◌==◌, ◌%◌, ◌&&◌, Bool, false, not, List, [], ◌∷◌, ◌++◌, map, length, take, drop, insert, remove, slice_get, slice_set, Option, Some, None, IfSome, option_map, Result, Ok, Err, nat_le, nat_lt, if◌then◌else◌}
 use Rattle.std.specs.List.{filter, list_any, range_with_len}
 use Rattle.w4_defs.specs.declared.console.Input.{Input}
 use Rattle.w4_defs.specs.declared.editing.EditRefusal.{EditRefusal}
@@ -27,13 +27,15 @@ pub record Kind (A : Type 0) : Type 0 where
 abbrev pub bare : Kind ℕ
 bare = record { place = λ p. p; at = λ p old. p; unlinked = λ p. p; after_drop = λ dropped next. next }
 
--- places of a recording with this many inputs: they rise from place 0, and are at most 1,024
-pub record ArePlaces (inputs : ℕ) (places : List ℕ) : Type 0 where
-  pub some : 0 < length places
-  pub few : length places ≤ 1024
-  pub first : slice_index places 0 ≡ 0
-  pub rising : (i : ℕ) → i + 1 < length places → slice_index places i < slice_index places (i + 1)
-  pub within : (i : ℕ) → i < length places → slice_index places i ≤ inputs
+-- places that rise from above a place to at most n
+abbrev pub Rise : ℕ → ℕ → List ℕ → Type 0
+Rise from n [] = from ≤ n
+Rise from n (p ∷ places) = (from < p) × Rise p n places
+
+-- the kept places of a recording of n inputs: they rise from place 0, and there are at most 1,024
+abbrev pub ArePlaces : ℕ → List ℕ → Type 0
+ArePlaces n [] = ⊥
+ArePlaces n (p ∷ places) = (p ≡ 0) × Rise 0 n places × (length places < 1024)
 
 abbrev pub is_kept : {A : Type 0} → Kind A → ℕ → List A → Bool
 is_kept kind p kept = list_any (λ x. kind.place x == p) kept
@@ -220,3 +222,66 @@ abbrev pub keep_every : ℕ → Session ℕ → Result (Session ℕ) EditRefusal
 keep_every every session =
     let kept = all_kept (multiples every (length session.current.inputs)) session.current.kept in
     unless (if nat_le (length kept) 1024 then None else Some FullSnapshots) (with_list session kept)
+
+-- ---- laws
+
+-- both histories together have at most 32 drafts
+abbrev pub HasBoundedHistory : {A : Type 0} → Session A → Type 0
+HasBoundedHistory session = length session.older + length session.newer ≤ 32
+
+abbrev pub HistoryStaysBounded : Type 0 → Type 0
+HistoryStaysBounded A = (session : Session A) (draft : Draft A) → HasBoundedHistory session
+    → HasBoundedHistory (edited session draft) × IfSome (undone session) HasBoundedHistory × IfSome (redone session) HasBoundedHistory
+
+-- an undo brings back the draft that the edit put away
+abbrev pub UndoTakesBack : Type 0 → Type 0
+UndoTakesBack A = (session : Session A) (draft : Draft A)
+    → option_map (λ before. before.current) (undone (edited session draft)) ≡ Some session.current
+
+-- a redo takes back an undo, and an undo a redo
+abbrev pub RedoTakesBack : Type 0 → Type 0
+RedoTakesBack A = (session other : Session A) → undone session ≡ Some other → redone other ≡ Some session
+
+abbrev pub UndoTakesBackRedo : Type 0 → Type 0
+UndoTakesBackRedo A = (session other : Session A) → redone session ≡ Some other → undone other ≡ Some session
+
+-- a kind whose things stand where they are put
+pub record IsPlaced {A : Type 0} (kind : Kind A) : Type 0 where
+  pub at : (p : ℕ) (x : A) → kind.place (kind.at p x) ≡ p
+  pub unlinked : (x : A) → kind.place (kind.unlinked x) ≡ kind.place x
+  pub after_drop : (dropped next : A) → kind.place (kind.after_drop dropped next) ≡ kind.place next
+
+-- the places of a draft's and of a session's kept things
+abbrev pub bare_draft : {A : Type 0} → Kind A → Draft A → Draft ℕ
+bare_draft kind draft = record { inputs = draft.inputs; kept = map kind.place draft.kept }
+
+abbrev pub bare_session : {A : Type 0} → Kind A → Session A → Session ℕ
+bare_session kind session = record {
+  current = bare_draft kind session.current;
+  older = map (bare_draft kind) session.older;
+  newer = map (bare_draft kind) session.newer;
+}
+
+abbrev pub bare_result : {A : Type 0} → Kind A → Result (Session A) EditRefusal → Result (Session ℕ) EditRefusal
+bare_result kind (Ok session) = Ok (bare_session kind session)
+bare_result kind (Err refusal) = Err refusal
+
+-- what is kept besides the places changes neither a place nor a refusal
+abbrev pub PlacesDecide : {A : Type 0} → Kind A → Type 0
+PlacesDecide {A} kind = (session : Session A) (k : ℕ) (input : Input) (x : A) →
+    (bare_result kind (set_input kind k input session) ≡ set_input bare k input (bare_session kind session))
+    × (bare_result kind (insert_input kind k input session) ≡ insert_input bare k input (bare_session kind session))
+    × (bare_result kind (delete_input kind k session) ≡ delete_input bare k (bare_session kind session))
+    × (bare_result kind (undo session) ≡ undo (bare_session kind session))
+    × (bare_result kind (redo session) ≡ redo (bare_session kind session))
+    × (bare_result kind (keep kind x session) ≡ keep bare (kind.place x) (bare_session kind session))
+    × (bare_result kind (drop_kept kind k session) ≡ drop_kept bare k (bare_session kind session))
+
+-- an accepted edit, keep or drop leaves places of the recording as it then is
+abbrev pub PlacesStayRight : Type 0
+PlacesStayRight = (n k : ℕ) (places : List ℕ) → ArePlaces n places →
+    ArePlaces n (kept_after_set bare k places)
+    × (k ≤ n → ArePlaces (n + 1) (kept_after_insert bare k places))
+    × (k < n → ArePlaces (n - 1) (kept_after_delete bare k places))
+    × (k ≤ n → is_kept bare k places ≡ false → length places < 1024 → ArePlaces n (with_kept bare k places))
+    × (k ≢ 0 → ArePlaces n (without bare k places))

@@ -1,9 +1,9 @@
 -- Worked cases of editing sessions, by computation.
-use Rattle.std.specs.Prelude.{◌≡◌, ℕ, zero, suc, ◌+◌, Bool, true, false, map, List, [], ◌∷◌, ◌++◌, length, replicate, Option, Some, None, option_map, Result, Ok, Err, pos, refl}
+use Rattle.std.specs.Prelude.{◌≡◌, ℕ, zero, suc, ◌+◌, Bool, true, false, map, List, [], ◌∷◌, replicate, Some, None, Result, Ok, Err, pos, refl}
 use Rattle.w4_defs.specs.declared.console.Input.{Input}
 use Rattle.w4_defs.specs.declared.console.Halt.TheVariants.{Running}
 use Rattle.w4_defs.specs.declared.editing.EditRefusal.{EditRefusal}
-use Rattle.w4_defs.specs.declared.editing.EditRefusal.TheVariants.{NoFrame, FullRecording, NothingToUndo, NothingToRedo, Kept, NotKept, FullSnapshots}
+use Rattle.w4_defs.specs.declared.editing.EditRefusal.TheVariants.{NoFrame, FullRecording, NothingToUndo, NothingToRedo, Kept, NotKept}
 use Rattle.w4_defs.specs.State.{State}
 use Rattle.w4_defs.specs.Tones.{silent}
 use Rattle.w4_defs.specs.Session.{Session, bare, kept_after_set, kept_after_insert, kept_after_delete, opened, insert_refusal, set_input, insert_input, delete_input, undo, redo, keep, drop_kept, keep_every, multiples}
@@ -164,9 +164,10 @@ ChangeCases =
     (replaced_at 1 (state 7) kept ≡ entry 0 0 true ∷ entry 1 7 true ∷ entry 2 2 false ∷ [])
     × (replaced_at 2 (state 7) kept ≡ entry 0 0 true ∷ entry 1 1 false ∷ entry 2 7 true ∷ [])
     × (relinked_at 1 kept ≡ entry 0 0 true ∷ entry 1 1 true ∷ entry 2 2 true ∷ [])
+    × (relinked_at 2 (replaced_at 1 (state 1) kept) ≡ entry 0 0 true ∷ entry 1 1 true ∷ entry 2 2 true ∷ [])
 
 pub change-cases : ChangeCases
-change-cases = (refl, refl, refl)
+change-cases = (refl, refl, refl, refl)
 
 -- 120 inputs with places 60 and 120 kept, of which an edit has unlinked place 60. Where the same state is found
 -- there, the segment after it isn't run; where another one is found, it is
@@ -181,9 +182,10 @@ ShowCases =
     × (show_frames 120 edited other ≡ 120)
     × (show_frames 70 edited found ≡ 70)
     × (show_frames 70 found found ≡ 10)
+    × (show_frames 121 found found ≡ 1)
     × (settle_frames found found ≡ 0)
     × (settle_frames edited other ≡ 120)
 
 pub show-cases : ShowCases
 unfolding same_state doubtful
-show-cases = (refl, refl, refl, refl, refl, refl, refl, refl)
+show-cases = (refl, refl, refl, refl, refl, refl, refl, refl, refl)

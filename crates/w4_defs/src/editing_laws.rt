@@ -1,6 +1,15 @@
 //! Laws and worked cases of editing.
 
 ghost use Rattle.w4_defs.specs.SameState.{SameStateDecides};
+ghost use Rattle.w4_defs.specs.Session.{
+  HistoryStaysBounded,
+  UndoTakesBack,
+  RedoTakesBack,
+  UndoTakesBackRedo,
+  PlacesDecide,
+  PlacesStayRight,
+};
+ghost use Rattle.w4_defs.specs.KeptList.{ConsistentPlaces, Entry, LinkedIsRun, UnlinksOne, entries};
 ghost use Rattle.w4_defs.specs.WorkedSessions.{
   DeletedCase,
   InputCases,
@@ -16,6 +25,36 @@ ghost use Rattle.w4_defs.specs.WorkedSessions.{
 /// The test of two states decides their equality.
 pub fn states_are_compared()
     ensures { SameStateDecides }
+{}
+
+/// Undo and redo take each other back, and both histories together have at most 32 drafts.
+pub fn histories_are_kept()
+    ensures bounded { HistoryStaysBounded Entry }
+    ensures undo { UndoTakesBack Entry }
+    ensures redo { RedoTakesBack Entry }
+    ensures redone { UndoTakesBackRedo Entry }
+{}
+
+/// A session of entries has the places and the refusals of the session of places alone.
+pub fn places_decide()
+    ensures { PlacesDecide entries }
+{}
+
+/// Kept places rise from place 0 within the recording, after each edit, keep and drop too; so do those of
+/// a consistent kept list.
+pub fn places_stay_right()
+    ensures stay { PlacesStayRight }
+    ensures consistent { ConsistentPlaces }
+{}
+
+/// An entry whose link and all earlier links are set has the state of a run from reset.
+pub fn linked_entries_are_of_the_run()
+    ensures { LinkedIsRun }
+{}
+
+/// An edit unlinks one entry at most, the first above its input.
+pub fn edits_unlink_one()
+    ensures { UnlinksOne }
 {}
 
 /// Sessions whose kept things are places alone.
