@@ -75,6 +75,7 @@ pub mod Rollback
 pub mod NetLog
 pub mod Search
 pub mod RamQuery
+pub mod OrderFile
 pub mod Batch
 pub mod Sound
 -- editing
