@@ -65,17 +65,17 @@ pub mod FrameTexts
 pub mod Reading
 pub mod Recording
 pub mod Lines
+pub mod OrderWords
+pub mod OrderFile
 pub mod Script
 -- made carts, netplay, memory search, batches, sound
 pub mod Generator
 pub mod MadeSummary
 pub mod MadeLaws
-pub mod OrderWords
 pub mod Rollback
 pub mod NetLog
 pub mod Search
 pub mod RamQuery
-pub mod OrderFile
 pub mod Batch
 pub mod Sound
 -- editing

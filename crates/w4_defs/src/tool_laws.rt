@@ -6,7 +6,6 @@ ghost use Rattle.w4_defs.specs.Generator.{GeneratorCases};
 ghost use Rattle.w4_defs.specs.MadeLaws.{DrawsAreSmall, MadeInputsAreCounted, MadeModulesAreAccepted};
 ghost use Rattle.w4_defs.specs.MadeSummary.{SummaryCase};
 ghost use Rattle.w4_defs.specs.NetLog.{BadNetOrderCases, NetOrderCases};
-ghost use Rattle.w4_defs.specs.OrderFile.{OrderFileCases};
 ghost use Rattle.w4_defs.specs.RamQuery.{AskCases, BadAskCases};
 ghost use Rattle.w4_defs.specs.Rollback.{
   InputsGrow,
@@ -75,5 +74,4 @@ pub fn order_cases()
     ensures bad_log { BadNetOrderCases }
     ensures query { AskCases }
     ensures bad_query { BadAskCases }
-    ensures files { OrderFileCases }
 {}
