@@ -60,7 +60,8 @@ BadNetOrderCases =
     × (net_order_of (codes "next" ∷ codes "1" ∷ []) ≡ None)
     × (net_order_of (codes "keep" ∷ []) ≡ None)
     × (net_order_of (codes "drop" ∷ codes "0" ∷ []) ≡ None)
-    × (net_log_of (codes "next" ++ 10 ∷ codes "# next" ++ 10 ∷ codes "pad" ++ 10 ∷ codes "x" ++ 10 ∷ []) ≡ Err (BadLine 3))
+    × (net_log_of (codes "next" ++ 10 ∷ codes "# next" ++ 10 ∷ codes "pad" ++ 10 ∷ codes "x" ++ 10 ∷ [])
+    ≡ Err (BadLine 3))
 
 pub net-order-cases : NetOrderCases
 unfolding net_log_of orders_in lines_from net_order_named number_of byte_of

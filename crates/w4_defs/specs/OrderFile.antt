@@ -1,6 +1,6 @@
--- Files of orders (project rule): at most 1,048,576 bytes of lines, one order in each line that isn't skipped.
--- Edit scripts, logs of netplay and memory queries are such files; each has its own orders, read from a
--- line's words.
+-- Files of orders (project rule): at most 1,048,576 bytes of lines, one order in each line that isn't
+-- skipped. Edit scripts, logs of netplay and memory queries are such files; each has its own orders, read
+-- from a line's words.
 use Rattle.std.specs.Prelude.{◌≡◌, ℕ, List, [], ◌∷◌, ◌++◌, length, Option, Some, None, Result, Ok, Err, nat_le, if◌then◌else◌}
 use Rattle.w4_defs.specs.Lines.{Line, lines_of}
 
@@ -14,7 +14,8 @@ abbrev pub Reader : Type 0 → Type 0
 Reader Order = List (List ℕ) → Option Order
 
 -- an order before those that follow it, or the number of the first bad line
-abbrev pub with_order : {Order : Type 0} → ℕ → Option Order → Result (List Order) ScriptFault → Result (List Order) ScriptFault
+abbrev pub with_order : {Order : Type 0} →
+    ℕ → Option Order → Result (List Order) ScriptFault → Result (List Order) ScriptFault
 with_order number None more = Err (BadLine number)
 with_order number (Some order) (Ok orders) = Ok (order ∷ orders)
 with_order number (Some order) (Err fault) = Err fault
@@ -26,7 +27,8 @@ orders_in order_of (line ∷ lines) = with_order line.number (order_of line.word
 
 -- the orders of a file
 abbrev pub file_of : {Order : Type 0} → Reader Order → List ℕ → Result (List Order) ScriptFault
-file_of order_of bytes = if nat_le (length bytes) 1048576 then orders_in order_of (lines_of bytes) else Err TooLong
+file_of order_of bytes =
+    if nat_le (length bytes) 1048576 then orders_in order_of (lines_of bytes) else Err TooLong
 
 -- the orders of lines are those of the first ones and then those of the others, and a bad line ends them
 abbrev pub OrdersInParts : Type 0 → Type 0

@@ -10,7 +10,7 @@
 --   film A B W                       A at most B, W 1 to 16
 --   tones A B, traces A B            A at most B
 -- Anything else makes a line bad.
-use Rattle.std.specs.Prelude.{◌≡◌, ℕ, ◌&&◌, Bool, true, false, List, [], ◌∷◌, ◌++◌, length, codes, Option, Some, None, Result, Ok, Err, nat_le, if◌then◌else◌, refl, pos, negsuc}
+use Rattle.std.specs.Prelude.{◌≡◌, ℕ, ◌&&◌, Bool, true, false, List, [], ◌∷◌, ◌++◌, codes, Option, Some, None, Result, Ok, Err, nat_le, if◌then◌else◌, refl, pos, negsuc}
 use Rattle.std.specs.Str.{bytes_eq}
 use Rattle.w4_defs.specs.declared.console.Input.{Input}
 use Rattle.w4_defs.specs.declared.order.Order.{Order}
@@ -18,7 +18,7 @@ use Rattle.w4_defs.specs.declared.order.Order.TheVariants.{Set, Insert, Delete, 
 use Rattle.w4_defs.specs.Reading.{◌>>=◌}
 use Rattle.w4_defs.specs.Lines.{words_of, lines_from, number_of, byte_of, coordinate_of}
 use Rattle.w4_defs.specs.OrderWords.{no_word, one_number}
-use Rattle.w4_defs.specs.OrderFile.{ScriptFault, TooLong, BadLine, orders_in, file_of}
+use Rattle.w4_defs.specs.OrderFile.{ScriptFault, BadLine, orders_in, file_of}
 
 -- ---- the words after an order's name
 
