@@ -17,15 +17,19 @@ and_then_some None = refl
 and_then_some (Some m) = refl
 
 -- the state of a run at place 0 is that of the reset
-run_begins : (setup : Setup) (disk : List ℕ) (inputs : List Input) → run_state setup disk inputs 0 ≡ option_map (λ moment. moment.state) (reset setup disk)
-run_begins setup disk inputs = ap (option_map (λ (moment : Moment). moment.state)) (and_then_some (reset setup disk))
+run_begins : (setup : Setup) (disk : List ℕ) (inputs : List Input)
+    → run_state setup disk inputs 0 ≡ option_map (λ moment. moment.state) (reset setup disk)
+run_begins setup disk inputs = ap (option_map (λ (moment : Moment). moment.state)) (and_then_some
+    (reset setup disk))
 
 -- an entry that has the state of the run, and a link after it
 abbrev IsRun : Setup → List ℕ → List Input → List Entry → ℕ → Type 0
 IsRun setup disk inputs kept i = run_state setup disk inputs (place_at kept i) ≡ Some (state_at kept i)
 
-next_is_run : (setup : Setup) (disk : List ℕ) (inputs : List Input) (kept : List Entry) (i : ℕ) → IsRun setup disk inputs kept i
-    → place_at kept i < place_at kept (i + 1) → computed setup inputs kept i ≡ Some (state_at kept (i + 1)) → IsRun setup disk inputs kept (i + 1)
+next_is_run : (setup : Setup) (disk : List ℕ) (inputs : List Input) (kept : List Entry) (i : ℕ)
+    → IsRun setup disk inputs kept i
+    → place_at kept i < place_at kept (i + 1)
+    → computed setup inputs kept i ≡ Some (state_at kept (i + 1)) → IsRun setup disk inputs kept (i + 1)
 next_is_run setup disk inputs kept i here rising link =
     let more : ℕ = place_at kept (i + 1) - place_at kept i in
     let there : place_at kept (i + 1) ≡ place_at kept i + more = omega arith in
@@ -41,12 +45,14 @@ linked_is_run setup disk inputs kept (suc i) is within linked =
     let next : i + 1 < length kept = omega arith in
     let link : linked_at kept (i + 1) ≡ true = linked (i + 1) (omega arith) in
     let here = linked_is_run setup disk inputs kept i is (omega arith) (λ j le. linked j (omega arith)) in
-    subst (IsRun setup disk inputs kept) (add-one i) (next_is_run setup disk inputs kept i here (is.rising i next) (is.links i next link))
+    subst (IsRun setup disk inputs kept) (add-one i) (next_is_run setup disk inputs kept i here
+    (is.rising i next) (is.links i next link))
 
 -- ---- unlinking
 
 unlinks_here : (b : Bool) (n : ℕ) (x : Entry) (kept : List Entry)
-    → cond b (entries.unlinked x ∷ kept) (x ∷ unlinked_at n kept) ≡ unlinked_at (cond (not b) (1 + n) 0) (x ∷ kept)
+    → cond b (entries.unlinked x ∷ kept) (x ∷ unlinked_at n kept)
+    ≡ unlinked_at (cond (not b) (1 + n) 0) (x ∷ kept)
 unlinks_here true n x kept = refl
 unlinks_here false n x kept = let e : suc n ≡ 1 + n = omega arith in ap (λ k. unlinked_at k (x ∷ kept)) e
 
@@ -83,7 +89,12 @@ pub consistent_places : ConsistentPlaces
 consistent_places setup disk inputs [] is = absurd (omega (arith, is.some))
 consistent_places setup disk inputs (x ∷ kept) is =
     let same : x.place ≡ 0 = is.first_place in
-    let rise = rise_on (length inputs) x.place kept (λ i h. is.within (suc i) (omega arith)) (is.within 0 (omega arith))
+    let rise = rise_on (length inputs) x.place kept (λ i h. is.within (suc i) (omega arith)) (is.within 0
+    (omega arith))
     (λ some. is.rising 0 (omega arith))
-    (rising_after x kept is.rising) in
-    (same, subst (λ from. Rise from (length inputs) (places_of kept)) same rise, omega (arith, is.few, length-map kept (λ (e : Entry). e.place)))
+    (rising_after x kept is.rising) in (
+      same,
+      subst (λ from. Rise from (length inputs) (places_of kept)) same rise,
+      omega
+          (arith, is.few, length-map kept (λ (e : Entry). e.place)),
+    )

@@ -7,22 +7,28 @@ use Rattle.std.proofs.Math.ListN.{get_or-eq_default}
 use Rattle.std.proofs.lemmas.Nat.{le_bytes_2, le_bytes_4}
 use Rattle.w4_defs.specs.Reading.{◌>>=◌, IsBytes, front_at, number_at}
 
-pub front_again : (front rest : List ℕ) (n : ℕ) → length front ≡ n → front_at n (front ++ rest) ≡ Some (front, rest)
+pub front_again : (front rest : List ℕ) (n : ℕ) → length front ≡ n
+    → front_at n (front ++ rest) ≡ Some (front, rest)
 front_again front rest n len =
-    let long : ltb (length (front ++ rest)) n ≡ false = le-ltb _ _ (omega (arith, len, length-append front rest)) in
+    let long : ltb (length (front ++ rest)) n
+    ≡ false = le-ltb _ _ (omega (arith, len, length-append front rest)) in
     rw (long, take_at front rest n len, drop_at front rest n len) refl
 
-pub number_again : (w : Width) (bytes rest : List ℕ) (n : ℕ) → length bytes ≡ byte_len w → from_le_bytes w bytes ≡ n → number_at w (bytes ++ rest) ≡ Some (n, rest)
+pub number_again : (w : Width) (bytes rest : List ℕ) (n : ℕ) → length bytes ≡ byte_len w
+    → from_le_bytes w bytes ≡ n → number_at w (bytes ++ rest) ≡ Some (n, rest)
 number_again w bytes rest n len value =
-    let long : ltb (length (bytes ++ rest)) (byte_len w) ≡ false = le-ltb _ _ (omega (arith, len, length-append bytes rest)) in
+    let long : ltb (length (bytes ++ rest)) (byte_len w)
+    ≡ false = le-ltb _ _ (omega (arith, len, length-append bytes rest)) in
     rw (long, take_at bytes rest (byte_len w) len, drop_at bytes rest (byte_len w) len, value) refl
 
 -- a reader of two steps that reads has read both
-pub bind_some : {A B : Type 0} (o : Option A) (f : A → Option B) (y : B) → (o >>= f) ≡ Some y → (x : A) × (o ≡ Some x) × (f x ≡ Some y)
+pub bind_some : {A B : Type 0} (o : Option A) (f : A → Option B) (y : B) → (o >>= f) ≡ Some y
+    → (x : A) × (o ≡ Some x) × (f x ≡ Some y)
 bind_some (Some x) f y e = (x, refl, e)
 bind_some None f y e = absurd cc
 
-pub if_some : {A : Type 0} (c : Bool) (o : Option A) (z : A) → cond c o None ≡ Some z → (c ≡ true) × (o ≡ Some z)
+pub if_some : {A : Type 0} (c : Bool) (o : Option A) (z : A) → cond c o None ≡ Some z
+    → (c ≡ true) × (o ≡ Some z)
 if_some true o z e = (refl, e)
 if_some false o z e = absurd cc
 
@@ -35,16 +41,19 @@ some_pair {A} {B} a c b d e =
     let second : Option (A × B) → B = λ o. elim o [ Some p ↦ p.1 | None ↦ b ] in
     (ap first e, ap second e)
 
-cut : (test : Bool) (a b : List ℕ) (c d : List ℕ) → cond test None (both a b) ≡ both c d → (test ≡ false) × (a ≡ c) × (b ≡ d)
+cut : (test : Bool) (a b : List ℕ) (c d : List ℕ) → cond test None (both a b) ≡ both c d
+    → (test ≡ false) × (a ≡ c) × (b ≡ d)
 cut true a b c d e = absurd cc
 cut false a b c d e = let same = some_pair a c b d e in (refl, same.0, same.1)
 
-cut_number : (test : Bool) (a c : ℕ) (b d : List ℕ) → cond test None (both a b) ≡ both c d → (test ≡ false) × (a ≡ c) × (b ≡ d)
+cut_number : (test : Bool) (a c : ℕ) (b d : List ℕ) → cond test None (both a b) ≡ both c d
+    → (test ≡ false) × (a ≡ c) × (b ≡ d)
 cut_number true a c b d e = absurd cc
 cut_number false a c b d e = let same = some_pair a c b d e in (refl, same.0, same.1)
 
 -- the front that was read, and what follows it, are the bytes
-pub front_read : (n : ℕ) (bytes front rest : List ℕ) → front_at n bytes ≡ Some (front, rest) → (bytes ≡ front ++ rest) × (length front ≡ n)
+pub front_read : (n : ℕ) (bytes front rest : List ℕ) → front_at n bytes ≡ Some (front, rest)
+    → (bytes ≡ front ++ rest) × (length front ≡ n)
 front_read n bytes front rest e =
     let parts = cut (ltb (length bytes) n) (take n bytes) (drop n bytes) front rest e in
     let long = ltb-false (length bytes) n parts.0 in (
@@ -55,7 +64,8 @@ front_read n bytes front rest e =
 bytes_of_number : (w : Width) (bytes rest : List ℕ) (n : ℕ) → number_at w bytes ≡ Some (n, rest)
     → (front : List ℕ) × (bytes ≡ front ++ rest) × (length front ≡ byte_len w) × (n ≡ from_le_bytes w front)
 bytes_of_number w bytes rest n e =
-    let parts = cut_number (ltb (length bytes) (byte_len w)) (from_le_bytes w (take (byte_len w) bytes)) n (drop (byte_len w) bytes) rest e in
+    let parts = cut_number (ltb (length bytes) (byte_len w)) (from_le_bytes w (take (byte_len w) bytes)) n
+    (drop (byte_len w) bytes) rest e in
     let long = ltb-false (length bytes) (byte_len w) parts.0 in (
       take (byte_len w) bytes,
       sym (take-append-drop (byte_len w) bytes) ∙ ap (λ ys. take (byte_len w) bytes ++ ys) parts.2,
@@ -74,7 +84,8 @@ pub rest_bytes : (front rest : List ℕ) → IsBytes (front ++ rest) → IsBytes
 rest_bytes front rest all i = subst (λ n. n < 256) (get_or-append-add front rest i 0) (all (length front + i))
 
 -- the number that was read is written as the bytes begin
-pub number_read_2 : (bytes rest : List ℕ) (n : ℕ) → IsBytes bytes → number_at w16 bytes ≡ Some (n, rest) → (bytes ≡ to_le_bytes w16 n ++ rest)
+pub number_read_2 : (bytes rest : List ℕ) (n : ℕ) → IsBytes bytes → number_at w16 bytes ≡ Some (n, rest)
+    → (bytes ≡ to_le_bytes w16 n ++ rest)
 number_read_2 bytes rest n all e =
     let read = bytes_of_number w16 bytes rest n e in
     let front : List ℕ = read.0 in
@@ -85,10 +96,14 @@ number_read_2 bytes rest n all e =
 below_4 : (front : List ℕ) (n : ℕ) → IsBytes front → n ≡ from_le_bytes w32 front → n < 2 ^ 32
 below_4 front n small e = omega (arith, e, small 0, small 1, small 2, small 3)
 
-pub number_read_4 : (bytes rest : List ℕ) (n : ℕ) → IsBytes bytes → number_at w32 bytes ≡ Some (n, rest) → (bytes ≡ to_le_bytes w32 n ++ rest) × (n < 2 ^ 32)
+pub number_read_4 : (bytes rest : List ℕ) (n : ℕ) → IsBytes bytes → number_at w32 bytes ≡ Some (n, rest)
+    → (bytes ≡ to_le_bytes w32 n ++ rest) × (n < 2 ^ 32)
 number_read_4 bytes rest n all e =
     let read = bytes_of_number w32 bytes rest n e in
     let front : List ℕ = read.0 in
     let whole : bytes ≡ front ++ rest = read.1 in
-    let small : IsBytes front = front_bytes front rest (subst IsBytes whole all) in
-    (whole ∙ ap (λ xs. xs ++ rest) (sym (le_bytes_4 front n read.2 small read.3)), below_4 front n small read.3)
+    let small : IsBytes front = front_bytes front rest (subst IsBytes whole all) in (
+      whole ∙ ap (λ xs. xs ++ rest) (sym
+          (le_bytes_4 front n read.2 small read.3)),
+      below_4 front n small read.3,
+    )

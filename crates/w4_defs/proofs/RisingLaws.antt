@@ -3,7 +3,7 @@ use Rattle.std.proofs.Common.{◌≡◌, ◌≢◌, ℕ, ◌+◌, ◌-◌, ◌<�
 use Rattle.std.specs.List.{filter}
 use Rattle.std.proofs.lemmas.Bool.{cases_lt, cases_eq, le-ltb, lt-ltb, eq-eqb, ne_eqb, eqb-false, or_parts}
 use Rattle.std.proofs.lemmas.Bool.Decides.{nat_tests}
-use Rattle.w4_defs.specs.Session.{bare, is_kept, with_kept, told, without, unlink_above, raised, lowered, without_double, kept_after_insert, kept_after_delete, Rise, ArePlaces, PlacesStayRight}
+use Rattle.w4_defs.specs.Session.{places_alone, is_kept, with_kept, rest_after, without, unlink_above, raised, lowered, without_double, kept_after_insert, kept_after_delete, Rise, ArePlaces, PlacesStayRight}
 
 -- ---- set
 
@@ -11,10 +11,11 @@ both_same : (b : Bool) (places : List ℕ) → cond b places places ≡ places
 both_same true places = refl
 both_same false places = refl
 
-unlink_nothing : (k : ℕ) (places : List ℕ) → unlink_above bare k places ≡ places
+unlink_nothing : (k : ℕ) (places : List ℕ) → unlink_above places_alone k places ≡ places
 unlink_nothing k [] = refl
 unlink_nothing k (p ∷ places) =
-    ap (λ rest. cond (ltb k p) (p ∷ places) (p ∷ rest)) (unlink_nothing k places) ∙ both_same (ltb k p) (p ∷ places)
+    ap (λ rest. cond (ltb k p) (p ∷ places) (p ∷ rest)) (unlink_nothing k places)
+    ∙ both_same (ltb k p) (p ∷ places)
 
 length_map : (f : ℕ → ℕ) (places : List ℕ) → length (map f places) ≡ length places
 length_map f [] = refl
@@ -22,28 +23,31 @@ length_map f (p ∷ places) = omega (arith, length_map f places)
 
 -- ---- insert
 
-raised_rises : (k p q : ℕ) → p < q → raised bare k p < raised bare k q
+raised_rises : (k p q : ℕ) → p < q → raised places_alone k p < raised places_alone k q
 raised_rises k p q h = grind (arith, nat_tests)
 
-raised_within : (k p n : ℕ) → p ≤ n → raised bare k p ≤ n + 1
+raised_within : (k p n : ℕ) → p ≤ n → raised places_alone k p ≤ n + 1
 raised_within k p n h = grind (arith, nat_tests)
 
-raised_zero : (k : ℕ) → raised bare k 0 ≡ 0
+raised_zero : (k : ℕ) → raised places_alone k 0 ≡ 0
 raised_zero k = grind (arith, nat_tests)
 
-all_raised : (k from n : ℕ) (places : List ℕ) → Rise from n places → Rise (raised bare k from) (n + 1) (map (raised bare k) places)
+all_raised : (k from n : ℕ) (places : List ℕ) → Rise from n places
+    → Rise (raised places_alone k from) (n + 1) (map (raised places_alone k) places)
 all_raised k from n [] h = raised_within k from n h
 all_raised k from n (p ∷ places) h = (raised_rises k from p h.0, all_raised k p n places h.1)
 
-after_insert : (n k : ℕ) (places : List ℕ) → ArePlaces n places → ArePlaces (n + 1) (kept_after_insert bare k places)
+after_insert : (n k : ℕ) (places : List ℕ) → ArePlaces n places
+    → ArePlaces (n + 1) (kept_after_insert places_alone k places)
 after_insert n k [] h = absurd h
 after_insert n k (p ∷ places) h =
-    let are : ArePlaces (n + 1) (map (raised bare k) (p ∷ places)) = (
-      ap (raised bare k) h.0 ∙ raised_zero k,
-      subst (λ from. Rise from (n + 1) (map (raised bare k) places)) (raised_zero k) (all_raised k 0 n places h.1),
-      subst (λ m. m < 1024) (sym (length_map (raised bare k) places)) h.2,
+    let are : ArePlaces (n + 1) (map (raised places_alone k) (p ∷ places)) = (
+      ap (raised places_alone k) h.0 ∙ raised_zero k,
+      subst (λ from. Rise from (n + 1) (map (raised places_alone k) places)) (raised_zero k)
+          (all_raised k 0 n places h.1),
+      subst (λ m. m < 1024) (sym (length_map (raised places_alone k) places)) h.2,
     ) in
-    subst (λ xs. ArePlaces (n + 1) (map (raised bare k) xs)) (sym (unlink_nothing k (p ∷ places))) are
+    subst (λ xs. ArePlaces (n + 1) (map (raised places_alone k) xs)) (sym (unlink_nothing k (p ∷ places))) are
 
 -- ---- delete
 
@@ -56,27 +60,31 @@ abbrev RiseApart : ℕ → ℕ → ℕ → List ℕ → Type 0
 RiseApart k from n [] = from ≤ n
 RiseApart k from n (p ∷ places) = (from < p) × (from ≡ k → p ≢ k + 1) × RiseApart k p n places
 
-lowered_rises : (k p q : ℕ) → p < q → (p ≡ k → q ≢ k + 1) → lowered bare k p < lowered bare k q
+lowered_rises : (k p q : ℕ) → p < q → (p ≡ k → q ≢ k + 1)
+    → lowered places_alone k p < lowered places_alone k q
 lowered_rises k p q h apart = elim (cases_eq p k) [
   | inl here ↦ let other : q ≢ k + 1 = apart here in grind (arith, nat_tests)
   | inr other ↦ grind (arith, nat_tests)
 ]
 
-lowered_within : (k p n : ℕ) → k < n → p ≤ n → lowered bare k p ≤ n - 1
+lowered_within : (k p n : ℕ) → k < n → p ≤ n → lowered places_alone k p ≤ n - 1
 lowered_within k p n below h = grind (arith, nat_tests)
 
-lowered_zero : (k : ℕ) → lowered bare k 0 ≡ 0
+lowered_zero : (k : ℕ) → lowered places_alone k 0 ≡ 0
 lowered_zero k = grind (arith, nat_tests)
 
-all_lowered : (k from n : ℕ) (places : List ℕ) → k < n → RiseApart k from n places → Rise (lowered bare k from) (n - 1) (map (lowered bare k) places)
+all_lowered : (k from n : ℕ) (places : List ℕ) → k < n → RiseApart k from n places
+    → Rise (lowered places_alone k from) (n - 1) (map (lowered places_alone k) places)
 all_lowered k from n [] below h = lowered_within k from n below h
-all_lowered k from n (p ∷ places) below h = (lowered_rises k from p h.0 h.1, all_lowered k p n places below h.2)
+all_lowered k from n (p ∷ places) below h =
+    (lowered_rises k from p h.0 h.1, all_lowered k p n places below h.2)
 
 -- where k isn't kept, none meet
-apart_without : (k from n : ℕ) (places : List ℕ) → from ≢ k → is_kept bare k places ≡ false → Rise from n places → RiseApart k from n places
+apart_without : (k from n : ℕ) (places : List ℕ) → from ≢ k → is_kept places_alone k places ≡ false
+    → Rise from n places → RiseApart k from n places
 apart_without k from n [] other none h = h
 apart_without k from n (p ∷ places) other none h =
-    let parts = or_parts (eqb p k) (is_kept bare k places) none in
+    let parts = or_parts (eqb p k) (is_kept places_alone k places) none in
     (h.0, λ same. absurd (other same), apart_without k p n places (eqb-false p k parts.0) parts.1 h.1)
 
 -- where k + 1 is dropped, none meet
@@ -84,39 +92,47 @@ lower_start : (from more n : ℕ) (places : List ℕ) → from ≤ more → Rise
 lower_start from more n [] le h = omega arith
 lower_start from more n (p ∷ places) le h = (omega (arith, h.0), h.1)
 
-dropped : (k from n : ℕ) (places : List ℕ) → Rise from n places → RiseApart k from n (filter (λ x. not (eqb x (k + 1))) places)
+dropped : (k from n : ℕ) (places : List ℕ) → Rise from n places
+    → RiseApart k from n (filter (λ x. not (eqb x (k + 1))) places)
 dropped k from n [] h = h
 dropped k from n (p ∷ places) h = elim (cases_eq p (k + 1)) [
   | inl same ↦
-      let rest : RiseApart k from n (filter (λ x. not (eqb x (k + 1))) places) = dropped k from n places (lower_start from p n places (omega (arith, h.0)) h.1) in
-      subst (λ t. RiseApart k from n (cond (not t) (p ∷ filter (λ x. not (eqb x (k + 1))) places) (filter (λ x. not (eqb x (k + 1))) places))) (sym (eq-eqb p (k + 1) same)) rest
+      let rest : RiseApart k from n (filter (λ x. not (eqb x (k + 1))) places) = dropped k from n places
+      (lower_start from p n places (omega (arith, h.0)) h.1) in
+      subst (λ t. RiseApart k from n (cond (not t) (p ∷ filter (λ x. not (eqb x (k + 1))) places) (filter
+      (λ x. not (eqb x (k + 1))) places))) (sym (eq-eqb p (k + 1) same)) rest
   | inr other ↦
-      let whole : RiseApart k from n (p ∷ filter (λ x. not (eqb x (k + 1))) places) = (h.0, λ here. other, dropped k p n places h.1) in
-      subst (λ t. RiseApart k from n (cond (not t) (p ∷ filter (λ x. not (eqb x (k + 1))) places) (filter (λ x. not (eqb x (k + 1))) places))) (sym (ne_eqb p (k + 1) other)) whole
+      let whole : RiseApart k from n (p ∷ filter (λ x. not (eqb x (k + 1))) places) =
+      (h.0, λ here. other, dropped k p n places h.1) in
+      subst (λ t. RiseApart k from n (cond (not t) (p ∷ filter (λ x. not (eqb x (k + 1))) places) (filter
+      (λ x. not (eqb x (k + 1))) places))) (sym (ne_eqb p (k + 1) other)) whole
 ]
 
 length_filter : (test : ℕ → Bool) (places : List ℕ) → length (filter test places) ≤ length places
 length_filter test [] = omega arith
-length_filter test (p ∷ places) = elim (test p) as (λ t. length (cond t (p ∷ filter test places) (filter test places)) ≤ length (p ∷ places)) [
-  | true ↦ omega (arith, length_filter test places)
-  | false ↦ omega (arith, length_filter test places)
-]
+length_filter test (p ∷ places) = elim (test p) as (λ t. length (cond t (p ∷ filter test places)
+    (filter test places)) ≤ length (p ∷ places)) [
+      | true ↦ omega (arith, length_filter test places)
+      | false ↦ omega (arith, length_filter test places)
+    ]
 
 -- place 0 and those above it, without the double one
 single_are : (k n : ℕ) (places : List ℕ) → Rise 0 n places
-    → (rest : List ℕ) × (without_double bare k (0 ∷ places) ≡ 0 ∷ rest) × RiseApart k 0 n rest × (length rest ≤ length places)
+    → (rest : List ℕ) × (without_double places_alone k (0 ∷ places) ≡ 0 ∷ rest) × RiseApart k 0 n rest
+    × (length rest ≤ length places)
 single_are k n places h =
     let test : ℕ → Bool = λ x. not (eqb x (k + 1)) in
-    elim (true_or_false (is_kept bare k (0 ∷ places))) [
+    elim (true_or_false (is_kept places_alone k (0 ∷ places))) [
       | inl kept ↦
           let zero_stays : eqb 0 (k + 1) ≡ false = ne_eqb 0 (k + 1) (λ e. absurd (omega (arith, e))) in (
             filter test places,
-            ap (λ t. cond t (filter test (0 ∷ places)) (0 ∷ places)) kept ∙ ap (λ t. cond (not t) (0 ∷ filter test places) (filter test places)) zero_stays,
+            ap (λ t. cond t (filter test (0 ∷ places)) (0 ∷ places)) kept
+                ∙ ap (λ t. cond (not t) (0 ∷ filter test places) (filter test places)) zero_stays,
             dropped k 0 n places h,
             length_filter test places,
           )
       | inr not_kept ↦
-          let parts = or_parts (eqb 0 k) (is_kept bare k places) not_kept in (
+          let parts = or_parts (eqb 0 k) (is_kept places_alone k places) not_kept in (
             places,
             ap (λ t. cond t (filter test (0 ∷ places)) (0 ∷ places)) not_kept,
             apart_without k 0 n places (eqb-false 0 k parts.0) parts.1 h,
@@ -124,23 +140,28 @@ single_are k n places h =
           )
     ]
 
-delete_from_zero : (n k : ℕ) (places : List ℕ) → k < n → Rise 0 n places → length places < 1024 → ArePlaces (n - 1) (kept_after_delete bare k (0 ∷ places))
+delete_from_zero : (n k : ℕ) (places : List ℕ) → k < n → Rise 0 n places → length places < 1024
+    → ArePlaces (n - 1) (kept_after_delete places_alone k (0 ∷ places))
 delete_from_zero n k places below h few =
     let single = single_are k n places h in
     let rest : List ℕ = single.0 in
-    let same : kept_after_delete bare k (0 ∷ places) ≡ map (lowered bare k) (0 ∷ rest) =
-    ap (map (lowered bare k)) (unlink_nothing k (without_double bare k (0 ∷ places)) ∙ single.1) in
-    let are : ArePlaces (n - 1) (map (lowered bare k) (0 ∷ rest)) = (
+    let same : kept_after_delete places_alone k (0 ∷ places) ≡ map (lowered places_alone k) (0 ∷ rest) =
+    ap (map (lowered places_alone k)) (unlink_nothing k (without_double places_alone k (0 ∷ places))
+    ∙ single.1) in
+    let are : ArePlaces (n - 1) (map (lowered places_alone k) (0 ∷ rest)) = (
       lowered_zero k,
-      subst (λ from. Rise from (n - 1) (map (lowered bare k) rest)) (lowered_zero k) (all_lowered k 0 n rest below single.2),
-      omega (arith, length_map (lowered bare k) rest, single.3),
+      subst (λ from. Rise from (n - 1) (map (lowered places_alone k) rest)) (lowered_zero k)
+          (all_lowered k 0 n rest below single.2),
+      omega (arith, length_map (lowered places_alone k) rest, single.3),
     ) in
     subst (ArePlaces (n - 1)) (sym same) are
 
-after_delete : (n k : ℕ) (places : List ℕ) → k < n → ArePlaces n places → ArePlaces (n - 1) (kept_after_delete bare k places)
+after_delete : (n k : ℕ) (places : List ℕ) → k < n → ArePlaces n places
+    → ArePlaces (n - 1) (kept_after_delete places_alone k places)
 after_delete n k [] below h = absurd h
 after_delete n k (p ∷ places) below h =
-    subst (λ q. ArePlaces (n - 1) (kept_after_delete bare k (q ∷ places))) (sym h.0) (delete_from_zero n k places below h.1 h.2)
+    subst (λ q. ArePlaces (n - 1) (kept_after_delete places_alone k (q ∷ places))) (sym h.0)
+    (delete_from_zero n k places below h.1 h.2)
 
 -- ---- keep and drop
 
@@ -150,68 +171,90 @@ below_other p k le other = elim (cases_lt p k) [
   | inr ge ↦ absurd (other (omega arith))
 ]
 
-kept_between : (n k from : ℕ) (places : List ℕ) → k ≤ n → from < k → is_kept bare k places ≡ false → Rise from n places → Rise from n (with_kept bare k places)
+kept_between : (n k from : ℕ) (places : List ℕ) → k ≤ n → from < k → is_kept places_alone k places ≡ false
+    → Rise from n places → Rise from n (with_kept places_alone k places)
 kept_between n k from [] le above none h = (above, le)
 kept_between n k from (p ∷ places) le above none h =
-    let parts = or_parts (eqb p k) (is_kept bare k places) none in
+    let parts = or_parts (eqb p k) (is_kept places_alone k places) none in
     elim (cases_lt k p) [
       | inl lt ↦
           let whole : Rise from n (k ∷ p ∷ places) = (above, (lt, h.1)) in
-          subst (λ t. Rise from n (cond t (k ∷ p ∷ places) (p ∷ with_kept bare k places))) (sym (lt-ltb k p lt)) whole
+          subst (λ t. Rise from n (cond t (k ∷ p ∷ places) (p ∷ with_kept places_alone k places))) (sym
+          (lt-ltb k p lt)) whole
       | inr ge ↦
           let past : p < k = below_other p k ge (eqb-false p k parts.0) in
-          let whole : Rise from n (p ∷ with_kept bare k places) = (h.0, kept_between n k p places le past parts.1 h.1) in
-          subst (λ t. Rise from n (cond t (k ∷ p ∷ places) (p ∷ with_kept bare k places))) (sym (le-ltb k p ge)) whole
+          let whole : Rise from n (p ∷ with_kept places_alone k places) =
+          (h.0, kept_between n k p places le past parts.1 h.1) in
+          subst (λ t. Rise from n (cond t (k ∷ p ∷ places) (p ∷ with_kept places_alone k places))) (sym
+          (le-ltb k p ge)) whole
     ]
 
-length_with : (k : ℕ) (places : List ℕ) → length (with_kept bare k places) ≡ length places + 1
+length_with : (k : ℕ) (places : List ℕ) → length (with_kept places_alone k places) ≡ length places + 1
 length_with k [] = omega arith
-length_with k (p ∷ places) = elim (ltb k p) as (λ t. length (cond t (k ∷ p ∷ places) (p ∷ with_kept bare k places)) ≡ length (p ∷ places) + 1) [
-  | true ↦ omega arith
-  | false ↦ omega (arith, length_with k places)
-]
+length_with k (p ∷ places) = elim (ltb k p) as (λ t. length (cond t (k ∷ p ∷ places)
+    (p ∷ with_kept places_alone k places)) ≡ length (p ∷ places) + 1) [
+      | true ↦ omega arith
+      | false ↦ omega (arith, length_with k places)
+    ]
 
-keep_from_zero : (n k : ℕ) (places : List ℕ) → k ≤ n → is_kept bare k (0 ∷ places) ≡ false → Rise 0 n places → length (0 ∷ places) < 1024
-    → ArePlaces n (with_kept bare k (0 ∷ places))
+keep_from_zero : (n k : ℕ) (places : List ℕ) → k ≤ n → is_kept places_alone k (0 ∷ places) ≡ false
+    → Rise 0 n places → length (0 ∷ places) < 1024
+    → ArePlaces n (with_kept places_alone k (0 ∷ places))
 keep_from_zero n k places le none h few =
-    let parts = or_parts (eqb 0 k) (is_kept bare k places) none in
+    let parts = or_parts (eqb 0 k) (is_kept places_alone k places) none in
     let above : 0 < k = below_other 0 k (omega arith) (eqb-false 0 k parts.0) in
-    let are : ArePlaces n (0 ∷ with_kept bare k places) = (refl, kept_between n k 0 places le above parts.1 h, omega (arith, few, length_with k places)) in
-    subst (λ t. ArePlaces n (cond t (k ∷ 0 ∷ places) (0 ∷ with_kept bare k places))) (sym (le-ltb k 0 (omega arith))) are
+    let are : ArePlaces n (0 ∷ with_kept places_alone k places) =
+    (refl, kept_between n k 0 places le above parts.1 h, omega (arith, few, length_with k places)) in
+    subst (λ t. ArePlaces n (cond t (k ∷ 0 ∷ places) (0 ∷ with_kept places_alone k places))) (sym
+    (le-ltb k 0 (omega arith))) are
 
-after_keep : (n k : ℕ) (places : List ℕ) → k ≤ n → is_kept bare k places ≡ false → length places < 1024 → ArePlaces n places → ArePlaces n (with_kept bare k places)
+after_keep : (n k : ℕ) (places : List ℕ) → k ≤ n → is_kept places_alone k places ≡ false
+    → length places < 1024 → ArePlaces n places → ArePlaces n (with_kept places_alone k places)
 after_keep n k [] le none few h = absurd h
 after_keep n k (p ∷ places) le none few h =
-    subst (λ q. ArePlaces n (with_kept bare k (q ∷ places))) (sym h.0)
-    (keep_from_zero n k places le (subst (λ q. is_kept bare k (q ∷ places) ≡ false) h.0 none) h.1 few)
+    subst (λ q. ArePlaces n (with_kept places_alone k (q ∷ places))) (sym h.0)
+    (keep_from_zero n k places le (subst (λ q. is_kept places_alone k (q ∷ places) ≡ false) h.0 none) h.1 few)
 
-told_same : (p : ℕ) (places : List ℕ) → told bare p places ≡ places
+told_same : (p : ℕ) (places : List ℕ) → rest_after places_alone p places ≡ places
 told_same p [] = refl
 told_same p (q ∷ places) = refl
 
-without_rises : (k from n : ℕ) (places : List ℕ) → Rise from n places → Rise from n (without bare k places)
+without_rises : (k from n : ℕ) (places : List ℕ) → Rise from n places
+    → Rise from n (without places_alone k places)
 without_rises k from n [] h = h
-without_rises k from n (p ∷ places) h = elim (eqb p k) as (λ t. Rise from n (cond t (told bare p places) (p ∷ without bare k places))) [
-  | true ↦ subst (Rise from n) (sym (told_same p places)) (lower_start from p n places (omega (arith, h.0)) h.1)
-  | false ↦ (h.0, without_rises k p n places h.1)
-]
+without_rises k from n (p ∷ places) h = elim (eqb p k) as (λ t. Rise from n (cond t
+    (rest_after places_alone p places) (p ∷ without places_alone k places))) [
+      | true ↦ subst (Rise from n) (sym (told_same p places)) (lower_start from p n places (omega
+          (arith, h.0)) h.1)
+      | false ↦ (h.0, without_rises k p n places h.1)
+    ]
 
-length_without : (k : ℕ) (places : List ℕ) → length (without bare k places) ≤ length places
+length_without : (k : ℕ) (places : List ℕ) → length (without places_alone k places) ≤ length places
 length_without k [] = omega arith
-length_without k (p ∷ places) = elim (eqb p k) as (λ t. length (cond t (told bare p places) (p ∷ without bare k places)) ≤ length (p ∷ places)) [
-  | true ↦ omega (arith, ap length (told_same p places))
-  | false ↦ omega (arith, length_without k places)
-]
+length_without k (p ∷ places) = elim (eqb p k) as (λ t. length (cond t (rest_after places_alone p places)
+    (p ∷ without places_alone k places)) ≤ length (p ∷ places)) [
+      | true ↦ omega (arith, ap length (told_same p places))
+      | false ↦ omega (arith, length_without k places)
+    ]
 
-drop_from_zero : (n k : ℕ) (places : List ℕ) → k ≢ 0 → Rise 0 n places → length places < 1024 → ArePlaces n (without bare k (0 ∷ places))
+drop_from_zero : (n k : ℕ) (places : List ℕ) → k ≢ 0 → Rise 0 n places → length places < 1024
+    → ArePlaces n (without places_alone k (0 ∷ places))
 drop_from_zero n k places other h few =
-    let are : ArePlaces n (0 ∷ without bare k places) = (refl, without_rises k 0 n places h, omega (arith, few, length_without k places)) in
-    subst (λ t. ArePlaces n (cond t (told bare 0 places) (0 ∷ without bare k places))) (sym (ne_eqb 0 k (λ e. other (sym e)))) are
+    let are : ArePlaces n (0 ∷ without places_alone k places) = (
+      refl,
+      without_rises k 0 n places h,
+      omega
+          (arith, few, length_without k places),
+    ) in
+    subst (λ t. ArePlaces n (cond t (rest_after places_alone 0 places)
+    (0 ∷ without places_alone k places))) (sym (ne_eqb 0 k (λ e. other (sym e)))) are
 
-after_drop : (n k : ℕ) (places : List ℕ) → k ≢ 0 → ArePlaces n places → ArePlaces n (without bare k places)
+after_drop : (n k : ℕ) (places : List ℕ) → k ≢ 0 → ArePlaces n places
+    → ArePlaces n (without places_alone k places)
 after_drop n k [] other h = absurd h
 after_drop n k (p ∷ places) other h =
-    subst (λ q. ArePlaces n (without bare k (q ∷ places))) (sym h.0) (drop_from_zero n k places other h.1 h.2)
+    subst (λ q. ArePlaces n (without places_alone k (q ∷ places))) (sym h.0)
+    (drop_from_zero n k places other h.1 h.2)
 
 pub places_stay_right : PlacesStayRight
 places_stay_right n k places h = (

@@ -61,7 +61,8 @@ unfolding cause_in halt_number
 halt_decides Running Running = (λ e. refl, λ e. refl)
 halt_decides Spent Spent = (λ e. refl, λ e. refl)
 halt_decides (Trapped a) (Trapped b) =
-    Decides-like _ (λ e. ap Trapped (same_cause a b e)) (λ e. ap cause_number (ap (cause_in a) e)) (Decides-eqb (cause_number a) (cause_number b))
+    Decides-like _ (λ e. ap Trapped (same_cause a b e)) (λ e. ap cause_number (ap (cause_in a) e))
+    (Decides-eqb (cause_number a) (cause_number b))
 halt_decides Running Spent = (λ e. absurd cc, λ e. absurd cc)
 halt_decides Running (Trapped b) = (λ e. absurd cc, λ e. absurd cc)
 halt_decides Spent Running = (λ e. absurd cc, λ e. absurd cc)
@@ -94,8 +95,13 @@ unfolding voice_from
 same_parts a b e = λ i. voice_from (e.0 i) (e.1 i)
 
 voice_decides : (a b : Voice) → Decides (same_voice a b) (a ≡ b)
-voice_decides a b = Decides-like _ (same_parts a b) (λ e. (ap voice_numbers e, ap (λ (v : Voice). v.tone.note) e))
-    (Decides-and _ _ (bytes_eq-Decides (voice_numbers a) (voice_numbers b)) (booleans_Decides a.tone.note b.tone.note))
+voice_decides a b = Decides-like _ (same_parts a b) (λ e. (
+  ap voice_numbers e,
+  ap (λ
+      (v : Voice). v.tone.note) e,
+))
+    (Decides-and _ _ (bytes_eq-Decides (voice_numbers a) (voice_numbers b))
+    (booleans_Decides a.tone.note b.tone.note))
 
 channel_decides : (a b : Option Voice) → Decides (option_eq same_voice a b) (a ≡ b)
 channel_decides None None = (λ e. refl, λ e. refl)
@@ -109,6 +115,18 @@ pub same_state_decides : SameStateDecides
 unfolding same_state
 same_state_decides a b = Decides-like _
     (λ e. λ i. record { page = e.0.0.0.0 i; globals = e.0.0.0.1 i; channels = e.0.0.1 i; disk = e.0.1 i; halt = e.1 i })
-    (λ e. ((((ap (λ (s : State). s.page) e, ap (λ (s : State). s.globals) e), ap (λ (s : State). s.channels) e), ap (λ (s : State). s.disk) e), ap (λ (s : State). s.halt) e))
-    (Decides-and _ _ (Decides-and _ _ (Decides-and _ _ (Decides-and _ _ (bytes_eq-Decides a.page b.page) (pointwise_decides val_decides a.globals b.globals))
-    (pointwise_decides channel_decides a.channels b.channels)) (bytes_eq-Decides a.disk b.disk)) (halt_decides a.halt b.halt))
+    (λ e. (
+      (
+        (
+          (ap (λ (s : State). s.page) e, ap (λ (s : State). s.globals) e),
+          ap (λ
+              (s : State). s.channels) e,
+        ),
+        ap (λ (s : State). s.disk) e,
+      ),
+      ap (λ (s : State). s.halt) e,
+    ))
+    (Decides-and _ _ (Decides-and _ _ (Decides-and _ _ (Decides-and _ _ (bytes_eq-Decides a.page b.page)
+    (pointwise_decides val_decides a.globals b.globals))
+    (pointwise_decides channel_decides a.channels b.channels)) (bytes_eq-Decides a.disk b.disk))
+    (halt_decides a.halt b.halt))

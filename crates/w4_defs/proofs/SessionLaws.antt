@@ -26,7 +26,8 @@ last_of : {A : Type 0} (front : List A) (x : A) → last_item (front ++ x ∷ []
 last_of front x = ap (slice_get (front ++ x ∷ [])) (one_less front x) ∙ get_last front x
 
 front_of : {A : Type 0} (front : List A) (x : A) → without_last (front ++ x ∷ []) ≡ front
-front_of front x = ap (λ n. take n (front ++ x ∷ [])) (one_less front x) ∙ take_at front (x ∷ []) (length front) refl
+front_of front x = ap (λ n. take n (front ++ x ∷ [])) (one_less front x)
+    ∙ take_at front (x ∷ []) (length front) refl
 
 -- a session of these parts
 abbrev parts : {A : Type 0} → Draft A → List (Draft A) → List (Draft A) → Session A
@@ -35,13 +36,15 @@ parts current older newer = record { current = current; older = older; newer = n
 undone_from : {A : Type 0} (current draft : Draft A) (front newer : List (Draft A))
     → undone (parts current (front ++ draft ∷ []) newer) ≡ Some (parts draft front (newer ++ current ∷ []))
 undone_from current draft front newer =
-    ap (option_map (λ d. parts d (without_last (front ++ draft ∷ [])) (newer ++ current ∷ []))) (last_of front draft)
+    ap (option_map (λ d. parts d (without_last (front ++ draft ∷ [])) (newer ++ current ∷ [])))
+    (last_of front draft)
     ∙ ap (λ o. Some (parts draft o (newer ++ current ∷ []))) (front_of front draft)
 
 redone_from : {A : Type 0} (current draft : Draft A) (older front : List (Draft A))
     → redone (parts current older (front ++ draft ∷ [])) ≡ Some (parts draft (older ++ current ∷ []) front)
 redone_from current draft older front =
-    ap (option_map (λ d. parts d (older ++ current ∷ []) (without_last (front ++ draft ∷ [])))) (last_of front draft)
+    ap (option_map (λ d. parts d (older ++ current ∷ []) (without_last (front ++ draft ∷ []))))
+    (last_of front draft)
     ∙ ap (λ n. Some (parts draft (older ++ current ∷ []) n)) (front_of front draft)
 
 some_same : {A : Type 0} (a b : A) → Some a ≡ Some b → a ≡ b
@@ -56,10 +59,13 @@ redo_takes_back {A} session other e = elim (split_last session.older) [
       let nothing : undone session ≡ None = ap (λ o. undone (parts session.current o session.newer)) none in
       absurd (no_none other (sym nothing ∙ e))
   | inr some ↦
-      let whole : session ≡ parts session.current (some.0 ++ some.1 ∷ []) session.newer = ap (λ o. parts session.current o session.newer) some.2 in
+      let whole : session ≡ parts session.current (some.0 ++ some.1 ∷ []) session.newer = ap
+      (λ o. parts session.current o session.newer) some.2 in
       let back : Session A = parts some.1 some.0 (session.newer ++ session.current ∷ []) in
-      let is : back ≡ other = some_same back other (sym (ap undone whole ∙ undone_from session.current some.1 some.0 session.newer) ∙ e) in
-      sym (ap redone is) ∙ redone_from some.1 session.current some.0 session.newer ∙ ap (λ (s : Session A). Some s) (sym whole)
+      let is : back ≡ other = some_same back other (sym (ap undone whole
+      ∙ undone_from session.current some.1 some.0 session.newer) ∙ e) in
+      sym (ap redone is) ∙ redone_from some.1 session.current some.0 session.newer
+      ∙ ap (λ (s : Session A). Some s) (sym whole)
 ]
 
 pub undo_takes_back_redo : {A : Type 0} → UndoTakesBackRedo A
@@ -68,15 +74,20 @@ undo_takes_back_redo {A} session other e = elim (split_last session.newer) [
       let nothing : redone session ≡ None = ap (λ n. redone (parts session.current session.older n)) none in
       absurd (no_none other (sym nothing ∙ e))
   | inr some ↦
-      let whole : session ≡ parts session.current session.older (some.0 ++ some.1 ∷ []) = ap (λ n. parts session.current session.older n) some.2 in
+      let whole : session ≡ parts session.current session.older (some.0 ++ some.1 ∷ []) = ap
+      (λ n. parts session.current session.older n) some.2 in
       let on : Session A = parts some.1 (session.older ++ session.current ∷ []) some.0 in
-      let is : on ≡ other = some_same on other (sym (ap redone whole ∙ redone_from session.current some.1 session.older some.0) ∙ e) in
-      sym (ap undone is) ∙ undone_from some.1 session.current session.older some.0 ∙ ap (λ (s : Session A). Some s) (sym whole)
+      let is : on ≡ other = some_same on other (sym (ap redone whole
+      ∙ redone_from session.current some.1 session.older some.0) ∙ e) in
+      sym (ap undone is) ∙ undone_from some.1 session.current session.older some.0
+      ∙ ap (λ (s : Session A). Some s) (sym whole)
 ]
 
 -- what is put away is the newest that is left
-kept_newest : {A : Type 0} (older : List A) (x : A) → keep_last 32 (older ++ x ∷ []) ≡ drop (length (older ++ x ∷ []) - 32) older ++ x ∷ []
-kept_newest older x = drop-append-le (length (older ++ x ∷ []) - 32) older (x ∷ []) (omega (arith, length-append older (x ∷ [])))
+kept_newest : {A : Type 0} (older : List A) (x : A)
+    → keep_last 32 (older ++ x ∷ []) ≡ drop (length (older ++ x ∷ []) - 32) older ++ x ∷ []
+kept_newest older x = drop-append-le (length (older ++ x ∷ []) - 32) older (x ∷ []) (omega
+    (arith, length-append older (x ∷ [])))
 
 pub undo_takes_back : {A : Type 0} → UndoTakesBack A
 undo_takes_back {A} session draft =
@@ -88,20 +99,42 @@ undo_takes_back {A} session draft =
 edit_bounded : {A : Type 0} (older : List A) → length (keep_last 32 older) + 0 ≤ 32
 edit_bounded older = omega (arith, length-drop (length older - 32) older)
 
-undo_bounded : {A : Type 0} (session : Session A) → HasBoundedHistory session → IfSome (undone session) HasBoundedHistory
+undo_bounded : {A : Type 0} (session : Session A) → HasBoundedHistory session
+    → IfSome (undone session) HasBoundedHistory
 undo_bounded session bounded = elim (split_last session.older) [
-  | inl none ↦ subst (λ o. IfSome o HasBoundedHistory) (sym (ap (λ o. undone (parts session.current o session.newer)) none)) tt
+  | inl none ↦ subst (λ o. IfSome o HasBoundedHistory) (sym (ap (λ o. undone
+      (parts session.current o session.newer)) none)) tt
   | inr some ↦
-      subst (λ o. IfSome o HasBoundedHistory) (sym (ap (λ o. undone (parts session.current o session.newer)) some.2 ∙ undone_from session.current some.1 some.0 session.newer))
-      (omega (arith, bounded, ap length some.2, length-append some.0 (some.1 ∷ []), length-append session.newer (session.current ∷ [])))
+      subst (λ o. IfSome o HasBoundedHistory) (sym (ap (λ o. undone
+      (parts session.current o session.newer)) some.2
+      ∙ undone_from session.current some.1 some.0 session.newer))
+      (omega (
+        arith,
+        bounded,
+        ap length some.2,
+        length-append some.0
+            (some.1 ∷ []),
+        length-append session.newer (session.current ∷ []),
+      ))
 ]
 
-redo_bounded : {A : Type 0} (session : Session A) → HasBoundedHistory session → IfSome (redone session) HasBoundedHistory
+redo_bounded : {A : Type 0} (session : Session A) → HasBoundedHistory session
+    → IfSome (redone session) HasBoundedHistory
 redo_bounded session bounded = elim (split_last session.newer) [
-  | inl none ↦ subst (λ o. IfSome o HasBoundedHistory) (sym (ap (λ n. redone (parts session.current session.older n)) none)) tt
+  | inl none ↦ subst (λ o. IfSome o HasBoundedHistory) (sym (ap (λ n. redone
+      (parts session.current session.older n)) none)) tt
   | inr some ↦
-      subst (λ o. IfSome o HasBoundedHistory) (sym (ap (λ n. redone (parts session.current session.older n)) some.2 ∙ redone_from session.current some.1 session.older some.0))
-      (omega (arith, bounded, ap length some.2, length-append some.0 (some.1 ∷ []), length-append session.older (session.current ∷ [])))
+      subst (λ o. IfSome o HasBoundedHistory) (sym (ap (λ n. redone
+      (parts session.current session.older n)) some.2
+      ∙ redone_from session.current some.1 session.older some.0))
+      (omega (
+        arith,
+        bounded,
+        ap length some.2,
+        length-append some.0
+            (some.1 ∷ []),
+        length-append session.older (session.current ∷ []),
+      ))
 ]
 
 pub history_stays_bounded : {A : Type 0} → HistoryStaysBounded A

@@ -1,6 +1,6 @@
--- Kept lists with states and links (project rule). An entry has a place, a state and a link. A linked entry
--- says: my state is what the inputs between make of the state of the entry before me. Entry 0 has the state of
--- the reset and is always linked. An unlinked state needn't belong to any run; showing it may find it again.
+-- Kept lists with states and links (project rule). An entry has a place, a state and a link. The link says
+-- that the state is what the inputs between make of the state of the entry before. Entry 0 has the state of
+-- the reset and is always linked. An unlinked state needn't belong to any run of the inputs as they are.
 use Rattle.std.specs.Prelude.{◌≡◌, ℕ, zero, suc, ◌+◌, ◌-◌, ◌≤◌, ◌<◌, ◌&&◌, Bool, true, false, List, [], map, length, slice_index_or, slice_range, slice_set, Option, Some, option_map, nat_lt, if◌then◌else◌}
 use Rattle.std.specs.List.{position_or_len, All}
 use Rattle.w4_defs.specs.declared.console.Input.{Input}
@@ -17,14 +17,14 @@ pub record Entry : Type 0 where
   pub state : State
   pub linked : Bool
 
--- entries as kept things: they keep their states in every edit, and after a drop the next entry is linked where
--- both were
+-- entries as kept things: an edit changes no state, and after a drop the next entry is linked where both were
 abbrev pub entries : Kind Entry
 entries = record {
   place = λ x. x.place;
   at = λ p x. record { place = p; state = x.state; linked = x.linked };
   unlinked = λ x. record { place = x.place; state = x.state; linked = false };
-  after_drop = λ dropped next. record { place = next.place; state = next.state; linked = dropped.linked && next.linked };
+  after_drop = λ dropped next.
+      record { place = next.place; state = next.state; linked = dropped.linked && next.linked };
 }
 
 -- entry i; past the end one that is nowhere, and unlinked
@@ -95,8 +95,8 @@ pub record IsSession (setup : Setup) (disk : List ℕ) (session : Session Entry)
 
 -- an entry whose link and all earlier links are set has the state of a run from reset
 abbrev pub LinkedIsRun : Type 0
-LinkedIsRun = (setup : Setup) (disk : List ℕ) (inputs : List Input) (kept : List Entry) (i : ℕ) → IsConsistent setup disk inputs kept
-    → i < length kept → ((j : ℕ) → j ≤ i → linked_at kept j ≡ true)
+LinkedIsRun = (setup : Setup) (disk : List ℕ) (inputs : List Input) (kept : List Entry) (i : ℕ) →
+    IsConsistent setup disk inputs kept → i < length kept → ((j : ℕ) → j ≤ i → linked_at kept j ≡ true)
     → run_state setup disk inputs (place_at kept i) ≡ Some (state_at kept i)
 
 -- ---- changes of one entry
@@ -109,7 +109,8 @@ unlinked_at i kept = slice_set kept i (entries.unlinked (entry_at kept i))
 
 -- entry i is found to be true: it is linked and keeps its state
 abbrev pub relinked_at : ℕ → List Entry → List Entry
-relinked_at i kept = slice_set kept i (record { place = place_at kept i; state = state_at kept i; linked = true })
+relinked_at i kept =
+    slice_set kept i (record { place = place_at kept i; state = state_at kept i; linked = true })
 
 -- entry i gets a new state and is linked; the entry after it, where there is one, is unlinked
 abbrev pub replaced_at : ℕ → State → List Entry → List Entry
@@ -134,10 +135,11 @@ is_sure old new i = linked_at old (i + 1) && same_state (state_at old i) (state_
 -- the summed lengths of the others, which are doubtful, among the first n
 unfoldable pub doubtful : List Entry → List Entry → ℕ → ℕ
 doubtful old new zero = 0
-doubtful old new (suc n) = doubtful old new n + (if is_sure old new n then 0 else place_at old (n + 1) - place_at old n)
+doubtful old new (suc n) =
+    doubtful old new n + (if is_sure old new n then 0 else place_at old (n + 1) - place_at old n)
 
--- the entries up to this one are brought up to date: they are linked. Those past it keep their states, and their
--- links but for the first, whose link stays if and only if the segment before it is sure
+-- the entries up to this one are brought up to date and linked. Those past it keep their states, and their
+-- links but for the first, which is linked if and only if the segment before it is sure
 pub record IsSettled (last : ℕ) (old new : List Entry) : Type 0 where
   pub same : SamePlaces old new
   pub linked : (i : ℕ) → i ≤ last → linked_at new i ≡ true
@@ -155,5 +157,5 @@ settle_frames old new = doubtful old new (length old - 1)
 
 -- the places of a consistent kept list are kept places of the recording
 abbrev pub ConsistentPlaces : Type 0
-ConsistentPlaces = (setup : Setup) (disk : List ℕ) (inputs : List Input) (kept : List Entry) → IsConsistent setup disk inputs kept
-    → ArePlaces (length inputs) (places_of kept)
+ConsistentPlaces = (setup : Setup) (disk : List ℕ) (inputs : List Input) (kept : List Entry) →
+    IsConsistent setup disk inputs kept → ArePlaces (length inputs) (places_of kept)

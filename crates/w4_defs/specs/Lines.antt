@@ -1,7 +1,7 @@
 -- Lines, words and numbers of a text (project rule), in which scripts, lists, queries and logs are written.
--- Byte 10 ends a line, and the last line may lack it; one byte 13 at the end of a line isn't part of it. Words
--- are parted by one or more spaces, which may also stand at either end of a line. A line without words, or
--- whose first word begins with `#`, is skipped; lines are counted from 1, skipped ones too.
+-- Byte 10 ends a line, and the last line may lack it; one byte 13 at the end of a line isn't part of it.
+-- Words are parted by one or more spaces, which may also stand at either end of a line. A line without
+-- words, or whose first word begins with `#`, is skipped; lines are counted from 1, skipped ones too.
 use Rattle.std.specs.Prelude.{◌≡◌, ℕ, ◌+◌, ◌-◌, ◌*◌, ◌==◌, ◌&&◌, ◌≢◌, Bool, true, List, [], ◌∷◌, ◌++◌, length, slice_index, codes, Option, Some, None, nat_le, nat_lt, if◌then◌else◌, refl, ℤ, pos, neg_ℤ, map}
 use Rattle.std.specs.List.{filter, AllByRecursion}
 use Rattle.std.specs.Io.BufRead.{strip_last}
@@ -53,7 +53,9 @@ digits_after n (d ∷ ds) = if nat_le 48 d && nat_le d 57 then digits_after (10 
 
 -- a number has 1 to 10 decimal digits, leading zeros among them, and is at most 4,294,967,295
 unfoldable pub number_of : List ℕ → Option ℕ
-number_of word = if nat_le 1 (length word) && nat_le (length word) 10 then (digits_after 0 word >>= at_most 4294967295) else None
+number_of word =
+    if nat_le 1 (length word) && nat_le (length word) 10 then (digits_after 0 word >>= at_most 4294967295)
+    else None
 
 -- a number from 0 to 255
 unfoldable pub byte_of : List ℕ → Option ℕ
@@ -77,6 +79,11 @@ abbrev pub LastPiece : Type 0
 LastPiece = (mark b : ℕ) (piece : List ℕ) → AllByRecursion (λ b. b ≢ mark) (b ∷ piece)
     → pieces mark (b ∷ piece) ≡ (b ∷ piece) ∷ []
 
+-- the lines of a text are those of its first pieces, and then those of the others, counted on
+abbrev pub LinesInParts : Type 0
+LinesInParts = (number : ℕ) (front rest : List (List ℕ)) →
+    lines_from number (front ++ rest) ≡ lines_from number front ++ lines_from (number + length front) rest
+
 -- ---- worked cases
 
 abbrev pub LineCases : Type 0
@@ -84,12 +91,14 @@ LineCases =
     (lines_of [] ≡ [])
     × (lines_of (10 ∷ 13 ∷ 10 ∷ codes "  " ++ 10 ∷ codes "# show 1" ++ 10 ∷ codes " #" ++ 13 ∷ 10 ∷ []) ≡ [])
     × (lines_of (10 ∷ codes " show  01 " ++ 13 ∷ 10 ∷ codes "undo" ++ 13 ∷ [])
-    ≡ record { number = 2; words = codes "show" ∷ codes "01" ∷ [] } ∷ record { number = 3; words = codes "undo" ∷ [] } ∷ [])
+    ≡ record { number = 2; words = codes "show" ∷ codes "01" ∷ [] }
+    ∷ record { number = 3; words = codes "undo" ∷ [] } ∷ [])
     -- one byte 13 alone is dropped, at the end alone; any other byte is part of a word
     × (lines_of (codes "a" ++ 13 ∷ 13 ∷ 10 ∷ codes "b" ++ 13 ∷ codes " c" ++ 9 ∷ 0 ∷ [])
     ≡ record { number = 1; words = (codes "a" ++ 13 ∷ []) ∷ [] }
     ∷ record { number = 2; words = (codes "b" ++ 13 ∷ []) ∷ (codes "c" ++ 9 ∷ 0 ∷ []) ∷ [] } ∷ [])
-    × (map (λ (line : Line). line.number) (lines_of (codes "show 0" ++ 10 ∷ codes "film 3 2 1" ++ 10 ∷ [])) ≡ 1 ∷ 2 ∷ [])
+    × (map (λ (line : Line). line.number) (lines_of (codes "show 0" ++ 10 ∷ codes "film 3 2 1" ++ 10 ∷ []))
+    ≡ 1 ∷ 2 ∷ [])
 
 pub line-cases : LineCases
 unfolding lines_from
@@ -118,4 +127,23 @@ NumberCases =
 
 pub number-cases : NumberCases
 unfolding number_of byte_of coordinate_of
-number-cases = (refl, refl, refl, refl, refl, refl, refl, refl, refl, refl, refl, refl, refl, refl, refl, refl, refl, refl)
+number-cases = (
+  refl,
+  refl,
+  refl,
+  refl,
+  refl,
+  refl,
+  refl,
+  refl,
+  refl,
+  refl,
+  refl,
+  refl,
+  refl,
+  refl,
+  refl,
+  refl,
+  refl,
+  refl,
+)

@@ -73,7 +73,10 @@ IsEncoded r bytes = IsRecording r × ((HasNoReset r × (bytes ≡ encoding 1 r))
 
 -- the version of a heading
 abbrev pub version_of : List ℕ → Option ℕ
-version_of head = if bytes_eq head (heading 1) then Some 1 else if bytes_eq head (heading 2) then Some 2 else None
+version_of head =
+    if bytes_eq head (heading 1) then Some 1 else
+    if bytes_eq head (heading 2) then Some 2 else
+    None
 
 -- the input of the nine bytes
 abbrev pub input_of : List ℕ → Bool → Input
@@ -103,6 +106,10 @@ frames_of version (suc count) bytes = do
   more ← frames_of version count first.1
   Some (input ∷ more)
 
+-- whether a budget, the length of a disk and a number of frames are within the limits
+abbrev pub is_within : ℕ → ℕ → ℕ → Bool
+is_within budget size count = nat_le 1 budget && nat_le size 1024 && nat_le count 36000
+
 -- the recording that the bytes encode; None where they encode none
 unfoldable pub recording_of : List ℕ → Option Recording
 recording_of bytes = do
@@ -113,7 +120,7 @@ recording_of bytes = do
   size ← number_at w16 budget.1
   disk ← front_at size.0 size.1
   count ← number_at w32 disk.1
-  frames ← if nat_le 1 budget.0 && nat_le size.0 1024 && nat_le count.0 36000 then frames_of version count.0 count.1 else None
+  frames ← if is_within budget.0 size.0 count.0 then frames_of version count.0 count.1 else None
   Some (record { digest = digest.0; budget = budget.0; disk = disk.0; frames = frames })
 
 -- ---- laws
@@ -123,14 +130,16 @@ abbrev pub EncodedIsDecoded : Type 0
 EncodedIsDecoded = (r : Recording) (bytes : List ℕ) → IsEncoded r bytes → recording_of bytes ≡ Some r
 
 abbrev pub DecodedIsEncoded : Type 0
-DecodedIsEncoded = (r : Recording) (bytes : List ℕ) → IsBytes bytes → recording_of bytes ≡ Some r → IsEncoded r bytes
+DecodedIsEncoded = (r : Recording) (bytes : List ℕ) → IsBytes bytes → recording_of bytes ≡ Some r
+    → IsEncoded r bytes
 
 abbrev pub EncodesAtMostOne : Type 0
 EncodesAtMostOne = (r s : Recording) (bytes : List ℕ) → IsEncoded r bytes → IsEncoded s bytes → r ≡ s
 
 -- a recording within its limits has one encoding of version 2, and it is decoded again
 abbrev pub OneEncoding : Type 0
-OneEncoding = (r : Recording) (bytes : List ℕ) → IsEncoded r bytes → slice_index bytes 4 ≡ 2 → bytes ≡ encoding 2 r
+OneEncoding = (r : Recording) (bytes : List ℕ) → IsEncoded r bytes → slice_index bytes 4 ≡ 2
+    → bytes ≡ encoding 2 r
 
 abbrev pub EncodingIsDecoded : Type 0
 EncodingIsDecoded = (r : Recording) → IsRecording r → recording_of (encoding 2 r) ≡ Some r
@@ -142,7 +151,8 @@ RewrittenIsSame = (r : Recording) (bytes : List ℕ) → IsBytes bytes → recor
 
 -- how long an encoding is
 abbrev pub EncodingLength : Type 0
-EncodingLength = (r : Recording) → IsRecording r → (length (encoding 1 r) ≡ 47 + length r.disk + 9 * length r.frames)
+EncodingLength = (r : Recording) → IsRecording r →
+    (length (encoding 1 r) ≡ 47 + length r.disk + 9 * length r.frames)
     × (length (encoding 2 r) ≡ 47 + length r.disk + 10 * length r.frames)
 
 abbrev pub LongestEncoding : Type 0
@@ -151,13 +161,15 @@ LongestEncoding = (r : Recording) (bytes : List ℕ) → IsEncoded r bytes → l
 -- ---- worked cases: frames with pad 1 down and the mouse at (-1, 2), of a budget of 256
 
 abbrev case_input : Bool → Input
-case_input reset = record { pads = 2 ∷ 0 ∷ 0 ∷ 0 ∷ []; mouse_x = negsuc 0; mouse_y = pos 2; buttons = 1; reset = reset }
+case_input reset =
+    record { pads = 2 ∷ 0 ∷ 0 ∷ 0 ∷ []; mouse_x = negsuc 0; mouse_y = pos 2; buttons = 1; reset = reset }
 
 abbrev case_recording : List Input → Recording
 case_recording frames = record { digest = replicate 32 7; budget = 256; disk = 9 ∷ []; frames = frames }
 
 abbrev case_front : ℕ → List ℕ
-case_front version = 87 ∷ 52 ∷ 82 ∷ 67 ∷ version ∷ replicate 32 7 ++ 0 ∷ 1 ∷ 0 ∷ 0 ∷ 1 ∷ 0 ∷ 9 ∷ 1 ∷ 0 ∷ 0 ∷ 0 ∷ []
+case_front version =
+    87 ∷ 52 ∷ 82 ∷ 67 ∷ version ∷ replicate 32 7 ++ 0 ∷ 1 ∷ 0 ∷ 0 ∷ 1 ∷ 0 ∷ 9 ∷ 1 ∷ 0 ∷ 0 ∷ 0 ∷ []
 
 abbrev case_frame : List ℕ
 case_frame = 2 ∷ 0 ∷ 0 ∷ 0 ∷ 255 ∷ 255 ∷ 2 ∷ 0 ∷ 1 ∷ []
@@ -173,7 +185,8 @@ RecordingCases =
     × (recording_of (case_front 2 ++ case_frame ++ 0 ∷ []) ≡ Some plain)
     × (recording_of (case_front 2 ++ case_frame ++ 1 ∷ []) ≡ Some reset)
 
--- another version, a flag of 2, a byte too many or too few, a budget of 0, a disk of 1,025 bytes, 36,001 frames
+-- another version, a flag of 2, a byte too many or too few, a budget of 0, a disk of 1,025 bytes, 36,001
+-- frames
 abbrev front_with : List ℕ → List ℕ → List ℕ → List ℕ → List ℕ
 front_with budget size disk count = heading 1 ++ replicate 32 7 ++ budget ++ size ++ disk ++ count
 
@@ -186,7 +199,8 @@ BadRecordingCases =
     × (recording_of (case_front 2 ++ case_frame ++ 2 ∷ []) ≡ None)
     × (recording_of (case_front 1 ++ case_frame ++ 0 ∷ []) ≡ None)
     × (recording_of (case_front 2 ++ case_frame) ≡ None)
-    × (recording_of (front_with one (0 ∷ 0 ∷ []) [] none) ≡ Some (record { digest = replicate 32 7; budget = 1; disk = []; frames = [] }))
+    × (recording_of (front_with one (0 ∷ 0 ∷ []) [] none)
+    ≡ Some (record { digest = replicate 32 7; budget = 1; disk = []; frames = [] }))
     × (recording_of (front_with none (0 ∷ 0 ∷ []) [] none) ≡ None)
     × (recording_of (front_with one (1 ∷ 4 ∷ []) (replicate 1025 0) none) ≡ None)
     × (recording_of (front_with one (0 ∷ 0 ∷ []) [] (161 ∷ 140 ∷ 0 ∷ 0 ∷ [])) ≡ None)

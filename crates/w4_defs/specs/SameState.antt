@@ -1,4 +1,4 @@
--- Whether two states are equal in page, globals, channels, disk and halt: the test that decides their equality.
+-- Whether two states are equal in page, globals, channels, disk and halt.
 use Rattle.std.specs.Prelude.{◌≡◌, ℕ, ◌==◌, ◌&&◌, Bool, false, true, List, [], ◌∷◌}
 use lib.Pointwise.{pointwise}
 use Rattle.std.specs.Bool.{Decides, beq}
@@ -47,7 +47,8 @@ same_voice a b = bytes_eq (voice_numbers a) (voice_numbers b) && beq a.tone.note
 
 unfoldable pub same_state : State → State → Bool
 same_state a b = bytes_eq a.page b.page && pointwise same_val a.globals b.globals
-    && pointwise (option_eq same_voice) a.channels b.channels && bytes_eq a.disk b.disk && same_halt a.halt b.halt
+    && pointwise (option_eq same_voice) a.channels b.channels && bytes_eq a.disk b.disk
+    && same_halt a.halt b.halt
 
 abbrev pub SameStateDecides : Type 0
 SameStateDecides = (a b : State) → Decides (same_state a b) (a ≡ b)

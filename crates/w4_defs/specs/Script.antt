@@ -64,7 +64,13 @@ framed make (number ∷ p1 ∷ p2 ∷ p3 ∷ p4 ∷ across ∷ down ∷ pressed 
   y ← coordinate_of down
   buttons ← byte_of pressed
   reset ← reset_word rest
-  Some (make k (record { pads = pad_1 ∷ pad_2 ∷ pad_3 ∷ pad_4 ∷ []; mouse_x = x; mouse_y = y; buttons = buttons; reset = reset }))
+  Some (make k (record {
+    pads = pad_1 ∷ pad_2 ∷ pad_3 ∷ pad_4 ∷ [];
+    mouse_x = x;
+    mouse_y = y;
+    buttons = buttons;
+    reset = reset;
+  }))
 framed make words = None
 
 -- ---- orders
@@ -105,7 +111,8 @@ abbrev read : List ℕ → Option Order
 read line = order_of (words_of line)
 
 abbrev case_input : Bool → Input
-case_input reset = record { pads = 27 ∷ 0 ∷ 0 ∷ 255 ∷ []; mouse_x = negsuc 4; mouse_y = pos 0; buttons = 4; reset = reset }
+case_input reset =
+    record { pads = 27 ∷ 0 ∷ 0 ∷ 255 ∷ []; mouse_x = negsuc 4; mouse_y = pos 0; buttons = 4; reset = reset }
 
 -- each kind of line
 abbrev pub OrderCases : Type 0
@@ -159,21 +166,68 @@ BadOrderCases =
     × (read (codes "tones 1 0") ≡ None)
     × (read (codes "traces 1") ≡ None)
 
--- skipped lines are counted, and the first bad line is told; a script that is too long is told before its lines
+-- skipped lines are counted, and the first bad line is named
 abbrev pub ScriptCases : Type 0
 ScriptCases =
     (script_of [] ≡ Ok [])
-    × (script_of (codes "# two" ++ 10 ∷ 10 ∷ codes "undo" ++ 13 ∷ 10 ∷ codes "show 1") ≡ Ok (Undo ∷ Show 1 ∷ []))
+    × (script_of (codes "# two" ++ 10 ∷ 10 ∷ codes "undo" ++ 13 ∷ 10 ∷ codes "show 1")
+    ≡ Ok (Undo ∷ Show 1 ∷ []))
     × (script_of (codes "show 0" ++ 10 ∷ codes "film 3 2 1" ++ 10 ∷ codes "bad" ++ 10 ∷ []) ≡ Err (BadLine 2))
     × (script_of (codes "#" ++ 10 ∷ 10 ∷ codes "bad" ++ 10 ∷ []) ≡ Err (BadLine 3))
 
 pub order-cases : OrderCases
 unfolding order_named number_of byte_of coordinate_of
-order-cases = (refl, refl, refl, refl, refl, refl, refl, refl, refl, refl, refl, refl, refl, refl, refl, refl, refl)
+order-cases = (
+  refl,
+  refl,
+  refl,
+  refl,
+  refl,
+  refl,
+  refl,
+  refl,
+  refl,
+  refl,
+  refl,
+  refl,
+  refl,
+  refl,
+  refl,
+  refl,
+  refl,
+)
 
 pub bad-order-cases : BadOrderCases
 unfolding order_named number_of byte_of coordinate_of
-bad-order-cases = (refl, refl, refl, refl, refl, refl, refl, refl, refl, refl, refl, refl, refl, refl, refl, refl, refl, refl, refl, refl, refl, refl, refl, refl, refl, refl, refl)
+bad-order-cases = (
+  refl,
+  refl,
+  refl,
+  refl,
+  refl,
+  refl,
+  refl,
+  refl,
+  refl,
+  refl,
+  refl,
+  refl,
+  refl,
+  refl,
+  refl,
+  refl,
+  refl,
+  refl,
+  refl,
+  refl,
+  refl,
+  refl,
+  refl,
+  refl,
+  refl,
+  refl,
+  refl,
+)
 
 pub script-cases : ScriptCases
 unfolding script_of orders_in lines_from order_named number_of byte_of coordinate_of

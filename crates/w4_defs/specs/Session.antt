@@ -1,9 +1,9 @@
 -- Editing sessions (project rule; input, frame, undo and redo are the words of TAS editors). Place P is the
--- state after the first P inputs, so that a recording of n inputs has the places 0 to n, and input K leads from
--- place K to place K + 1. Some places are kept, place 0 always. An edit puts a new draft in the place of the
--- current one, which goes to the undo history; that has 32 drafts at most and loses its oldest where it would
--- have more. An edit empties the redo history. Undo and redo move one draft on, kept places and all. Keeping
--- and dropping places aren't edits: they change the current draft alone.
+-- state after the first P inputs, so that a recording of n inputs has the places 0 to n, and input K leads
+-- from place K to place K + 1. Some places are kept, place 0 always. An edit makes a new draft of inputs and
+-- kept places. The draft before it goes to the undo history, which holds 32 and loses its oldest where it
+-- would hold more; the redo history is emptied. Undo and redo bring back a whole draft, kept places too.
+-- Keeping and dropping places aren't edits: they change the kept places of the current draft alone.
 use Rattle.std.specs.Prelude.{◌≡◌, ◌≢◌, ℕ, ◌+◌, ◌-◌, ◌≤◌, ◌<◌, ◌==◌, ◌%◌, ◌&&◌, Bool, false, not, List, [], ◌∷◌, ◌++◌, map, length, take, drop, insert, remove, slice_get, slice_set, Option, Some, None, IfSome, option_map, Result, Ok, Err, nat_le, nat_lt, if◌then◌else◌}
 use Rattle.std.specs.List.{filter, list_any, range_with_len}
 use Rattle.w4_defs.specs.declared.console.Input.{Input}
@@ -24,8 +24,8 @@ pub record Kind (A : Type 0) : Type 0 where
   pub after_drop : A → A → A
 
 -- places alone, without links
-abbrev pub bare : Kind ℕ
-bare = record { place = λ p. p; at = λ p old. p; unlinked = λ p. p; after_drop = λ dropped next. next }
+abbrev pub places_alone : Kind ℕ
+places_alone = record { place = λ p. p; at = λ p old. p; unlinked = λ p. p; after_drop = λ dropped next. next }
 
 -- places that rise from above a place to at most n
 abbrev pub Rise : ℕ → ℕ → List ℕ → Type 0
@@ -43,23 +43,25 @@ is_kept kind p kept = list_any (λ x. kind.place x == p) kept
 -- the kept list with this thing, before the first above its place
 abbrev pub with_kept : {A : Type 0} → Kind A → A → List A → List A
 with_kept kind x [] = x ∷ []
-with_kept kind x (y ∷ kept) = if nat_lt (kind.place x) (kind.place y) then x ∷ y ∷ kept else y ∷ with_kept kind x kept
+with_kept kind x (y ∷ kept) =
+    if nat_lt (kind.place x) (kind.place y) then x ∷ y ∷ kept else y ∷ with_kept kind x kept
 
--- the kept list without the thing at a place; the next one is told
-abbrev pub told : {A : Type 0} → Kind A → A → List A → List A
-told kind dropped [] = []
-told kind dropped (x ∷ kept) = kind.after_drop dropped x ∷ kept
+-- the kept list without the thing at a place
+abbrev pub rest_after : {A : Type 0} → Kind A → A → List A → List A
+rest_after kind dropped [] = []
+rest_after kind dropped (x ∷ kept) = kind.after_drop dropped x ∷ kept
 
 abbrev pub without : {A : Type 0} → Kind A → ℕ → List A → List A
 without kind p [] = []
-without kind p (x ∷ kept) = if kind.place x == p then told kind x kept else x ∷ without kind p kept
+without kind p (x ∷ kept) = if kind.place x == p then rest_after kind x kept else x ∷ without kind p kept
 
 -- ---- what an edit of input K does to the kept list
 
 -- the first thing above place K loses its link
 abbrev pub unlink_above : {A : Type 0} → Kind A → ℕ → List A → List A
 unlink_above kind k [] = []
-unlink_above kind k (x ∷ kept) = if nat_lt k (kind.place x) then kind.unlinked x ∷ kept else x ∷ unlink_above kind k kept
+unlink_above kind k (x ∷ kept) =
+    if nat_lt k (kind.place x) then kind.unlinked x ∷ kept else x ∷ unlink_above kind k kept
 
 -- those above place K rise by 1, or fall by 1
 abbrev pub raised : {A : Type 0} → Kind A → ℕ → A → A
@@ -70,7 +72,8 @@ lowered kind k x = if nat_lt k (kind.place x) then kind.at (kind.place x - 1) x 
 
 -- where places K and K + 1 are kept, both would stand on K after a delete: the later one is dropped
 abbrev pub without_double : {A : Type 0} → Kind A → ℕ → List A → List A
-without_double kind k kept = if is_kept kind k kept then filter (λ x. not (kind.place x == k + 1)) kept else kept
+without_double kind k kept =
+    if is_kept kind k kept then filter (λ x. not (kind.place x == k + 1)) kept else kept
 
 abbrev pub kept_after_set : {A : Type 0} → Kind A → ℕ → List A → List A
 kept_after_set kind k kept = unlink_above kind k kept
@@ -89,13 +92,16 @@ pub record Draft (A : Type 0) : Type 0 where
   pub kept : List A
 
 abbrev pub set_draft : {A : Type 0} → Kind A → ℕ → Input → Draft A → Draft A
-set_draft kind k input draft = record { inputs = slice_set draft.inputs k input; kept = kept_after_set kind k draft.kept }
+set_draft kind k input draft =
+    record { inputs = slice_set draft.inputs k input; kept = kept_after_set kind k draft.kept }
 
 abbrev pub insert_draft : {A : Type 0} → Kind A → ℕ → Input → Draft A → Draft A
-insert_draft kind k input draft = record { inputs = insert draft.inputs k input; kept = kept_after_insert kind k draft.kept }
+insert_draft kind k input draft =
+    record { inputs = insert draft.inputs k input; kept = kept_after_insert kind k draft.kept }
 
 abbrev pub delete_draft : {A : Type 0} → Kind A → ℕ → Draft A → Draft A
-delete_draft kind k draft = record { inputs = remove draft.inputs k; kept = kept_after_delete kind k draft.kept }
+delete_draft kind k draft =
+    record { inputs = remove draft.inputs k; kept = kept_after_delete kind k draft.kept }
 
 -- ---- sessions
 
@@ -107,7 +113,8 @@ pub record Session (A : Type 0) : Type 0 where
 
 -- how a recording is opened, with what is kept at place 0
 abbrev pub opened : {A : Type 0} → List Input → A → Session A
-opened inputs first = record { current = record { inputs = inputs; kept = first ∷ [] }; older = []; newer = [] }
+opened inputs first =
+    record { current = record { inputs = inputs; kept = first ∷ [] }; older = []; newer = [] }
 
 -- the last so many
 abbrev pub keep_last : {A : Type 0} → ℕ → List A → List A
@@ -121,7 +128,8 @@ without_last xs = take (length xs - 1) xs
 
 -- the session after an edit that makes this draft
 abbrev pub edited : {A : Type 0} → Session A → Draft A → Session A
-edited session draft = record { current = draft; older = keep_last 32 (session.older ++ session.current ∷ []); newer = [] }
+edited session draft =
+    record { current = draft; older = keep_last 32 (session.older ++ session.current ∷ []); newer = [] }
 
 -- the session one draft back, and one draft on
 abbrev pub undone : {A : Type 0} → Session A → Option (Session A)
@@ -204,7 +212,8 @@ redo session = if_some NothingToRedo (redone session)
 -- the thing is kept at its place
 abbrev pub keep : {A : Type 0} → Kind A → A → Session A → Result (Session A) EditRefusal
 keep kind x session =
-    unless (keep_refusal kind (kind.place x) session.current) (with_list session (with_kept kind x session.current.kept))
+    unless (keep_refusal kind (kind.place x) session.current)
+    (with_list session (with_kept kind x session.current.kept))
 
 abbrev pub drop_kept : {A : Type 0} → Kind A → ℕ → Session A → Result (Session A) EditRefusal
 drop_kept kind p session =
@@ -216,7 +225,7 @@ multiples every last = filter (λ p. p % every == 0) (range_with_len 0 (last + 1
 
 abbrev pub all_kept : List ℕ → List ℕ → List ℕ
 all_kept [] kept = kept
-all_kept (p ∷ places) kept = all_kept places (if is_kept bare p kept then kept else with_kept bare p kept)
+all_kept (p ∷ places) kept = all_kept places (if is_kept places_alone p kept then kept else with_kept places_alone p kept)
 
 abbrev pub keep_every : ℕ → Session ℕ → Result (Session ℕ) EditRefusal
 keep_every every session =
@@ -231,7 +240,9 @@ HasBoundedHistory session = length session.older + length session.newer ≤ 32
 
 abbrev pub HistoryStaysBounded : Type 0 → Type 0
 HistoryStaysBounded A = (session : Session A) (draft : Draft A) → HasBoundedHistory session
-    → HasBoundedHistory (edited session draft) × IfSome (undone session) HasBoundedHistory × IfSome (redone session) HasBoundedHistory
+    → HasBoundedHistory (edited session draft)
+    × IfSome (undone session) HasBoundedHistory
+    × IfSome (redone session) HasBoundedHistory
 
 -- an undo brings back the draft that the edit put away
 abbrev pub UndoTakesBack : Type 0 → Type 0
@@ -252,36 +263,36 @@ pub record IsPlaced {A : Type 0} (kind : Kind A) : Type 0 where
   pub after_drop : (dropped next : A) → kind.place (kind.after_drop dropped next) ≡ kind.place next
 
 -- the places of a draft's and of a session's kept things
-abbrev pub bare_draft : {A : Type 0} → Kind A → Draft A → Draft ℕ
-bare_draft kind draft = record { inputs = draft.inputs; kept = map kind.place draft.kept }
+abbrev pub draft_of_places : {A : Type 0} → Kind A → Draft A → Draft ℕ
+draft_of_places kind draft = record { inputs = draft.inputs; kept = map kind.place draft.kept }
 
-abbrev pub bare_session : {A : Type 0} → Kind A → Session A → Session ℕ
-bare_session kind session = record {
-  current = bare_draft kind session.current;
-  older = map (bare_draft kind) session.older;
-  newer = map (bare_draft kind) session.newer;
+abbrev pub session_of_places : {A : Type 0} → Kind A → Session A → Session ℕ
+session_of_places kind session = record {
+  current = draft_of_places kind session.current;
+  older = map (draft_of_places kind) session.older;
+  newer = map (draft_of_places kind) session.newer;
 }
 
-abbrev pub bare_result : {A : Type 0} → Kind A → Result (Session A) EditRefusal → Result (Session ℕ) EditRefusal
-bare_result kind (Ok session) = Ok (bare_session kind session)
-bare_result kind (Err refusal) = Err refusal
+abbrev pub result_of_places : {A : Type 0} → Kind A → Result (Session A) EditRefusal → Result (Session ℕ) EditRefusal
+result_of_places kind (Ok session) = Ok (session_of_places kind session)
+result_of_places kind (Err refusal) = Err refusal
 
 -- what is kept besides the places changes neither a place nor a refusal
 abbrev pub PlacesDecide : {A : Type 0} → Kind A → Type 0
 PlacesDecide {A} kind = (session : Session A) (k : ℕ) (input : Input) (x : A) →
-    (bare_result kind (set_input kind k input session) ≡ set_input bare k input (bare_session kind session))
-    × (bare_result kind (insert_input kind k input session) ≡ insert_input bare k input (bare_session kind session))
-    × (bare_result kind (delete_input kind k session) ≡ delete_input bare k (bare_session kind session))
-    × (bare_result kind (undo session) ≡ undo (bare_session kind session))
-    × (bare_result kind (redo session) ≡ redo (bare_session kind session))
-    × (bare_result kind (keep kind x session) ≡ keep bare (kind.place x) (bare_session kind session))
-    × (bare_result kind (drop_kept kind k session) ≡ drop_kept bare k (bare_session kind session))
+    (result_of_places kind (set_input kind k input session) ≡ set_input places_alone k input (session_of_places kind session))
+    × (result_of_places kind (insert_input kind k input session) ≡ insert_input places_alone k input (session_of_places kind session))
+    × (result_of_places kind (delete_input kind k session) ≡ delete_input places_alone k (session_of_places kind session))
+    × (result_of_places kind (undo session) ≡ undo (session_of_places kind session))
+    × (result_of_places kind (redo session) ≡ redo (session_of_places kind session))
+    × (result_of_places kind (keep kind x session) ≡ keep places_alone (kind.place x) (session_of_places kind session))
+    × (result_of_places kind (drop_kept kind k session) ≡ drop_kept places_alone k (session_of_places kind session))
 
 -- an accepted edit, keep or drop leaves places of the recording as it then is
 abbrev pub PlacesStayRight : Type 0
 PlacesStayRight = (n k : ℕ) (places : List ℕ) → ArePlaces n places →
-    ArePlaces n (kept_after_set bare k places)
-    × (k ≤ n → ArePlaces (n + 1) (kept_after_insert bare k places))
-    × (k < n → ArePlaces (n - 1) (kept_after_delete bare k places))
-    × (k ≤ n → is_kept bare k places ≡ false → length places < 1024 → ArePlaces n (with_kept bare k places))
-    × (k ≢ 0 → ArePlaces n (without bare k places))
+    ArePlaces n (kept_after_set places_alone k places)
+    × (k ≤ n → ArePlaces (n + 1) (kept_after_insert places_alone k places))
+    × (k < n → ArePlaces (n - 1) (kept_after_delete places_alone k places))
+    × (k ≤ n → is_kept places_alone k places ≡ false → length places < 1024 → ArePlaces n (with_kept places_alone k places))
+    × (k ≢ 0 → ArePlaces n (without places_alone k places))

@@ -6,13 +6,14 @@ use Rattle.w4_defs.specs.declared.editing.EditRefusal.{EditRefusal}
 use Rattle.w4_defs.specs.declared.editing.EditRefusal.TheVariants.{NoFrame, FullRecording, NothingToUndo, NothingToRedo, Kept, NotKept}
 use Rattle.w4_defs.specs.State.{State}
 use Rattle.w4_defs.specs.Tones.{silent}
-use Rattle.w4_defs.specs.Session.{Session, bare, kept_after_set, kept_after_insert, kept_after_delete, opened, insert_refusal, set_input, insert_input, delete_input, undo, redo, keep, drop_kept, keep_every, multiples}
+use Rattle.w4_defs.specs.Session.{Session, places_alone, kept_after_set, kept_after_insert, kept_after_delete, opened, insert_refusal, set_input, insert_input, delete_input, undo, redo, keep, drop_kept, keep_every, multiples}
 use Rattle.w4_defs.specs.SameState.{same_state}
 use Rattle.w4_defs.specs.KeptList.{Entry, entries, without_entry, relinked_at, replaced_at, last_up_to, doubtful, show_frames, settle_frames}
 
 -- an input with these pad bits, and a session of so many inputs without any
 abbrev pad : ℕ → Input
-pad bits = record { pads = bits ∷ 0 ∷ 0 ∷ 0 ∷ []; mouse_x = pos 0; mouse_y = pos 0; buttons = 0; reset = false }
+pad bits =
+    record { pads = bits ∷ 0 ∷ 0 ∷ 0 ∷ []; mouse_x = pos 0; mouse_y = pos 0; buttons = 0; reset = false }
 
 abbrev still : ℕ → Session ℕ
 still inputs = opened (replicate inputs (pad 0)) 0
@@ -34,10 +35,10 @@ pads_of (Err refusal) = []
 
 -- ten inputs: places 5 and 6 are kept, and input 5 is deleted, so that place 6 falls onto place 5
 abbrev five_and_six : Result (Session ℕ) EditRefusal
-five_and_six = keep bare 5 (still 10) then keep bare 6
+five_and_six = keep places_alone 5 (still 10) then keep places_alone 6
 
 abbrev deleted : Result (Session ℕ) EditRefusal
-deleted = five_and_six then delete_input bare 5
+deleted = five_and_six then delete_input places_alone 5
 
 abbrev pub DeletedCase : Type 0
 DeletedCase =
@@ -45,10 +46,10 @@ DeletedCase =
     × (kept_places (deleted then undo) ≡ 0 ∷ 5 ∷ 6 ∷ [])
     × (kept_places (deleted then undo then redo) ≡ 0 ∷ 5 ∷ [])
     × ((deleted then undo then redo then redo) ≡ Err NothingToRedo)
-    × ((deleted then drop_kept bare 0) ≡ Err NotKept)
-    × ((deleted then drop_kept bare 6) ≡ Err NotKept)
-    × ((deleted then keep bare 5) ≡ Err Kept)
-    × (kept_places (deleted then drop_kept bare 5) ≡ 0 ∷ [])
+    × ((deleted then drop_kept places_alone 0) ≡ Err NotKept)
+    × ((deleted then drop_kept places_alone 6) ≡ Err NotKept)
+    × ((deleted then keep places_alone 5) ≡ Err Kept)
+    × (kept_places (deleted then drop_kept places_alone 5) ≡ 0 ∷ [])
 
 pub deleted-case : DeletedCase
 deleted-case = (refl, refl, refl, refl, refl, refl, refl, refl)
@@ -57,11 +58,11 @@ deleted-case = (refl, refl, refl, refl, refl, refl, refl, refl)
 abbrev pub InputCases : Type 0
 InputCases =
     let three = opened (pad 1 ∷ pad 2 ∷ pad 3 ∷ []) 0 in
-    (pads_of (set_input bare 1 (pad 9) three) ≡ pads_of (Ok (opened (pad 1 ∷ pad 9 ∷ pad 3 ∷ []) 0)))
-    × (pads_of (insert_input bare 1 (pad 9) three) ≡ pads_of (Ok (opened (pad 1 ∷ pad 9 ∷ pad 2 ∷ pad 3 ∷ []) 0)))
-    × (pads_of (insert_input bare 3 (pad 9) three) ≡ pads_of (Ok (opened (pad 1 ∷ pad 2 ∷ pad 3 ∷ pad 9 ∷ []) 0)))
-    × (pads_of (delete_input bare 0 three) ≡ pads_of (Ok (opened (pad 2 ∷ pad 3 ∷ []) 0)))
-    × (pads_of (delete_input bare 0 three then undo) ≡ pads_of (Ok three))
+    (pads_of (set_input places_alone 1 (pad 9) three) ≡ pads_of (Ok (opened (pad 1 ∷ pad 9 ∷ pad 3 ∷ []) 0)))
+    × (pads_of (insert_input places_alone 1 (pad 9) three) ≡ pads_of (Ok (opened (pad 1 ∷ pad 9 ∷ pad 2 ∷ pad 3 ∷ []) 0)))
+    × (pads_of (insert_input places_alone 3 (pad 9) three) ≡ pads_of (Ok (opened (pad 1 ∷ pad 2 ∷ pad 3 ∷ pad 9 ∷ []) 0)))
+    × (pads_of (delete_input places_alone 0 three) ≡ pads_of (Ok (opened (pad 2 ∷ pad 3 ∷ []) 0)))
+    × (pads_of (delete_input places_alone 0 three then undo) ≡ pads_of (Ok three))
 
 pub input-cases : InputCases
 input-cases = (refl, refl, refl, refl, refl)
@@ -69,19 +70,19 @@ input-cases = (refl, refl, refl, refl, refl)
 -- refusals, the first one where there are two
 abbrev pub RefusalCases : Type 0
 RefusalCases =
-    (set_input bare 3 (pad 0) (still 3) ≡ Err NoFrame)
-    × (insert_input bare 1 (pad 0) (still 0) ≡ Err NoFrame)
-    × (kept_places (insert_input bare 0 (pad 0) (still 0)) ≡ 0 ∷ [])
-    × (delete_input bare 0 (still 0) ≡ Err NoFrame)
+    (set_input places_alone 3 (pad 0) (still 3) ≡ Err NoFrame)
+    × (insert_input places_alone 1 (pad 0) (still 0) ≡ Err NoFrame)
+    × (kept_places (insert_input places_alone 0 (pad 0) (still 0)) ≡ 0 ∷ [])
+    × (delete_input places_alone 0 (still 0) ≡ Err NoFrame)
     × (insert_refusal 36000 (still 36000).current ≡ Some FullRecording)
     × (insert_refusal 36001 (still 36000).current ≡ Some NoFrame)
     × (insert_refusal 35999 (still 35999).current ≡ None)
     × (undo (still 3) ≡ Err NothingToUndo)
     × (redo (still 3) ≡ Err NothingToRedo)
-    × (keep bare 4 (still 3) ≡ Err NoFrame)
-    × (keep bare 0 (still 3) ≡ Err Kept)
-    × (drop_kept bare 0 (still 3) ≡ Err NotKept)
-    × (drop_kept bare 9 (still 3) ≡ Err NotKept)
+    × (keep places_alone 4 (still 3) ≡ Err NoFrame)
+    × (keep places_alone 0 (still 3) ≡ Err Kept)
+    × (drop_kept places_alone 0 (still 3) ≡ Err NotKept)
+    × (drop_kept places_alone 9 (still 3) ≡ Err NotKept)
 
 pub refusal-cases : RefusalCases
 refusal-cases = (refl, refl, refl, refl, refl, refl, refl, refl, refl, refl, refl, refl, refl)
@@ -90,16 +91,16 @@ refusal-cases = (refl, refl, refl, refl, refl, refl, refl, refl, refl, refl, ref
 abbrev pub KeepEveryCases : Type 0
 KeepEveryCases =
     (multiples 3 6 ≡ 0 ∷ 3 ∷ 6 ∷ [])
-    × (kept_places (keep bare 3 (still 7) then keep_every 2) ≡ 0 ∷ 2 ∷ 3 ∷ 4 ∷ 6 ∷ [])
+    × (kept_places (keep places_alone 3 (still 7) then keep_every 2) ≡ 0 ∷ 2 ∷ 3 ∷ 4 ∷ 6 ∷ [])
     × (kept_places (keep_every 9 (still 7)) ≡ 0 ∷ [])
 
 pub keep-every-cases : KeepEveryCases
 keep-every-cases = (refl, refl, refl)
 
--- 33 edits: 32 of them are undone, and then all of these made again; an edit after an undo empties the redo history
+-- 33 edits: 32 of them are undone, and then made again; an edit after an undo empties the redo history
 abbrev edits : ℕ → Result (Session ℕ) EditRefusal → Result (Session ℕ) EditRefusal
 edits zero session = session
-edits (suc n) session = edits n session then set_input bare 0 (pad (n + 1))
+edits (suc n) session = edits n session then set_input places_alone 0 (pad (n + 1))
 
 abbrev undos : ℕ → Result (Session ℕ) EditRefusal → Result (Session ℕ) EditRefusal
 undos zero session = session
@@ -116,12 +117,12 @@ HistoryCase =
     × (undos 33 made ≡ Err NothingToUndo)
     × (redos 32 (undos 32 made) ≡ made)
     × (redos 33 (undos 32 made) ≡ Err NothingToRedo)
-    × ((undos 2 made then set_input bare 0 (pad 7) then redo) ≡ Err NothingToRedo)
+    × ((undos 2 made then set_input places_alone 0 (pad 7) then redo) ≡ Err NothingToRedo)
 
 pub history-case : HistoryCase
 history-case = (refl, refl, refl, refl, refl)
 
--- ---- entries: states are told apart by their disks
+-- ---- entries: states are rest_after apart by their disks
 
 abbrev state : ℕ → State
 state n = record { page = []; globals = []; channels = silent; disk = n ∷ []; halt = Running }
@@ -129,8 +130,8 @@ state n = record { page = []; globals = []; channels = silent; disk = n ∷ []; 
 abbrev entry : ℕ → ℕ → Bool → Entry
 entry place n linked = record { place = place; state = state n; linked = linked }
 
--- set unlinks the first entry above its input; insert and delete move those above too, and of two on one place
--- the earlier stays
+-- set unlinks the first entry above its input; insert and delete also move those above, and of two on one
+-- place the earlier stays
 abbrev pub EntryCases : Type 0
 EntryCases =
     let kept = entry 0 0 true ∷ entry 5 1 true ∷ entry 6 2 true ∷ entry 9 3 true ∷ [] in
@@ -169,8 +170,8 @@ ChangeCases =
 pub change-cases : ChangeCases
 change-cases = (refl, refl, refl, refl)
 
--- 120 inputs with places 60 and 120 kept, of which an edit has unlinked place 60. Where the same state is found
--- there, the segment after it isn't run; where another one is found, it is
+-- places 60 and 120 are kept, and an edit has unlinked place 60: where the same state is found there, the
+-- segment after it isn't run; where another one is found, it is
 abbrev pub ShowCases : Type 0
 ShowCases =
     let edited = entry 0 0 true ∷ entry 60 1 false ∷ entry 120 2 true ∷ [] in

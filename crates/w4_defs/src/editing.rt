@@ -1,6 +1,9 @@
 //! Editing of recordings.
 
+ghost use Rattle.std.specs.Prelude.{◌≡◌};
+
 use crate::memory::OutOfMemory;
+use std::alloc::{AllocError, AllocFailed};
 
 /// Why an edit, or a change of the kept places, is refused. The causes are looked at in this order, and a
 /// refusal changes nothing.
@@ -25,7 +28,31 @@ pub enum EditRefusal {
 }
 
 impl From<OutOfMemory> for EditRefusal {
+    ghost use Rattle.w4_defs.specs.declared.editing.EditRefusal.TheVariants.{OutOfMemory as NoMemory};
+
+    ghost from_gives = { λ _ refusal. refusal ≡ NoMemory };
+
     fn from(_refusal: OutOfMemory) -> EditRefusal {
+        EditRefusal::OutOfMemory
+    }
+}
+
+impl From<AllocError> for EditRefusal {
+    ghost use Rattle.w4_defs.specs.declared.editing.EditRefusal.TheVariants.{OutOfMemory as NoMemory};
+
+    ghost from_gives = { λ _ refusal. refusal ≡ NoMemory };
+
+    fn from(_refusal: AllocError) -> EditRefusal {
+        EditRefusal::OutOfMemory
+    }
+}
+
+impl<T: Drop> From<AllocFailed<T>> for EditRefusal {
+    ghost use Rattle.w4_defs.specs.declared.editing.EditRefusal.TheVariants.{OutOfMemory as NoMemory};
+
+    ghost from_gives = { λ _ refusal. refusal ≡ NoMemory };
+
+    fn from(_refusal: AllocFailed<T>) -> EditRefusal {
         EditRefusal::OutOfMemory
     }
 }

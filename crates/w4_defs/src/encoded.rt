@@ -12,7 +12,7 @@ ghost use Rattle.w4_defs.specs.Recording.{
   RecordingCases,
   BadRecordingCases,
 };
-ghost use Rattle.w4_defs.specs.Lines.{FirstPiece, LastPiece, LineCases, NumberCases};
+ghost use Rattle.w4_defs.specs.Lines.{FirstPiece, LastPiece, LinesInParts, LineCases, NumberCases};
 ghost use Rattle.w4_defs.specs.OrderFile.{OrdersInParts, FirstBadLine};
 ghost use Rattle.w4_defs.specs.Script.{OrderCases, BadOrderCases, ScriptCases};
 
@@ -39,6 +39,7 @@ pub fn recording_cases()
 pub fn lines_in_order()
     ensures first { FirstPiece }
     ensures last { LastPiece }
+    ensures parts { LinesInParts }
 {}
 
 /// Some lines and numbers.
