@@ -22,18 +22,28 @@ typed_below : (m : WasmModule) → ((k : ℕ) → IsFirstUntyped m k → ⊥) �
 typed_below m none zero h refute = refute (λ k below. absurd (omega (arith, below)))
 typed_below m none (suc n) h refute =
     typed_below m none n (omega (arith, h)) (λ before.
-    none n (omega (arith, h), before, λ typed. refute (λ k below. elim (below_or_last n k below) [
-      inl less ↦ before k less
-    | inr same ↦ subst (IsTypedAt m) (sym same) typed
-    ])))
+    none n (
+      omega (arith, h),
+      before,
+      λ typed. refute (λ k below. elim (below_or_last n k below) [
+        | inl less ↦ before k less
+        | inr same ↦ subst (IsTypedAt m) (sym same) typed
+      ]),
+    ))
 
 valid_or_not : (bytes : List ℕ) → length bytes ≤ 65536 → (m : WasmModule) → SpellsModule bytes m
     → profile_refusal m ≡ None → (IsCart bytes m → ⊥) → ((kind : CartKind) → IsRefused bytes kind → ⊥) → ⊥
 valid_or_not bytes small m spelled within no_cart no_cause =
-    no_cause (Invalid None) (small, m, spelled, within, λ rules.
-    typed_below m (λ k first. no_cause (Invalid (Some k)) (small, m, spelled, within, (rules, first)))
-    (length m.bodies) (omega arith)
-    (λ typed. no_cart (small, spelled, within, (rules, typed))))
+    no_cause (Invalid None) (
+      small,
+      m,
+      spelled,
+      within,
+      λ rules.
+          typed_below m (λ k first. no_cause (Invalid (Some k)) (small, m, spelled, within, (rules, first)))
+          (length m.bodies) (omega arith)
+          (λ typed. no_cart (small, spelled, within, (rules, typed))),
+    )
 
 profile_or_not : (bytes : List ℕ) → length bytes ≤ 65536 → (m : WasmModule) → SpellsModule bytes m
     → (refusal : Option ProfileRefusal) → profile_refusal m ≡ refusal
@@ -45,7 +55,10 @@ profile_or_not bytes small m spelled (Some refusal) found no_cart no_cause =
 
 pub every_file_is_judged : EveryFileIsJudged
 every_file_is_judged bytes no_cart no_cause = elim (small_or_large (length bytes) 65536) [
-    inl small ↦ no_cause Malformed (small, λ m spelled.
-    profile_or_not bytes small m spelled (profile_refusal m) refl (no_cart m) no_cause)
+  | inl small ↦ no_cause Malformed (
+    small,
+    λ m spelled.
+        profile_or_not bytes small m spelled (profile_refusal m) refl (no_cart m) no_cause,
+  )
   | inr large ↦ no_cause TooLarge large
 ]

@@ -65,23 +65,24 @@ pub mod FrameTexts
 pub mod Reading
 pub mod Recording
 pub mod Lines
+pub mod OrderWords
+pub mod OrderFile
 pub mod Script
--- editing
-pub mod Session
-pub mod SameState
-pub mod KeptList
-pub mod WorkedSessions
 -- made carts, netplay, memory search, batches, sound
 pub mod Generator
 pub mod MadeSummary
 pub mod MadeLaws
-pub mod OrderWords
 pub mod Rollback
 pub mod NetLog
 pub mod Search
 pub mod RamQuery
 pub mod Batch
 pub mod Sound
+-- editing
+pub mod Session
+pub mod SameState
+pub mod KeptList
+pub mod WorkedSessions
 -- worked cases and laws
 pub mod WorkedNumbers
 pub mod EmptyCart

@@ -3,12 +3,13 @@
 --   next
 --   keep P, show P, state P
 -- Anything else makes a line bad.
-use Rattle.std.specs.Prelude.{◌≡◌, ℕ, List, [], ◌∷◌, codes, bytes_eq, if◌then◌else◌, Option, Some, None, refl}
+use Rattle.std.specs.Prelude.{◌≡◌, ℕ, List, [], ◌∷◌, ◌++◌, codes, bytes_eq, if◌then◌else◌, Option, Some, None, Result, Ok, Err, refl}
 use Rattle.w4_defs.specs.declared.netplay.NetOrder.{NetOrder}
 use Rattle.w4_defs.specs.declared.netplay.NetOrder.TheVariants.{Pad, Next, Keep, Show, StateAt}
 use Rattle.w4_defs.specs.Reading.{◌>>=◌}
-use Rattle.w4_defs.specs.Lines.{number_of, byte_of}
+use Rattle.w4_defs.specs.Lines.{lines_from, number_of, byte_of}
 use Rattle.w4_defs.specs.OrderWords.{no_word, one_number}
+use Rattle.w4_defs.specs.OrderFile.{ScriptFault, BadLine, orders_in, file_of}
 
 -- a packet of three words
 abbrev pub packet_words : List (List ℕ) → Option NetOrder
@@ -34,7 +35,11 @@ abbrev pub net_order_of : List (List ℕ) → Option NetOrder
 net_order_of [] = None
 net_order_of (name ∷ words) = net_order_named name words
 
--- Worked cases: each kind of line, and ways to be bad
+-- the orders of a log
+unfoldable pub net_log_of : List ℕ → Result (List NetOrder) ScriptFault
+net_log_of bytes = file_of net_order_of bytes
+
+-- Worked cases: each kind of line, ways to be bad, and a log whose third line is bad
 abbrev pub NetOrderCases : Type 0
 NetOrderCases =
     (net_order_of (codes "pad" ∷ codes "4" ∷ codes "36000" ∷ codes "255" ∷ [])
@@ -43,6 +48,7 @@ NetOrderCases =
     × (net_order_of (codes "keep" ∷ codes "7" ∷ []) ≡ Some (Keep 7))
     × (net_order_of (codes "show" ∷ codes "02" ∷ []) ≡ Some (Show 2))
     × (net_order_of (codes "state" ∷ codes "0" ∷ []) ≡ Some (StateAt 0))
+    × (net_log_of (codes "next" ++ 10 ∷ codes "# next" ++ 10 ∷ codes "show 2") ≡ Ok (Next ∷ Show 2 ∷ []))
 
 abbrev pub BadNetOrderCases : Type 0
 BadNetOrderCases =
@@ -54,11 +60,13 @@ BadNetOrderCases =
     × (net_order_of (codes "next" ∷ codes "1" ∷ []) ≡ None)
     × (net_order_of (codes "keep" ∷ []) ≡ None)
     × (net_order_of (codes "drop" ∷ codes "0" ∷ []) ≡ None)
+    × (net_log_of (codes "next" ++ 10 ∷ codes "# next" ++ 10 ∷ codes "pad" ++ 10 ∷ codes "x" ++ 10 ∷ [])
+    ≡ Err (BadLine 3))
 
 pub net-order-cases : NetOrderCases
-unfolding net_order_named number_of byte_of
-net-order-cases = (refl, refl, refl, refl, refl)
+unfolding net_log_of orders_in lines_from net_order_named number_of byte_of
+net-order-cases = (refl, refl, refl, refl, refl, refl)
 
 pub bad-net-order-cases : BadNetOrderCases
-unfolding net_order_named number_of byte_of
-bad-net-order-cases = (refl, refl, refl, refl, refl, refl, refl, refl)
+unfolding net_log_of orders_in lines_from net_order_named number_of byte_of
+bad-net-order-cases = (refl, refl, refl, refl, refl, refl, refl, refl, refl)

@@ -5,14 +5,15 @@
 --   is P VALUE, same P, changed P, more P, less P
 --   list
 -- Anything else makes a line bad.
-use Rattle.std.specs.Prelude.{◌≡◌, ℕ, ◌==◌, ◌||◌, nat_le, List, [], ◌∷◌, codes, bytes_eq, if◌then◌else◌, Option, Some, None, refl}
+use Rattle.std.specs.Prelude.{◌≡◌, ℕ, ◌==◌, ◌||◌, nat_le, List, [], ◌∷◌, ◌++◌, codes, bytes_eq, if◌then◌else◌, Option, Some, None, Result, Ok, Err, refl}
 use Rattle.w4_defs.specs.declared.inspect.Ask.{Ask}
 use Rattle.w4_defs.specs.declared.inspect.Ask.TheVariants as ask
 use Rattle.w4_defs.specs.declared.inspect.Test.{Test}
 use Rattle.w4_defs.specs.declared.inspect.Test.TheVariants.{Is, Same, Changed, More, Less}
 use Rattle.w4_defs.specs.Reading.{◌>>=◌}
-use Rattle.w4_defs.specs.Lines.{number_of}
+use Rattle.w4_defs.specs.Lines.{lines_from, number_of}
 use Rattle.w4_defs.specs.OrderWords.{no_word, one_number}
+use Rattle.w4_defs.specs.OrderFile.{ScriptFault, BadLine, orders_in, file_of}
 
 -- a width
 abbrev pub width_of : List ℕ → Option ℕ
@@ -63,7 +64,11 @@ abbrev pub ask_of : List (List ℕ) → Option Ask
 ask_of [] = None
 ask_of (name ∷ words) = ask_named name words
 
--- Worked cases: each kind of line, and ways to be bad
+-- the requests of a query
+unfoldable pub query_of : List ℕ → Result (List Ask) ScriptFault
+query_of bytes = file_of ask_of bytes
+
+-- Worked cases: each kind of line, ways to be bad, and a query whose second line is bad
 abbrev pub AskCases : Type 0
 AskCases =
     (ask_of (codes "watch" ∷ codes "160" ∷ codes "1" ∷ codes "0" ∷ codes "2" ∷ [])
@@ -77,6 +82,7 @@ AskCases =
     × (ask_of (codes "more" ∷ codes "3" ∷ []) ≡ Some (ask.Narrow 3 More))
     × (ask_of (codes "less" ∷ codes "3" ∷ []) ≡ Some (ask.Narrow 3 Less))
     × (ask_of (codes "list" ∷ []) ≡ Some ask.List)
+    × (query_of (codes "start 1 1" ++ 10 ∷ codes "list") ≡ Ok (ask.Start 1 1 ∷ ask.List ∷ []))
 
 abbrev pub BadAskCases : Type 0
 BadAskCases =
@@ -89,11 +95,12 @@ BadAskCases =
     × (ask_of (codes "more" ∷ codes "3" ∷ codes "1" ∷ []) ≡ None)
     × (ask_of (codes "list" ∷ codes "1" ∷ []) ≡ None)
     × (ask_of (codes "find" ∷ []) ≡ None)
+    × (query_of (codes "list" ++ 10 ∷ codes "start 3 1" ++ 10 ∷ []) ≡ Err (BadLine 2))
 
 pub ask-cases : AskCases
-unfolding ask_named number_of
-ask-cases = (refl, refl, refl, refl, refl, refl, refl, refl, refl)
+unfolding query_of orders_in lines_from ask_named number_of
+ask-cases = (refl, refl, refl, refl, refl, refl, refl, refl, refl, refl)
 
 pub bad-ask-cases : BadAskCases
-unfolding ask_named number_of
-bad-ask-cases = (refl, refl, refl, refl, refl, refl, refl, refl, refl)
+unfolding query_of orders_in lines_from ask_named number_of
+bad-ask-cases = (refl, refl, refl, refl, refl, refl, refl, refl, refl, refl)

@@ -10,20 +10,17 @@
 --   film A B W                       A at most B, W 1 to 16
 --   tones A B, traces A B            A at most B
 -- Anything else makes a line bad.
-use Rattle.std.specs.Prelude.{◌≡◌, ℕ, ◌&&◌, Bool, true, false, List, [], ◌∷◌, ◌++◌, length, codes, Option, Some, None, Result, Ok, Err, nat_le, if◌then◌else◌, refl, pos, negsuc}
+use Rattle.std.specs.Prelude.{◌≡◌, ℕ, ◌&&◌, Bool, true, false, List, [], ◌∷◌, ◌++◌, codes, Option, Some, None, Result, Ok, Err, nat_le, if◌then◌else◌, refl, pos, negsuc}
 use Rattle.std.specs.Str.{bytes_eq}
 use Rattle.w4_defs.specs.declared.console.Input.{Input}
 use Rattle.w4_defs.specs.declared.order.Order.{Order}
 use Rattle.w4_defs.specs.declared.order.Order.TheVariants.{Set, Insert, Delete, Undo, Redo, Keep, KeepEvery, DropKept, Settle, Show, Film, Tones, Traces, DiskAt, StateAt}
 use Rattle.w4_defs.specs.Reading.{◌>>=◌}
-use Rattle.w4_defs.specs.Lines.{Line, words_of, lines_from, lines_of, number_of, byte_of, coordinate_of}
+use Rattle.w4_defs.specs.Lines.{words_of, lines_from, number_of, byte_of, coordinate_of}
+use Rattle.w4_defs.specs.OrderWords.{no_word, one_number}
+use Rattle.w4_defs.specs.OrderFile.{ScriptFault, BadLine, orders_in, file_of}
 
 -- ---- the words after an order's name
-
--- no word
-abbrev pub alone : Order → List (List ℕ) → Option Order
-alone order [] = Some order
-alone order (word ∷ words) = None
 
 -- one number, from least to most
 abbrev pub numbered : (ℕ → Order) → ℕ → ℕ → List (List ℕ) → Option Order
@@ -31,10 +28,6 @@ numbered make least most (word ∷ []) = do
   n ← number_of word
   if nat_le least n && nat_le n most then Some (make n) else None
 numbered make least most words = None
-
--- one number
-abbrev pub placed : (ℕ → Order) → List (List ℕ) → Option Order
-placed make words = numbered make 0 4294967295 words
 
 -- two places, the first at most the second
 abbrev pub ranged : (ℕ → ℕ → Order) → List (List ℕ) → Option Order
@@ -87,19 +80,19 @@ unfoldable pub order_named : List ℕ → List (List ℕ) → Option Order
 order_named name words =
     if bytes_eq name (codes "set") then framed Set words else
     if bytes_eq name (codes "insert") then framed Insert words else
-    if bytes_eq name (codes "delete") then placed Delete words else
-    if bytes_eq name (codes "undo") then alone Undo words else
-    if bytes_eq name (codes "redo") then alone Redo words else
-    if bytes_eq name (codes "keep") then placed Keep words else
+    if bytes_eq name (codes "delete") then one_number Delete words else
+    if bytes_eq name (codes "undo") then no_word Undo words else
+    if bytes_eq name (codes "redo") then no_word Redo words else
+    if bytes_eq name (codes "keep") then one_number Keep words else
     if bytes_eq name (codes "keep-every") then numbered KeepEvery 1 4294967295 words else
-    if bytes_eq name (codes "drop") then placed DropKept words else
+    if bytes_eq name (codes "drop") then one_number DropKept words else
     if bytes_eq name (codes "settle") then numbered Settle 1 16 words else
-    if bytes_eq name (codes "show") then placed Show words else
+    if bytes_eq name (codes "show") then one_number Show words else
     if bytes_eq name (codes "film") then filmed words else
     if bytes_eq name (codes "tones") then ranged Tones words else
     if bytes_eq name (codes "traces") then ranged Traces words else
-    if bytes_eq name (codes "disk") then placed DiskAt words else
-    if bytes_eq name (codes "state") then placed StateAt words else
+    if bytes_eq name (codes "disk") then one_number DiskAt words else
+    if bytes_eq name (codes "state") then one_number StateAt words else
     None
 
 -- the order of a line's words
@@ -107,38 +100,9 @@ abbrev pub order_of : List (List ℕ) → Option Order
 order_of [] = None
 order_of (name ∷ words) = order_named name words
 
--- why bytes are no script: they are too many, or this line is the first bad one
-pub data ScriptFault : Type 0 where
-  TooLong : ScriptFault
-  BadLine : (number : ℕ) → ScriptFault
-
--- an order before those that follow it, or the number of the first bad line
-abbrev pub with_order : ℕ → Option Order → Result (List Order) ScriptFault → Result (List Order) ScriptFault
-with_order number None more = Err (BadLine number)
-with_order number (Some order) (Ok orders) = Ok (order ∷ orders)
-with_order number (Some order) (Err fault) = Err fault
-
--- the orders of these lines
-unfoldable pub orders_of : List Line → Result (List Order) ScriptFault
-orders_of [] = Ok []
-orders_of (line ∷ lines) = with_order line.number (order_of line.words) (orders_of lines)
-
 -- the orders of a script
 unfoldable pub script_of : List ℕ → Result (List Order) ScriptFault
-script_of bytes = if nat_le (length bytes) 1048576 then orders_of (lines_of bytes) else Err TooLong
-
--- ---- laws
-
--- the orders of lines are those of the first ones and then those of the others, and a bad line ends them
-abbrev pub OrdersInParts : Type 0
-OrdersInParts = (front lines : List Line) (before orders : List Order) →
-    orders_of front ≡ Ok before → orders_of lines ≡ Ok orders
-    → orders_of (front ++ lines) ≡ Ok (before ++ orders)
-
-abbrev pub FirstBadLine : Type 0
-FirstBadLine = (front lines : List Line) (line : Line) (before : List Order) →
-    orders_of front ≡ Ok before → order_of line.words ≡ None
-    → orders_of (front ++ line ∷ lines) ≡ Err (BadLine line.number)
+script_of bytes = file_of order_of bytes
 
 -- ---- worked cases
 
@@ -266,5 +230,5 @@ bad-order-cases = (
 )
 
 pub script-cases : ScriptCases
-unfolding script_of orders_of lines_from order_named number_of byte_of coordinate_of
+unfolding script_of orders_in lines_from order_named number_of byte_of coordinate_of
 script-cases = (refl, refl, refl, refl)

@@ -13,7 +13,8 @@ ghost use Rattle.w4_defs.specs.Recording.{
   BadRecordingCases,
 };
 ghost use Rattle.w4_defs.specs.Lines.{FirstPiece, LastPiece, LinesInParts, LineCases, NumberCases};
-ghost use Rattle.w4_defs.specs.Script.{OrdersInParts, FirstBadLine, OrderCases, BadOrderCases, ScriptCases};
+ghost use Rattle.w4_defs.specs.OrderFile.{OrdersInParts, FirstBadLine};
+ghost use Rattle.w4_defs.specs.Script.{OrderCases, BadOrderCases, ScriptCases};
 
 /// What bytes encode is decoded, and what is decoded is encoded: bytes encode at most one recording, in
 /// either version, and a recording has one encoding of version 2, which is decoded again.
@@ -47,10 +48,10 @@ pub fn line_cases()
     ensures numbers { NumberCases }
 {}
 
-/// Orders are read line by line, up to the first bad one.
-pub fn orders_in_order()
-    ensures parts { OrdersInParts }
-    ensures bad { FirstBadLine }
+/// Orders of any kind are read line by line, up to the first bad one.
+pub fn orders_in_order<O>()
+    ensures parts { OrdersInParts O }
+    ensures bad { FirstBadLine O }
 {}
 
 /// A line of each kind, each way in which a line is bad, and some scripts.
