@@ -18,8 +18,10 @@ pub mod RunLaws
 pub mod LogLaws
 pub mod ToneLaws
 pub mod FrameLaws
+pub mod OptionLaws
 pub mod ReadingLaws
 pub mod RecordingLaws
+pub mod DecodingLaws
 pub mod LineLaws
 pub mod ScriptLaws
 pub mod SameStateLaws

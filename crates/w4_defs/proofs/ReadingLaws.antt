@@ -21,17 +21,6 @@ number_again w bytes rest n len value =
     ≡ false = le-ltb _ _ (omega (arith, len, length-append bytes rest)) in
     rw (long, take_at bytes rest (byte_len w) len, drop_at bytes rest (byte_len w) len, value) refl
 
--- a reader of two steps that reads has read both
-pub bind_some : {A B : Type 0} (o : Option A) (f : A → Option B) (y : B) → (o >>= f) ≡ Some y
-    → (x : A) × (o ≡ Some x) × (f x ≡ Some y)
-bind_some (Some x) f y e = (x, refl, e)
-bind_some None f y e = absurd cc
-
-pub if_some : {A : Type 0} (c : Bool) (o : Option A) (z : A) → cond c o None ≡ Some z
-    → (c ≡ true) × (o ≡ Some z)
-if_some true o z e = (refl, e)
-if_some false o z e = absurd cc
-
 abbrev both : {A B : Type 0} → A → B → Option (A × B)
 both a b = Some (a, b)
 

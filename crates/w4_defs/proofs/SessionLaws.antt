@@ -3,6 +3,7 @@ use Rattle.std.proofs.Common.{◌≡◌, ◌+◌, ◌-◌, ◌≤◌, List, [], 
 use Rattle.std.specs.List.{slice_get}
 use Rattle.std.proofs.lemmas.List.{length-append, length-drop, take_at, drop-append-le}
 use Rattle.w4_defs.specs.Session.{Draft, Session, keep_last, last_item, without_last, undone, redone, HasBoundedHistory, HistoryStaysBounded, UndoTakesBack, RedoTakesBack, UndoTakesBackRedo}
+use Rattle.w4_defs.proofs.OptionLaws.{some_same, no_none}
 
 -- a list is empty or ends with an item
 abbrev EndsWith : {A : Type 0} → List A → Type 0
@@ -46,12 +47,6 @@ redone_from current draft older front =
     ap (option_map (λ d. parts d (older ++ current ∷ []) (without_last (front ++ draft ∷ []))))
     (last_of front draft)
     ∙ ap (λ n. Some (parts draft (older ++ current ∷ []) n)) (front_of front draft)
-
-some_same : {A : Type 0} (a b : A) → Some a ≡ Some b → a ≡ b
-some_same {A} a b e = let inside : Option A → A = λ o. elim o [ Some x ↦ x | None ↦ a ] in ap inside e
-
-no_none : {A : Type 0} (a : A) → None ≡ Some a → ⊥
-no_none a e = cc
 
 pub redo_takes_back : {A : Type 0} → RedoTakesBack A
 redo_takes_back {A} session other e = elim (split_last session.older) [

@@ -69,7 +69,8 @@ abbrev pub HasCartGlobals : WasmModule → State → Type 0
 HasCartGlobals cart state = types_of state.globals ≡ map (λ g. g.global.value) cart.globals
 
 -- every entry of a kept list is true of the inputs
-pub record IsConsistent (setup : Setup) (disk : List ℕ) (inputs : List Input) (kept : List Entry) : Type 0 where
+pub record IsConsistent (setup : Setup) (disk : List ℕ) (inputs : List Input)
+    (kept : List Entry) : Type 0 where
   pub some : 0 < length kept
   pub few : length kept ≤ 1024
   pub first_place : place_at kept 0 ≡ 0

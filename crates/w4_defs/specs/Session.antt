@@ -225,7 +225,8 @@ multiples every last = filter (λ p. p % every == 0) (range_with_len 0 (last + 1
 
 abbrev pub all_kept : List ℕ → List ℕ → List ℕ
 all_kept [] kept = kept
-all_kept (p ∷ places) kept = all_kept places (if is_kept places_alone p kept then kept else with_kept places_alone p kept)
+all_kept (p ∷ places) kept = all_kept places
+    (if is_kept places_alone p kept then kept else with_kept places_alone p kept)
 
 abbrev pub keep_every : ℕ → Session ℕ → Result (Session ℕ) EditRefusal
 keep_every every session =
@@ -273,20 +274,26 @@ session_of_places kind session = record {
   newer = map (draft_of_places kind) session.newer;
 }
 
-abbrev pub result_of_places : {A : Type 0} → Kind A → Result (Session A) EditRefusal → Result (Session ℕ) EditRefusal
+abbrev pub result_of_places : {A : Type 0} → Kind A → Result (Session A) EditRefusal
+    → Result (Session ℕ) EditRefusal
 result_of_places kind (Ok session) = Ok (session_of_places kind session)
 result_of_places kind (Err refusal) = Err refusal
 
 -- what is kept besides the places changes neither a place nor a refusal
 abbrev pub PlacesDecide : {A : Type 0} → Kind A → Type 0
 PlacesDecide {A} kind = (session : Session A) (k : ℕ) (input : Input) (x : A) →
-    (result_of_places kind (set_input kind k input session) ≡ set_input places_alone k input (session_of_places kind session))
-    × (result_of_places kind (insert_input kind k input session) ≡ insert_input places_alone k input (session_of_places kind session))
-    × (result_of_places kind (delete_input kind k session) ≡ delete_input places_alone k (session_of_places kind session))
+    (result_of_places kind (set_input kind k input session)
+    ≡ set_input places_alone k input (session_of_places kind session))
+    × (result_of_places kind (insert_input kind k input session)
+    ≡ insert_input places_alone k input (session_of_places kind session))
+    × (result_of_places kind (delete_input kind k session)
+    ≡ delete_input places_alone k (session_of_places kind session))
     × (result_of_places kind (undo session) ≡ undo (session_of_places kind session))
     × (result_of_places kind (redo session) ≡ redo (session_of_places kind session))
-    × (result_of_places kind (keep kind x session) ≡ keep places_alone (kind.place x) (session_of_places kind session))
-    × (result_of_places kind (drop_kept kind k session) ≡ drop_kept places_alone k (session_of_places kind session))
+    × (result_of_places kind (keep kind x session)
+    ≡ keep places_alone (kind.place x) (session_of_places kind session))
+    × (result_of_places kind (drop_kept kind k session)
+    ≡ drop_kept places_alone k (session_of_places kind session))
 
 -- an accepted edit, keep or drop leaves places of the recording as it then is
 abbrev pub PlacesStayRight : Type 0
@@ -294,5 +301,6 @@ PlacesStayRight = (n k : ℕ) (places : List ℕ) → ArePlaces n places →
     ArePlaces n (kept_after_set places_alone k places)
     × (k ≤ n → ArePlaces (n + 1) (kept_after_insert places_alone k places))
     × (k < n → ArePlaces (n - 1) (kept_after_delete places_alone k places))
-    × (k ≤ n → is_kept places_alone k places ≡ false → length places < 1024 → ArePlaces n (with_kept places_alone k places))
+    × (k ≤ n → is_kept places_alone k places ≡ false → length places < 1024
+    → ArePlaces n (with_kept places_alone k places))
     × (k ≢ 0 → ArePlaces n (without places_alone k places))

@@ -59,8 +59,10 @@ abbrev pub InputCases : Type 0
 InputCases =
     let three = opened (pad 1 ∷ pad 2 ∷ pad 3 ∷ []) 0 in
     (pads_of (set_input places_alone 1 (pad 9) three) ≡ pads_of (Ok (opened (pad 1 ∷ pad 9 ∷ pad 3 ∷ []) 0)))
-    × (pads_of (insert_input places_alone 1 (pad 9) three) ≡ pads_of (Ok (opened (pad 1 ∷ pad 9 ∷ pad 2 ∷ pad 3 ∷ []) 0)))
-    × (pads_of (insert_input places_alone 3 (pad 9) three) ≡ pads_of (Ok (opened (pad 1 ∷ pad 2 ∷ pad 3 ∷ pad 9 ∷ []) 0)))
+    × (pads_of (insert_input places_alone 1 (pad 9) three)
+    ≡ pads_of (Ok (opened (pad 1 ∷ pad 9 ∷ pad 2 ∷ pad 3 ∷ []) 0)))
+    × (pads_of (insert_input places_alone 3 (pad 9) three)
+    ≡ pads_of (Ok (opened (pad 1 ∷ pad 2 ∷ pad 3 ∷ pad 9 ∷ []) 0)))
     × (pads_of (delete_input places_alone 0 three) ≡ pads_of (Ok (opened (pad 2 ∷ pad 3 ∷ []) 0)))
     × (pads_of (delete_input places_alone 0 three then undo) ≡ pads_of (Ok three))
 
@@ -136,12 +138,16 @@ abbrev pub EntryCases : Type 0
 EntryCases =
     let kept = entry 0 0 true ∷ entry 5 1 true ∷ entry 6 2 true ∷ entry 9 3 true ∷ [] in
     (kept_after_set entries 4 kept ≡ entry 0 0 true ∷ entry 5 1 false ∷ entry 6 2 true ∷ entry 9 3 true ∷ [])
-    × (kept_after_set entries 5 kept ≡ entry 0 0 true ∷ entry 5 1 true ∷ entry 6 2 false ∷ entry 9 3 true ∷ [])
+    × (kept_after_set entries 5 kept
+    ≡ entry 0 0 true ∷ entry 5 1 true ∷ entry 6 2 false ∷ entry 9 3 true ∷ [])
     × (kept_after_set entries 9 kept ≡ kept)
-    × (kept_after_insert entries 5 kept ≡ entry 0 0 true ∷ entry 5 1 true ∷ entry 7 2 false ∷ entry 10 3 true ∷ [])
+    × (kept_after_insert entries 5 kept
+    ≡ entry 0 0 true ∷ entry 5 1 true ∷ entry 7 2 false ∷ entry 10 3 true ∷ [])
     × (kept_after_delete entries 5 kept ≡ entry 0 0 true ∷ entry 5 1 true ∷ entry 8 3 false ∷ [])
-    × (kept_after_delete entries 4 kept ≡ entry 0 0 true ∷ entry 4 1 false ∷ entry 5 2 true ∷ entry 8 3 true ∷ [])
-    × (kept_after_delete entries 6 kept ≡ entry 0 0 true ∷ entry 5 1 true ∷ entry 6 2 true ∷ entry 8 3 false ∷ [])
+    × (kept_after_delete entries 4 kept
+    ≡ entry 0 0 true ∷ entry 4 1 false ∷ entry 5 2 true ∷ entry 8 3 true ∷ [])
+    × (kept_after_delete entries 6 kept
+    ≡ entry 0 0 true ∷ entry 5 1 true ∷ entry 6 2 true ∷ entry 8 3 false ∷ [])
 
 pub entry-cases : EntryCases
 entry-cases = (refl, refl, refl, refl, refl, refl, refl)
@@ -153,7 +159,8 @@ DropCases =
     (without_entry 5 kept ≡ entry 0 0 true ∷ entry 6 2 true ∷ entry 9 3 false ∷ [])
     × (without_entry 6 kept ≡ entry 0 0 true ∷ entry 5 1 true ∷ entry 9 3 false ∷ [])
     × (without_entry 9 kept ≡ entry 0 0 true ∷ entry 5 1 true ∷ entry 6 2 true ∷ [])
-    × (without_entry 5 (entry 0 0 true ∷ entry 5 1 false ∷ entry 6 2 true ∷ []) ≡ entry 0 0 true ∷ entry 6 2 false ∷ [])
+    × (without_entry 5 (entry 0 0 true ∷ entry 5 1 false ∷ entry 6 2 true ∷ [])
+    ≡ entry 0 0 true ∷ entry 6 2 false ∷ [])
 
 pub drop-cases : DropCases
 drop-cases = (refl, refl, refl, refl)

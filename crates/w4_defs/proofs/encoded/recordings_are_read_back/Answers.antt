@@ -1,4 +1,5 @@
-use Rattle.w4_defs.proofs.RecordingLaws.{again_2, decoded_is_encoded, encoded_is_decoded, encodes_at_most_one, encoding_length, longest_encoding, one_encoding, rewritten_is_same}
+use Rattle.w4_defs.proofs.RecordingLaws.{again_2}
+use Rattle.w4_defs.proofs.DecodingLaws.{decoded_is_encoded, encoded_is_decoded, encodes_at_most_one, encoding_length, longest_encoding, one_encoding, rewritten_is_same}
 use Rattle.w4_defs.proofs.encoded.recordings_are_read_back.Goals as goal
 
 pub returns-clause-decoded : goal.returns-clause-decoded
