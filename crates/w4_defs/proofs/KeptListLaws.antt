@@ -1,13 +1,14 @@
 -- What a chain of links says, what an edit unlinks, and the places of a consistent kept list.
 use Rattle.std.proofs.Common.{◌≡◌, ℕ, zero, suc, ◌+◌, ◌-◌, ◌<◌, ◌≤◌, Bool, true, false, cond, not, ltb, List, [], ◌∷◌, length, take, drop, Option, Some, None, option_map, refl, ap, ◌∙◌, subst, arith, add-one}
 use Rattle.std.specs.Option.{option_and_then}
+use Rattle.std.specs.List.{insert}
 use Rattle.std.proofs.lemmas.List.{length-map}
 use Rattle.w4_defs.specs.declared.console.Input.{Input}
 use Rattle.w4_defs.specs.State.{Moment}
 use Rattle.w4_defs.specs.Reset.{Setup, reset}
 use Rattle.w4_defs.specs.Run.{fold, run_state}
 use Rattle.w4_defs.specs.Session.{Rise}
-use Rattle.w4_defs.specs.KeptList.{Entry, entries, place_at, places_of, state_at, linked_at, first_above, computed, ConsistentPlaces, LinkedIsRun, unlinked_at, UnlinksOne}
+use Rattle.w4_defs.specs.KeptList.{Entry, entries, place_at, places_of, state_at, linked_at, first_above, computed, ConsistentPlaces, LinkedIsRun, unlinked_at, UnlinksOne, KeptInOrder}
 use Rattle.w4_defs.proofs.RunLaws.{runs_between}
 
 -- ---- linked entries
@@ -61,6 +62,17 @@ unlinks_one p [] = refl
 unlinks_one p (x ∷ kept) =
     ap (λ rest. cond (ltb p x.place) (entries.unlinked x ∷ kept) (x ∷ rest)) (unlinks_one p kept)
     ∙ unlinks_here (ltb p x.place) (first_above p kept) x kept
+
+put_here : (b : Bool) (n : ℕ) (x y : Entry) (kept : List Entry)
+    → cond b (x ∷ y ∷ kept) (y ∷ insert kept n x) ≡ insert (y ∷ kept) (cond (not b) (1 + n) 0) x
+put_here true n x y kept = refl
+put_here false n x y kept = let e : suc n ≡ 1 + n = omega arith in ap (λ k. insert (y ∷ kept) k x) e
+
+pub kept_in_order : KeptInOrder
+kept_in_order x [] = refl
+kept_in_order x (y ∷ kept) =
+    ap (λ rest. cond (ltb x.place y.place) (x ∷ y ∷ kept) (y ∷ rest)) (kept_in_order x kept)
+    ∙ put_here (ltb x.place y.place) (first_above x.place kept) x y kept
 
 -- ---- places
 

@@ -5,7 +5,7 @@ use Rattle.std.proofs.lemmas.Bool.{cases_lt, le-ltb, ltb-false}
 use Rattle.std.proofs.lemmas.List.{take_at, drop_at, length-append, length-take, take-append-drop, get_or_append_left, get_or-append-add}
 use Rattle.std.proofs.Math.ListN.{get_or-eq_default}
 use Rattle.std.proofs.lemmas.Nat.{le_bytes_2, le_bytes_4}
-use Rattle.w4_defs.specs.Reading.{◌>>=◌, IsBytes, front_at, number_at}
+use Rattle.w4_defs.specs.Reading.{IsBytes, front_at, number_at}
 
 pub front_again : (front rest : List ℕ) (n : ℕ) → length front ≡ n
     → front_at n (front ++ rest) ≡ Some (front, rest)

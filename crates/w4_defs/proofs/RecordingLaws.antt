@@ -1,22 +1,16 @@
 -- What bytes encode is decoded.
-use mir.Val.{Fits}
-use Rattle.std.proofs.Common.{◌≡◌, ℕ, zero, suc, ◌+◌, ◌*◌, ◌/◌, ◌%◌, ◌^◌, ◌<◌, ◌≤◌, ◌⊎◌, inl, inr, true, false, cond, eqb, leb, ◌&&◌, List, [], ◌∷◌, ◌++◌, length, get_or, Option, Some, None, refl, sym, ap, ◌∙◌, subst, append_assoc, arith, ℤ, Bool, FitsSigned, ne_eqb, eqb-true}
-use Rattle.std.specs.Str.{bytes_eq}
+use Rattle.std.proofs.Common.{◌≡◌, ℕ, ◌+◌, ◌*◌, ◌/◌, ◌%◌, ◌≤◌, ◌⊎◌, true, false, List, [], ◌∷◌, ◌++◌, length, Some, refl, sym, ap, ◌∙◌, append_assoc, arith, ℤ, Bool, FitsSigned}
 use Rattle.std.specs.List.{flat_map, AllByRecursion}
 use Rattle.std.specs.Int.{w16, w32, from_le_bytes, to_le_bytes, cast_signed, cast_unsigned}
-use Rattle.std.proofs.lemmas.Bool.{cases_eq, le-leb, leb-true}
-use Rattle.std.proofs.lemmas.List.{length-append}
+use Rattle.std.proofs.lemmas.Bool.{le-leb}
 use Rattle.std.proofs.lemmas.List.Concat.{flat_map-cons}
-use Rattle.std.proofs.lemmas.Slice.Eq.{bytes_eq-Decides}
-use Rattle.std.proofs.lemmas.Int.{to_z-of_z, of_z-to_z}
-use Rattle.std.proofs.Math.Facts.{sfits_to_z}
-use Rattle.std.proofs.Math.Nat.{mul-suc}
+use Rattle.std.proofs.lemmas.Int.{to_z-of_z}
 use Rattle.std.proofs.lemmas.Nat.{from_le_bytes-to_le_bytes_2, from_le_bytes-to_le_bytes_4}
 use Rattle.w4_defs.specs.declared.console.Input.{Input}
 use Rattle.w4_defs.specs.MemoryMap.{input_bytes}
-use Rattle.w4_defs.specs.Reading.{◌>>=◌, IsBytes, front_at, number_at}
-use Rattle.w4_defs.specs.Recording.{Recording, IsInput, IsRecording, heading, flag_of, frame_size, frame_bytes, encoding, HasNoReset, IsEncoded, EncodedIsDecoded, DecodedIsEncoded, EncodesAtMostOne, OneEncoding, RewrittenIsSame, EncodingLength, LongestEncoding, version_of, input_of, reset_of, frame_of, frames_of, is_within, recording_of}
-use Rattle.w4_defs.proofs.ReadingLaws.{front_again, number_again, front_read, front_bytes, rest_bytes, number_read_2, number_read_4}
+use Rattle.w4_defs.specs.Reading.{◌>>=◌}
+use Rattle.w4_defs.specs.Recording.{Recording, IsInput, IsRecording, heading, flag_of, frame_size, frame_bytes, encoding, HasNoReset, version_of, input_of, reset_of, frame_of, frames_of, recording_of}
+use Rattle.w4_defs.proofs.ReadingLaws.{front_again, number_again}
 
 -- a version that there is
 abbrev pub IsVersion : ℕ → Type 0

@@ -1,7 +1,7 @@
 -- Kept lists with states and links (project rule). An entry has a place, a state and a link. The link says
 -- that the state is what the inputs between make of the state of the entry before. Entry 0 has the state of
 -- the reset and is always linked. An unlinked state needn't belong to any run of the inputs as they are.
-use Rattle.std.specs.Prelude.{◌≡◌, ℕ, zero, suc, ◌+◌, ◌-◌, ◌≤◌, ◌<◌, ◌&&◌, Bool, true, false, List, [], map, length, slice_index_or, slice_range, slice_set, Option, Some, option_map, nat_lt, if◌then◌else◌}
+use Rattle.std.specs.Prelude.{◌≡◌, ℕ, zero, suc, ◌+◌, ◌-◌, ◌≤◌, ◌<◌, ◌&&◌, Bool, true, false, List, [], map, length, slice_index_or, slice_range, slice_set, insert, Option, Some, option_map, nat_lt, if◌then◌else◌}
 use Rattle.std.specs.List.{position_or_len, All}
 use Rattle.w4_defs.specs.declared.console.Input.{Input}
 use Rattle.w4_defs.specs.Module.{WasmModule}
@@ -10,7 +10,7 @@ use Rattle.w4_defs.specs.State.{State, blank_state}
 use Rattle.w4_defs.specs.SameState.{same_state}
 use Rattle.w4_defs.specs.Reset.{Setup, reset}
 use Rattle.w4_defs.specs.Run.{fold, run_state}
-use Rattle.w4_defs.specs.Session.{Kind, ArePlaces, Draft, Session, unlink_above, without}
+use Rattle.w4_defs.specs.Session.{Kind, ArePlaces, Draft, Session, unlink_above, with_kept, without}
 
 pub record Entry : Type 0 where
   pub place : ℕ
@@ -121,6 +121,10 @@ replaced_at i state kept =
 -- what an edit unlinks, by its number
 abbrev pub UnlinksOne : Type 0
 UnlinksOne = (p : ℕ) (kept : List Entry) → unlink_above entries p kept ≡ unlinked_at (first_above p kept) kept
+
+-- where an entry is put, by its number
+abbrev pub KeptInOrder : Type 0
+KeptInOrder = (x : Entry) (kept : List Entry) → with_kept entries x kept ≡ insert kept (first_above x.place kept) x
 
 -- ---- showing
 

@@ -46,11 +46,12 @@ with_kept kind x [] = x ∷ []
 with_kept kind x (y ∷ kept) =
     if nat_lt (kind.place x) (kind.place y) then x ∷ y ∷ kept else y ∷ with_kept kind x kept
 
--- the kept list without the thing at a place
+-- what stands after a thing that is dropped
 abbrev pub rest_after : {A : Type 0} → Kind A → A → List A → List A
 rest_after kind dropped [] = []
 rest_after kind dropped (x ∷ kept) = kind.after_drop dropped x ∷ kept
 
+-- the kept list without the thing at a place
 abbrev pub without : {A : Type 0} → Kind A → ℕ → List A → List A
 without kind p [] = []
 without kind p (x ∷ kept) = if kind.place x == p then rest_after kind x kept else x ∷ without kind p kept

@@ -9,7 +9,7 @@ ghost use Rattle.w4_defs.specs.Session.{
   PlacesDecide,
   PlacesStayRight,
 };
-ghost use Rattle.w4_defs.specs.KeptList.{ConsistentPlaces, Entry, LinkedIsRun, UnlinksOne, entries};
+ghost use Rattle.w4_defs.specs.KeptList.{ConsistentPlaces, Entry, KeptInOrder, LinkedIsRun, UnlinksOne, entries};
 ghost use Rattle.w4_defs.specs.WorkedSessions.{
   DeletedCase,
   InputCases,
@@ -52,9 +52,10 @@ pub fn linked_entries_are_of_the_run()
     ensures { LinkedIsRun }
 {}
 
-/// An edit unlinks one entry at most, the first above its input.
-pub fn edits_unlink_one()
-    ensures { UnlinksOne }
+/// An edit unlinks one entry at most, the first above its input; an entry is kept before the first above it.
+pub fn entries_by_number()
+    ensures unlinked { UnlinksOne }
+    ensures kept { KeptInOrder }
 {}
 
 /// Sessions whose kept things are places alone.
