@@ -1,7 +1,6 @@
 -- The words of the machine's clauses, one file a subject.
 pub mod Slots
 pub mod Plain
-pub mod Extensions
 pub mod Labels
 pub mod Standing
 pub mod Stack

@@ -1,8 +1,8 @@
 //! What conversions and sign extensions do to their operand (Core Specification, sections 4.3.2 and 4.3.4).
 
-ghost use Rattle.std.specs.Prelude.{◌≡◌, ◌+◌, ◌%◌, ◌^◌, ◌<◌, ◌≤◌, ◌⊎◌, length};
-ghost use Rattle.w4_defs.specs.Effects.{conversion as converted};
-ghost use Rattle.wasm_machine.specs.Extensions.{extended_i32, extended_i64};
+ghost use Rattle.std.specs.Prelude.{◌≡◌, ◌+◌, ◌*◌, ◌%◌, ◌^◌, ◌<◌, ◌≤◌, ◌⊎◌, length};
+ghost use Rattle.w4_defs.specs.Effects.{conversion as converted, read_as};
+ghost use Rattle.w4_defs.specs.declared.instruction_table.Signedness.TheVariants.{Signed};
 ghost use Rattle.wasm_machine.specs.Plain.{Ready, Did};
 ghost use Rattle.w4_defs.specs.declared.value.Val.TheVariants as val;
 ghost use Rattle.w4_defs.specs.declared.value.ValType.TheVariants.{I32, I64};
@@ -39,8 +39,9 @@ pub(crate) fn widen(base: usize, slots: &mut Slots, page: &Page) -> Option<Cause
 
 #[inline(always)]
 pub(crate) fn widen_signed(base: usize, slots: &mut Slots, page: &Page) -> Option<Cause>
-    requires { Ready (converted I32 (extended_i64 4)) base slots.old page.now }
-    ensures did { Did (converted I32 (extended_i64 4)) base slots.old page.now result slots.new page.now }
+    requires { Ready (converted I32 (read_as I64 Signed 32)) base slots.old page.now }
+    ensures did { Did (converted I32 (read_as I64 Signed 32)) base slots.old page.now
+        result slots.new page.now }
     ensures grows { length slots.new ≤ length slots.old + 1 }
 {
     let a = slots.pop();
@@ -52,8 +53,9 @@ pub(crate) fn widen_signed(base: usize, slots: &mut Slots, page: &Page) -> Optio
 #[inline(always)]
 pub(crate) fn sign_32(bytes: usize, base: usize, slots: &mut Slots, page: &Page) -> Option<Cause>
     requires bytes { (bytes ≡ 1) ⊎ (bytes ≡ 2) }
-    requires ready { Ready (converted I32 (extended_i32 bytes)) base slots.old page.now }
-    ensures did { Did (converted I32 (extended_i32 bytes)) base slots.old page.now result slots.new page.now }
+    requires ready { Ready (converted I32 (read_as I32 Signed (8 * bytes))) base slots.old page.now }
+    ensures did { Did (converted I32 (read_as I32 Signed (8 * bytes))) base slots.old page.now
+        result slots.new page.now }
     ensures grows { length slots.new ≤ length slots.old + 1 }
 {
     let a = slots.pop();
@@ -65,8 +67,9 @@ pub(crate) fn sign_32(bytes: usize, base: usize, slots: &mut Slots, page: &Page)
 #[inline(always)]
 pub(crate) fn sign_64(bytes: usize, base: usize, slots: &mut Slots, page: &Page) -> Option<Cause>
     requires bytes { (bytes ≡ 1) ⊎ (bytes ≡ 2) ⊎ (bytes ≡ 4) }
-    requires ready { Ready (converted I64 (extended_i64 bytes)) base slots.old page.now }
-    ensures did { Did (converted I64 (extended_i64 bytes)) base slots.old page.now result slots.new page.now }
+    requires ready { Ready (converted I64 (read_as I64 Signed (8 * bytes))) base slots.old page.now }
+    ensures did { Did (converted I64 (read_as I64 Signed (8 * bytes))) base slots.old page.now
+        result slots.new page.now }
     ensures grows { length slots.new ≤ length slots.old + 1 }
 {
     let a = slots.pop();
