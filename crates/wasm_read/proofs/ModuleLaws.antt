@@ -1,8 +1,10 @@
 -- A module is read exactly.
-use Rattle.std.proofs.Common.{◌≡◌, ℕ, eqb, if◌then◌else◌, ◌&&◌, true, List, [], ◌∷◌, ◌++◌, length, Option, Some, None, Result, Ok, Err, refl, ap, sym, ◌∙◌, subst, arith, eq-eqb}
+use Rattle.std.proofs.Common.{◌≡◌, ℕ, ◌≤◌, eqb, if◌then◌else◌, ◌&&◌, true, List, [], ◌∷◌, ◌++◌, length, Option, Some, None, Result, Ok, Err, refl, ap, sym, ◌∙◌, subst, arith, eq-eqb}
+use Rattle.std.specs.Prelude.{All}
 use Rattle.std.proofs.lemmas.Bool.{eqb-true}
-use Rattle.w4_defs.specs.Module.{WasmModule}
-use Rattle.w4_defs.specs.BinaryText.{Texts}
+use Rattle.std.proofs.lemmas.List.Elements.{All-cons}
+use Rattle.w4_defs.specs.Module.{Signature, WasmModule}
+use Rattle.w4_defs.specs.BinaryText.{Texts, items}
 use Rattle.w4_defs.specs.BinaryNumber.{unsigned}
 use Rattle.w4_defs.specs.BinaryType.{vector, func_type, limits, table_type}
 use Rattle.w4_defs.specs.BinarySection.{contents, Part, Alone, Counted}
@@ -229,6 +231,21 @@ module_sound bytes m e =
         as_many = g.as_many;
       },
     )
+
+-- each type that is read has at most one result
+items_few : (ts : List Signature) (text : List ℕ) → items func_type ts text → All (λ s. length s.results ≤ 1) ts
+items_few [] text h = λ k d below. absurd (omega (arith, below))
+items_few (t ∷ ts) text h = All-cons (λ s. length s.results ≤ 1) t ts h.3.0 (items_few ts h.1 h.4)
+
+part_few : (o : Option (List ℕ)) (ts : List Signature) → Part func_type o ts → All (λ s. length s.results ≤ 1) ts
+part_few None ts h = subst (λ (xs : List Signature). All (λ s. length s.results ≤ 1) xs) (sym h) (λ k d below. absurd (omega (arith, below)))
+part_few (Some text) ts h = items_few ts h.1 h.4
+
+pub front_few : (c : Contents) (f : Front) → front_of c ≡ Some f → All (λ s. length s.results ≤ 1) f.0
+unfolding front_of
+front_few c f e =
+    let f1 = both_sound (part_at func_type_at (c 1)) (both_some (part_at import_at (c 2)) (both_some (part_at (unsigned_at 32) (c 3)) (part_at table_type_at (c 4)))) f e in
+    part_few (c 1) f.0 (part_sound func_type func_type_at func_type_reads (c 1) f.0 f1.0)
 
 pub module_complete : (bytes : List ℕ) (m : WasmModule) → SpellsModule bytes m → module_at bytes ≡ Some m
 unfolding module_at sections_at

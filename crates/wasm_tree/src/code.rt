@@ -1,6 +1,6 @@
 //! A module in flat lists.
 
-ghost use Rattle.std.specs.Prelude.{◌<◌, ◌≡◌, All, IfSome, Some, length, option_map, slice_get};
+ghost use Rattle.std.specs.Prelude.{◌<◌, ◌≤◌, ◌≡◌, All, IfSome, Some, length, option_map, slice_get};
 ghost use Rattle.w4_defs.specs.Flattening.{IsProper};
 ghost use Rattle.w4_defs.specs.Tree.{flat};
 ghost use Rattle.wasm_tree.specs.Layout.{IsBody, StandsAt, body_size, body_starts, entries, entry_in};
@@ -38,11 +38,11 @@ impl Model for Code {
 
     ghost coded = { Prim.hlevel (codes, tree_code) };
 
-    ghost use Rattle.std.specs.Prelude.{◌≡◌, length};
+    ghost use Rattle.wasm_tree.specs.Layout.{IsCode};
 
     ghost view = { λ c. record { types = c.types.items; imports = c.imports.items; functions = c.functions.items; tables = c.tables.items; memories = c.memories.items; globals = c.globals.items; exports = c.exports.items; start = c.start; elements = c.elements.items; bodies = c.bodies; segments = c.segments.items } };
 
-    ghost invariant = { λ c. length c.functions.items ≡ length c.bodies };
+    ghost invariant = { λ c. IsCode c.functions.items c.bodies c.types.items };
 }
 
 /// The lists of the module.
@@ -52,6 +52,13 @@ impl Code {
         ensures { result.now ≡ self.now.types }
     {
         &self.types
+    }
+
+    /// Each function type has at most one result, as the binary format demands.
+    pub fn results_are_few(&self)
+        ensures { All (λ s. length s.results ≤ 1) self.now.types }
+    {
+        let _types = &self.types;
     }
 
     pub fn imports(&self) -> &[ImportEntry]

@@ -18,6 +18,7 @@ use Rattle.w4_defs.specs.Module.{Signature, Function, Imported, WasmModule}
 use Rattle.w4_defs.specs.Profile.{profile_refusal, has_many_locals, param_count, is_right}
 use Rattle.w4_defs.specs.Program.{instructions, Callee, own, imported, own_callee, own_callees, imported_callee, imported_callees, with_import}
 use Rattle.wasm_tree.specs.Layout.{entries, IsBody, StandsAt}
+use Rattle.wasm_tree.proofs.EntryLaws.{got_all}
 use Rattle.wasm_valid.specs.declared.call.Call.{Call}
 use Rattle.wasm_valid.specs.declared.call.Call.TheVariants as call
 use Rattle.w4_defs.specs.declared.operation.Op.{Op}
@@ -204,6 +205,18 @@ pub few_runs : (m : WasmModule) (func : ℕ) (s : Signature) (runs : List Locals
 few_runs m func s runs none t er = few_at m func s (slice_get m.bodies func) runs none t refl er
 
 -- the call of an own function, from what its readers give
+-- a type of flat code has at most one result
+pub few_results : (m : WasmModule) (func : ℕ) (s : Signature) → All (λ t. length t.results ≤ 1) m.types → IsTypeAt m func s
+    → length s.results ≤ 1
+few_results m func s all t =
+    subst (λ (o : Option Signature). IfSome o (λ t. length t.results ≤ 1)) t.typed (got_all (λ t. length t.results ≤ 1) m.types t.index all)
+
+-- so that whether it has none says how many it has
+pub gives_of : (empty : Bool) (n : ℕ) → empty ≡ nat_eq n 0 → n ≤ 1 → result_count (not empty) ≡ n
+gives_of empty zero e h = ap (λ b. result_count (not b)) e
+gives_of empty (suc zero) e h = ap (λ b. result_count (not b)) e
+gives_of empty (suc (suc n)) e h = absurd (omega (arith, h))
+
 own_call_of : (m : WasmModule) (func : ℕ) (s : Signature) (o : Option Function) (runs : List Locals)
     (ops : List Op) (kind start params others count reserve : ℕ) (answers : Bool)
     → IsTypeAt m func s → slice_get m.bodies func ≡ o → option_map (λ f. f.runs) o ≡ Some runs → IsBody o ops

@@ -17,15 +17,14 @@ use w4_defs::{FuncType, ImportEntry, ImportKind, Locals, Op, OutOfMemory};
 use wasm_link::import_named;
 use wasm_tree::Code;
 
-/// What each function index names. A module has no type with more than one result; of code that was made
-/// otherwise there are no calls.
+/// What each function index names.
 pub fn calls(alloc: Global, code: &Code) -> Result<Vec<Call>, OutOfMemory>
     requires { IsReady code.now }
     ensures { IfOk result (λ calls. AreCalls code.now (callees code.now) calls.items) }
 {
     let mut calls = import_calls(alloc, code)?;
     for func in 0..code.functions().len() {
-        calls.push(own_call(code, func)?)?;
+        calls.push(own_call(code, func))?;
     }
     Ok(calls)
 }
@@ -80,23 +79,24 @@ fn import_call(code: &Code, import: &ImportEntry, index: u32) -> Call
 }
 
 /// The call of an own function.
-fn own_call(code: &Code, func: usize) -> Result<Call, OutOfMemory>
+fn own_call(code: &Code, func: usize) -> Call
     requires ready { IsReady code.now }
     requires within { func < length code.now.bodies }
-    ensures { IfOk result (λ call. IsCallAt code.now func call) }
+    ensures { IsCallAt code.now func result }
 {
+    code.results_are_few();
     let signature = own_type(code, func);
     let params = signature.params.len();
     let zeros = local_count(code.runs(func));
     let instructions = instruction_count(code.body(func));
-    Ok(Call::Own {
+    Call::Own {
         kind: number_of_type(code.types(), signature),
         start: code.body_start(func),
         params,
         zeros,
-        answers: answers(signature)?,
+        answers: !signature.results.is_empty(),
         reserve: params + zeros + instructions,
-    })
+    }
 }
 
 fn own_type(code: &Code, func: usize) -> &FuncType
@@ -106,17 +106,6 @@ fn own_type(code: &Code, func: usize) -> &FuncType
 {
     let functions = code.functions();
     &code.types()[functions[func] as usize]
-}
-
-/// Whether the function has a result.
-fn answers(signature: &FuncType) -> Result<bool, OutOfMemory>
-    ensures { IfOk result (λ answers. result_count answers ≡ length signature.now.results) }
-{
-    match signature.results.len() {
-        0 => Ok(false),
-        1 => Ok(true),
-        _ => Err(OutOfMemory),
-    }
 }
 
 /// How many locals the runs have together.
