@@ -3,3 +3,4 @@ mod CallLaws
 mod FrameLaws
 mod GlobalLaws
 mod SegmentLaws
+mod MeaningLaws

@@ -6,6 +6,7 @@
 mod calls;
 pub mod console;
 mod frames;
+pub mod laws;
 mod page;
 mod start;
 

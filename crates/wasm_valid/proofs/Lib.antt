@@ -15,7 +15,7 @@ mod TypedImports
 mod TypedModules
 pub mod NeverStuck
 mod NoneLaws
-mod ProfileFacts
+pub mod ProfileFacts
 mod CartLaws
 mod ConstantLaws
 mod CountLaws
