@@ -5,13 +5,13 @@ use Rattle.std.proofs.lemmas.Bool.{cases_lt}
 use Rattle.std.proofs.lemmas.List.{length-take, length-drop, get_or-take, get_or-drop, drop_all}
 use Rattle.std.proofs.lemmas.List.Folds.{length-prefix_len}
 use Rattle.w4_defs.specs.Text.{units}
-use Rattle.w4_blit.specs.Seen.{with_seen}
-use Rattle.w4_blit.proofs.SeenLaws.{length-with_seen}
+use Rattle.w4_blit.specs.Snapshot.{with_snapshot}
+use Rattle.w4_blit.proofs.SnapshotLaws.{length-with_snapshot}
 
 -- the bytes of a text of `len` bytes that stand in the page
-pub bytes_counted : (page seen : List ℕ) (ptr len n : ℕ) → length page ≡ 65536 → n ≡ min len (65536 - ptr) → n ≡ length (take len (drop ptr (with_seen page seen)))
-bytes_counted page seen ptr len n full e =
-    let size : length (with_seen page seen) ≡ 65536 = length-with_seen page seen ∙ full in
+pub bytes_counted : (page snapshot : List ℕ) (ptr len n : ℕ) → length page ≡ 65536 → n ≡ min len (65536 - ptr) → n ≡ length (take len (drop ptr (with_snapshot page snapshot)))
+bytes_counted page snapshot ptr len n full e =
+    let size : length (with_snapshot page snapshot) ≡ 65536 = length-with_snapshot page snapshot ∙ full in
     simp (length-take, length-drop) (rw size e)
 
 -- what passes from `ptr` on, where `first` is `ptr` or the page's end

@@ -1,4 +1,4 @@
 -- Lemmas of blits and text.
 mod CodeLaws
-mod SeenLaws
+mod SnapshotLaws
 mod TextLaws

@@ -1,3 +1,3 @@
 -- What the contracts of this crate cite besides the definitions of drawing.
-pub mod Seen
-pub mod Unboxed
+pub mod Snapshot
+pub mod Unclipped

@@ -1,15 +1,15 @@
 //! Blits, by the cells that land on the screen.
 
 ghost use Rattle.std.specs.Prelude.{◌+◌, ◌<◌, ◌≡◌, ◌≤◌};
-ghost use Rattle.w4_blit.specs.Seen.{with_seen};
-ghost use Rattle.w4_blit.specs.Unboxed.{cells_painter};
+ghost use Rattle.w4_blit.specs.Snapshot.{with_snapshot};
+ghost use Rattle.w4_blit.specs.Unclipped.{cells_painter};
 ghost use Rattle.w4_defs.specs.Blit.{blit_painter};
 ghost use Rattle.w4_defs.specs.Framebuffer.{paint};
 ghost use Rattle.w4_defs.specs.Shapes.{natural};
-ghost use Rattle.w4_pixels.specs.Boxes.{boxed};
+ghost use Rattle.w4_pixels.specs.Clipping.{clipped};
 
-use crate::cells::{entry_at, high, wide};
-use crate::source::{Seen, framebuffer};
+use crate::cells::{height_on_screen, index_at, width_on_screen};
+use crate::source::{Snapshot, framebuffer};
 use w4_defs::{PageBytes, Picture};
 use w4_pixels::{cell, screen_part};
 
@@ -43,8 +43,8 @@ pub fn blit_sub(
         stride,
         flags,
     };
-    let seen = framebuffer(page);
-    blit_rows(page, &seen, &picture, x, y);
+    let snapshot = framebuffer(page);
+    blit_rows(page, &snapshot, &picture, x, y);
 }
 
 /// A side of cells: none where the number is negative.
@@ -54,20 +54,20 @@ fn side(count: i32) -> u32
     count.max(0) as u32
 }
 
-fn blit_rows(page: &mut PageBytes, seen: &Seen, picture: &Picture, x: i32, y: i32)
-    ensures { page.new ≡ paint page.old (blit_painter (with_seen page.old seen.now) picture.now x y) }
+fn blit_rows(page: &mut PageBytes, snapshot: &Snapshot, picture: &Picture, x: i32, y: i32)
+    ensures { page.new ≡ paint page.old (blit_painter (with_snapshot page.old snapshot.now) picture.now x y) }
 {
-    let (left, right) = screen_part(x, wide(picture));
-    let (top, bottom) = screen_part(y, high(picture));
+    let (left, right) = screen_part(x, width_on_screen(picture));
+    let (top, bottom) = screen_part(y, height_on_screen(picture));
     for v in top..bottom {
-        blit_row(page, seen, picture, x, y, left, right, v);
+        blit_row(page, snapshot, picture, x, y, left, right, v);
     }
 }
 
 /// The cells that land in the columns from `left` up to `right` of row `v` of the screen.
 fn blit_row(
     page: &mut PageBytes,
-    seen: &Seen,
+    snapshot: &Snapshot,
     picture: &Picture,
     x: i32,
     y: i32,
@@ -77,10 +77,10 @@ fn blit_row(
 )
     requires columns { right ≤ 160 }
     requires row { v < 160 }
-    ensures { page.new ≡ paint page.old (boxed (cells_painter (with_seen page.old seen.now) picture.now x y) left right v (v + 1)) }
+    ensures { page.new ≡ paint page.old (clipped (cells_painter (with_snapshot page.old snapshot.now) picture.now x y) left right v (v + 1)) }
 {
     for u in left..right {
-        let entry = entry_at(page, seen, picture, x, y, u, v);
-        cell(page, u, v, entry);
+        let index = index_at(page, snapshot, picture, x, y, u, v);
+        cell(page, u, v, index);
     }
 }

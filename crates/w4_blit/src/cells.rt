@@ -2,11 +2,11 @@
 
 ghost use Rattle.std.specs.Option.{ForSome};
 ghost use Rattle.std.specs.Prelude.{◌+◌, ◌-◌, ◌*◌, ◌/◌, ◌%◌, ◌<◌, ◌==◌, ◌≡◌, ◌^◌, if◌then◌else◌};
-ghost use Rattle.w4_blit.specs.Seen.{with_seen};
-ghost use Rattle.w4_blit.specs.Unboxed.{cells_painter};
-ghost use Rattle.w4_defs.specs.Blit.{cell_entry, column_of, has_flag, high, row_of, source_value, wide};
+ghost use Rattle.w4_blit.specs.Snapshot.{with_snapshot};
+ghost use Rattle.w4_blit.specs.Unclipped.{cells_painter};
+ghost use Rattle.w4_defs.specs.Blit.{cell_index, has_flag, height_on_screen, source_column, source_row, source_value, width_on_screen};
 
-use crate::source::{Seen, offset, source_byte};
+use crate::source::{Snapshot, offset, source_byte};
 use w4_defs::{PageBytes, Picture};
 use w4_pixels::entry_of;
 
@@ -19,9 +19,9 @@ const FLIP_Y: u32 = 4;
 const ROTATE: u32 = 8;
 
 /// What a picture at (x, y) paints at column `u` and row `v` of the screen, were it so large.
-pub(crate) fn entry_at(
+pub(crate) fn index_at(
     page: &PageBytes,
-    seen: &Seen,
+    snapshot: &Snapshot,
     picture: &Picture,
     x: i32,
     y: i32,
@@ -30,48 +30,57 @@ pub(crate) fn entry_at(
 ) -> Option<u8>
     requires column { u < 160 }
     requires row { v < 160 }
-    ensures value { result ≡ cells_painter (with_seen page.now seen.now) picture.now x y u v }
+    ensures value { result ≡ cells_painter (with_snapshot page.now snapshot.now) picture.now x y u v }
     ensures bound { ForSome result (λ e. e < 4) }
 {
     let right = offset(u, i64::from(x));
     let below = offset(v, i64::from(y));
     if has_flag(picture, ROTATE) {
-        cell_entry(page, seen, picture, below, right)
+        cell_index(page, snapshot, picture, below, right)
     } else {
-        cell_entry(page, seen, picture, right, below)
+        cell_index(page, snapshot, picture, right, below)
     }
 }
 
-/// The entry of cell (i, j): pixel value v is painted in colour v + 1.
-fn cell_entry(page: &PageBytes, seen: &Seen, picture: &Picture, i: u64, j: u64) -> Option<u8>
+/// The palette index of cell (i, j): pixel value v is painted in colour v + 1.
+fn cell_index(
+    page: &PageBytes,
+    snapshot: &Snapshot,
+    picture: &Picture,
+    i: u64,
+    j: u64,
+) -> Option<u8>
     requires column { i < 9223372036854775968 }
     requires row { j < 9223372036854775968 }
-    ensures value { result ≡ cell_entry (with_seen page.now seen.now) picture.now i j }
+    ensures value { result ≡ cell_index (with_snapshot page.now snapshot.now) picture.now i j }
     ensures bound { ForSome result (λ e. e < 4) }
 {
     let row = u128::from(row_of(picture, j));
     let place = row * u128::from(picture.stride) + u128::from(column_of(picture, i));
-    entry_of(picture.colors, source_value(page, seen, picture, place) + 1)
+    entry_of(
+        picture.colors,
+        source_value(page, snapshot, picture, place) + 1,
+    )
 }
 
 /// The value of the picture's pixel `place`: two bits or one, the first pixel in a byte's highest bits.
-fn source_value(page: &PageBytes, seen: &Seen, picture: &Picture, place: u128) -> u8
+fn source_value(page: &PageBytes, snapshot: &Snapshot, picture: &Picture, place: u128) -> u8
     requires { place < 2 ^ 100 }
-    ensures value { result ≡ source_value (with_seen page.now seen.now) picture.now place }
+    ensures value { result ≡ source_value (with_snapshot page.now snapshot.now) picture.now place }
     ensures bound { result < 4 }
 {
     let ptr = u128::from(picture.ptr);
     if has_flag(picture, TWO_BITS) {
-        (source_byte(page, seen, ptr + place / 4) >> (6 - 2 * (place % 4) as u32)) % 4
+        (source_byte(page, snapshot, ptr + place / 4) >> (6 - 2 * (place % 4) as u32)) % 4
     } else {
-        (source_byte(page, seen, ptr + place / 8) >> (7 - (place % 8) as u32)) % 2
+        (source_byte(page, snapshot, ptr + place / 8) >> (7 - (place % 8) as u32)) % 2
     }
 }
 
 /// The column of the picture that the cells of column `i` read.
 fn column_of(picture: &Picture, i: u64) -> u64
     requires { i < 9223372036854775968 }
-    ensures { result ≡ column_of picture.now i }
+    ensures { result ≡ source_column picture.now i }
 {
     let start = u64::from(picture.src_x);
     if has_flag(picture, FLIP_X) == has_flag(picture, ROTATE) {
@@ -84,7 +93,7 @@ fn column_of(picture: &Picture, i: u64) -> u64
 /// The row of the picture that the cells of row `j` read.
 fn row_of(picture: &Picture, j: u64) -> u64
     requires { j < 9223372036854775968 }
-    ensures { result ≡ row_of picture.now j }
+    ensures { result ≡ source_row picture.now j }
 {
     let start = u64::from(picture.src_y);
     if has_flag(picture, FLIP_Y) {
@@ -111,8 +120,8 @@ fn has_flag(picture: &Picture, weight: u32) -> bool
 }
 
 /// How many columns of the screen a picture takes.
-pub(crate) fn wide(picture: &Picture) -> u32
-    ensures { result ≡ wide picture.now }
+pub(crate) fn width_on_screen(picture: &Picture) -> u32
+    ensures { result ≡ width_on_screen picture.now }
 {
     if has_flag(picture, ROTATE) {
         picture.h
@@ -122,8 +131,8 @@ pub(crate) fn wide(picture: &Picture) -> u32
 }
 
 /// How many rows of the screen a picture takes.
-pub(crate) fn high(picture: &Picture) -> u32
-    ensures { result ≡ high picture.now }
+pub(crate) fn height_on_screen(picture: &Picture) -> u32
+    ensures { result ≡ height_on_screen picture.now }
 {
     if has_flag(picture, ROTATE) {
         picture.w

@@ -1,37 +1,37 @@
-//! The codes of a text, read from the page as it was at a call's entry.
+//! The codes of a text, read from the page as it was when the call began.
 
 ghost use Rattle.std.specs.Prelude.{◌-◌, ◌<◌, ◌==◌, ◌≡◌, ◌≤◌, drop, length, min, not, slice_index, take_while};
-ghost use Rattle.w4_blit.specs.Seen.{with_seen};
+ghost use Rattle.w4_blit.specs.Snapshot.{with_snapshot};
 ghost use Rattle.w4_defs.specs.Text.{text_codes};
 
-use crate::source::{Seen, source_byte};
+use crate::source::{Snapshot, source_byte};
 use w4_defs::{PageBytes, TextSource};
 
 /// How many codes a text has.
-pub(crate) fn code_count(page: &PageBytes, seen: &Seen, source: TextSource) -> usize
-    ensures value { result ≡ length (text_codes (with_seen page.now seen.now) source) }
+pub(crate) fn code_count(page: &PageBytes, snapshot: &Snapshot, source: TextSource) -> usize
+    ensures value { result ≡ length (text_codes (with_snapshot page.now snapshot.now) source) }
     ensures bound { result ≤ 65536 }
 {
     match source {
-        TextSource::Cstr { ptr } => bytes_before_zero(page, seen, ptr),
+        TextSource::Cstr { ptr } => bytes_before_zero(page, snapshot, ptr),
         TextSource::Utf8 { ptr, len } => bytes_there(ptr, len),
         TextSource::Utf16 { ptr, len } => bytes_there(ptr, len) / 2,
     }
 }
 
 /// The code of number `k`: a byte, or a little-endian unit of 16 bits.
-pub(crate) fn code_at(page: &PageBytes, seen: &Seen, source: TextSource, k: usize) -> u16
-    requires { k < length (text_codes (with_seen page.now seen.now) source) }
-    ensures { result ≡ slice_index (text_codes (with_seen page.now seen.now) source) k }
+pub(crate) fn code_at(page: &PageBytes, snapshot: &Snapshot, source: TextSource, k: usize) -> u16
+    requires { k < length (text_codes (with_snapshot page.now snapshot.now) source) }
+    ensures { result ≡ slice_index (text_codes (with_snapshot page.now snapshot.now) source) k }
 {
     let k = k as u128;
     match source {
-        TextSource::Cstr { ptr } => u16::from(source_byte(page, seen, u128::from(ptr) + k)),
-        TextSource::Utf8 { ptr, .. } => u16::from(source_byte(page, seen, u128::from(ptr) + k)),
+        TextSource::Cstr { ptr } => u16::from(source_byte(page, snapshot, u128::from(ptr) + k)),
+        TextSource::Utf8 { ptr, .. } => u16::from(source_byte(page, snapshot, u128::from(ptr) + k)),
         TextSource::Utf16 { ptr, .. } => {
             let at = u128::from(ptr) + 2 * k;
-            let low = source_byte(page, seen, at);
-            let high = source_byte(page, seen, at + 1);
+            let low = source_byte(page, snapshot, at);
+            let high = source_byte(page, snapshot, at + 1);
             u16::from(low) + 256 * u16::from(high)
         }
     }
@@ -46,13 +46,13 @@ fn bytes_there(ptr: u32, len: u32) -> usize
 }
 
 /// How many bytes from `ptr` on stand before the first 0 or the page's end.
-fn bytes_before_zero(page: &PageBytes, seen: &Seen, ptr: u32) -> usize
-    ensures value { result ≡ length (take_while (λ b. not (b == 0)) (drop ptr (with_seen page.now seen.now))) }
+fn bytes_before_zero(page: &PageBytes, snapshot: &Snapshot, ptr: u32) -> usize
+    ensures value { result ≡ length (take_while (λ b. not (b == 0)) (drop ptr (with_snapshot page.now snapshot.now))) }
     ensures bound { result ≤ 65536 }
 {
     let first = ptr.min(65536) as usize;
     for at in first..65536 {
-        if source_byte(page, seen, at as u128) == 0 {
+        if source_byte(page, snapshot, at as u128) == 0 {
             return at - first;
         }
     }

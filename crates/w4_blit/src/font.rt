@@ -1,4 +1,4 @@
-//! Fonts (own rule): eight bytes for each code from 32 to 255, one a row, the highest bit leftmost.
+//! Fonts (project rule): eight bytes for each code from 32 to 255, one a row, the highest bit leftmost.
 
 ghost use Rattle.std.specs.Prelude.{◌≡◌, ◌≢◌, ℕ, List, IfErr, IfOk, length, slice_index};
 
@@ -21,7 +21,7 @@ impl Model for Font {
 pub struct FontLength;
 
 impl Font {
-    /// The font of these bytes. Refused exactly where they aren't 1,792.
+    /// The font of these bytes. Refused if and only if they aren't 1,792.
     pub fn new(bytes: &[u8]) -> Result<Font, FontLength>
         ensures same { IfOk result (λ font. font ≡ bytes.now) }
         ensures taken { IfOk result (λ font. length bytes.now ≡ 1792) }

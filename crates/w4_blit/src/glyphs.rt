@@ -2,11 +2,11 @@
 
 ghost use Rattle.std.specs.Option.{ForSome};
 ghost use Rattle.std.specs.Prelude.{◌+◌, ◌+ℤ◌, ◌<◌, ◌≡◌, ◌≤◌, ◌≤ℤ◌, pos};
-ghost use Rattle.w4_blit.specs.Unboxed.{bits_painter};
+ghost use Rattle.w4_blit.specs.Unclipped.{bits_painter};
 ghost use Rattle.w4_defs.specs.Framebuffer.{paint};
 ghost use Rattle.w4_defs.specs.Shapes.{is_inside, only_if};
 ghost use Rattle.w4_defs.specs.Text.{glyph_painter};
-ghost use Rattle.w4_pixels.specs.Boxes.{boxed};
+ghost use Rattle.w4_pixels.specs.Clipping.{clipped};
 
 use crate::font::Font;
 use crate::source::offset;
@@ -55,16 +55,16 @@ fn glyph_rows(page: &mut PageBytes, font: &Font, glyph: Glyph)
 fn glyph_row(page: &mut PageBytes, font: &Font, glyph: Glyph, left: usize, right: usize, v: usize)
     requires columns { right ≤ 160 }
     requires row { v < 160 }
-    ensures { page.new ≡ paint page.old (boxed (bits_painter font.now glyph.colors glyph.code glyph.x glyph.y) left right v (v + 1)) }
+    ensures { page.new ≡ paint page.old (clipped (bits_painter font.now glyph.colors glyph.code glyph.x glyph.y) left right v (v + 1)) }
 {
     for u in left..right {
-        let entry = bit_entry(font, glyph, u, v);
-        cell(page, u, v, entry);
+        let index = bit_index(font, glyph, u, v);
+        cell(page, u, v, index);
     }
 }
 
 /// What a glyph paints at column `u` and row `v` of the screen: a bit 0 in colour 1, a bit 1 in colour 2.
-fn bit_entry(font: &Font, glyph: Glyph, u: usize, v: usize) -> Option<u8>
+fn bit_index(font: &Font, glyph: Glyph, u: usize, v: usize) -> Option<u8>
     requires column { u < 160 }
     requires row { v < 160 }
     ensures value { result ≡ bits_painter font.now glyph.colors glyph.code glyph.x glyph.y u v }

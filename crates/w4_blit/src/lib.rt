@@ -1,7 +1,7 @@
-//! Blits, the font and text on the framebuffer (WASM-4 reference; own rules where the definitions say so).
-//! Every call's contract is the painted page, for every argument. Each byte that a call reads is the one at
-//! its entry, also where it lies in the framebuffer; no call does more work than the screen has room for,
-//! or the text has codes.
+//! Blits, the font and text on the framebuffer (WASM-4 reference; project rules where the definitions say
+//! so). Every call's contract is the painted page, for every argument. Each byte that a call reads is the one
+//! when the call begins, also where it lies in the framebuffer; no call does more work than the screen has
+//! room for, or the text has codes.
 #![tactic(auto)]
 
 pub mod blit;

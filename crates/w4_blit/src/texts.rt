@@ -1,14 +1,14 @@
 //! Text, code by code.
 
 ghost use Rattle.std.specs.Prelude.{◌+ℤ◌, ◌==◌, ◌≡◌, ◌≤ℤ◌, if◌then◌else◌, pos};
-ghost use Rattle.w4_blit.specs.Seen.{with_seen};
+ghost use Rattle.w4_blit.specs.Snapshot.{with_snapshot};
 ghost use Rattle.w4_defs.specs.Framebuffer.{paint};
 ghost use Rattle.w4_defs.specs.Text.{text_codes, text_painter};
 
 use crate::codes::{code_at, code_count};
 use crate::font::Font;
 use crate::glyphs::{Glyph, put_glyph};
-use crate::source::{Seen, framebuffer};
+use crate::source::{Snapshot, framebuffer};
 use w4_defs::{PageBytes, TextSource};
 
 /// Where the next code's cells begin.
@@ -23,10 +23,10 @@ struct Pen {
 pub fn text(page: &mut PageBytes, font: &Font, colors: u16, source: TextSource, x: i32, y: i32)
     ensures { page.new ≡ paint page.old (text_painter font.now colors (text_codes page.old source) x y) }
 {
-    let seen = framebuffer(page);
+    let snapshot = framebuffer(page);
     put_codes(
         page,
-        &seen,
+        &snapshot,
         font,
         colors,
         source,
@@ -37,7 +37,7 @@ pub fn text(page: &mut PageBytes, font: &Font, colors: u16, source: TextSource, 
 
 fn put_codes(
     page: &mut PageBytes,
-    seen: &Seen,
+    snapshot: &Snapshot,
     font: &Font,
     colors: u16,
     source: TextSource,
@@ -46,12 +46,12 @@ fn put_codes(
 )
     requires column { x ≤ℤ pos 2147483648 }
     requires row { y ≤ℤ pos 2147483648 }
-    ensures { page.new ≡ paint page.old (text_painter font.now colors (text_codes (with_seen page.old seen.now) source) x y) }
+    ensures { page.new ≡ paint page.old (text_painter font.now colors (text_codes (with_snapshot page.old snapshot.now) source) x y) }
 {
     let mut pen = Pen { x, y };
-    let count = code_count(page, seen, source);
+    let count = code_count(page, snapshot, source);
     for k in 0..count {
-        let code = code_at(page, seen, source, k);
+        let code = code_at(page, snapshot, source, k);
         let glyph = Glyph {
             colors,
             code,

@@ -8,7 +8,7 @@ use Rattle.w4_defs.specs.Board.{console, console_setup}
 use Rattle.w4_defs.specs.Evaluation.{run_entry}
 use Rattle.w4_defs.specs.Module.{WasmModule}
 use Rattle.w4_defs.specs.Outcome.{Store, Ended, Finished, Faulted, Exhausted, Undefined}
-use Rattle.w4_defs.specs.Reset.{call_all, left, store_of, then_on}
+use Rattle.w4_defs.specs.Reset.{call_all, underway_after, store_of, then_on}
 use Rattle.w4_defs.specs.State.{Board, State, Underway}
 use Rattle.w4_console.specs.UnderWay.{gone_on, halt_after, IsCalled, IsCalledFirst, rest_after}
 use Rattle.wasm_machine.specs.declared.ending.Ending.{Ending}
@@ -22,14 +22,14 @@ store page globals board = record { page = page; globals = globals; host = board
 ended : (end : Ended Board) (found : Ending) (page : List ℕ) (globals : List Val) (board : Board)
     → EndsAs end found page globals board
     → (go : Underway → ℕ → Option Underway)
-    → then_on end go ≡ gone_on (rest_after found) (left (store page globals board) (halt_after found)) go
-ended (Finished st rest) (ending.Done left) page globals board e go = rw (e.0, e.1) refl
+    → then_on end go ≡ gone_on (rest_after found) (underway_after (store page globals board) (halt_after found)) go
+ended (Finished st rest) (ending.Done underway_after) page globals board e go = rw (e.0, e.1) refl
 ended (Finished st rest) (ending.Trap cause) page globals board e go = absurd e
 ended (Finished st rest) ending.Spent page globals board e go = absurd e
-ended (Faulted cause st) (ending.Done left) page globals board e go = absurd e
+ended (Faulted cause st) (ending.Done underway_after) page globals board e go = absurd e
 ended (Faulted cause st) (ending.Trap found) page globals board e go = rw (e.0, e.1) refl
 ended (Faulted cause st) ending.Spent page globals board e go = absurd e
-ended (Exhausted st) (ending.Done left) page globals board e go = absurd e
+ended (Exhausted st) (ending.Done underway_after) page globals board e go = absurd e
 ended (Exhausted st) (ending.Trap cause) page globals board e go = absurd e
 ended (Exhausted st) ending.Spent page globals board e go = rw e refl
 ended Undefined found page globals board e go = absurd e
@@ -41,7 +41,7 @@ pub called : (cart : WasmModule) (font : List ℕ) (function : ℕ) (now next : 
     → store state.page state.globals board ≡ store_of font now → first ≡ state.page → firsts ≡ state.globals
     → EndsAs (run_entry cart console function (store first firsts board) budget) found page globals used
     → back ≡ globals → rest ≡ rest_after found → halt ≡ halt_after found
-    → next ≡ left (store page back used) halt
+    → next ≡ underway_after (store page back used) halt
     → IsCalled cart font function now budget rest next
 called cart font function now next budget found state first page firsts globals back board used rest halt from
     p g e b r h n =
@@ -57,7 +57,7 @@ called cart font function now next budget found state first page firsts globals 
 pub still_runs : (found : Ending) (rest : Option ℕ) (halt here : Halt) → rest ≡ rest_after found
     → halt ≡ halt_after found → here ≡ halt
     → OnSome rest (here ≡ Running)
-still_runs (ending.Done left) rest halt here r h e = rw (e, h, r) refl
+still_runs (ending.Done underway_after) rest halt here r h e = rw (e, h, r) refl
 still_runs (ending.Trap cause) rest halt here r h e = rw (e, h, r) tt
 still_runs ending.Spent rest halt here r h e = rw (e, h, r) tt
 

@@ -5,7 +5,7 @@ use Rattle.w4_defs.specs.declared.console.Halt.{Halt}
 use Rattle.w4_defs.specs.declared.console.Halt.TheVariants.{Running, Trapped, Spent}
 use Rattle.w4_defs.specs.declared.console.Input.{Input}
 use Rattle.w4_defs.specs.Board.{console_setup}
-use Rattle.w4_defs.specs.Frame.{begun, call_update, frame, update, update_from}
+use Rattle.w4_defs.specs.Frame.{before_update, call_update, frame, update, update_from}
 use Rattle.w4_defs.specs.Module.{WasmModule}
 use Rattle.w4_defs.specs.Reset.{recorded, reset, Setup, start, underway}
 use Rattle.w4_defs.specs.State.{empty_record, FrameRecord, Moment, State, Underway}
@@ -29,7 +29,7 @@ pub updated : (cart : WasmModule) (font : List ℕ) (function budget : ℕ) (now
 updated cart font function budget now next rest is = is (λ now rest. Some now) ∙ at_end rest next
 
 pub framed : (setup : Setup) (state : State) (input : Input) (first next : Underway) (moment : Moment)
-    → begun setup state input ≡ Some first → update setup input first ≡ Some next → moment ≡ recorded next
+    → before_update setup state input ≡ Some first → update setup input first ≡ Some next → moment ≡ recorded next
     → frame setup state input ≡ Some moment
 unfolding frame
 framed setup state input first next moment b u r =

@@ -6,10 +6,10 @@ use Rattle.w4_defs.specs.declared.operation.Op.{Op}
 use Rattle.w4_defs.specs.declared.operation.Op.TheVariants.{I32Const, I64Const}
 use Rattle.w4_defs.specs.declared.value.Val.{Val}
 use Rattle.w4_defs.specs.declared.value.ValType.{ValType}
-use Rattle.w4_defs.specs.Entries.{first_globals, first_value}
-use Rattle.w4_defs.specs.Kinds.{type_of}
+use Rattle.w4_defs.specs.EntryPoints.{first_globals, first_value}
+use Rattle.w4_defs.specs.ValueTypes.{type_of}
 use Rattle.w4_defs.specs.Module.{Global, WasmModule}
-use Rattle.w4_defs.specs.Program.{constant, constant_of, value_of}
+use Rattle.w4_defs.specs.Program.{constant_number, constant_of, value_of}
 use Rattle.w4_defs.specs.RunLaws.{types_of}
 use Rattle.w4_defs.specs.Tree.{Expr, done, plain, block, loop, if_then, if_else}
 use Rattle.w4_defs.specs.Validity.{constant_type, IsConstant, IsValid}
@@ -21,7 +21,7 @@ of_op op t n e = absurd cc
 
 of_first : (e : Expr) (t : ValType) → IsConstant t e → type_of (value_of t (constant_of e)) ≡ t
 of_first done t h = absurd h
-of_first (plain m done) t h = of_op m.0 t (constant m.0) h
+of_first (plain m done) t h = of_op m.0 t (constant_number m.0) h
 of_first (plain m (plain n rest)) t h = absurd h
 of_first (plain m (block r inner rest)) t h = absurd h
 of_first (plain m (loop r inner rest)) t h = absurd h

@@ -7,20 +7,19 @@ use Rattle.w4_defs.specs.declared.console.Halt.TheVariants.{Running, Trapped, Sp
 use Rattle.w4_defs.specs.declared.console.Input.{Input}
 use Rattle.w4_defs.specs.Board.{console, console_setup}
 use Rattle.w4_defs.specs.Cart.{IsCart}
-use Rattle.w4_defs.specs.Entries.{entries, exported, update_entry}
+use Rattle.w4_defs.specs.EntryPoints.{start_functions, exported_function, update_entry}
 use Rattle.w4_defs.specs.Evaluation.{run_entry}
-use Rattle.w4_defs.specs.Frame.{begun, call_update, frame, input_page, update, update_from, with_page}
+use Rattle.w4_defs.specs.Frame.{before_update, call_update, frame, page_after_input, update, update_from, state_with_page}
 use Rattle.w4_defs.specs.Lookup.{signature_of}
-use Rattle.w4_defs.specs.Module.{WasmModule}
+use Rattle.w4_defs.specs.Module.{WasmModule, nothing_to_nothing}
 use Rattle.w4_defs.specs.Outcome.{Ended, Finished, Faulted, Exhausted, Undefined}
 use Rattle.w4_defs.specs.Profile.{profile_refusal}
-use Rattle.w4_defs.specs.Reset.{call_all, fresh, left, recorded, reset, Setup, start, store_of, then_on, underway}
+use Rattle.w4_defs.specs.Reset.{call_all, fresh, underway_after, recorded, reset, Setup, start, store_of, then_on, underway}
 use Rattle.w4_defs.specs.Run.{played_on, run}
 use Rattle.w4_defs.specs.State.{Board, Moment, State, Underway}
 use Rattle.w4_defs.specs.Validity.{IsStart, IsValid}
-use Rattle.w4_host.specs.Answers.{answers}
-use Rattle.wasm_valid.specs.Carts.{nothing}
-use Rattle.wasm_valid.specs.TypedRuns.{HasTypes, value_types}
+use Rattle.w4_host.specs.Answers.{answers_by_type}
+use Rattle.wasm_valid.specs.TypeSoundness.{HasTypes, own_global_types}
 use Rattle.wasm_valid.proofs.NeverStuck.{never_stuck_with, globals_keep_types_with}
 use Rattle.wasm_valid.proofs.ProfileFacts.{entry_found, update_found}
 use Rattle.w4_console.specs.Meaning.{AcceptedRunsHaveMeaning, RunsHaveMeaning}
@@ -41,25 +40,25 @@ abbrev MomentIs : WasmModule → Option Moment → Type 0
 MomentIs m o = (moment : Moment) × (o ≡ Some moment) × HasGlobals m moment.state
 
 abbrev Found : WasmModule → Option ℕ → Type 0
-Found m o = IfSome o (λ f. signature_of m f ≡ Some nothing)
+Found m o = IfSome o (λ f. signature_of m f ≡ Some nothing_to_nothing)
 
 then_meant : (m : WasmModule) (end : Ended Board) (go : Underway → ℕ → Option Underway)
-    → end ≢ Undefined → HasTypes (value_types m) end
+    → end ≢ Undefined → HasTypes (own_global_types m) end
     → ((now : Underway) (rest : ℕ) → HasGlobals m now.state → Meant m (go now rest)) → Meant m (then_on end go)
-then_meant m (Finished st rest) go meant types h = h (left st Running) rest types
-then_meant m (Faulted cause st) go meant types h = (left st (Trapped cause), refl, types)
-then_meant m (Exhausted st) go meant types h = (left st Spent, refl, types)
+then_meant m (Finished st rest) go meant types h = h (underway_after st Running) rest types
+then_meant m (Faulted cause st) go meant types h = (underway_after st (Trapped cause), refl, types)
+then_meant m (Exhausted st) go meant types h = (underway_after st Spent, refl, types)
 then_meant m Undefined go meant types h = absurd (meant refl)
 
 -- a call of an entry point
 call_meant : (m : WasmModule) (font : List ℕ) (function : ℕ) (now : Underway) (budget : ℕ) (go : Underway → ℕ → Option Underway)
-    → Accepted m → signature_of m function ≡ Some nothing → HasGlobals m now.state
+    → Accepted m → signature_of m function ≡ Some nothing_to_nothing → HasGlobals m now.state
     → ((next : Underway) (rest : ℕ) → HasGlobals m next.state → Meant m (go next rest))
     → Meant m (then_on (run_entry m console function (store_of font now) budget) go)
 call_meant m font function now budget go ok entry globals h =
     then_meant m (run_entry m console function (store_of font now) budget) go
-    (never_stuck_with console answers m ok.within ok.valid ok.even function (store_of font now) budget entry globals)
-    (globals_keep_types_with console answers m ok.within ok.valid ok.even function (store_of font now) budget entry globals)
+    (never_stuck_with console answers_by_type m ok.within ok.valid ok.even function (store_of font now) budget entry globals)
+    (globals_keep_types_with console answers_by_type m ok.within ok.valid ok.even function (store_of font now) budget entry globals)
     h
 
 abbrev AreFound : WasmModule → List (Option ℕ) → Type 0
@@ -84,11 +83,16 @@ start_meant : (m : WasmModule) (font : List ℕ) (budget : ℕ) (disk : List ℕ
     → Meant m (start (console_setup m font budget) disk)
 unfolding start
 start_meant m font budget disk ok =
-    calls_meant m font budget (entries m) (underway (fresh m disk)) budget ok
-    (start_found m m.start ok.valid.0.start,
-    (entry_found m m.exports (codes "_start") (exported m (codes "_start")) ok.within refl refl refl,
-    (entry_found m m.exports (codes "_initialize") (exported m (codes "_initialize")) ok.within refl refl refl,
-    (entry_found m m.exports (codes "start") (exported m (codes "start")) ok.within refl refl refl, tt))))
+    calls_meant m font budget (start_functions m) (underway (fresh m disk)) budget ok (
+      start_found m m.start ok.valid.0.start,
+      (
+        entry_found m m.exports (codes "_start") (exported_function m (codes "_start")) ok.within refl refl refl,
+        (
+          entry_found m m.exports (codes "_initialize") (exported_function m (codes "_initialize")) ok.within refl refl refl,
+          (entry_found m m.exports (codes "start") (exported_function m (codes "start")) ok.within refl refl refl, tt),
+        ),
+      ),
+    )
     (first_types m ok.valid)
 
 -- ---- a frame
@@ -111,7 +115,7 @@ update_meant m font budget input now (Trapped cause) ok globals = (now, refl, gl
 update_meant m font budget input now Spent ok globals = (now, refl, globals)
 
 begun_meant : (m : WasmModule) (font : List ℕ) (budget : ℕ) (state : State) (input : Input) (again : Bool) → Accepted m
-    → input.reset ≡ again → HasGlobals m state → Meant m (begun (console_setup m font budget) state input)
+    → input.reset ≡ again → HasGlobals m state → Meant m (before_update (console_setup m font budget) state input)
 begun_meant m font budget state input true ok e globals = rw e (start_meant m font budget state.disk ok)
 begun_meant m font budget state input false ok e globals = rw e (underway state, refl, globals)
 
@@ -125,7 +129,7 @@ frame_meant : (m : WasmModule) (font : List ℕ) (budget : ℕ) (state : State) 
     → MomentIs m (frame (console_setup m font budget) state input)
 unfolding frame
 frame_meant m font budget state input ok globals =
-    after_begun m font budget input (begun (console_setup m font budget) state input) ok
+    after_begun m font budget input (before_update (console_setup m font budget) state input) ok
     (begun_meant m font budget state input input.reset ok refl globals)
 
 -- ---- a run

@@ -1,5 +1,4 @@
--- A reset or a frame that is under way: the state so far, and the logs that its record has so far (own rule:
--- the order of events).
+-- A reset or a frame that is under way: the state so far, and the logs that its record has so far.
 use Rattle.std.specs.Prelude.{◌≡◌, ℕ, List, ◌∷◌, map, Option, Some, None}
 use Rattle.w4_defs.specs.declared.console.Halt.{Halt}
 use Rattle.w4_defs.specs.declared.console.Halt.TheVariants.{Running, Trapped, Spent}

@@ -4,7 +4,7 @@ ghost use Rattle.std.specs.Option.{IfSome, OnSome};
 ghost use Rattle.std.specs.Prelude.{◌≡◌, Some};
 ghost use Rattle.w4_defs.specs.declared.console.Halt.TheVariants.{Running};
 ghost use Rattle.w4_defs.specs.Lookup.{signature_of};
-ghost use Rattle.w4_defs.specs.Reset.{left, store_of};
+ghost use Rattle.w4_defs.specs.Reset.{store_of, underway_after};
 ghost use Rattle.w4_console.specs.UnderWay.{
   halt_after,
   HasGlobals,
@@ -13,7 +13,7 @@ ghost use Rattle.w4_console.specs.UnderWay.{
   rest_after,
   so_far,
 };
-ghost use Rattle.wasm_valid.specs.Carts.{nothing};
+ghost use Rattle.w4_defs.specs.Module.{nothing_to_nothing};
 
 use std::mem;
 use w4_blit::Font;
@@ -35,7 +35,7 @@ pub(crate) fn call_if_there(
     budget: u32,
     made: &mut FrameRecord,
 ) -> Option<u32>
-    requires entry { IfSome function (λ f. signature_of cart.now f ≡ Some nothing) }
+    requires entry { IfSome function (λ f. signature_of cart.now f ≡ Some nothing_to_nothing) }
     requires globals { HasGlobals cart.now state.old }
     requires running { state.old.halt ≡ Running }
     ensures called { IsCalledFirst cart.now font.now function (so_far state.old made.old) budget
@@ -59,7 +59,7 @@ pub(crate) fn call(
     budget: u32,
     made: &mut FrameRecord,
 ) -> Option<u32>
-    requires entry { signature_of cart.now function ≡ Some nothing }
+    requires entry { signature_of cart.now function ≡ Some nothing_to_nothing }
     requires globals { HasGlobals cart.now state.old }
     ensures called { IsCalled cart.now font.now function (so_far state.old made.old) budget
         result (so_far state.new made.new) }
@@ -96,7 +96,7 @@ fn board_of<'a>(font: &'a Font, state: &mut State, made: &mut FrameRecord) -> Bo
 /// Moves the devices and the logs back, and sets halt.
 fn put_back(state: &mut State, made: &mut FrameRecord, board: Board<'_>, halt: Halt)
     ensures { so_far state.new made.new
-        ≡ left (record { page = state.old.page; globals = state.old.globals; host = board.entry }) halt }
+        ≡ underway_after (record { page = state.old.page; globals = state.old.globals; host = board.entry }) halt }
 {
     state.channels = board.channels;
     state.disk = board.disk;

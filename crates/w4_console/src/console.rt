@@ -2,7 +2,7 @@
 
 ghost use Rattle.std.specs.Prelude.{◌≡◌, ◌+◌, ◌≤◌, IfOk, length, Some};
 ghost use Rattle.w4_defs.specs.Board.{console_setup};
-ghost use Rattle.w4_defs.specs.Entries.{first_globals};
+ghost use Rattle.w4_defs.specs.EntryPoints.{first_globals};
 ghost use Rattle.w4_defs.specs.Frame.{frame};
 ghost use Rattle.w4_defs.specs.Reset.{reset};
 ghost use Rattle.w4_defs.specs.State.{blank_state};

@@ -2,7 +2,7 @@
 
 ghost use Rattle.std.specs.Prelude.{◌≡◌, Some};
 ghost use Rattle.w4_defs.specs.Board.{console_setup};
-ghost use Rattle.w4_defs.specs.Frame.{begun, update};
+ghost use Rattle.w4_defs.specs.Frame.{before_update, update};
 ghost use Rattle.w4_defs.specs.Reset.{recorded};
 ghost use Rattle.w4_console.specs.UnderWay.{HasGlobals, moment, so_far};
 
@@ -27,7 +27,7 @@ pub(crate) fn begin(
     made: &mut FrameRecord,
 )
     requires globals { HasGlobals cart.now state.old }
-    ensures begun { begun (console_setup cart.now font.now budget) state.old input.now
+    ensures begun { before_update (console_setup cart.now font.now budget) state.old input.now
         ≡ Some (so_far state.new made.new) }
     ensures globals { HasGlobals cart.now state.new }
 {

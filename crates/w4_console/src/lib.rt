@@ -1,6 +1,6 @@
 //! The console without a window: resets and frames of a cart (WASM-4 reference; the order of events, and
-//! what follows a trap or a spent budget, are own rules). The layers above rely on this: the state and the
-//! record that a reset or a frame leaves are exactly those of the definitions.
+//! what follows a trap or a spent budget, are project rules). The layers above rely on this: the state and
+//! the record that a reset or a frame leaves are exactly those of the definitions.
 #![tactic(auto)]
 
 mod calls;

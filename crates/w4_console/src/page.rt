@@ -1,7 +1,7 @@
 //! What the console itself writes to the page (WASM-4 memory map).
 
 ghost use Rattle.std.specs.Prelude.{◌≡◌, ◌+◌, ◌≤◌, length};
-ghost use Rattle.w4_defs.specs.Frame.{cleared, input_page};
+ghost use Rattle.w4_defs.specs.Frame.{cleared, page_after_input};
 ghost use Rattle.w4_defs.specs.Reset.{first_page, start_page, written};
 ghost use Rattle.w4_defs.specs.State.{zero_page};
 
@@ -52,7 +52,7 @@ fn write(page: &mut PageBytes, at: usize, bytes: &[u8])
 /// The page as `update` finds it: the input is in its registers, and the framebuffer is cleared unless
 /// system flag 1 keeps it.
 pub(crate) fn put_input_page(page: &mut PageBytes, input: &Input)
-    ensures { page.new ≡ input_page page.old input.now }
+    ensures { page.new ≡ page_after_input page.old input.now }
 {
     put_input(page, input);
     if system_flags(page) % 2 == 0 {

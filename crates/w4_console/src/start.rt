@@ -3,7 +3,7 @@
 ghost use Rattle.std.specs.Prelude.{◌≡◌, map, Some};
 ghost use Rattle.w4_defs.specs.Board.{console_setup};
 ghost use Rattle.w4_defs.specs.declared.console.Halt.TheVariants.{Running};
-ghost use Rattle.w4_defs.specs.Entries.{entries, first_globals};
+ghost use Rattle.w4_defs.specs.EntryPoints.{first_globals, start_functions};
 ghost use Rattle.w4_defs.specs.Reset.{call_all, fresh, start};
 ghost use Rattle.w4_defs.specs.RunLaws.{types_of};
 ghost use Rattle.w4_console.specs.UnderWay.{HasGlobals, so_far};
@@ -71,7 +71,7 @@ fn call_all(
 ) -> Option<u32>
     requires globals { HasGlobals cart.now state.old }
     requires running { state.old.halt ≡ Running }
-    ensures called { call_all (console_setup cart.now font.now budget) (entries cart.now)
+    ensures called { call_all (console_setup cart.now font.now budget) (start_functions cart.now)
         (so_far state.old made.old) budget ≡ Some (so_far state.new made.new) }
     ensures globals { HasGlobals cart.now state.new }
 {

@@ -13,8 +13,8 @@ use Rattle.std.proofs.Math.Facts.{sfits_to_z}
 use Rattle.std.proofs.Math.Nat.{mul-suc}
 use Rattle.w4_defs.specs.declared.console.Input.{Input}
 use Rattle.w4_defs.specs.MemoryMap.{input_bytes}
-use Rattle.w4_defs.specs.Reading.{◌>>=◌, IsBytes, front_at, number_at}
-use Rattle.w4_defs.specs.Recording.{Recording, IsInput, IsRecording, heading, flag_of, frame_size, frame_bytes, encoding, HasNoReset, IsEncoded, EncodedIsDecoded, DecodedIsEncoded, EncodesAtMostOne, OneEncoding, RewrittenIsSame, EncodingLength, LongestEncoding, version_of, input_of, reset_of, frame_of, frames_of, is_within, recording_of}
+use Rattle.w4_defs.specs.Reading.{◌>>=◌, IsBytes, front_at, little_endian_at}
+use Rattle.w4_defs.specs.Recording.{Recording, IsInput, IsRecording, heading, flag_of, frame_size, frame_bytes, encoding, HasNoReset, IsEncoded, EncodedIsDecoded, DecodedIsEncoded, EncodesAtMostOne, OneEncoding, RewrittenIsSame, EncodingLength, LongestEncoding, version_of, input_of, reset_of, frame_of, frames_of, is_within_limits, recording_of}
 use Rattle.w4_defs.proofs.ReadingLaws.{front_read, front_bytes, rest_bytes, number_read_2, number_read_4}
 use Rattle.w4_defs.proofs.OptionLaws.{bind_some, if_some, some_same, no_none}
 use Rattle.w4_defs.proofs.RecordingLaws.{IsVersion, regroup, again_1, again_2}
@@ -197,25 +197,25 @@ with_frames digest budget disk frames = Some
 
 abbrev with_count : ℕ → List ℕ → ℕ → ℕ → List ℕ → (ℕ × List ℕ) → Option Recording
 with_count version digest budget size disk count =
-    cond (is_within budget size count.0)
+    cond (is_within_limits budget size count.0)
     (frames_of version count.0 count.1) None >>= with_frames digest budget disk
 
 abbrev with_disk : ℕ → List ℕ → ℕ → ℕ → (List ℕ × List ℕ) → Option Recording
-with_disk version digest budget size disk = number_at w32 disk.1 >>= with_count version digest budget size disk.0
+with_disk version digest budget size disk = little_endian_at w32 disk.1 >>= with_count version digest budget size disk.0
 
 abbrev with_size : ℕ → List ℕ → ℕ → (ℕ × List ℕ) → Option Recording
 with_size version digest budget size = front_at size.0 size.1 >>= with_disk version digest budget size.0
 
 abbrev with_budget : ℕ → List ℕ → (ℕ × List ℕ) → Option Recording
-with_budget version digest budget = number_at w16 budget.1 >>= with_size version digest budget.0
+with_budget version digest budget = little_endian_at w16 budget.1 >>= with_size version digest budget.0
 
 abbrev with_digest : ℕ → (List ℕ × List ℕ) → Option Recording
-with_digest version digest = number_at w32 digest.1 >>= with_budget version digest.0
+with_digest version digest = little_endian_at w32 digest.1 >>= with_budget version digest.0
 
 abbrev with_version : List ℕ → ℕ → Option Recording
 with_version rest version = front_at 32 rest >>= with_digest version
 
-limits : (budget size count : ℕ) → is_within budget size count ≡ true
+limits : (budget size count : ℕ) → is_within_limits budget size count ≡ true
     → (1 ≤ budget) × (size ≤ 1024) × (count ≤ 36000)
 limits budget size count e =
     let all = and_parts (leb 1 budget && leb size 1024) (leb count 36000) e in
@@ -282,9 +282,9 @@ count_parts : (version : ℕ) (digest : List ℕ) (budget size : ℕ) (disk rest
     → with_count version digest budget size disk (count, after) ≡ Some r
     → FromCount version digest budget size disk rest r
 count_parts version digest budget size disk rest after count r known small whole e =
-    let frames = bind_some (cond (is_within budget size count) (frames_of version count after) None)
+    let frames = bind_some (cond (is_within_limits budget size count) (frames_of version count after) None)
     (with_frames digest budget disk) r e in
-    let tested = if_some (is_within budget size count) (frames_of version count after) frames.0 frames.1 in
+    let tested = if_some (is_within_limits budget size count) (frames_of version count after) frames.0 frames.1 in
     let fit = limits budget size count tested.0 in
     let are = frames_read version count after frames.0 known small tested.1 in
     let made : Recording = record { digest = digest; budget = budget; disk = disk; frames = frames.0 } in
@@ -303,10 +303,10 @@ count_parts version digest budget size disk rest after count r known small whole
 
 from_count : (version : ℕ) (digest : List ℕ) (budget size : ℕ) (disk rest : List ℕ) (r : Recording)
     → IsVersion version → IsBytes rest
-    → (number_at w32 rest >>= with_count version digest budget size disk) ≡ Some r
+    → (little_endian_at w32 rest >>= with_count version digest budget size disk) ≡ Some r
     → FromCount version digest budget size disk rest r
 from_count version digest budget size disk rest r known small e =
-    let count = bind_some (number_at w32 rest) (with_count version digest budget size disk) r e in
+    let count = bind_some (little_endian_at w32 rest) (with_count version digest budget size disk) r e in
     let parts = number_read_4 rest count.0.1 count.0.0 small count.1 in
     count_parts version digest budget size disk rest count.0.1 count.0.0 r known
     (rest_bytes (to_le_bytes w32 count.0.0) count.0.1 (subst IsBytes parts.0 small)) parts.0 count.2
@@ -358,10 +358,10 @@ size_parts version digest budget size rest after r whole from = record {
 
 from_size : (version : ℕ) (digest : List ℕ) (budget : ℕ) (rest : List ℕ) (r : Recording)
     → IsVersion version → IsBytes rest
-    → (number_at w16 rest >>= with_size version digest budget) ≡ Some r
+    → (little_endian_at w16 rest >>= with_size version digest budget) ≡ Some r
     → FromSize version digest budget rest r
 from_size version digest budget rest r known small e =
-    let size = bind_some (number_at w16 rest) (with_size version digest budget) r e in
+    let size = bind_some (little_endian_at w16 rest) (with_size version digest budget) r e in
     let parts = number_read_2 rest size.0.1 size.0.0 small size.1 in
     size_parts version digest budget size.0.0 rest size.0.1 r parts
     (from_disk version digest budget size.0.0 size.0.1 r known (rest_bytes
@@ -398,7 +398,7 @@ from_digest version rest r known small e =
     let parts = front_read 32 rest digest.0.0 digest.0.1 digest.1 in
     let both : IsBytes (digest.0.0 ++ digest.0.1) = subst IsBytes parts.0 small in
     let small_rest : IsBytes digest.0.1 = rest_bytes digest.0.0 digest.0.1 both in
-    let budget = bind_some (number_at w32 digest.0.1) (with_budget version digest.0.0) r digest.2 in
+    let budget = bind_some (little_endian_at w32 digest.0.1) (with_budget version digest.0.0) r digest.2 in
     let number = number_read_4 digest.0.1 budget.0.1 budget.0.0 small_rest budget.1 in
     budget_parts version digest.0.0 budget.0.0 rest digest.0.1 budget.0.1 r parts.1
     (front_bytes digest.0.0 digest.0.1 both) parts.0 number.0 number.1

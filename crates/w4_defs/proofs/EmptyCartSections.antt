@@ -175,7 +175,7 @@ collected =
       as_many = refl;
     }
 
--- a section spelled by its id, a text of its size, and its contents
+-- a section encoded by its id, a text of its size, and its contents
 pub whole : (id : ℕ) (size contents : List ℕ) → unsigned 32 (length contents) size → section (id, contents) (id ∷ size ++ contents)
 whole id size contents counted = (id ∷ [], size ++ contents, refl, refl, (size, contents, refl, counted, refl))
 

@@ -1,10 +1,11 @@
--- The smallest cart is spelled and valid.
+-- The smallest cart is encoded and valid.
 use Rattle.std.specs.Prelude.{refl, ℕ, zero, suc, ◌<◌, ◌≤◌, [], ◌∷◌, length, All}
 use Rattle.std.proofs.Common.{arith}
-use Rattle.w4_defs.specs.EmptyCart.{empty_module, nothing_to_nothing, EmptyCartIsSpelled}
+use Rattle.w4_defs.specs.EmptyCart.{empty_module, EmptyCartIsSpelled}
 use Rattle.w4_defs.specs.Tree.{done}
 use Rattle.w4_defs.specs.Validity.{AreMemoryLimits, Exists, IsValid, IsTypedAt}
 use Rattle.w4_defs.proofs.EmptyCartSections.{sections, from_types, spelled, collected, short_size}
+use Rattle.w4_defs.specs.Module.{nothing_to_nothing}
 
 pub empty_cart_spelled : EmptyCartIsSpelled
 empty_cart_spelled = (sections, from_types (0x04 ∷ []), refl, spelled (0x04 ∷ []) short_size, collected)

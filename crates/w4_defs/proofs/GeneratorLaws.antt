@@ -13,12 +13,13 @@ use Rattle.w4_defs.specs.declared.refusal.ProfileRefusal.TheVariants.{Floats}
 use Rattle.w4_defs.specs.Module.{Signature, Function, WasmModule}
 use Rattle.w4_defs.specs.Lookup.{function_indices, signature_of}
 use Rattle.w4_defs.specs.Floats.{is_float_operation, function_has_float, module_has_float}
-use Rattle.w4_defs.specs.Profile.{if_so, causes, first_of, profile_refusal}
+use Rattle.w4_defs.specs.Profile.{if_so, causes, first_cause, profile_refusal}
 use Rattle.w4_defs.specs.Typing.{Context, calls, only_type, OperationHasType, HasType, body_context}
 use Rattle.w4_defs.specs.Validity.{AreMemoryLimits, Exists, KeepsModuleRules, IsTypedAt}
 use Rattle.w4_defs.proofs.EmptyCartValid.{all_one}
-use Rattle.w4_defs.specs.Generator.{seed_after, draw, operations, chosen, sequence, small_functions, made_frames, small_function, step_of, byte_at, update_function, made_module, made_input, made_inputs}
+use Rattle.w4_defs.specs.Generator.{seed_after, draw, operations, chosen, small_functions, made_frames, small_function, step_of, byte_at, update_function, made_module, made_input, made_inputs}
 use Rattle.w4_defs.specs.MadeLaws.{MadeModulesAreAccepted, DrawsAreSmall, MadeInputsAreCounted}
+use Rattle.w4_defs.specs.Tree.{sequence}
 
 -- ---- draws and inputs
 
@@ -99,7 +100,7 @@ made-no_float number = ap (λ b. b || false) (smalls-no_float number 0 small_fun
 made-profile : (number : ℕ) → profile_refusal (made_module number) ≡ None
 unfolding small_function update_function
 made-profile number =
-    ap (λ b. first_of (if_so b Floats ∷ drop 1 (causes (made_module number)))) (made-no_float number)
+    ap (λ b. first_cause (if_so b Floats ∷ drop 1 (causes (made_module number)))) (made-no_float number)
 
 -- ---- typing
 

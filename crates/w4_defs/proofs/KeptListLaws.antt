@@ -8,7 +8,7 @@ use Rattle.w4_defs.specs.State.{Moment}
 use Rattle.w4_defs.specs.Reset.{Setup, reset}
 use Rattle.w4_defs.specs.Run.{fold, run_state}
 use Rattle.w4_defs.specs.Session.{Rise}
-use Rattle.w4_defs.specs.KeptList.{Entry, entries, place_at, places_of, state_at, linked_at, first_above, computed, ConsistentPlaces, LinkedIsRun, unlinked_at, UnlinksOne, KeptInOrder}
+use Rattle.w4_defs.specs.KeptList.{Entry, kept_entries, place_at, places_of, state_at, linked_at, first_above, computed, ConsistentPlaces, LinkedIsRun, unlinked_at, UnlinksOne, KeptInOrder}
 use Rattle.w4_defs.proofs.RunLaws.{runs_between}
 
 -- ---- linked entries
@@ -52,7 +52,7 @@ linked_is_run setup disk inputs kept (suc i) is within linked =
 -- ---- unlinking
 
 unlinks_here : (b : Bool) (n : ℕ) (x : Entry) (kept : List Entry)
-    → cond b (entries.unlinked x ∷ kept) (x ∷ unlinked_at n kept)
+    → cond b (kept_entries.unlinked x ∷ kept) (x ∷ unlinked_at n kept)
     ≡ unlinked_at (cond (not b) (1 + n) 0) (x ∷ kept)
 unlinks_here true n x kept = refl
 unlinks_here false n x kept = let e : suc n ≡ 1 + n = omega arith in ap (λ k. unlinked_at k (x ∷ kept)) e
@@ -60,7 +60,7 @@ unlinks_here false n x kept = let e : suc n ≡ 1 + n = omega arith in ap (λ k.
 pub unlinks_one : UnlinksOne
 unlinks_one p [] = refl
 unlinks_one p (x ∷ kept) =
-    ap (λ rest. cond (ltb p x.place) (entries.unlinked x ∷ kept) (x ∷ rest)) (unlinks_one p kept)
+    ap (λ rest. cond (ltb p x.place) (kept_entries.unlinked x ∷ kept) (x ∷ rest)) (unlinks_one p kept)
     ∙ unlinks_here (ltb p x.place) (first_above p kept) x kept
 
 put_here : (b : Bool) (n : ℕ) (x y : Entry) (kept : List Entry)

@@ -1,11 +1,11 @@
 -- Laws of the definitions, for this crate and those above.
 pub mod Budgets
 pub mod Unfolding
-pub mod Turns
+pub mod ResumedSteps
 pub mod ReadBack
 pub mod Numbers
 pub mod Ranges
-pub mod Entries
+pub mod EntryPoints
 pub mod EmptyCartSections
 pub mod EmptyCartValid
 pub mod TypingInParts

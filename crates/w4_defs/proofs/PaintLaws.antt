@@ -23,17 +23,17 @@ pub get_or-paint : (page : List ℕ) (f : Painter) (i : ℕ) → i < length page
 unfolding paint
 get_or-paint page f i h = get_or-map-range_with_len (painted_byte page f) 0 (length page) i i 0 h (omega arith)
 
--- the k-th of four entries in a byte
+-- the k-th of four palette indices in a byte
 pub four_digits : (a b c d : ℕ) → a < 4 → b < 4 → c < 4 → d < 4 →
     ((a + 4 * b + 16 * c + 64 * d) / 1 % 4 ≡ a) × ((a + 4 * b + 16 * c + 64 * d) / 4 % 4 ≡ b)
     × ((a + 4 * b + 16 * c + 64 * d) / 16 % 4 ≡ c) × ((a + 4 * b + 16 * c + 64 * d) / 64 % 4 ≡ d)
 four_digits a b c d ha hb hc hd = (omega arith, omega arith, omega arith, omega arith)
 
-pub packed_digit : (entry : ℕ → ℕ) → ((n : ℕ) → entry n < 4) → (n k : ℕ) → k < 4 → packed entry n / 4 ^ k % 4 ≡ entry (n + k)
-packed_digit entry small n k h =
-    let all = four_digits (entry n) (entry (n + 1)) (entry (n + 2)) (entry (n + 3)) (small n) (small (n + 1)) (small (n + 2)) (small (n + 3)) in
-    let P : ℕ → Type 0 = λ j. packed entry n / 4 ^ j % 4 ≡ entry (n + j) in
-    below_four P (all.0 ∙ ap entry (omega arith)) all.1 all.2 all.3 k h
+pub packed_digit : (index : ℕ → ℕ) → ((n : ℕ) → index n < 4) → (n k : ℕ) → k < 4 → packed index n / 4 ^ k % 4 ≡ index (n + k)
+packed_digit index small n k h =
+    let all = four_digits (index n) (index (n + 1)) (index (n + 2)) (index (n + 3)) (small n) (small (n + 1)) (small (n + 2)) (small (n + 3)) in
+    let P : ℕ → Type 0 = λ j. packed index n / 4 ^ j % 4 ≡ index (n + j) in
+    below_four P (all.0 ∙ ap index (omega arith)) all.1 all.2 all.3 k h
 
 painted_at-small : (page : List ℕ) (f : Painter) (n : ℕ) → painted_at page f n < 4
 painted_at-small page f n = omega arith
@@ -67,13 +67,13 @@ by_place P out here i = elim (cases_lt i 160) [
 ]
 
 -- a byte is its four digits
-packed_byte : (entry : ℕ → ℕ) (n b : ℕ) → b < 256 → ((k : ℕ) → k < 4 → entry (n + k) ≡ b / 4 ^ k % 4) → b ≡ packed entry n
-packed_byte entry n b h each =
-    let e0 : entry (n + 0) ≡ b / 1 % 4 = each 0 (omega arith) in
-    let e1 : entry (n + 1) ≡ b / 4 % 4 = each 1 (omega arith) in
-    let e2 : entry (n + 2) ≡ b / 16 % 4 = each 2 (omega arith) in
-    let e3 : entry (n + 3) ≡ b / 64 % 4 = each 3 (omega arith) in
-    let zero_more : entry n ≡ entry (n + 0) = ap entry (omega arith) in
+packed_byte : (index : ℕ → ℕ) (n b : ℕ) → b < 256 → ((k : ℕ) → k < 4 → index (n + k) ≡ b / 4 ^ k % 4) → b ≡ packed index n
+packed_byte index n b h each =
+    let e0 : index (n + 0) ≡ b / 1 % 4 = each 0 (omega arith) in
+    let e1 : index (n + 1) ≡ b / 4 % 4 = each 1 (omega arith) in
+    let e2 : index (n + 2) ≡ b / 16 % 4 = each 2 (omega arith) in
+    let e3 : index (n + 3) ≡ b / 64 % 4 = each 3 (omega arith) in
+    let zero_more : index n ≡ index (n + 0) = ap index (omega arith) in
     omega arith
 
 -- the four pixels of a framebuffer byte
@@ -134,10 +134,10 @@ paint_ext page f g len same =
       bytes = h.bytes;
     })
 
--- the entry of one painter over another
-over_entry : (f g : Option ℕ) (p : ℕ) → unwrap_or g (unwrap_or f p % 4) % 4 ≡ unwrap_or (option_or g f) p % 4
-over_entry f None p = omega arith
-over_entry f (Some e) p = refl
+-- the palette index of one painter over another
+over_index : (f g : Option ℕ) (p : ℕ) → unwrap_or g (unwrap_or f p % 4) % 4 ≡ unwrap_or (option_or g f) p % 4
+over_index f None p = omega arith
+over_index f (Some e) p = refl
 
 -- painting twice is painting the one over the other
 pub paint-paint : (page : List ℕ) (f g : Painter) → length page ≡ 65536 → paint (paint page f) g ≡ paint page (over g f)
@@ -145,7 +145,7 @@ paint-paint page f g len =
     let first = paints-paint page f len in
     let second = paints-paint (paint page f) g (length-paint page f ∙ len) in
     paint_only page (paint (paint page f) g) (over g f) len (record {
-      pixels = λ x y hx hy. second.pixels x y hx hy ∙ ap (λ p. unwrap_or (g x y) p % 4) (first.pixels x y hx hy) ∙ over_entry (f x y) (g x y) (pixel page x y);
+      pixels = λ x y hx hy. second.pixels x y hx hy ∙ ap (λ p. unwrap_or (g x y) p % 4) (first.pixels x y hx hy) ∙ over_index (f x y) (g x y) (pixel page x y);
       outside = λ i out. second.outside i out ∙ first.outside i out;
       len = second.len ∙ first.len;
       bytes = second.bytes;

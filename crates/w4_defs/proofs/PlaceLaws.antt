@@ -7,7 +7,7 @@ use Rattle.std.proofs.lemmas.Option.{slice_get-map}
 use Rattle.w4_defs.specs.declared.console.Input.{Input}
 use Rattle.w4_defs.specs.declared.editing.EditRefusal.{EditRefusal}
 use Rattle.w4_defs.specs.declared.editing.EditRefusal.TheVariants.{NoFrame, NothingToUndo, NothingToRedo, Kept, NotKept, FullSnapshots}
-use Rattle.w4_defs.specs.Session.{Kind, places_alone, is_kept, with_kept, rest_after, without, unlink_above, raised, lowered, without_double, kept_after_insert, kept_after_delete, Draft, set_draft, insert_draft, delete_draft, Session, keep_last, last_item, without_last, edited, undone, redone, with_list, set_refusal, insert_refusal, delete_refusal, keep_refusal, drop_refusal, unless, if_some, IsPlaced, draft_of_places, session_of_places, result_of_places, PlacesDecide}
+use Rattle.w4_defs.specs.Session.{Kind, places_alone, is_kept, with_kept, next_after_drop, without, unlink_above, moved_up, moved_down, without_double, kept_after_insert, kept_after_delete, Draft, set_draft, insert_draft, delete_draft, Session, keep_last, last_item, without_last, edited, undone, redone, with_list, set_refusal, insert_refusal, delete_refusal, keep_refusal, drop_refusal, unless, if_some, IsPlaced, draft_of_places, session_of_places, result_of_places, PlacesDecide}
 
 either : {A B : Type 0} (f : A → B) (b : Bool) (x y : A) → f (cond b x y) ≡ cond b (f x) (f y)
 either f true x y = refl
@@ -27,12 +27,12 @@ module _ {A : Type 0} (kind : Kind A) (is : IsPlaced kind) where
       either places (ltb k (place x)) (kind.unlinked x ∷ kept) (x ∷ unlink_above kind k kept)
       ∙ (λ i. cond (ltb k (place x)) (is.unlinked x i ∷ places kept) (place x ∷ unlinked_places k kept i))
 
-  raised_place : (k : ℕ) (x : A) → place (raised kind k x) ≡ raised places_alone k (place x)
+  raised_place : (k : ℕ) (x : A) → place (moved_up kind k x) ≡ moved_up places_alone k (place x)
   raised_place k x =
       either kind.place (ltb k (place x)) (kind.at (place x + 1) x) x
       ∙ (λ i. cond (ltb k (place x)) (is.at (place x + 1) x i) (place x))
 
-  lowered_place : (k : ℕ) (x : A) → place (lowered kind k x) ≡ lowered places_alone k (place x)
+  lowered_place : (k : ℕ) (x : A) → place (moved_down kind k x) ≡ moved_down places_alone k (place x)
   lowered_place k x =
       either kind.place (ltb k (place x)) (kind.at (place x - 1) x) x
       ∙ (λ i. cond (ltb k (place x)) (is.at (place x - 1) x i) (place x))
@@ -69,7 +69,7 @@ module _ {A : Type 0} (kind : Kind A) (is : IsPlaced kind) where
       (place y ∷ with_places x kept i))
 
   told_places : (x : A) (kept : List A)
-      → places (rest_after kind x kept) ≡ rest_after places_alone (place x) (places kept)
+      → places (next_after_drop kind x kept) ≡ next_after_drop places_alone (place x) (places kept)
   told_places x [] = refl
   told_places x (y ∷ kept) = λ i. is.after_drop x y i ∷ places kept
 
@@ -77,21 +77,21 @@ module _ {A : Type 0} (kind : Kind A) (is : IsPlaced kind) where
       → places (without kind p kept) ≡ without places_alone p (places kept)
   without_places p [] = refl
   without_places p (x ∷ kept) =
-      either places (eqb (place x) p) (rest_after kind x kept) (x ∷ without kind p kept)
+      either places (eqb (place x) p) (next_after_drop kind x kept) (x ∷ without kind p kept)
       ∙ (λ i. cond (eqb (place x) p) (told_places x kept i) (place x ∷ without_places p kept i))
 
   insert_places : (k : ℕ) (kept : List A)
       → places (kept_after_insert kind k kept) ≡ kept_after_insert places_alone k (places kept)
   insert_places k kept =
-      all_places (raised kind k) (raised places_alone k) (raised_place k) (unlink_above kind k kept)
-      ∙ ap (map (raised places_alone k)) (unlinked_places k kept)
+      all_places (moved_up kind k) (moved_up places_alone k) (raised_place k) (unlink_above kind k kept)
+      ∙ ap (map (moved_up places_alone k)) (unlinked_places k kept)
 
   delete_places : (k : ℕ) (kept : List A)
       → places (kept_after_delete kind k kept) ≡ kept_after_delete places_alone k (places kept)
   delete_places k kept =
-      all_places (lowered kind k) (lowered places_alone k) (lowered_place k) (unlink_above kind k
+      all_places (moved_down kind k) (moved_down places_alone k) (lowered_place k) (unlink_above kind k
       (without_double kind k kept))
-      ∙ ap (map (lowered places_alone k)) (unlinked_places k (without_double kind k kept)
+      ∙ ap (map (moved_down places_alone k)) (unlinked_places k (without_double kind k kept)
       ∙ ap (unlink_above places_alone k) (single_places k kept))
 
   -- ---- sessions

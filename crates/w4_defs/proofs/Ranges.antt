@@ -9,7 +9,7 @@ use Rattle.w4_defs.specs.declared.value.Cause.{Cause}
 use Rattle.w4_defs.specs.declared.value.Cause.TheVariants.{DivideByZero, Overflow}
 use Rattle.w4_defs.specs.declared.integer.Unary.TheVariants.{Clz, Ctz, Popcnt}
 use Rattle.w4_defs.specs.declared.integer.Binary.TheVariants.{Add, Sub, Mul, DivS, DivU, RemS, RemU, And, Or, Xor, Shl, ShrS, ShrU, Rotl, Rotr}
-use Rattle.w4_defs.specs.Integers.{signed, wrapped, floor_quotient, binary_digits, UnaryInRange, BinaryInRange, ExtendedInRange}
+use Rattle.w4_defs.specs.Integers.{as_signed, wrapped, floor_quotient, binary_digits, UnaryInRange, BinaryInRange, ExtendedInRange}
 
 below_power : (k : ℕ) → k < 2 ^ k
 below_power zero = omega arith
@@ -60,19 +60,19 @@ binary_in_range w Add a b some ha hb = mod-lt (a + b) (pow_pos w)
 binary_in_range w Sub a b some ha hb = mod-lt (a + (2 ^ w - b)) (pow_pos w)
 binary_in_range w Mul a b some ha hb = mod-lt (a * b) (pow_pos w)
 binary_in_range w DivS a b some ha hb =
-    let quotient : Result ℕ Cause = Ok (wrapped w (int_div (signed w a) (signed w b))) in
+    let quotient : Result ℕ Cause = Ok (wrapped w (int_div (as_signed w a) (as_signed w b))) in
     let least : Bool = nat_eq a (2 ^ (w - 1)) && nat_eq b (2 ^ w - 1) in
     checked (nat_eq b 0) DivideByZero (cond least (Err Overflow) quotient) (λ n. n < 2 ^ w)
-    (checked least Overflow quotient (λ n. n < 2 ^ w) (wrapped_lt w (int_div (signed w a) (signed w b))))
+    (checked least Overflow quotient (λ n. n < 2 ^ w) (wrapped_lt w (int_div (as_signed w a) (as_signed w b))))
 binary_in_range w DivU a b some ha hb = checked (nat_eq b 0) DivideByZero (Ok (a / b)) (λ n. n < 2 ^ w) (omega (arith, div-le_self a b))
 binary_in_range w RemS a b some ha hb =
-    checked (nat_eq b 0) DivideByZero (Ok (wrapped w (int_rem (signed w a) (signed w b)))) (λ n. n < 2 ^ w) (wrapped_lt w (int_rem (signed w a) (signed w b)))
+    checked (nat_eq b 0) DivideByZero (Ok (wrapped w (int_rem (as_signed w a) (as_signed w b)))) (λ n. n < 2 ^ w) (wrapped_lt w (int_rem (as_signed w a) (as_signed w b)))
 binary_in_range w RemU a b some ha hb = checked (nat_eq b 0) DivideByZero (Ok (a % b)) (λ n. n < 2 ^ w) (omega (arith, mod-le a b))
 binary_in_range w And a b some ha hb = and_lt w a b ha hb
 binary_in_range w Or a b some ha hb = or_lt w a b ha hb
 binary_in_range w Xor a b some ha hb = xor_lt w a b ha hb
 binary_in_range w Shl a b some ha hb = mod-lt (a * 2 ^ (b % w)) (pow_pos w)
-binary_in_range w ShrS a b some ha hb = wrapped_lt w (floor_quotient (signed w a) (2 ^ (b % w)))
+binary_in_range w ShrS a b some ha hb = wrapped_lt w (floor_quotient (as_signed w a) (2 ^ (b % w)))
 binary_in_range w ShrU a b some ha hb = omega (arith, div-le_self a (2 ^ (b % w)))
 binary_in_range w Rotl a b some ha hb = rotated_lt w (b % w) a (omega (arith, mod-lt b some)) ha
 binary_in_range w Rotr a b some ha hb =
@@ -84,4 +84,4 @@ binary_in_range w Rotr a b some ha hb =
     omega arith
 
 pub extended_in_range : ExtendedInRange
-extended_in_range n w a = wrapped_lt w (signed n (a % 2 ^ n))
+extended_in_range n w a = wrapped_lt w (as_signed n (a % 2 ^ n))

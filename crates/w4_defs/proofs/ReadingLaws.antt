@@ -1,11 +1,12 @@
--- A field that was written is read again, whatever follows it; a field that was read is what the bytes begin with.
+-- A field that was written is read again, whatever follows it; a field that was read is what the bytes begin
+-- with.
 use Rattle.std.proofs.Common.{◌≡◌, ℕ, ◌+◌, ◌<◌, ◌^◌, Bool, true, false, ltb, cond, List, ◌++◌, length, take, drop, Option, Some, None, inl, inr, refl, ap, sym, ◌∙◌, subst, arith}
 use Rattle.std.specs.Int.{Width, w16, w32, byte_len, from_le_bytes, to_le_bytes}
 use Rattle.std.proofs.lemmas.Bool.{cases_lt, le-ltb, ltb-false}
 use Rattle.std.proofs.lemmas.List.{take_at, drop_at, length-append, length-take, take-append-drop, get_or_append_left, get_or-append-add}
 use Rattle.std.proofs.Math.ListN.{get_or-eq_default}
 use Rattle.std.proofs.lemmas.Nat.{le_bytes_2, le_bytes_4}
-use Rattle.w4_defs.specs.Reading.{IsBytes, front_at, number_at}
+use Rattle.w4_defs.specs.Reading.{IsBytes, front_at, little_endian_at}
 
 pub front_again : (front rest : List ℕ) (n : ℕ) → length front ≡ n
     → front_at n (front ++ rest) ≡ Some (front, rest)
@@ -15,7 +16,7 @@ front_again front rest n len =
     rw (long, take_at front rest n len, drop_at front rest n len) refl
 
 pub number_again : (w : Width) (bytes rest : List ℕ) (n : ℕ) → length bytes ≡ byte_len w
-    → from_le_bytes w bytes ≡ n → number_at w (bytes ++ rest) ≡ Some (n, rest)
+    → from_le_bytes w bytes ≡ n → little_endian_at w (bytes ++ rest) ≡ Some (n, rest)
 number_again w bytes rest n len value =
     let long : ltb (length (bytes ++ rest)) (byte_len w)
     ≡ false = le-ltb _ _ (omega (arith, len, length-append bytes rest)) in
@@ -50,7 +51,7 @@ front_read n bytes front rest e =
       sym (ap length parts.1) ∙ (omega (arith, length-take n bytes, long)),
     )
 
-bytes_of_number : (w : Width) (bytes rest : List ℕ) (n : ℕ) → number_at w bytes ≡ Some (n, rest)
+bytes_of_number : (w : Width) (bytes rest : List ℕ) (n : ℕ) → little_endian_at w bytes ≡ Some (n, rest)
     → (front : List ℕ) × (bytes ≡ front ++ rest) × (length front ≡ byte_len w) × (n ≡ from_le_bytes w front)
 bytes_of_number w bytes rest n e =
     let parts = cut_number (ltb (length bytes) (byte_len w)) (from_le_bytes w (take (byte_len w) bytes)) n
@@ -73,7 +74,7 @@ pub rest_bytes : (front rest : List ℕ) → IsBytes (front ++ rest) → IsBytes
 rest_bytes front rest all i = subst (λ n. n < 256) (get_or-append-add front rest i 0) (all (length front + i))
 
 -- the number that was read is written as the bytes begin
-pub number_read_2 : (bytes rest : List ℕ) (n : ℕ) → IsBytes bytes → number_at w16 bytes ≡ Some (n, rest)
+pub number_read_2 : (bytes rest : List ℕ) (n : ℕ) → IsBytes bytes → little_endian_at w16 bytes ≡ Some (n, rest)
     → (bytes ≡ to_le_bytes w16 n ++ rest)
 number_read_2 bytes rest n all e =
     let read = bytes_of_number w16 bytes rest n e in
@@ -85,7 +86,7 @@ number_read_2 bytes rest n all e =
 below_4 : (front : List ℕ) (n : ℕ) → IsBytes front → n ≡ from_le_bytes w32 front → n < 2 ^ 32
 below_4 front n small e = omega (arith, e, small 0, small 1, small 2, small 3)
 
-pub number_read_4 : (bytes rest : List ℕ) (n : ℕ) → IsBytes bytes → number_at w32 bytes ≡ Some (n, rest)
+pub number_read_4 : (bytes rest : List ℕ) (n : ℕ) → IsBytes bytes → little_endian_at w32 bytes ≡ Some (n, rest)
     → (bytes ≡ to_le_bytes w32 n ++ rest) × (n < 2 ^ 32)
 number_read_4 bytes rest n all e =
     let read = bytes_of_number w32 bytes rest n e in

@@ -4,9 +4,9 @@ use Rattle.std.proofs.Common.{sym, subst}
 use Rattle.w4_defs.specs.declared.value.Val.{Val}
 use Rattle.w4_defs.specs.declared.value.Cause.TheVariants.{Type_}
 use Rattle.w4_defs.specs.Module.{Signature}
-use Rattle.w4_defs.specs.Kinds.{same_signature}
+use Rattle.w4_defs.specs.ValueTypes.{same_signature}
 use Rattle.w4_defs.specs.Outcome.{Store, Outcome, Trap}
-use Rattle.w4_defs.specs.Program.{Callee, own, imported, absent, Prog}
+use Rattle.w4_defs.specs.Program.{Callee, own_function, host_function, no_function, Prog}
 use Rattle.w4_defs.specs.Evaluation.{Env, Evaluator, call_typed}
 use Rattle.w4_defs.specs.RunLaws.{ForbiddenCallLeavesStore, RefusedCallsLeaveStore, IsOfType}
 
@@ -15,9 +15,9 @@ forbidden_call_leaves_store prog e f env ops ls st b forbidden = rw forbidden re
 
 other_type : {H : Type 0} (prog : Prog H) (e : Evaluator H) (s other : Signature) (callee : Callee) (env : Env) (ops ls : List Val) (st : Store H) (b : ℕ)
     → IsOfType other callee → same_signature other s ≡ false → call_typed prog e s callee env ops ls st b ≡ Trap Type_ st
-other_type prog e s other (own f) env ops ls st b is differs = rw is (rw differs refl)
-other_type prog e s other (imported t i) env ops ls st b is differs = rw is (rw differs refl)
-other_type prog e s other absent env ops ls st b is differs = absurd is
+other_type prog e s other (own_function f) env ops ls st b is differs = rw is (rw differs refl)
+other_type prog e s other (host_function t i) env ops ls st b is differs = rw is (rw differs refl)
+other_type prog e s other no_function env ops ls st b is differs = absurd is
 
 pub refused_calls_leave_store : {H : Type 0} → RefusedCallsLeaveStore H
 refused_calls_leave_store prog e t index s env ops ls st b named = (

@@ -3,7 +3,7 @@ use Rattle.std.proofs.Common.{◌≡◌, ℕ, zero, suc, ◌+◌, ◌*◌, ◌<�
 use Rattle.std.proofs.lemmas.Grind.{common_steps}
 use Rattle.w4_defs.specs.Framebuffer.{paint}
 use Rattle.w4_defs.specs.MemoryMap.{input_bytes, InputIsPut, PaintLeavesRegisters}
-use Rattle.w4_defs.specs.Image.{shown_from, image}
+use Rattle.w4_defs.specs.Image.{pixel_colours, image}
 use Rattle.w4_defs.proofs.PaintLaws.{paint-outside}
 
 -- a list whose middle was put in place of as many elements
@@ -23,14 +23,14 @@ paint_leaves_registers page f len =
     let same : (i : ℕ) → i < 160 → get_or (paint page f) i 0 ≡ get_or page i 0 = λ i h. paint-outside page f i (inl h) in (
       rw (same 20 (omega arith), same 21 (omega arith)) refl,
       same 31 (omega arith),
-      λ entry h. rw (same (4 + 4 * entry + 2) (omega arith), same (4 + 4 * entry + 1) (omega arith), same (4 + 4 * entry) (omega arith)) refl,
+      λ index h. rw (same (4 + 4 * index + 2) (omega arith), same (4 + 4 * index + 1) (omega arith), same (4 + 4 * index) (omega arith)) refl,
     )
 
-pub length-shown_from : (page : List ℕ) (n count : ℕ) → length (shown_from page n count) ≡ 3 * count
-unfolding shown_from
+pub length-shown_from : (page : List ℕ) (n count : ℕ) → length (pixel_colours page n count) ≡ 3 * count
+unfolding pixel_colours
 length-shown_from page n zero = refl
-length-shown_from page n (suc count) = let rest : length (shown_from page (n + 1) count) ≡ 3 * count = length-shown_from page (n + 1) count in omega arith
+length-shown_from page n (suc count) = let rest : length (pixel_colours page (n + 1) count) ≡ 3 * count = length-shown_from page (n + 1) count in omega arith
 
 pub length-image : (page : List ℕ) → length (image page) ≡ 76815
 unfolding image
-length-image page = let all : length (shown_from page 0 25600) ≡ 3 * 25600 = length-shown_from page 0 25600 in omega arith
+length-image page = let all : length (pixel_colours page 0 25600) ≡ 3 * 25600 = length-shown_from page 0 25600 in omega arith

@@ -3,7 +3,7 @@ use Rattle.std.proofs.Common.{◌≡◌, ◌≢◌, ℕ, ◌+◌, ◌-◌, ◌<�
 use Rattle.std.specs.List.{filter}
 use Rattle.std.proofs.lemmas.Bool.{cases_lt, cases_eq, le-ltb, lt-ltb, eq-eqb, ne_eqb, eqb-false, or_parts}
 use Rattle.std.proofs.lemmas.Bool.Decides.{nat_tests}
-use Rattle.w4_defs.specs.Session.{places_alone, is_kept, with_kept, rest_after, without, unlink_above, raised, lowered, without_double, kept_after_insert, kept_after_delete, Rise, ArePlaces, PlacesStayRight}
+use Rattle.w4_defs.specs.Session.{places_alone, is_kept, with_kept, next_after_drop, without, unlink_above, moved_up, moved_down, without_double, kept_after_insert, kept_after_delete, Rise, ArePlaces, PlacesStayRight}
 
 -- ---- set
 
@@ -23,17 +23,17 @@ length_map f (p ∷ places) = omega (arith, length_map f places)
 
 -- ---- insert
 
-raised_rises : (k p q : ℕ) → p < q → raised places_alone k p < raised places_alone k q
+raised_rises : (k p q : ℕ) → p < q → moved_up places_alone k p < moved_up places_alone k q
 raised_rises k p q h = grind (arith, nat_tests)
 
-raised_within : (k p n : ℕ) → p ≤ n → raised places_alone k p ≤ n + 1
+raised_within : (k p n : ℕ) → p ≤ n → moved_up places_alone k p ≤ n + 1
 raised_within k p n h = grind (arith, nat_tests)
 
-raised_zero : (k : ℕ) → raised places_alone k 0 ≡ 0
+raised_zero : (k : ℕ) → moved_up places_alone k 0 ≡ 0
 raised_zero k = grind (arith, nat_tests)
 
 all_raised : (k from n : ℕ) (places : List ℕ) → Rise from n places
-    → Rise (raised places_alone k from) (n + 1) (map (raised places_alone k) places)
+    → Rise (moved_up places_alone k from) (n + 1) (map (moved_up places_alone k) places)
 all_raised k from n [] h = raised_within k from n h
 all_raised k from n (p ∷ places) h = (raised_rises k from p h.0, all_raised k p n places h.1)
 
@@ -41,13 +41,13 @@ after_insert : (n k : ℕ) (places : List ℕ) → ArePlaces n places
     → ArePlaces (n + 1) (kept_after_insert places_alone k places)
 after_insert n k [] h = absurd h
 after_insert n k (p ∷ places) h =
-    let are : ArePlaces (n + 1) (map (raised places_alone k) (p ∷ places)) = (
-      ap (raised places_alone k) h.0 ∙ raised_zero k,
-      subst (λ from. Rise from (n + 1) (map (raised places_alone k) places)) (raised_zero k)
+    let are : ArePlaces (n + 1) (map (moved_up places_alone k) (p ∷ places)) = (
+      ap (moved_up places_alone k) h.0 ∙ raised_zero k,
+      subst (λ from. Rise from (n + 1) (map (moved_up places_alone k) places)) (raised_zero k)
           (all_raised k 0 n places h.1),
-      subst (λ m. m < 1024) (sym (length_map (raised places_alone k) places)) h.2,
+      subst (λ m. m < 1024) (sym (length_map (moved_up places_alone k) places)) h.2,
     ) in
-    subst (λ xs. ArePlaces (n + 1) (map (raised places_alone k) xs)) (sym (unlink_nothing k (p ∷ places))) are
+    subst (λ xs. ArePlaces (n + 1) (map (moved_up places_alone k) xs)) (sym (unlink_nothing k (p ∷ places))) are
 
 -- ---- delete
 
@@ -61,20 +61,20 @@ RiseApart k from n [] = from ≤ n
 RiseApart k from n (p ∷ places) = (from < p) × (from ≡ k → p ≢ k + 1) × RiseApart k p n places
 
 lowered_rises : (k p q : ℕ) → p < q → (p ≡ k → q ≢ k + 1)
-    → lowered places_alone k p < lowered places_alone k q
+    → moved_down places_alone k p < moved_down places_alone k q
 lowered_rises k p q h apart = elim (cases_eq p k) [
   | inl here ↦ let other : q ≢ k + 1 = apart here in grind (arith, nat_tests)
   | inr other ↦ grind (arith, nat_tests)
 ]
 
-lowered_within : (k p n : ℕ) → k < n → p ≤ n → lowered places_alone k p ≤ n - 1
+lowered_within : (k p n : ℕ) → k < n → p ≤ n → moved_down places_alone k p ≤ n - 1
 lowered_within k p n below h = grind (arith, nat_tests)
 
-lowered_zero : (k : ℕ) → lowered places_alone k 0 ≡ 0
+lowered_zero : (k : ℕ) → moved_down places_alone k 0 ≡ 0
 lowered_zero k = grind (arith, nat_tests)
 
 all_lowered : (k from n : ℕ) (places : List ℕ) → k < n → RiseApart k from n places
-    → Rise (lowered places_alone k from) (n - 1) (map (lowered places_alone k) places)
+    → Rise (moved_down places_alone k from) (n - 1) (map (moved_down places_alone k) places)
 all_lowered k from n [] below h = lowered_within k from n below h
 all_lowered k from n (p ∷ places) below h =
     (lowered_rises k from p h.0 h.1, all_lowered k p n places below h.2)
@@ -145,14 +145,14 @@ delete_from_zero : (n k : ℕ) (places : List ℕ) → k < n → Rise 0 n places
 delete_from_zero n k places below h few =
     let single = single_are k n places h in
     let rest : List ℕ = single.0 in
-    let same : kept_after_delete places_alone k (0 ∷ places) ≡ map (lowered places_alone k) (0 ∷ rest) =
-    ap (map (lowered places_alone k)) (unlink_nothing k (without_double places_alone k (0 ∷ places))
+    let same : kept_after_delete places_alone k (0 ∷ places) ≡ map (moved_down places_alone k) (0 ∷ rest) =
+    ap (map (moved_down places_alone k)) (unlink_nothing k (without_double places_alone k (0 ∷ places))
     ∙ single.1) in
-    let are : ArePlaces (n - 1) (map (lowered places_alone k) (0 ∷ rest)) = (
+    let are : ArePlaces (n - 1) (map (moved_down places_alone k) (0 ∷ rest)) = (
       lowered_zero k,
-      subst (λ from. Rise from (n - 1) (map (lowered places_alone k) rest)) (lowered_zero k)
+      subst (λ from. Rise from (n - 1) (map (moved_down places_alone k) rest)) (lowered_zero k)
           (all_lowered k 0 n rest below single.2),
-      omega (arith, length_map (lowered places_alone k) rest, single.3),
+      omega (arith, length_map (moved_down places_alone k) rest, single.3),
     ) in
     subst (ArePlaces (n - 1)) (sym same) are
 
@@ -215,7 +215,7 @@ after_keep n k (p ∷ places) le none few h =
     subst (λ q. ArePlaces n (with_kept places_alone k (q ∷ places))) (sym h.0)
     (keep_from_zero n k places le (subst (λ q. is_kept places_alone k (q ∷ places) ≡ false) h.0 none) h.1 few)
 
-told_same : (p : ℕ) (places : List ℕ) → rest_after places_alone p places ≡ places
+told_same : (p : ℕ) (places : List ℕ) → next_after_drop places_alone p places ≡ places
 told_same p [] = refl
 told_same p (q ∷ places) = refl
 
@@ -223,7 +223,7 @@ without_rises : (k from n : ℕ) (places : List ℕ) → Rise from n places
     → Rise from n (without places_alone k places)
 without_rises k from n [] h = h
 without_rises k from n (p ∷ places) h = elim (eqb p k) as (λ t. Rise from n (cond t
-    (rest_after places_alone p places) (p ∷ without places_alone k places))) [
+    (next_after_drop places_alone p places) (p ∷ without places_alone k places))) [
       | true ↦ subst (Rise from n) (sym (told_same p places)) (lower_start from p n places (omega
           (arith, h.0)) h.1)
       | false ↦ (h.0, without_rises k p n places h.1)
@@ -231,7 +231,7 @@ without_rises k from n (p ∷ places) h = elim (eqb p k) as (λ t. Rise from n (
 
 length_without : (k : ℕ) (places : List ℕ) → length (without places_alone k places) ≤ length places
 length_without k [] = omega arith
-length_without k (p ∷ places) = elim (eqb p k) as (λ t. length (cond t (rest_after places_alone p places)
+length_without k (p ∷ places) = elim (eqb p k) as (λ t. length (cond t (next_after_drop places_alone p places)
     (p ∷ without places_alone k places)) ≤ length (p ∷ places)) [
       | true ↦ omega (arith, ap length (told_same p places))
       | false ↦ omega (arith, length_without k places)
@@ -246,7 +246,7 @@ drop_from_zero n k places other h few =
       omega
           (arith, few, length_without k places),
     ) in
-    subst (λ t. ArePlaces n (cond t (rest_after places_alone 0 places)
+    subst (λ t. ArePlaces n (cond t (next_after_drop places_alone 0 places)
     (0 ∷ without places_alone k places))) (sym (ne_eqb 0 k (λ e. other (sym e)))) are
 
 after_drop : (n k : ℕ) (places : List ℕ) → k ≢ 0 → ArePlaces n places

@@ -5,7 +5,7 @@ use Rattle.std.specs.List.{range_with_len}
 use Rattle.std.specs.List.Sorted.{IsStrictlyIncreasing}
 use Rattle.std.proofs.lemmas.List.FromFn.{length-range_with_len, get_or-range_with_len}
 use Rattle.std.proofs.lemmas.List.Kept.{IsStrictlyIncreasing-filter}
-use Rattle.w4_defs.specs.Search.{Step, begin, narrow, addresses, holds_throughout, LeftIsNarrowed, LeftRises}
+use Rattle.w4_defs.specs.Search.{Step, begin, narrow, addresses, holds_throughout, RemainingIsNarrowed, RemainingRises}
 
 -- all pass where every one passes
 filter_all : {X : Type 0} (xs : List X) → filter (λ x. true) xs ≡ xs
@@ -34,7 +34,7 @@ narrowed_from width page candidates [] = sym (filter_all candidates)
 narrowed_from width page candidates (step ∷ steps) =
     narrowed_from width step.0 _ steps ∙ filter_both _ (holds_throughout width step.0 steps) candidates
 
-pub left_is_narrowed : LeftIsNarrowed
+pub left_is_narrowed : RemainingIsNarrowed
 unfolding begin
 left_is_narrowed width page steps = narrowed_from width page (addresses width) steps
 
@@ -46,7 +46,7 @@ range_rises count k below =
     let here = get_or-range_with_len 0 count k 0 (omega (arith, within)) in
     omega (arith, here, get_or-range_with_len 0 count (k + 1) 0 within)
 
-pub left_rises : LeftRises
+pub left_rises : RemainingRises
 left_rises width page steps =
     IsStrictlyIncreasing-filter (holds_throughout width page steps) (addresses width)
     (range_rises (65537 - width))

@@ -6,7 +6,7 @@ use Rattle.std.proofs.Math.Nat.{mul-add, div-le_of_le-mul, zero-div}
 use Rattle.std.proofs.lemmas.Bool.{cases_lt, lt-ltb, le-ltb, ltb-true, ltb-false, le-leb, lt-leb, eq-eqb, ne_eqb}
 use Rattle.w4_defs.specs.declared.console.Tone.{Tone}
 use Rattle.w4_defs.specs.declared.console.Voice.{Voice}
-use Rattle.w4_defs.specs.Tones.{mix, slide, ticks, tone_frames, level_at, frequency_at, older, aged_often, started}
+use Rattle.w4_defs.specs.Tones.{interpolate, frequency_slide, ticks, tone_frames, level_at, frequency_at, older, aged_often, started}
 
 -- ---- levels
 
@@ -19,13 +19,13 @@ weighed_high : (most from to rest at : ℕ) → from ≤ most → to ≤ most �
 weighed_high most from to rest at f t =
     omega (arith, mul-add most rest at, mul-le from rest most rest f (omega arith), mul-le to at most at t (omega arith))
 
-pub mix_above : (least from to at len : ℕ) → at < len → least ≤ from → least ≤ to → least ≤ mix from to at len
+pub mix_above : (least from to at len : ℕ) → at < len → least ≤ from → least ≤ to → least ≤ interpolate from to at len
 mix_above least from to at len h f t =
     let whole : (len - at) + at ≡ len = omega arith in
     le-div least (from * (len - at) + to * at) len (omega arith)
     (let P : ℕ → Type 0 = λ n. least * n ≤ from * (len - at) + to * at in subst P whole (weighed_low least from to (len - at) at f t))
 
-pub mix_below : (most from to at len : ℕ) → at < len → from ≤ most → to ≤ most → mix from to at len ≤ most
+pub mix_below : (most from to at len : ℕ) → at < len → from ≤ most → to ≤ most → interpolate from to at len ≤ most
 mix_below most from to at len h f t =
     let whole : (len - at) + at ≡ len = omega arith in
     div-le_of_le-mul len {m = from * (len - at) + to * at} {n = most}
@@ -57,19 +57,19 @@ level_small tone t peak level within =
 part_small : (gap at len : ℕ) → at < len → gap * at / len ≤ gap
 part_small gap at len h = div-le_of_le-mul len {m = gap * at} {n = gap} (omega (arith, mul-le gap at gap len (omega arith) (omega arith), mul_comm gap len))
 
-slide_up : (first second at len : ℕ) → first ≤ second → slide first second at len ≡ first + (second - first) * at / len
+slide_up : (first second at len : ℕ) → first ≤ second → frequency_slide first second at len ≡ first + (second - first) * at / len
 slide_up first second at len h = ap (λ b. cond b (first + (second - first) * at / len) (first - (first - second) * at / len)) (le-leb first second h)
 
-slide_down : (first second at len : ℕ) → second < first → slide first second at len ≡ first - (first - second) * at / len
+slide_down : (first second at len : ℕ) → second < first → frequency_slide first second at len ≡ first - (first - second) * at / len
 slide_down first second at len h = ap (λ b. cond b (first + (second - first) * at / len) (first - (first - second) * at / len)) (lt-leb first second h)
 
-pub slide_above : (first second at len : ℕ) → at < len → min first second ≤ slide first second at len
+pub slide_above : (first second at len : ℕ) → at < len → min first second ≤ frequency_slide first second at len
 slide_above first second at len h = elim (cases_lt second first) [
   | inl down ↦ omega (arith, slide_down first second at len down, part_small (first - second) at len h)
   | inr up ↦ omega (arith, slide_up first second at len up, part_small (second - first) at len h)
 ]
 
-pub slide_below : (first second at len : ℕ) → at < len → slide first second at len ≤ max first second
+pub slide_below : (first second at len : ℕ) → at < len → frequency_slide first second at len ≤ max first second
 slide_below first second at len h = elim (cases_lt second first) [
   | inl down ↦ omega (arith, slide_down first second at len down, part_small (first - second) at len h)
   | inr up ↦ omega (arith, slide_up first second at len up, part_small (second - first) at len h)
@@ -95,7 +95,7 @@ neg_times zero at = ap pos (zero-mul at) ∙ ap (λ q. neg_ℤ (pos q)) (sym (ze
 neg_times (suc gap) at = refl
 
 pub slide_cut : (first second at len : ℕ) → at < len →
-    pos (slide first second at len) ≡ pos first +ℤ int_div ((pos second -ℤ pos first) *ℤ pos at) (pos len)
+    pos (frequency_slide first second at len) ≡ pos first +ℤ int_div ((pos second -ℤ pos first) *ℤ pos at) (pos len)
 slide_cut first second at len h = elim (cases_lt second first) [
   | inl down ↦
       let gap : pos second -ℤ pos first ≡ neg_ℤ (pos (first - second)) = omega (arith, ints) in

@@ -6,7 +6,7 @@ use Rattle.w4_defs.specs.declared.batch.BatchRow.TheVariants.{Bad, WrongCart, Ra
 use Rattle.w4_defs.specs.declared.value.Cause.TheVariants.{Memory}
 use Rattle.w4_defs.specs.declared.console.Halt.TheVariants.{Trapped}
 use Rattle.w4_defs.specs.Module.{WasmModule}
-use Rattle.w4_defs.specs.Image.{image, shown_from}
+use Rattle.w4_defs.specs.Image.{image, pixel_colours}
 use Rattle.w4_defs.specs.Tones.{silent}
 use Rattle.w4_defs.specs.State.{State}
 use Rattle.w4_defs.specs.Run.{run_state}
@@ -26,18 +26,18 @@ run_row sha256 cart font r =
     option_map (ran_row sha256 frames) (run_state (console_setup cart font r.budget) r.disk r.frames frames)
 
 -- of a recording that was decoded, or wasn't: it is run where it is of the cart with this digest
-abbrev pub row_of : (List ℕ → List ℕ) → WasmModule → List ℕ → List ℕ → Option Recording → Option BatchRow
-row_of sha256 cart font digest None = Some Bad
-row_of sha256 cart font digest (Some r) =
+abbrev pub batch_row : (List ℕ → List ℕ) → WasmModule → List ℕ → List ℕ → Option Recording → Option BatchRow
+batch_row sha256 cart font digest None = Some Bad
+batch_row sha256 cart font digest (Some r) =
     if bytes_eq r.digest digest then run_row sha256 cart font r else Some WrongCart
 
 -- the row of the bytes of a file
-unfoldable pub row : (List ℕ → List ℕ) → WasmModule → List ℕ → List ℕ → List ℕ → Option BatchRow
-row sha256 cart font digest bytes = row_of sha256 cart font digest (recording_of bytes)
+unfoldable pub file_row : (List ℕ → List ℕ) → WasmModule → List ℕ → List ℕ → List ℕ → Option BatchRow
+file_row sha256 cart font digest bytes = batch_row sha256 cart font digest (recording_of bytes)
 
 -- the rows of all files, in their order
-abbrev pub rows : (List ℕ → List ℕ) → WasmModule → List ℕ → List ℕ → List (List ℕ) → List (Option BatchRow)
-rows sha256 cart font digest files = map (row sha256 cart font digest) files
+abbrev pub file_rows : (List ℕ → List ℕ) → WasmModule → List ℕ → List ℕ → List (List ℕ) → List (Option BatchRow)
+file_rows sha256 cart font digest files = map (file_row sha256 cart font digest) files
 
 -- Worked cases: a recording of no frames of another cart, the same without its last byte, and what is told of
 -- a run that ended with a trap.
@@ -51,10 +51,10 @@ trapped_state =
 
 abbrev pub BatchCases : Type 0
 BatchCases =
-    (row (λ image. []) empty_module [] (replicate 32 8) worked_file ≡ Some WrongCart)
-    × (row (λ image. []) empty_module [] (replicate 32 7) (take 46 worked_file) ≡ Some Bad)
+    (file_row (λ image. []) empty_module [] (replicate 32 8) worked_file ≡ Some WrongCart)
+    × (file_row (λ image. []) empty_module [] (replicate 32 7) (take 46 worked_file) ≡ Some Bad)
     × (ran_row (take 2) 3 trapped_state ≡ Ran 3 (Trapped Memory) (80 ∷ 54 ∷ []) 2)
 
 pub batch-cases : BatchCases
-unfolding row recording_of frames_of image shown_from
+unfolding file_row recording_of frames_of image pixel_colours
 batch-cases = (refl, refl, refl)

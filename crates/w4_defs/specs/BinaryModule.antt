@@ -11,7 +11,7 @@ use Rattle.w4_defs.specs.BinaryText.{Texts, ◌then◌, provided, byte, items}
 use Rattle.w4_defs.specs.BinaryNumber.{unsigned}
 use Rattle.w4_defs.specs.BinaryType.{vector, sized, bytes, name, value_type, func_type, limits, table_type, global_type}
 use Rattle.w4_defs.specs.BinaryInstruction.{expression}
-use Rattle.w4_defs.specs.BinarySection.{Section, section, Rises, contents, Part, Alone, Counted}
+use Rattle.w4_defs.specs.BinarySection.{Section, section, RanksRise, contents, Part, Alone, Counted}
 use Rattle.w4_defs.specs.Lookup.{local_count}
 use Rattle.w4_defs.specs.Module.{Imported, Exported, Global, ElementSegment, DataSegment, Function, WasmModule}
 
@@ -42,11 +42,11 @@ exported e = name e.name then export_kind e.kind then unsigned 32 e.index
 abbrev pub element : ElementSegment → Texts
 element s = unsigned 32 s.table then expression s.offset then vector (unsigned 32) s.functions
 
-abbrev pub run : Locals → Texts
-run l = unsigned 32 l.count then value_type l.kind
+abbrev pub locals_run : Locals → Texts
+locals_run l = unsigned 32 l.count then value_type l.kind
 
 abbrev pub function : Function → Texts
-function f = provided (local_count f.runs < 2 ^ 32) (vector run f.runs then expression f.list)
+function f = provided (local_count f.runs < 2 ^ 32) (vector locals_run f.runs then expression f.list)
 
 -- a size and a function of exactly that size
 abbrev pub body : Function → Texts
@@ -57,7 +57,7 @@ segment s = unsigned 32 s.memory then expression s.offset then bytes s.bytes
 
 -- the module has what the sections hold, by their ids
 pub record Collects (sections : List Section) (m : WasmModule) : Type 0 where
-  pub order : Rises 0 sections
+  pub order : RanksRise 0 sections
   pub types : Part func_type (contents 1 sections) m.types
   pub imports : Part imported (contents 2 sections) m.imports
   pub functions : Part (unsigned 32) (contents 3 sections) m.functions
@@ -72,7 +72,7 @@ pub record Collects (sections : List Section) (m : WasmModule) : Type 0 where
   pub segments : Part segment (contents 11 sections) m.segments
   pub as_many : length m.functions ≡ length m.bodies
 
--- the bytes spell the module
+-- the bytes encode the module
 abbrev pub SpellsModule : List ℕ → WasmModule → Type 0
 SpellsModule text m =
     (sections : List Section) × (others : List ℕ) × (text ≡ preamble ++ others) × items section sections others

@@ -1,11 +1,12 @@
 -- Numbers (Core Specification, section 5.2): LEB128 with at most ceil(w / 7) bytes for w bits. The
 -- unused bits of the last possible byte are 0 in an unsigned number, and the sign bit in a signed one.
--- A longer spelling than needed is read where it keeps these bounds.
+-- A longer encoding than needed is read where it keeps these bounds.
 use Rattle.std.specs.Prelude.{◌≡◌, ℕ, ◌+◌, ◌-◌, ◌*◌, ◌^◌, ◌<◌, ◌≤◌, ◌⊎◌, [], ◌∷◌, length}
 use Rattle.std.specs.Int.{Width, byte_len, from_le_bytes}
 use Rattle.w4_defs.specs.BinaryText.{Texts}
 
--- LEB128 of w bits: a last byte, or a byte whose low seven bits come before those of the number of w - 7 bits that follows
+-- LEB128 of w bits: a last byte, or a byte whose low seven bits come before those of the number of w - 7 bits
+-- that follows
 abbrev pub leb : (ℕ → ℕ → ℕ → Type 0) → ℕ → ℕ → Texts
 leb Last w n [] = ⊥
 leb Last w n (b ∷ bs) =

@@ -5,7 +5,7 @@ use Rattle.std.specs.Prelude.{ℕ, ◌≤◌, ◌⊎◌}
 use Rattle.std.specs.Int.{w32, w64}
 use Rattle.w4_defs.specs.declared.operation.Op.{Op}
 use Rattle.w4_defs.specs.declared.operation.Op.TheVariants.{I32Const, I64Const, F32Const, F64Const, FloatPlain, FloatCut, I32Eqz, I32Eq, I32Ne, I32LtS, I32LtU, I32GtS, I32GtU, I32LeS, I32LeU, I32GeS, I32GeU, I64Eqz, I64Eq, I64Ne, I64LtS, I64LtU, I64GtS, I64GtU, I64LeS, I64LeU, I64GeS, I64GeU, I32Clz, I32Ctz, I32Popcnt, I32Add, I32Sub, I32Mul, I32DivS, I32DivU, I32RemS, I32RemU, I32And, I32Or, I32Xor, I32Shl, I32ShrS, I32ShrU, I32Rotl, I32Rotr, I64Clz, I64Ctz, I64Popcnt, I64Add, I64Sub, I64Mul, I64DivS, I64DivU, I64RemS, I64RemU, I64And, I64Or, I64Xor, I64Shl, I64ShrS, I64ShrU, I64Rotl, I64Rotr, I32WrapI64, I64ExtendI32S, I64ExtendI32U, I32Extend8S, I32Extend16S, I64Extend8S, I64Extend16S, I64Extend32S}
-use Rattle.w4_defs.specs.BinaryText.{Texts, ◌then◌, nothing, provided, byte}
+use Rattle.w4_defs.specs.BinaryText.{Texts, ◌then◌, no_text, provided, byte}
 use Rattle.w4_defs.specs.BinaryNumber.{unsigned, signed, little_endian}
 
 -- the codes of the float instructions of one byte, without those that access a memory
@@ -87,4 +87,4 @@ numeric I64Extend16S = byte 0xc3
 numeric I64Extend32S = byte 0xc4
 numeric (FloatPlain code) = provided (IsFloatCode code) (byte code)
 numeric (FloatCut code) = provided (code ≤ 7) (byte 0xfc then unsigned 32 code)
-numeric _ = nothing
+numeric _ = no_text

@@ -23,11 +23,11 @@ abbrev pub rank : ℕ → ℕ
 rank id = if id == 12 then 10 else (if nat_lt 9 id then id + 1 else id)
 
 -- the ranks rise, from above `last`, and no id is above 12
-abbrev pub Rises : ℕ → List Section → Type 0
-Rises last [] = Unit {0}
-Rises last (s ∷ sections) =
-    ((s.0 ≡ 0) × BeginsWithName s.1 × Rises last sections)
-    ⊎ ((s.0 ≢ 0) × (s.0 ≤ 12) × (last < rank s.0) × Rises (rank s.0) sections)
+abbrev pub RanksRise : ℕ → List Section → Type 0
+RanksRise last [] = Unit {0}
+RanksRise last (s ∷ sections) =
+    ((s.0 ≡ 0) × BeginsWithName s.1 × RanksRise last sections)
+    ⊎ ((s.0 ≢ 0) × (s.0 ≤ 12) × (last < rank s.0) × RanksRise (rank s.0) sections)
 
 -- the contents of the first section with this id
 abbrev pub contents : ℕ → List Section → Option (List ℕ)

@@ -1,4 +1,4 @@
--- How values are spelled by bytes (Core Specification, section 5.1): for each value the set of its
+-- How values are encoded by bytes (Core Specification, section 5.1): for each value the set of its
 -- texts. The text of a sequence is the texts of its parts, one after the other.
 use Rattle.std.specs.Prelude.{◌≡◌, ℕ, List, [], ◌∷◌, ◌++◌}
 
@@ -11,10 +11,10 @@ abbrev pub ◌then◌ : Texts → Texts → Texts
 (P then Q) text = (a b : List ℕ) × (text ≡ a ++ b) × P a × Q b
 
 -- what has no text
-abbrev pub nothing : Texts
-nothing text = ⊥
+abbrev pub no_text : Texts
+no_text text = ⊥
 
--- what is spelled only under a condition
+-- what is encoded only under a condition
 abbrev pub provided : Type 0 → Texts → Texts
 provided Condition spelled text = Condition × spelled text
 

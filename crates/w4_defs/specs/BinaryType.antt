@@ -34,7 +34,7 @@ value_type I64 = byte 0x7e
 value_type F32 = byte 0x7d
 value_type F64 = byte 0x7c
 
--- own rule: a type with more than one result has no text, where Core 1.0 refuses it in validation
+-- project rule: a type with more than one result has no text, where Core 1.0 refuses it in validation
 abbrev pub func_type : Signature → Texts
 func_type s =
     provided (length s.results ≤ 1) (byte 0x60 then vector value_type s.params then vector value_type s.results)

@@ -1,12 +1,12 @@
 -- What a blit paints, asked of the pixels on the screen (WASM-4 reference: blit, blitSub and their flags).
 -- All sums and products are exact; a byte past the page's end reads 0; every byte is that of the page at
--- the call. Own rule: how rotation and flips combine. Without rotation cell (i, j) lands at (x + i, y + j),
--- with it at (x + j, y + i). Columns are read backward where exactly one of flip x and rotation is set,
+-- the call. Project rule: how rotation and flips combine. Without rotation cell (i, j) lands at (x + i, y +
+-- j), with it at (x + j, y + i). Columns are read backward where exactly one of flip x and rotation is set,
 -- rows where flip y is set.
 use Rattle.std.specs.Prelude.{◌≡◌, ℕ, ◌+◌, ◌-◌, ◌*◌, ◌/◌, ◌%◌, ◌^◌, Bool, List, [], ◌∷◌, ◌==◌, if◌then◌else◌, slice_index, ℤ, pos, ◌+ℤ◌, ◌-ℤ◌, Option, Some, None, refl}
 use Rattle.w4_defs.specs.declared.picture.Picture.{Picture}
 use Rattle.w4_defs.specs.Framebuffer.{Painter, painted_byte, page_with}
-use Rattle.w4_defs.specs.Colours.{entry_of}
+use Rattle.w4_defs.specs.Colours.{palette_index}
 use Rattle.w4_defs.specs.Shapes.{only_if, is_inside, natural, asked}
 
 abbrev pub has_flag : Picture → ℕ → Bool
@@ -20,31 +20,31 @@ source_value page picture q =
     else slice_index page (picture.ptr + q / 8) / 2 ^ (7 - q % 8) % 2
 
 -- the column and the row of the picture that cell (i, j) reads
-abbrev pub column_of : Picture → ℕ → ℕ
-column_of picture i = picture.src_x + (if picture.flags / 2 % 2 == picture.flags / 8 % 2 then i else picture.w - 1 - i)
+abbrev pub source_column : Picture → ℕ → ℕ
+source_column picture i = picture.src_x + (if picture.flags / 2 % 2 == picture.flags / 8 % 2 then i else picture.w - 1 - i)
 
-abbrev pub row_of : Picture → ℕ → ℕ
-row_of picture j = picture.src_y + (if has_flag picture 4 then picture.h - 1 - j else j)
+abbrev pub source_row : Picture → ℕ → ℕ
+source_row picture j = picture.src_y + (if has_flag picture 4 then picture.h - 1 - j else j)
 
 -- pixel value v is painted in colour v + 1
-abbrev pub cell_entry : List ℕ → Picture → ℕ → ℕ → Option ℕ
-cell_entry page picture i j = entry_of picture.colors (source_value page picture (row_of picture j * picture.stride + column_of picture i) + 1)
+abbrev pub cell_index : List ℕ → Picture → ℕ → ℕ → Option ℕ
+cell_index page picture i j = palette_index picture.colors (source_value page picture (source_row picture j * picture.stride + source_column picture i) + 1)
 
--- the entry of the cell that lands so far to the right and below
-abbrev pub landed_entry : List ℕ → Picture → ℕ → ℕ → Option ℕ
-landed_entry page picture right below = if has_flag picture 8 then cell_entry page picture below right else cell_entry page picture right below
+-- the palette index of the cell that lands so far to the right and below
+abbrev pub landed_index : List ℕ → Picture → ℕ → ℕ → Option ℕ
+landed_index page picture right below = if has_flag picture 8 then cell_index page picture below right else cell_index page picture right below
 
 -- the width and the height on the screen
-abbrev pub wide : Picture → ℕ
-wide picture = if has_flag picture 8 then picture.h else picture.w
+abbrev pub width_on_screen : Picture → ℕ
+width_on_screen picture = if has_flag picture 8 then picture.h else picture.w
 
-abbrev pub high : Picture → ℕ
-high picture = if has_flag picture 8 then picture.w else picture.h
+abbrev pub height_on_screen : Picture → ℕ
+height_on_screen picture = if has_flag picture 8 then picture.w else picture.h
 
 abbrev pub blit_painter : List ℕ → Picture → ℤ → ℤ → Painter
 blit_painter page picture x y u v =
-    only_if (is_inside x (x +ℤ pos (wide picture)) y (y +ℤ pos (high picture)) u v)
-    (landed_entry page picture (natural (pos u -ℤ x)) (natural (pos v -ℤ y)))
+    only_if (is_inside x (x +ℤ pos (width_on_screen picture)) y (y +ℤ pos (height_on_screen picture)) u v)
+    (landed_index page picture (natural (pos u -ℤ x)) (natural (pos v -ℤ y)))
 
 -- 8 by 8 at (0, 0), flip x and rotation, where the bytes end after `ff 00 00 01`: column 0 is painted, and
 -- (3, 7)

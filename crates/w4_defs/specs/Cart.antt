@@ -1,4 +1,4 @@
--- What a cart is, and why bytes are none (own rules): the causes in their order, of which the first
+-- What a cart is, and why bytes are none (project rules): the causes in their order, of which the first
 -- that holds is the answer.
 use Rattle.std.specs.Prelude.{◌≡◌, ℕ, ◌<◌, ◌≤◌, List, length, Option, Some, None}
 use Rattle.w4_defs.specs.declared.refusal.CartKind.{CartKind}
@@ -8,7 +8,8 @@ use Rattle.w4_defs.specs.BinaryModule.{SpellsModule}
 use Rattle.w4_defs.specs.Profile.{profile_refusal}
 use Rattle.w4_defs.specs.Validity.{KeepsModuleRules, IsFirstUntyped, IsValid}
 
--- why a module that the profile lets through is invalid: a module rule, or the first function without a typing
+-- why a module that the profile lets through is invalid: a module rule, or the first function without a
+-- typing
 abbrev pub IsInvalid : WasmModule → Option ℕ → Type 0
 IsInvalid m None = KeepsModuleRules m → ⊥
 IsInvalid m (Some func) = KeepsModuleRules m × IsFirstUntyped m func

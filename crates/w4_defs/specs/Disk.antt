@@ -1,5 +1,5 @@
--- The disk (WASM-4 reference, `diskr` and `diskw`; own rule for sizes that don't fit): at most 1,024
--- bytes. Both calls answer how many bytes they moved.
+-- The disk (WASM-4 reference, `diskr` and `diskw`; project rule for sizes that don't fit): at most 1,024
+-- bytes. Both calls return how many bytes they moved.
 use Rattle.std.specs.Prelude.{◌≡◌, ℕ, ◌+◌, ◌-◌, min, List, [], ◌∷◌, ◌++◌, length, take, drop, refl}
 
 abbrev pub disk_room : ℕ

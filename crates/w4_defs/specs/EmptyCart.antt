@@ -1,5 +1,5 @@
 -- Worked cases of the binary format and of typing: the smallest cart, whose `update` does nothing; the
--- same with a longer spelling of a size; and a body whose operands nobody pushes.
+-- same with a longer encoding of a size; and a body whose operands nobody pushes.
 use Rattle.std.specs.Prelude.{◌≡◌, ℕ, List, [], ◌∷◌, ◌++◌, codes, None}
 use Rattle.w4_defs.specs.declared.operation.Op.TheVariants.{Unreachable, I32Add, I64Const, Drop}
 use Rattle.w4_defs.specs.declared.module.ImportKind.TheVariants as imports
@@ -7,11 +7,11 @@ use Rattle.w4_defs.specs.declared.module.ExportKind.TheVariants as exports
 use Rattle.w4_defs.specs.declared.refusal.CartKind.TheVariants.{Profile}
 use Rattle.w4_defs.specs.declared.refusal.ProfileRefusal.TheVariants.{NoMemory}
 use Rattle.w4_defs.specs.Tree.{Expr, mark, done, plain}
-use Rattle.w4_defs.specs.Module.{Signature, Function, WasmModule}
+use Rattle.w4_defs.specs.Module.{Signature, Function, WasmModule, nothing_to_nothing}
 use Rattle.w4_defs.specs.BinaryModule.{preamble, SpellsModule}
 use Rattle.w4_defs.specs.Typing.{body_context, BodyHasType}
 use Rattle.w4_defs.specs.Cart.{IsRefused, IsCart}
-use Rattle.w4_defs.specs.Shape.{shape}
+use Rattle.w4_defs.specs.AbstractStack.{abstract_stack}
 
 -- the preamble, a type, an import, a function and an export
 abbrev pub empty_cart_head : List ℕ
@@ -30,9 +30,6 @@ empty_cart = empty_cart_head ++ 0x0a ∷ 0x04 ∷ 0x01 ∷ 0x02 ∷ 0x00 ∷ 0x0
 abbrev pub empty_cart_with_long_size : List ℕ
 empty_cart_with_long_size =
     empty_cart_head ++ 0x0a ∷ 0x84 ∷ 0x80 ∷ 0x80 ∷ 0x80 ∷ 0x00 ∷ 0x01 ∷ 0x02 ∷ 0x00 ∷ 0x0b ∷ []
-
-abbrev pub nothing_to_nothing : Signature
-nothing_to_nothing = record { params = []; results = [] }
 
 abbrev pub empty_module : WasmModule
 empty_module =
@@ -87,5 +84,5 @@ adds_mixed = plain (mark Unreachable) (plain (mark (I64Const 0)) (plain (mark I3
 abbrev pub UnreachableCodeHasType : Type 0
 UnreachableCodeHasType = BodyHasType empty_module 0 adds_nothing
 
-abbrev pub MixedCodeHasNoShape : Type 0
-MixedCodeHasNoShape = shape (body_context empty_module nothing_to_nothing adds_nothing) adds_mixed ≡ None
+abbrev pub MixedCodeHasNoStack : Type 0
+MixedCodeHasNoStack = abstract_stack (body_context empty_module nothing_to_nothing adds_nothing) adds_mixed ≡ None

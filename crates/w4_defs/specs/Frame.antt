@@ -1,5 +1,5 @@
 -- A frame of the console (WASM-4 reference for registers and `update`; the order of events and what follows
--- a trap or a spent budget are own rules). A halted console leaves halt by a reset alone.
+-- a trap or a spent budget are project rules). A halted console leaves halt by a reset alone.
 use Rattle.std.specs.Prelude.{length, ◌≡◌, ◌≢◌, true, false, ℕ, List, ◌++◌, take, drop, replicate, Option, Some, None, option_map, option_and_then, if◌then◌else◌}
 use Rattle.w4_defs.specs.declared.console.Halt.{Halt}
 use Rattle.w4_defs.specs.declared.console.Halt.TheVariants.{Running, Trapped, Spent}
@@ -8,7 +8,7 @@ use Rattle.w4_defs.specs.Evaluation.{run_entry}
 use Rattle.w4_defs.specs.MemoryMap.{put_input, keeps_framebuffer}
 use Rattle.w4_defs.specs.Framebuffer.{paint}
 use Rattle.w4_defs.specs.State.{page_size, State, Moment, Underway}
-use Rattle.w4_defs.specs.Entries.{update_entry}
+use Rattle.w4_defs.specs.EntryPoints.{update_entry}
 use Rattle.w4_defs.specs.Reset.{Setup, underway, store_of, then_on, start, recorded}
 
 -- all pixels of the framebuffer 0
@@ -20,13 +20,13 @@ abbrev pub ClearedIsPainted : Type 0
 ClearedIsPainted = (page : List ℕ) → length page ≡ page_size → cleared page ≡ paint page (λ x y. Some 0)
 
 -- the page as `update` finds it: the input is written, and the framebuffer cleared unless it is kept
-abbrev pub input_page : List ℕ → Input → List ℕ
-input_page page input =
+abbrev pub page_after_input : List ℕ → Input → List ℕ
+page_after_input page input =
     let next = put_input page input in
     if keeps_framebuffer next then next else cleared next
 
-abbrev pub with_page : State → List ℕ → State
-with_page state page = record {
+abbrev pub state_with_page : State → List ℕ → State
+state_with_page state page = record {
   page = page;
   globals = state.globals;
   channels = state.channels;
@@ -38,12 +38,12 @@ with_page state page = record {
 abbrev pub call_update : Setup → Option ℕ → Underway → Option Underway
 call_update setup None now = None
 call_update setup (Some function) now =
-    then_on (run_entry setup.cart setup.outside function (store_of setup.font now) setup.budget) (λ now rest. Some now)
+    then_on (run_entry setup.cart setup.host_functions function (store_of setup.font now) setup.budget) (λ now rest. Some now)
 
 -- while the cart runs, the input and `update`; a halted cart is left as it is
 abbrev pub update_from : Setup → Input → Underway → Halt → Option Underway
 update_from setup input now Running = call_update setup (update_entry setup.cart) (record {
-  state = with_page now.state (input_page now.state.page input);
+  state = state_with_page now.state (page_after_input now.state.page input);
   tones = now.tones;
   traces = now.traces;
 })
@@ -54,12 +54,12 @@ abbrev pub update : Setup → Input → Underway → Option Underway
 update setup input now = update_from setup input now now.state.halt
 
 -- a frame whose input has a reset begins with one that keeps the state's own disk, and with its logs
-abbrev pub begun : Setup → State → Input → Option Underway
-begun setup state input = if input.reset then start setup state.disk else Some (underway state)
+abbrev pub before_update : Setup → State → Input → Option Underway
+before_update setup state input = if input.reset then start setup state.disk else Some (underway state)
 
 -- a frame: the next state and its record
 unfoldable pub frame : Setup → State → Input → Option Moment
-frame setup state input = option_map recorded (option_and_then (update setup input) (begun setup state input))
+frame setup state input = option_map recorded (option_and_then (update setup input) (before_update setup state input))
 
 -- a halted console is left as it is but for the ageing of its channels, unless the input has a reset
 abbrev pub HaltStays : Type 0

@@ -14,7 +14,7 @@ use Rattle.w4_defs.specs.Evaluation.{eval, eval_within}
 use Rattle.w4_defs.specs.State.{Moment, zero_page}
 use Rattle.w4_defs.specs.Reset.{first_page, start_page, start, reset}
 use Rattle.w4_defs.specs.Frame.{frame, cleared}
-use Rattle.w4_defs.specs.Board.{console_setup, weight, effect}
+use Rattle.w4_defs.specs.Board.{console_setup, import_weight, import_effect}
 use Rattle.w4_defs.specs.Run.{run}
 
 -- a cart that imports `trace` as function 0, and exports own functions from index 1 on
@@ -88,8 +88,8 @@ unfolding eval eval_within zero_page first_page start_page start reset cleared f
 budget-cases = (refl, refl, refl)
 
 -- a reset's entries share one budget, and the first that traps or is spent is the last that is called
-abbrev pub EntryCases : Type 0
-EntryCases =
+abbrev pub StartCases : Type 0
+StartCases =
     let two : Expr = then_nop (then_nop done) in
     let shared = (codes "update", done) ∷ (codes "start", two) ∷ (codes "_start", two) ∷ [] in
     let trapped = (codes "update", then_nop done) ∷ (codes "_initialize", endless) ∷ (codes "_start", trapping) ∷ [] in
@@ -100,9 +100,9 @@ EntryCases =
     × (halt_of (last trapped [] 40 (pad 0 false ∷ [])) ≡ Some (Trapped cause.Unreachable))
     × (halt_of (last spent [] 40 []) ≡ Some Spent)
 
-pub entry-cases : EntryCases
+pub start-cases : StartCases
 unfolding eval eval_within zero_page first_page start_page start reset cleared frame
-entry-cases = (refl, refl, refl, refl, refl)
+start-cases = (refl, refl, refl, refl, refl)
 
 -- the input stands in its registers, data segments over the first values of the registers, and a frame
 -- clears the framebuffer unless system flag 1 is set
@@ -123,8 +123,8 @@ page-cases = (refl, refl, refl, refl, refl, refl)
 
 -- a frame that begins with a reset has the reset's lines before its own; the weight of a line is taken
 -- before its effect
-abbrev pub LineCases : Type 0
-LineCases =
+abbrev pub TraceLineCases : Type 0
+TraceLineCases =
     let both = (codes "update", tracing) ∷ (codes "start", tracing) ∷ [] in
     let text = bytes_at 0 (65 ∷ []) ∷ [] in
     (lines_of (last both text 67 []) ≡ Some ((65 ∷ []) ∷ []))
@@ -133,9 +133,9 @@ LineCases =
     × (lines_of (last both text 66 []) ≡ Some [])
     × (halt_of (last both text 66 []) ≡ Some Spent)
 
-pub line-cases : LineCases
-unfolding eval eval_within zero_page first_page start_page start reset cleared frame weight effect
-line-cases = (refl, refl, refl, refl, refl)
+pub trace-line-cases : TraceLineCases
+unfolding eval eval_within zero_page first_page start_page start reset cleared frame import_weight import_effect
+trace-line-cases = (refl, refl, refl, refl, refl)
 
 -- mouse x of -2, mouse y of 300, and the left and middle buttons stand in their registers
 abbrev pub MouseCase : Type 0
@@ -168,5 +168,5 @@ StartCase =
     lines_of (run setup [] [] 0) ≡ Some ((66 ∷ []) ∷ (65 ∷ []) ∷ [])
 
 pub start-case : StartCase
-unfolding eval eval_within zero_page first_page start_page start reset cleared frame weight effect
+unfolding eval eval_within zero_page first_page start_page start reset cleared frame import_weight import_effect
 start-case = refl

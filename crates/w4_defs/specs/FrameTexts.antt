@@ -1,4 +1,4 @@
--- What a console writes of its frames as text (own rule): the schedule of tones, the trace lines, and the
+-- What a console writes of its frames as text (project rule): the schedule of tones, the trace lines, and the
 -- line of a state. Each line ends with byte 10; numbers are decimal without leading zeros.
 use Rattle.std.specs.Prelude.{◌≡◌, ℕ, ◌+◌, ◌/◌, ◌%◌, ◌==◌, nat_lt, ◌||◌, Bool, if◌then◌else◌, List, [], ◌∷◌, ◌++◌, flat_map, length, Option, Some, None, codes, decimal, refl}
 use Rattle.std.specs.Fmt.{digits}
@@ -9,7 +9,7 @@ use Rattle.w4_defs.specs.declared.console.Halt.TheVariants.{Running, Trapped, Sp
 use Rattle.w4_defs.specs.declared.console.Tone.{Tone}
 use Rattle.w4_defs.specs.declared.console.Sound.{Sound}
 use Rattle.w4_defs.specs.Logs.{empty_log, logged, kept_lines, kept_tones}
-use Rattle.w4_defs.specs.Tones.{decoded, played, silent, sounds_at, level_at, frequency_at}
+use Rattle.w4_defs.specs.Tones.{decoded, channels_after_tone, silent, sounds_at, level_at, frequency_at}
 use Rattle.w4_defs.specs.State.{State, FrameRecord}
 
 -- a number after a space
@@ -103,7 +103,7 @@ abbrev pub worked_record : FrameRecord
 worked_record = record {
   tones = logged kept_tones empty_log worked_tone;
   traces = logged kept_lines empty_log (31 ∷ 32 ∷ 65 ∷ 91 ∷ 92 ∷ 93 ∷ 126 ∷ 127 ∷ 255 ∷ []);
-  sounds = sounds_at 0 (played silent worked_tone);
+  sounds = sounds_at 0 (channels_after_tone silent worked_tone);
 }
 
 abbrev pub crowded_record : FrameRecord

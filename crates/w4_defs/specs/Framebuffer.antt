@@ -4,7 +4,7 @@ use Rattle.std.specs.Prelude.{◌≡◌, ℕ, ◌+◌, ◌-◌, ◌*◌, ◌/◌
 use Rattle.std.specs.List.{range_with_len}
 use Rattle.std.specs.Option.{option_or}
 
--- the entry, 0 to 3, that stands at (x, y), both below 160
+-- the palette index, 0 to 3, that stands at (x, y), both below 160
 abbrev pub pixel : List ℕ → ℕ → ℕ → ℕ
 pixel page x y = slice_index page (160 + (160 * y + x) / 4) / 4 ^ (x % 4) % 4
 
@@ -20,11 +20,11 @@ PixelCase = let page = page_with (228 ∷ []) in
 pub pixel-case : PixelCase
 pixel-case = (refl, refl, refl, refl)
 
--- Painting. A painter says for each pixel of the screen which entry it is given, or that it is left.
+-- Painting. A painter says for each pixel of the screen which palette index it is given, or that it is left.
 abbrev pub Painter : Type 0
 Painter = ℕ → ℕ → Option ℕ
 
--- the pixel after painting: the painter's entry modulo 4, where there is one, else as before
+-- the pixel after painting: the painter's palette index modulo 4, where there is one, else unchanged
 abbrev pub painted_pixel : List ℕ → Painter → ℕ → ℕ → ℕ
 painted_pixel page f x y = unwrap_or (f x y) (pixel page x y) % 4
 
@@ -32,11 +32,11 @@ painted_pixel page f x y = unwrap_or (f x y) (pixel page x y) % 4
 abbrev pub painted_at : List ℕ → Painter → ℕ → ℕ
 painted_at page f n = painted_pixel page f (n % 160) (n / 160)
 
--- four entries as a byte, from the n-th on: the first in the lowest bits
+-- four palette indices as a byte, from the n-th on: the first in the lowest bits
 abbrev pub packed : (ℕ → ℕ) → ℕ → ℕ
-packed entry n = entry n + 4 * entry (n + 1) + 16 * entry (n + 2) + 64 * entry (n + 3)
+packed index n = index n + 4 * index (n + 1) + 16 * index (n + 2) + 64 * index (n + 3)
 
--- a byte of the page after painting: outside the framebuffer as before, else four pixels
+-- a byte of the page after painting: outside the framebuffer unchanged, else four pixels
 abbrev pub painted_byte : List ℕ → Painter → ℕ → ℕ
 painted_byte page f i =
     if nat_lt i 160 || nat_le 6560 i then slice_index page i else packed (painted_at page f) (4 * (i - 160))

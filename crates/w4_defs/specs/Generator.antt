@@ -11,7 +11,7 @@ use Rattle.w4_defs.specs.declared.operation.Op.{Op}
 use Rattle.w4_defs.specs.declared.operation.Op.TheVariants.{LocalGet, I32Const, I32Load, I32Load8U, I32Store, Call, I32Add, I32Sub, I32Mul, I32And, I32Or, I32Xor, I32Shl, I32ShrS, I32ShrU, I32Rotl, I32Rotr}
 use Rattle.w4_defs.specs.declared.module.ImportKind.TheVariants as imports
 use Rattle.w4_defs.specs.declared.module.ExportKind.TheVariants as exports
-use Rattle.w4_defs.specs.Tree.{Expr, mark, done, plain}
+use Rattle.w4_defs.specs.Tree.{Expr, mark, done, plain, sequence}
 use Rattle.w4_defs.specs.Module.{Signature, Imported, Function, WasmModule}
 
 -- the generator's number after so many draws
@@ -30,11 +30,6 @@ operations =
 
 abbrev pub chosen : ℕ → Op
 chosen drawn = slice_index_or operations (drawn % 11) I32Add
-
--- a list of instructions that hold no list
-abbrev pub sequence : List Op → Expr
-sequence [] = done
-sequence (op ∷ ops) = plain (mark op) (sequence ops)
 
 -- how many small functions there are, and how many frames
 abbrev pub small_functions : ℕ

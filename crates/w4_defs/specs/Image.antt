@@ -8,16 +8,16 @@ abbrev pub image_header : List ℕ
 image_header = 80 ∷ 54 ∷ 10 ∷ 49 ∷ 54 ∷ 48 ∷ 32 ∷ 49 ∷ 54 ∷ 48 ∷ 10 ∷ 50 ∷ 53 ∷ 53 ∷ 10 ∷ []
 
 -- the colour of the n-th pixel in rows from the top
-abbrev pub shown : List ℕ → ℕ → List ℕ
-shown page n = palette page (pixel page (n % 160) (n / 160))
+abbrev pub pixel_colour : List ℕ → ℕ → List ℕ
+pixel_colour page n = palette page (pixel page (n % 160) (n / 160))
 
 -- the colours of `count` pixels from the n-th on
-unfoldable pub shown_from : List ℕ → ℕ → ℕ → List ℕ
-shown_from page n zero = []
-shown_from page n (suc count) = shown page n ++ shown_from page (n + 1) count
+unfoldable pub pixel_colours : List ℕ → ℕ → ℕ → List ℕ
+pixel_colours page n zero = []
+pixel_colours page n (suc count) = pixel_colour page n ++ pixel_colours page (n + 1) count
 
 unfoldable pub image : List ℕ → List ℕ
-image page = image_header ++ shown_from page 0 25600
+image page = image_header ++ pixel_colours page 0 25600
 
 -- an image has 76,815 bytes, whatever the page
 abbrev pub ImageLength : Type 0

@@ -9,32 +9,32 @@ use Rattle.w4_defs.specs.Module.{Signature}
 abbrev pub env : List ℕ
 env = codes "env"
 
-abbrev pub memory : List ℕ
-memory = codes "memory"
+abbrev pub memory_name : List ℕ
+memory_name = codes "memory"
 
 -- so many parameters, and no result
-abbrev pub takes : ℕ → Signature
-takes n = record { params = replicate n I32; results = [] }
+abbrev pub takes_i32s : ℕ → Signature
+takes_i32s n = record { params = replicate n I32; results = [] }
 
 -- so many parameters, and an i32
-abbrev pub answers : ℕ → Signature
-answers n = record { params = replicate n I32; results = I32 ∷ [] }
+abbrev pub returns_i32 : ℕ → Signature
+returns_i32 n = record { params = replicate n I32; results = I32 ∷ [] }
 
 abbrev pub import_type : Import → Signature
-import_type Blit = takes 6  -- ptr, x, y, w, h, flags
-import_type BlitSub = takes 9  -- ptr, x, y, w, h, srcX, srcY, stride, flags
-import_type Line = takes 4  -- x1, y1, x2, y2
-import_type Hline = takes 3  -- x, y, len
-import_type Vline = takes 3  -- x, y, len
-import_type Oval = takes 4  -- x, y, w, h
-import_type Rect = takes 4  -- x, y, w, h
-import_type Text = takes 3  -- ptr, x, y
-import_type TextUtf8 = takes 4  -- ptr, len, x, y
-import_type TextUtf16 = takes 4  -- ptr, len, x, y
-import_type Tone = takes 4  -- frequency, duration, volume, flags
-import_type Diskr = answers 2  -- ptr, size
-import_type Diskw = answers 2  -- ptr, size
-import_type Trace = takes 1  -- ptr
-import_type TraceUtf8 = takes 2  -- ptr, len
-import_type TraceUtf16 = takes 2  -- ptr, len
-import_type Tracef = takes 2  -- ptr, args
+import_type Blit = takes_i32s 6  -- ptr, x, y, w, h, flags
+import_type BlitSub = takes_i32s 9  -- ptr, x, y, w, h, srcX, srcY, stride, flags
+import_type Line = takes_i32s 4  -- x1, y1, x2, y2
+import_type Hline = takes_i32s 3  -- x, y, len
+import_type Vline = takes_i32s 3  -- x, y, len
+import_type Oval = takes_i32s 4  -- x, y, w, h
+import_type Rect = takes_i32s 4  -- x, y, w, h
+import_type Text = takes_i32s 3  -- ptr, x, y
+import_type TextUtf8 = takes_i32s 4  -- ptr, len, x, y
+import_type TextUtf16 = takes_i32s 4  -- ptr, len, x, y
+import_type Tone = takes_i32s 4  -- frequency, duration, volume, flags
+import_type Diskr = returns_i32 2  -- ptr, size
+import_type Diskw = returns_i32 2  -- ptr, size
+import_type Trace = takes_i32s 1  -- ptr
+import_type TraceUtf8 = takes_i32s 2  -- ptr, len
+import_type TraceUtf16 = takes_i32s 2  -- ptr, len
+import_type Tracef = takes_i32s 2  -- ptr, args

@@ -18,8 +18,8 @@ pub record Entry : Type 0 where
   pub linked : Bool
 
 -- entries as kept things: an edit changes no state, and after a drop the next entry is linked where both were
-abbrev pub entries : Kind Entry
-entries = record {
+abbrev pub kept_entries : Kind Entry
+kept_entries = record {
   place = λ x. x.place;
   at = λ p x. record { place = p; state = x.state; linked = x.linked };
   unlinked = λ x. record { place = x.place; state = x.state; linked = false };
@@ -31,17 +31,17 @@ entries = record {
 abbrev pub nowhere : Entry
 nowhere = record { place = 0; state = blank_state []; linked = false }
 
-abbrev pub entry_at : List Entry → ℕ → Entry
-entry_at kept i = slice_index_or kept i nowhere
+abbrev pub kept_entry_at : List Entry → ℕ → Entry
+kept_entry_at kept i = slice_index_or kept i nowhere
 
 abbrev pub place_at : List Entry → ℕ → ℕ
-place_at kept i = (entry_at kept i).place
+place_at kept i = (kept_entry_at kept i).place
 
 abbrev pub state_at : List Entry → ℕ → State
-state_at kept i = (entry_at kept i).state
+state_at kept i = (kept_entry_at kept i).state
 
 abbrev pub linked_at : List Entry → ℕ → Bool
-linked_at kept i = (entry_at kept i).linked
+linked_at kept i = (kept_entry_at kept i).linked
 
 -- the places alone
 abbrev pub places_of : List Entry → List ℕ
@@ -58,11 +58,11 @@ last_up_to p kept = first_above p kept - 1
 -- ---- what a kept list says
 
 -- segment i: the inputs from the place of entry i to that of entry i + 1, and what they make of its state
-abbrev pub segment : List Input → List Entry → ℕ → List Input
-segment inputs kept i = slice_range inputs (place_at kept i) (place_at kept (i + 1))
+abbrev pub kept_segment : List Input → List Entry → ℕ → List Input
+kept_segment inputs kept i = slice_range inputs (place_at kept i) (place_at kept (i + 1))
 
 abbrev pub computed : Setup → List Input → List Entry → ℕ → Option State
-computed setup inputs kept i = fold setup (state_at kept i) (segment inputs kept i)
+computed setup inputs kept i = fold setup (state_at kept i) (kept_segment inputs kept i)
 
 -- the globals have the cart's types
 abbrev pub HasCartGlobals : WasmModule → State → Type 0
@@ -103,10 +103,10 @@ LinkedIsRun = (setup : Setup) (disk : List ℕ) (inputs : List Input) (kept : Li
 -- ---- changes of one entry
 
 abbrev pub without_entry : ℕ → List Entry → List Entry
-without_entry p kept = without entries p kept
+without_entry p kept = without kept_entries p kept
 
 abbrev pub unlinked_at : ℕ → List Entry → List Entry
-unlinked_at i kept = slice_set kept i (entries.unlinked (entry_at kept i))
+unlinked_at i kept = slice_set kept i (kept_entries.unlinked (kept_entry_at kept i))
 
 -- entry i is found to be true: it is linked and keeps its state
 abbrev pub relinked_at : ℕ → List Entry → List Entry
@@ -120,11 +120,11 @@ replaced_at i state kept =
 
 -- what an edit unlinks, by its number
 abbrev pub UnlinksOne : Type 0
-UnlinksOne = (p : ℕ) (kept : List Entry) → unlink_above entries p kept ≡ unlinked_at (first_above p kept) kept
+UnlinksOne = (p : ℕ) (kept : List Entry) → unlink_above kept_entries p kept ≡ unlinked_at (first_above p kept) kept
 
 -- where an entry is put, by its number
 abbrev pub KeptInOrder : Type 0
-KeptInOrder = (x : Entry) (kept : List Entry) → with_kept entries x kept ≡ insert kept (first_above x.place kept) x
+KeptInOrder = (x : Entry) (kept : List Entry) → with_kept kept_entries x kept ≡ insert kept (first_above x.place kept) x
 
 -- ---- showing
 

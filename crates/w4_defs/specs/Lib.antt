@@ -23,12 +23,12 @@ pub mod Imports
 pub mod Floats
 pub mod Profile
 -- validation
-pub mod Kinds
+pub mod ValueTypes
 pub mod OperandTypes
 pub mod Typing
 pub mod Validity
 pub mod Cart
-pub mod Shape
+pub mod AbstractStack
 -- execution
 pub mod Integers
 pub mod Bytes
@@ -38,7 +38,7 @@ pub mod Control
 pub mod Effects
 pub mod Evaluation
 pub mod Resume
-pub mod Soundness
+pub mod InstructionSoundness
 -- The console: drawing
 pub mod Framebuffer
 pub mod Colours
@@ -55,7 +55,7 @@ pub mod Disk
 pub mod Traces
 -- runs
 pub mod State
-pub mod Entries
+pub mod EntryPoints
 pub mod Reset
 pub mod Frame
 pub mod Run

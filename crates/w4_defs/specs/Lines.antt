@@ -58,8 +58,8 @@ number_of word =
     else None
 
 -- a number from 0 to 255
-unfoldable pub byte_of : List ℕ → Option ℕ
-byte_of word = number_of word >>= at_most 255
+unfoldable pub decimal_byte : List ℕ → Option ℕ
+decimal_byte word = number_of word >>= at_most 255
 
 -- a number from -32768 to 32767, a `-` directly before its digits, of 0 too
 unfoldable pub coordinate_of : List ℕ → Option ℤ
@@ -104,8 +104,8 @@ pub line-cases : LineCases
 unfolding lines_from
 line-cases = (refl, refl, refl, refl, refl)
 
-abbrev pub NumberCases : Type 0
-NumberCases =
+abbrev pub DecimalCases : Type 0
+DecimalCases =
     (number_of (codes "4294967295") ≡ Some 4294967295)
     × (number_of (codes "4294967296") ≡ None)
     × (number_of (codes "0000000012") ≡ Some 12)
@@ -113,8 +113,8 @@ NumberCases =
     × (number_of [] ≡ None)
     × (number_of (codes "-1") ≡ None)
     × (number_of (codes "1a") ≡ None)
-    × (byte_of (codes "255") ≡ Some 255)
-    × (byte_of (codes "256") ≡ None)
+    × (decimal_byte (codes "255") ≡ Some 255)
+    × (decimal_byte (codes "256") ≡ None)
     × (coordinate_of (codes "-32768") ≡ Some (neg_ℤ (pos 32768)))
     × (coordinate_of (codes "-32769") ≡ None)
     × (coordinate_of (codes "32767") ≡ Some (pos 32767))
@@ -125,9 +125,9 @@ NumberCases =
     × (coordinate_of (codes "--1") ≡ None)
     × (coordinate_of (codes "+1") ≡ None)
 
-pub number-cases : NumberCases
-unfolding number_of byte_of coordinate_of
-number-cases = (
+pub decimal-cases : DecimalCases
+unfolding number_of decimal_byte coordinate_of
+decimal-cases = (
   refl,
   refl,
   refl,

@@ -1,4 +1,4 @@
--- A log of one frame (own rule): the first entries up to a bound, and how many came later. The count
+-- A log of one frame (project rule): the first entries up to a bound, and how many came later. The count
 -- stays at 2^64 - 1. A frame keeps 32 lines and 64 tones.
 use Rattle.std.specs.Prelude.{◌≡◌, ℕ, ◌+◌, ◌-◌, ◌^◌, min, nat_lt, if◌then◌else◌, List, [], ◌∷◌, ◌++◌, length, take, replicate, refl}
 

@@ -5,13 +5,14 @@ use Rattle.std.specs.Int.{cast_unsigned, w16}
 use Rattle.w4_defs.specs.declared.console.Input.{Input}
 use Rattle.w4_defs.specs.Framebuffer.{Painter, paint}
 
--- red, green and blue of a palette entry, 0 to 3: entries are 32 bits 0xRRGGBB, so that blue comes first
+-- red, green and blue by a palette index, 0 to 3: the palette has 32 bits 0xRRGGBB for each, so that blue
+-- comes first
 abbrev pub palette : List ℕ → ℕ → List ℕ
-palette page entry =
-    let at = 4 + 4 * entry in
+palette page index =
+    let at = 4 + 4 * index in
     slice_index page (at + 2) ∷ slice_index page (at + 1) ∷ slice_index page at ∷ []
 
--- entry 0 spelt cf f8 e0 00 is red e0, green f8, blue cf
+-- palette index 0 encoded cf f8 e0 00 is red e0, green f8, blue cf
 pub palette-case : palette (0 ∷ 0 ∷ 0 ∷ 0 ∷ 207 ∷ 248 ∷ 224 ∷ 0 ∷ []) 0 ≡ 224 ∷ 248 ∷ 207 ∷ []
 palette-case = refl
 
@@ -52,4 +53,4 @@ abbrev pub PaintLeavesRegisters : Type 0
 PaintLeavesRegisters = (page : List ℕ) (f : Painter) → length page ≡ 65536 →
     (draw_colors (paint page f) ≡ draw_colors page)
     × (system_flags (paint page f) ≡ system_flags page)
-    × ((entry : ℕ) → entry < 4 → palette (paint page f) entry ≡ palette page entry)
+    × ((index : ℕ) → index < 4 → palette (paint page f) index ≡ palette page index)

@@ -1,6 +1,6 @@
 -- A module as a record of lists (Core Specification, section 2.5). Names are the bytes of their text;
 -- functions are the type indices of own functions, segments the data segments.
-use Rattle.std.specs.Prelude.{ℕ, List, Option}
+use Rattle.std.specs.Prelude.{ℕ, List, Option, []}
 use Rattle.w4_defs.specs.declared.value.ValType.{ValType}
 use Rattle.w4_defs.specs.declared.value.Limits.{Limits}
 use Rattle.w4_defs.specs.declared.value.GlobalType.{GlobalType}
@@ -13,6 +13,10 @@ use Rattle.w4_defs.specs.Tree.{Expr}
 pub record Signature : Type 0 where
   pub params : List ValType
   pub results : List ValType
+
+-- the type of a function that takes and gives nothing
+abbrev pub nothing_to_nothing : Signature
+nothing_to_nothing = record { params = []; results = [] }
 
 pub record Imported : Type 0 where
   pub module_name : List ℕ

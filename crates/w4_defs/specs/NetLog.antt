@@ -7,16 +7,16 @@ use Rattle.std.specs.Prelude.{◌≡◌, ℕ, List, [], ◌∷◌, ◌++◌, cod
 use Rattle.w4_defs.specs.declared.netplay.NetOrder.{NetOrder}
 use Rattle.w4_defs.specs.declared.netplay.NetOrder.TheVariants.{Pad, Next, Keep, Show, StateAt}
 use Rattle.w4_defs.specs.Reading.{◌>>=◌}
-use Rattle.w4_defs.specs.Lines.{lines_from, number_of, byte_of}
+use Rattle.w4_defs.specs.Lines.{lines_from, number_of, decimal_byte}
 use Rattle.w4_defs.specs.OrderWords.{no_word, one_number}
 use Rattle.w4_defs.specs.OrderFile.{ScriptFault, BadLine, orders_in, file_of}
 
 -- a packet of three words
 abbrev pub packet_words : List (List ℕ) → Option NetOrder
 packet_words (who ∷ when ∷ pressed ∷ []) = do
-  player ← byte_of who
+  player ← decimal_byte who
   frame ← number_of when
-  pad ← byte_of pressed
+  pad ← decimal_byte pressed
   Some (Pad (record { player = player; frame = frame; pad = pad }))
 packet_words words = None
 
@@ -64,9 +64,9 @@ BadNetOrderCases =
     ≡ Err (BadLine 3))
 
 pub net-order-cases : NetOrderCases
-unfolding net_log_of orders_in lines_from net_order_named number_of byte_of
+unfolding net_log_of orders_in lines_from net_order_named number_of decimal_byte
 net-order-cases = (refl, refl, refl, refl, refl, refl)
 
 pub bad-net-order-cases : BadNetOrderCases
-unfolding net_log_of orders_in lines_from net_order_named number_of byte_of
+unfolding net_log_of orders_in lines_from net_order_named number_of decimal_byte
 bad-net-order-cases = (refl, refl, refl, refl, refl, refl, refl, refl, refl)

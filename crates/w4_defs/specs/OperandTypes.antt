@@ -7,7 +7,7 @@ use Rattle.w4_defs.specs.declared.value.ValType.TheVariants.{I32, I64}
 use Rattle.w4_defs.specs.declared.operation.Op.{Op}
 use Rattle.w4_defs.specs.declared.instruction_table.Row.{Row}
 use Rattle.w4_defs.specs.declared.instruction_table.Row.TheVariants as shape
-use Rattle.w4_defs.specs.InstructionTable.{value_type, row}
+use Rattle.w4_defs.specs.InstructionTable.{value_type_of, row}
 
 -- what is taken, and what is given
 abbrev pub Arrow : Type 0
@@ -20,40 +20,40 @@ arrow_if false taken given = None
 abbrev pub gives : ValType → Option Arrow
 gives t = Some ([], t ∷ [])
 
-abbrev pub unary : ValType → Option Arrow
-unary t = Some (t ∷ [], t ∷ [])
+abbrev pub unary_type : ValType → Option Arrow
+unary_type t = Some (t ∷ [], t ∷ [])
 
-abbrev pub binary : ValType → Option Arrow
-binary t = Some (t ∷ t ∷ [], t ∷ [])
+abbrev pub binary_type : ValType → Option Arrow
+binary_type t = Some (t ∷ t ∷ [], t ∷ [])
 
-abbrev pub test : ValType → Option Arrow
-test t = Some (t ∷ [], I32 ∷ [])
+abbrev pub test_type : ValType → Option Arrow
+test_type t = Some (t ∷ [], I32 ∷ [])
 
-abbrev pub comparison : ValType → Option Arrow
-comparison t = Some (t ∷ t ∷ [], I32 ∷ [])
+abbrev pub comparison_type : ValType → Option Arrow
+comparison_type t = Some (t ∷ t ∷ [], I32 ∷ [])
 
-abbrev pub conversion : ValType → ValType → Option Arrow
-conversion from to = Some (from ∷ [], to ∷ [])
+abbrev pub conversion_type : ValType → ValType → Option Arrow
+conversion_type from to = Some (from ∷ [], to ∷ [])
 
 -- there is a memory, and the alignment is at most as many bytes as are accessed
-abbrev pub load : Bool → ℕ → ℕ → ValType → Option Arrow
-load has_memory align count t = arrow_if (has_memory && nat_le (2 ^ align) count) (I32 ∷ []) (t ∷ [])
+abbrev pub load_type : Bool → ℕ → ℕ → ValType → Option Arrow
+load_type has_memory align count t = arrow_if (has_memory && nat_le (2 ^ align) count) (I32 ∷ []) (t ∷ [])
 
-abbrev pub store : Bool → ℕ → ℕ → ValType → Option Arrow
-store has_memory align count t = arrow_if (has_memory && nat_le (2 ^ align) count) (I32 ∷ t ∷ []) []
+abbrev pub store_type : Bool → ℕ → ℕ → ValType → Option Arrow
+store_type has_memory align count t = arrow_if (has_memory && nat_le (2 ^ align) count) (I32 ∷ t ∷ []) []
 
 -- what a row takes and gives, with a memory or without
 abbrev pub row_type : Bool → Row → Option Arrow
-row_type has_memory (shape.Const t n) = gives (value_type t)
-row_type has_memory (shape.Test t) = test (value_type t)
-row_type has_memory (shape.Compare t o) = comparison (value_type t)
-row_type has_memory (shape.Unary t o) = unary (value_type t)
-row_type has_memory (shape.Binary t o) = binary (value_type t)
-row_type has_memory shape.Wrap = conversion I64 I32
-row_type has_memory (shape.Extend sign) = conversion I32 I64
-row_type has_memory (shape.ExtendWithin t bits) = unary (value_type t)
-row_type has_memory (shape.Load t bytes sign align offset) = load has_memory align bytes (value_type t)
-row_type has_memory (shape.Store t bytes align offset) = store has_memory align bytes (value_type t)
+row_type has_memory (shape.Const t n) = gives (value_type_of t)
+row_type has_memory (shape.Test t) = test_type (value_type_of t)
+row_type has_memory (shape.Compare t o) = comparison_type (value_type_of t)
+row_type has_memory (shape.Unary t o) = unary_type (value_type_of t)
+row_type has_memory (shape.Binary t o) = binary_type (value_type_of t)
+row_type has_memory shape.Wrap = conversion_type I64 I32
+row_type has_memory (shape.Extend sign) = conversion_type I32 I64
+row_type has_memory (shape.ExtendWithin t bits) = unary_type (value_type_of t)
+row_type has_memory (shape.Load t bytes sign align offset) = load_type has_memory align bytes (value_type_of t)
+row_type has_memory (shape.Store t bytes align offset) = store_type has_memory align bytes (value_type_of t)
 row_type has_memory shape.MemorySize = arrow_if has_memory [] (I32 ∷ [])
 row_type has_memory shape.MemoryGrow = arrow_if has_memory (I32 ∷ []) (I32 ∷ [])
 row_type has_memory shape.MemoryCopy = arrow_if has_memory (I32 ∷ I32 ∷ I32 ∷ []) []

@@ -1,4 +1,4 @@
--- The console's profile (own rules): nine causes for which a module is refused, in their order. The
+-- The console's profile (project rules): nine causes for which a module is refused, in their order. The
 -- first that holds is the answer.
 use Rattle.std.specs.Prelude.{ℕ, ◌+◌, Bool, true, false, not, ◌&&◌, ◌||◌, nat_lt, nat_le, if◌then◌else◌, List, [], ◌∷◌, ◌++◌, length, map, zip, position, slice_get, codes, bytes_eq, Option, Some, None, is_some, option_map, option_and_then}
 use Rattle.std.specs.List.{list_any}
@@ -15,9 +15,9 @@ use Rattle.w4_defs.specs.declared.refusal.ProfileRefusal.TheVariants.{Floats, To
 use Rattle.w4_defs.specs.Tree.{Expr, done, plain}
 use Rattle.w4_defs.specs.Module.{Signature, Imported, Exported, Function, WasmModule}
 use Rattle.w4_defs.specs.Lookup.{signature_of, local_count}
-use Rattle.w4_defs.specs.Kinds.{same_signature}
+use Rattle.w4_defs.specs.ValueTypes.{same_signature}
 use Rattle.w4_defs.specs.ImportNames.{import_named}
-use Rattle.w4_defs.specs.Imports.{env, memory, import_type, takes}
+use Rattle.w4_defs.specs.Imports.{env, memory_name, import_type, takes_i32s}
 use Rattle.w4_defs.specs.Floats.{module_has_float}
 
 -- parameters count 0 where the type index names no type
@@ -31,7 +31,7 @@ has_many_locals m own = nat_lt 1024 (param_count (slice_get m.types own.0) + loc
 
 -- whether an import has the two names of the memory
 abbrev pub is_memory : Imported → Bool
-is_memory i = bytes_eq i.module_name env && bytes_eq i.name memory
+is_memory i = bytes_eq i.module_name env && bytes_eq i.name memory_name
 
 abbrev pub is_known : Imported → Bool
 is_known i = is_memory i || is_some (import_named i.module_name i.name)
@@ -50,7 +50,8 @@ abbrev pub is_one_or_more : Option ℕ → Bool
 is_one_or_more None = true
 is_one_or_more (Some greatest) = nat_le 1 greatest
 
--- a memory import is right where its kind is memory, its least size is at most 1, and its greatest is absent or at least 1
+-- a memory import is right where its kind is memory, its least size is at most 1, and its greatest is absent
+-- or at least 1
 abbrev pub is_right_memory : ImportKind → Bool
 is_right_memory (Memory l) = nat_le l.least 1 && is_one_or_more l.greatest
 is_right_memory _ = false
@@ -90,7 +91,7 @@ is_entry_name name =
 -- whether the type is there, without parameters and results
 abbrev pub takes_nothing : Option Signature → Bool
 takes_nothing None = false
-takes_nothing (Some s) = same_signature s (takes 0)
+takes_nothing (Some s) = same_signature s (takes_i32s 0)
 
 abbrev pub is_entry_function : WasmModule → ExportKind → ℕ → Bool
 is_entry_function m exports.Func index = takes_nothing (signature_of m index)
@@ -100,19 +101,19 @@ abbrev pub is_wrong_entry : WasmModule → Exported → Bool
 is_wrong_entry m e = is_entry_name e.name && not (is_entry_function m e.kind e.index)
 
 -- the number of an i32.const
-abbrev pub constant : Op → Option ℕ
-constant (I32Const value) = Some value
-constant _ = None
+abbrev pub i32_constant : Op → Option ℕ
+i32_constant (I32Const value) = Some value
+i32_constant _ = None
 
 -- the number of an expression that is a single i32.const
 abbrev pub single_constant : Expr → Option ℕ
-single_constant (plain m done) = constant m.0
+single_constant (plain m done) = i32_constant m.0
 single_constant _ = None
 
 -- whether so many items from a constant offset on pass the size; an offset of another form fits
-abbrev pub passes : Option ℕ → ℕ → ℕ → Bool
-passes None count size = false
-passes (Some offset) count size = nat_lt size (offset + count)
+abbrev pub exceeds_size : Option ℕ → ℕ → ℕ → Bool
+exceeds_size None count size = false
+exceeds_size (Some offset) count size = nat_lt size (offset + count)
 
 -- the least size of the first own table, or 0 where there is none
 abbrev pub table_size : Option Limits → ℕ
@@ -120,10 +121,10 @@ table_size None = 0
 table_size (Some l) = l.least
 
 -- whether each segment is outside, the element segments first
-abbrev pub outside : WasmModule → List Bool
-outside m =
-    map (λ s. passes (single_constant s.offset) (length s.functions) (table_size (slice_get m.tables 0))) m.elements
-    ++ map (λ s. passes (single_constant s.offset) (length s.bytes) 65536) m.segments
+abbrev pub segments_outside : WasmModule → List Bool
+segments_outside m =
+    map (λ s. exceeds_size (single_constant s.offset) (length s.functions) (table_size (slice_get m.tables 0))) m.elements
+    ++ map (λ s. exceeds_size (single_constant s.offset) (length s.bytes) 65536) m.segments
 
 -- each cause that holds, as its refusal
 abbrev pub causes : WasmModule → List (Option ProfileRefusal)
@@ -136,14 +137,14 @@ causes m =
     ∷ if_so (not (list_any is_memory m.imports)) NoMemory
     ∷ if_so (not (list_any is_update m.exports)) NoUpdate
     ∷ if_so (list_any (is_wrong_entry m) m.exports) WrongEntry
-    ∷ option_map SegmentOutside (position (λ b. b) (outside m))
+    ∷ option_map SegmentOutside (position (λ b. b) (segments_outside m))
     ∷ []
 
-abbrev pub first_of : List (Option ProfileRefusal) → Option ProfileRefusal
-first_of [] = None
-first_of (None ∷ others) = first_of others
-first_of (Some refusal ∷ others) = Some refusal
+abbrev pub first_cause : List (Option ProfileRefusal) → Option ProfileRefusal
+first_cause [] = None
+first_cause (None ∷ others) = first_cause others
+first_cause (Some refusal ∷ others) = Some refusal
 
 -- the refusal of a module, or None where it has none of the nine causes
 abbrev pub profile_refusal : WasmModule → Option ProfileRefusal
-profile_refusal m = first_of (causes m)
+profile_refusal m = first_cause (causes m)

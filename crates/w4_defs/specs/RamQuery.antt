@@ -16,13 +16,13 @@ use Rattle.w4_defs.specs.OrderWords.{no_word, one_number}
 use Rattle.w4_defs.specs.OrderFile.{ScriptFault, BadLine, orders_in, file_of}
 
 -- a width
-abbrev pub width_of : List ℕ → Option ℕ
-width_of word = number_of word >>= λ n. if n == 1 || n == 2 || n == 4 then Some n else None
+abbrev pub decimal_width : List ℕ → Option ℕ
+decimal_width word = number_of word >>= λ n. if n == 1 || n == 2 || n == 4 then Some n else None
 
 abbrev pub watch_words : List (List ℕ) → Option Ask
 watch_words (place ∷ size ∷ first ∷ last ∷ []) = do
   address ← number_of place
-  width ← width_of size
+  width ← decimal_width size
   a ← number_of first
   b ← number_of last
   if nat_le a b then Some (ask.Watch address width a b) else None
@@ -30,7 +30,7 @@ watch_words words = None
 
 abbrev pub start_words : List (List ℕ) → Option Ask
 start_words (size ∷ place ∷ []) = do
-  width ← width_of size
+  width ← decimal_width size
   p ← number_of place
   Some (ask.Start width p)
 start_words words = None

@@ -17,8 +17,8 @@ abbrev pub front_at : ℕ → List ℕ → Option (List ℕ × List ℕ)
 front_at n bytes = if nat_lt (length bytes) n then None else Some (take n bytes, drop n bytes)
 
 -- a number in little-endian order
-abbrev pub number_at : Width → List ℕ → Option (ℕ × List ℕ)
-number_at w bytes = if nat_lt (length bytes) (byte_len w) then None
+abbrev pub little_endian_at : Width → List ℕ → Option (ℕ × List ℕ)
+little_endian_at w bytes = if nat_lt (length bytes) (byte_len w) then None
     else Some (from_le_bytes w (take (byte_len w) bytes), drop (byte_len w) bytes)
 
 -- the bytes before the first byte that is `mark`, and those after it; None where there is none

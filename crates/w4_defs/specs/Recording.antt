@@ -10,7 +10,7 @@ use Rattle.std.specs.List.{flat_map, AllByRecursion}
 use Rattle.std.specs.Int.{w16, w32, to_le_bytes, cast_signed}
 use Rattle.w4_defs.specs.declared.console.Input.{Input}
 use Rattle.w4_defs.specs.MemoryMap.{input_bytes}
-use Rattle.w4_defs.specs.Reading.{◌>>=◌, IsBytes, front_at, number_at}
+use Rattle.w4_defs.specs.Reading.{◌>>=◌, IsBytes, front_at, little_endian_at}
 
 pub record Recording : Type 0 where
   pub digest : List ℕ
@@ -107,8 +107,8 @@ frames_of version (suc count) bytes = do
   Some (input ∷ more)
 
 -- whether a budget, the length of a disk and a number of frames are within the limits
-abbrev pub is_within : ℕ → ℕ → ℕ → Bool
-is_within budget size count = nat_le 1 budget && nat_le size 1024 && nat_le count 36000
+abbrev pub is_within_limits : ℕ → ℕ → ℕ → Bool
+is_within_limits budget size count = nat_le 1 budget && nat_le size 1024 && nat_le count 36000
 
 -- the recording that the bytes encode; None where they encode none
 unfoldable pub recording_of : List ℕ → Option Recording
@@ -116,11 +116,11 @@ recording_of bytes = do
   head ← front_at 5 bytes
   version ← version_of head.0
   digest ← front_at 32 head.1
-  budget ← number_at w32 digest.1
-  size ← number_at w16 budget.1
+  budget ← little_endian_at w32 digest.1
+  size ← little_endian_at w16 budget.1
   disk ← front_at size.0 size.1
-  count ← number_at w32 disk.1
-  frames ← if is_within budget.0 size.0 count.0 then frames_of version count.0 count.1 else None
+  count ← little_endian_at w32 disk.1
+  frames ← if is_within_limits budget.0 size.0 count.0 then frames_of version count.0 count.1 else None
   Some (record { digest = digest.0; budget = budget.0; disk = disk.0; frames = frames })
 
 -- ---- laws

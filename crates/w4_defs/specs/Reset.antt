@@ -1,23 +1,23 @@
 -- A reset of the console (WASM-4 reference for registers and entry functions; the order of events and what
--- follows a trap or a spent budget are own rules). What has no meaning, None here, stays so; an accepted
+-- follows a trap or a spent budget are project rules). What has no meaning, None here, stays so; an accepted
 -- cart never comes to it.
 use Rattle.std.specs.Prelude.{◌≡◌, ℕ, ◌+◌, List, [], ◌∷◌, ◌++◌, take, drop, length, Option, Some, None, option_map, refl}
 use Rattle.w4_defs.specs.declared.console.Halt.{Halt}
 use Rattle.w4_defs.specs.declared.console.Halt.TheVariants.{Running, Trapped, Spent}
 use Rattle.w4_defs.specs.Module.{DataSegment, WasmModule}
-use Rattle.w4_defs.specs.Outcome.{Store, Outside, Ended, Finished, Faulted, Exhausted, Undefined}
+use Rattle.w4_defs.specs.Outcome.{Store, HostFunctions, Ended, Finished, Faulted, Exhausted, Undefined}
 use Rattle.w4_defs.specs.Program.{constant_of}
 use Rattle.w4_defs.specs.Evaluation.{run_entry}
 use Rattle.w4_defs.specs.Logs.{empty_log}
 use Rattle.w4_defs.specs.Tones.{Channels, silent, all_aged, sounds_at}
 use Rattle.w4_defs.specs.State.{State, zero_page, Moment, Board, Underway}
-use Rattle.w4_defs.specs.Entries.{entries, first_globals}
+use Rattle.w4_defs.specs.EntryPoints.{start_functions, first_globals}
 
 -- all that a run reads and doesn't change: the cart's module, the imports' weights and effects, the font's
 -- bytes, and the budget of each reset and of each frame
 pub record Setup : Type 0 where
   pub cart : WasmModule
-  pub outside : Outside Board
+  pub host_functions : HostFunctions Board
   pub font : List ℕ
   pub budget : ℕ
 
@@ -57,7 +57,7 @@ start_page cart = with_segments first_page cart.segments
 abbrev pub underway : State → Underway
 underway state = record { state = state; tones = empty_log; traces = empty_log }
 
--- the state before a reset's calls: only the disk is handed in
+-- the state before a reset's calls: only the disk is passed
 abbrev pub fresh : WasmModule → List ℕ → State
 fresh cart disk = record {
   page = start_page cart;
@@ -81,8 +81,8 @@ store_of font now = record {
   };
 }
 
-abbrev pub left : Store Board → Halt → Underway
-left store halt = record {
+abbrev pub underway_after : Store Board → Halt → Underway
+underway_after store halt = record {
   state = record {
     page = store.page;
     globals = store.globals;
@@ -96,9 +96,9 @@ left store halt = record {
 
 -- a trap or a spent budget sets halt, and what was written before stays; else it goes on with the rest
 abbrev pub then_on : Ended Board → (Underway → ℕ → Option Underway) → Option Underway
-then_on (Finished store rest) go = go (left store Running) rest
-then_on (Faulted cause store) go = Some (left store (Trapped cause))
-then_on (Exhausted store) go = Some (left store Spent)
+then_on (Finished store rest) go = go (underway_after store Running) rest
+then_on (Faulted cause store) go = Some (underway_after store (Trapped cause))
+then_on (Exhausted store) go = Some (underway_after store Spent)
 then_on Undefined go = None
 
 -- entry functions in order under one budget, up to the first that traps or is spent
@@ -106,12 +106,12 @@ abbrev pub call_all : Setup → List (Option ℕ) → Underway → ℕ → Optio
 call_all setup [] now rest = Some now
 call_all setup (None ∷ functions) now rest = call_all setup functions now rest
 call_all setup (Some function ∷ functions) now rest =
-    then_on (run_entry setup.cart setup.outside function (store_of setup.font now) rest)
+    then_on (run_entry setup.cart setup.host_functions function (store_of setup.font now) rest)
     (λ now rest. call_all setup functions now rest)
 
 -- the state and the logs that a reset leaves before its record is taken
 unfoldable pub start : Setup → List ℕ → Option Underway
-start setup disk = call_all setup (entries setup.cart) (underway (fresh setup.cart disk)) setup.budget
+start setup disk = call_all setup (start_functions setup.cart) (underway (fresh setup.cart disk)) setup.budget
 
 -- the record has the logs and the four sounds at tick 0; then the channels age
 abbrev pub with_channels : State → Channels → State
@@ -129,7 +129,7 @@ recorded now = record {
   made = record { tones = now.tones; traces = now.traces; sounds = sounds_at 0 now.state.channels };
 }
 
--- a reset with the disk that is handed in: the state and the record at place 0
+-- a reset with the disk that is passed: the state and the record at place 0
 unfoldable pub reset : Setup → List ℕ → Option Moment
 reset setup disk = option_map recorded (start setup disk)
 

@@ -16,35 +16,35 @@ use Rattle.w4_defs.specs.declared.console.Input.{Input}
 use Rattle.w4_defs.specs.declared.order.Order.{Order}
 use Rattle.w4_defs.specs.declared.order.Order.TheVariants.{Set, Insert, Delete, Undo, Redo, Keep, KeepEvery, DropKept, Settle, Show, Film, Tones, Traces, DiskAt, StateAt}
 use Rattle.w4_defs.specs.Reading.{◌>>=◌}
-use Rattle.w4_defs.specs.Lines.{words_of, lines_from, number_of, byte_of, coordinate_of}
+use Rattle.w4_defs.specs.Lines.{words_of, lines_from, number_of, decimal_byte, coordinate_of}
 use Rattle.w4_defs.specs.OrderWords.{no_word, one_number}
 use Rattle.w4_defs.specs.OrderFile.{ScriptFault, BadLine, orders_in, file_of}
 
 -- ---- the words after an order's name
 
 -- one number, from least to most
-abbrev pub numbered : (ℕ → Order) → ℕ → ℕ → List (List ℕ) → Option Order
-numbered make least most (word ∷ []) = do
+abbrev pub number_order : (ℕ → Order) → ℕ → ℕ → List (List ℕ) → Option Order
+number_order make least most (word ∷ []) = do
   n ← number_of word
   if nat_le least n && nat_le n most then Some (make n) else None
-numbered make least most words = None
+number_order make least most words = None
 
 -- two places, the first at most the second
-abbrev pub ranged : (ℕ → ℕ → Order) → List (List ℕ) → Option Order
-ranged make (first ∷ last ∷ []) = do
+abbrev pub range_order : (ℕ → ℕ → Order) → List (List ℕ) → Option Order
+range_order make (first ∷ last ∷ []) = do
   a ← number_of first
   b ← number_of last
   if nat_le a b then Some (make a b) else None
-ranged make words = None
+range_order make words = None
 
 -- two places, the first at most the second, and a number of workers
-abbrev pub filmed : List (List ℕ) → Option Order
-filmed (first ∷ last ∷ workers ∷ []) = do
+abbrev pub film_order : List (List ℕ) → Option Order
+film_order (first ∷ last ∷ workers ∷ []) = do
   a ← number_of first
   b ← number_of last
   w ← number_of workers
   if nat_le a b && nat_le 1 w && nat_le w 16 then Some (Film a b w) else None
-filmed words = None
+film_order words = None
 
 -- the word `reset`, or no word
 abbrev pub reset_word : List (List ℕ) → Option Bool
@@ -53,16 +53,16 @@ reset_word (word ∷ []) = if bytes_eq word (codes "reset") then Some true else 
 reset_word words = None
 
 -- an input's number, the input, and whether its frame has a reset
-abbrev pub framed : (ℕ → Input → Order) → List (List ℕ) → Option Order
-framed make (number ∷ p1 ∷ p2 ∷ p3 ∷ p4 ∷ across ∷ down ∷ pressed ∷ rest) = do
+abbrev pub frame_order : (ℕ → Input → Order) → List (List ℕ) → Option Order
+frame_order make (number ∷ p1 ∷ p2 ∷ p3 ∷ p4 ∷ across ∷ down ∷ pressed ∷ rest) = do
   k ← number_of number
-  pad_1 ← byte_of p1
-  pad_2 ← byte_of p2
-  pad_3 ← byte_of p3
-  pad_4 ← byte_of p4
+  pad_1 ← decimal_byte p1
+  pad_2 ← decimal_byte p2
+  pad_3 ← decimal_byte p3
+  pad_4 ← decimal_byte p4
   x ← coordinate_of across
   y ← coordinate_of down
-  buttons ← byte_of pressed
+  buttons ← decimal_byte pressed
   reset ← reset_word rest
   Some (make k (record {
     pads = pad_1 ∷ pad_2 ∷ pad_3 ∷ pad_4 ∷ [];
@@ -71,26 +71,26 @@ framed make (number ∷ p1 ∷ p2 ∷ p3 ∷ p4 ∷ across ∷ down ∷ pressed 
     buttons = buttons;
     reset = reset;
   }))
-framed make words = None
+frame_order make words = None
 
 -- ---- orders
 
 -- the order of a name and the words after it
 unfoldable pub order_named : List ℕ → List (List ℕ) → Option Order
 order_named name words =
-    if bytes_eq name (codes "set") then framed Set words else
-    if bytes_eq name (codes "insert") then framed Insert words else
+    if bytes_eq name (codes "set") then frame_order Set words else
+    if bytes_eq name (codes "insert") then frame_order Insert words else
     if bytes_eq name (codes "delete") then one_number Delete words else
     if bytes_eq name (codes "undo") then no_word Undo words else
     if bytes_eq name (codes "redo") then no_word Redo words else
     if bytes_eq name (codes "keep") then one_number Keep words else
-    if bytes_eq name (codes "keep-every") then numbered KeepEvery 1 4294967295 words else
+    if bytes_eq name (codes "keep-every") then number_order KeepEvery 1 4294967295 words else
     if bytes_eq name (codes "drop") then one_number DropKept words else
-    if bytes_eq name (codes "settle") then numbered Settle 1 16 words else
+    if bytes_eq name (codes "settle") then number_order Settle 1 16 words else
     if bytes_eq name (codes "show") then one_number Show words else
-    if bytes_eq name (codes "film") then filmed words else
-    if bytes_eq name (codes "tones") then ranged Tones words else
-    if bytes_eq name (codes "traces") then ranged Traces words else
+    if bytes_eq name (codes "film") then film_order words else
+    if bytes_eq name (codes "tones") then range_order Tones words else
+    if bytes_eq name (codes "traces") then range_order Traces words else
     if bytes_eq name (codes "disk") then one_number DiskAt words else
     if bytes_eq name (codes "state") then one_number StateAt words else
     None
@@ -176,7 +176,7 @@ ScriptCases =
     × (script_of (codes "#" ++ 10 ∷ 10 ∷ codes "bad" ++ 10 ∷ []) ≡ Err (BadLine 3))
 
 pub order-cases : OrderCases
-unfolding order_named number_of byte_of coordinate_of
+unfolding order_named number_of decimal_byte coordinate_of
 order-cases = (
   refl,
   refl,
@@ -198,7 +198,7 @@ order-cases = (
 )
 
 pub bad-order-cases : BadOrderCases
-unfolding order_named number_of byte_of coordinate_of
+unfolding order_named number_of decimal_byte coordinate_of
 bad-order-cases = (
   refl,
   refl,
@@ -230,5 +230,5 @@ bad-order-cases = (
 )
 
 pub script-cases : ScriptCases
-unfolding script_of orders_in lines_from order_named number_of byte_of coordinate_of
+unfolding script_of orders_in lines_from order_named number_of decimal_byte coordinate_of
 script-cases = (refl, refl, refl, refl)

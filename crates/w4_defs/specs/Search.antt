@@ -55,17 +55,17 @@ holds_throughout width page (step ∷ steps) address =
     holds_at width step.1 step.0 page address && holds_throughout width step.0 steps address
 
 -- the addresses at which all tests hold, rising
-abbrev pub left : ℕ → List ℕ → List Step → List ℕ
-left width page steps = filter (holds_throughout width page steps) (addresses width)
+abbrev pub remaining : ℕ → List ℕ → List Step → List ℕ
+remaining width page steps = filter (holds_throughout width page steps) (addresses width)
 
 -- what a search has left, however it was narrowed
-abbrev pub LeftIsNarrowed : Type 0
-LeftIsNarrowed = (width : ℕ) (page : List ℕ) (steps : List Step) →
-    (fold narrow (begin width page) steps).candidates ≡ left width page steps
+abbrev pub RemainingIsNarrowed : Type 0
+RemainingIsNarrowed = (width : ℕ) (page : List ℕ) (steps : List Step) →
+    (fold narrow (begin width page) steps).candidates ≡ remaining width page steps
 
 -- the addresses that are left rise
-abbrev pub LeftRises : Type 0
-LeftRises = (width : ℕ) (page : List ℕ) (steps : List Step) → IsStrictlyIncreasing (left width page steps)
+abbrev pub RemainingRises : Type 0
+RemainingRises = (width : ℕ) (page : List ℕ) (steps : List Step) → IsStrictlyIncreasing (remaining width page steps)
 
 -- Worked cases, over four bytes of a page: 5, 9, 200, 7, and then 6, 9, 100, 7. The byte that rose, those
 -- that stayed, the one that is 100, and numbers of two bytes that fell. A value of 65,535 bytes has two

@@ -47,14 +47,14 @@ with_kept kind x (y ∷ kept) =
     if nat_lt (kind.place x) (kind.place y) then x ∷ y ∷ kept else y ∷ with_kept kind x kept
 
 -- what stands after a thing that is dropped
-abbrev pub rest_after : {A : Type 0} → Kind A → A → List A → List A
-rest_after kind dropped [] = []
-rest_after kind dropped (x ∷ kept) = kind.after_drop dropped x ∷ kept
+abbrev pub next_after_drop : {A : Type 0} → Kind A → A → List A → List A
+next_after_drop kind dropped [] = []
+next_after_drop kind dropped (x ∷ kept) = kind.after_drop dropped x ∷ kept
 
 -- the kept list without the thing at a place
 abbrev pub without : {A : Type 0} → Kind A → ℕ → List A → List A
 without kind p [] = []
-without kind p (x ∷ kept) = if kind.place x == p then rest_after kind x kept else x ∷ without kind p kept
+without kind p (x ∷ kept) = if kind.place x == p then next_after_drop kind x kept else x ∷ without kind p kept
 
 -- ---- what an edit of input K does to the kept list
 
@@ -65,11 +65,11 @@ unlink_above kind k (x ∷ kept) =
     if nat_lt k (kind.place x) then kind.unlinked x ∷ kept else x ∷ unlink_above kind k kept
 
 -- those above place K rise by 1, or fall by 1
-abbrev pub raised : {A : Type 0} → Kind A → ℕ → A → A
-raised kind k x = if nat_lt k (kind.place x) then kind.at (kind.place x + 1) x else x
+abbrev pub moved_up : {A : Type 0} → Kind A → ℕ → A → A
+moved_up kind k x = if nat_lt k (kind.place x) then kind.at (kind.place x + 1) x else x
 
-abbrev pub lowered : {A : Type 0} → Kind A → ℕ → A → A
-lowered kind k x = if nat_lt k (kind.place x) then kind.at (kind.place x - 1) x else x
+abbrev pub moved_down : {A : Type 0} → Kind A → ℕ → A → A
+moved_down kind k x = if nat_lt k (kind.place x) then kind.at (kind.place x - 1) x else x
 
 -- where places K and K + 1 are kept, both would stand on K after a delete: the later one is dropped
 abbrev pub without_double : {A : Type 0} → Kind A → ℕ → List A → List A
@@ -80,10 +80,10 @@ abbrev pub kept_after_set : {A : Type 0} → Kind A → ℕ → List A → List 
 kept_after_set kind k kept = unlink_above kind k kept
 
 abbrev pub kept_after_insert : {A : Type 0} → Kind A → ℕ → List A → List A
-kept_after_insert kind k kept = map (raised kind k) (unlink_above kind k kept)
+kept_after_insert kind k kept = map (moved_up kind k) (unlink_above kind k kept)
 
 abbrev pub kept_after_delete : {A : Type 0} → Kind A → ℕ → List A → List A
-kept_after_delete kind k kept = map (lowered kind k) (unlink_above kind k (without_double kind k kept))
+kept_after_delete kind k kept = map (moved_down kind k) (unlink_above kind k (without_double kind k kept))
 
 -- ---- drafts
 
@@ -113,8 +113,8 @@ pub record Session (A : Type 0) : Type 0 where
   pub newer : List (Draft A)
 
 -- how a recording is opened, with what is kept at place 0
-abbrev pub opened : {A : Type 0} → List Input → A → Session A
-opened inputs first =
+abbrev pub new_session : {A : Type 0} → List Input → A → Session A
+new_session inputs first =
     record { current = record { inputs = inputs; kept = first ∷ [] }; older = []; newer = [] }
 
 -- the last so many

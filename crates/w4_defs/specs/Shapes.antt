@@ -1,18 +1,18 @@
 -- What each shape paints, asked of the pixels on the screen (WASM-4 reference: hline, vline, rect, oval,
 -- line). Coordinates are signed and added exactly; what lies off the screen is skipped; a width, height
--- or length below 1 draws nothing. Own rules: a rect is filled, then outlined; which cells an oval has;
+-- or length below 1 draws nothing. Project rules: a rect is filled, then outlined; which cells an oval has;
 -- which points a line has.
 use Rattle.std.specs.Prelude.{◌<◌, ◌≤◌, ◌≡◌, ℕ, ◌+◌, ◌-◌, ◌*◌, ◌/◌, max, Bool, ◌&&◌, ◌||◌, not, List, [], ◌∷◌, map, nat_le, if◌then◌else◌, ℤ, pos, negsuc, ◌+ℤ◌, ◌-ℤ◌, int_le, int_lt, unsigned_abs, Option, Some, None, refl}
 use Rattle.std.specs.List.{range_with_len, list_any}
 use Rattle.std.specs.Option.{option_or}
 use Rattle.w4_defs.specs.Framebuffer.{Painter, over}
-use Rattle.w4_defs.specs.Colours.{entry_of}
+use Rattle.w4_defs.specs.Colours.{palette_index}
 
 -- ---- points and boxes
 
--- the entry where the test holds, else none
+-- the palette index where the test holds, else none
 abbrev pub only_if : Bool → Option ℕ → Option ℕ
-only_if test entry = if test then entry else None
+only_if test index = if test then index else None
 
 -- the coordinate z is that of pixel u
 abbrev pub is_at : ℤ → ℕ → Bool
@@ -29,40 +29,40 @@ natural (negsuc n) = 0
 
 -- one pixel, where it is on the screen
 abbrev pub point_painter : ℤ → ℤ → Option ℕ → Painter
-point_painter x y entry u v = only_if (is_at x u && is_at y v) entry
+point_painter x y index u v = only_if (is_at x u && is_at y v) index
 
 -- the pixels of row y from column x0 up to x1
 abbrev pub span_painter : ℤ → ℤ → ℤ → Option ℕ → Painter
-span_painter x0 x1 y entry u v = only_if (int_le x0 (pos u) && int_lt (pos u) x1 && is_at y v) entry
+span_painter x0 x1 y index u v = only_if (int_le x0 (pos u) && int_lt (pos u) x1 && is_at y v) index
 
 -- the pixels of column x from row y0 up to y1
 abbrev pub column_painter : ℤ → ℤ → ℤ → Option ℕ → Painter
-column_painter x y0 y1 entry u v = only_if (is_at x u && int_le y0 (pos v) && int_lt (pos v) y1) entry
+column_painter x y0 y1 index u v = only_if (is_at x u && int_le y0 (pos v) && int_lt (pos v) y1) index
 
 abbrev pub box_painter : ℤ → ℤ → ℤ → ℤ → Option ℕ → Painter
-box_painter x0 x1 y0 y1 entry u v = only_if (is_inside x0 x1 y0 y1 u v) entry
+box_painter x0 x1 y0 y1 index u v = only_if (is_inside x0 x1 y0 y1 u v) index
 
 -- the first and last column and row of a box
 abbrev pub outline_painter : ℤ → ℤ → ℤ → ℤ → Option ℕ → Painter
-outline_painter x0 x1 y0 y1 entry u v =
-    only_if (is_inside x0 x1 y0 y1 u v && (is_at x0 u || is_at (x1 -ℤ pos 1) u || is_at y0 v || is_at (y1 -ℤ pos 1) v)) entry
+outline_painter x0 x1 y0 y1 index u v =
+    only_if (is_inside x0 x1 y0 y1 u v && (is_at x0 u || is_at (x1 -ℤ pos 1) u || is_at y0 v || is_at (y1 -ℤ pos 1) v)) index
 
 -- the points (xs t, ys t) for t below n
 abbrev pub points_painter : (ℕ → ℤ) → (ℕ → ℤ) → ℕ → Option ℕ → Painter
-points_painter xs ys n entry u v = only_if (list_any (λ t. is_at (xs t) u && is_at (ys t) v) (range_with_len 0 n)) entry
+points_painter xs ys n index u v = only_if (list_any (λ t. is_at (xs t) u && is_at (ys t) v) (range_with_len 0 n)) index
 
 -- ---- hline, vline and rect
 
 abbrev pub hline_painter : ℕ → ℤ → ℤ → ℤ → Painter
-hline_painter colors x y len = span_painter x (x +ℤ len) y (entry_of colors 1)
+hline_painter colors x y len = span_painter x (x +ℤ len) y (palette_index colors 1)
 
 abbrev pub vline_painter : ℕ → ℤ → ℤ → ℤ → Painter
-vline_painter colors x y len = column_painter x y (y +ℤ len) (entry_of colors 1)
+vline_painter colors x y len = column_painter x y (y +ℤ len) (palette_index colors 1)
 
 -- colour 1 fills, then colour 2 paints the outline
 abbrev pub rect_painter : ℕ → ℤ → ℤ → ℤ → ℤ → Painter
 rect_painter colors x y w h =
-    over (outline_painter x (x +ℤ w) y (y +ℤ h) (entry_of colors 2)) (box_painter x (x +ℤ w) y (y +ℤ h) (entry_of colors 1))
+    over (outline_painter x (x +ℤ w) y (y +ℤ h) (palette_index colors 2)) (box_painter x (x +ℤ w) y (y +ℤ h) (palette_index colors 1))
 
 -- ---- oval
 
@@ -79,12 +79,12 @@ abbrev pub is_edge : ℕ → ℕ → ℤ → ℤ → Bool
 is_edge w h i j = not (is_within w h (i -ℤ pos 1) j && is_within w h (i +ℤ pos 1) j && is_within w h i (j -ℤ pos 1) && is_within w h i (j +ℤ pos 1))
 
 -- colour 1 fills the cells within, then colour 2 paints those at the edge
-abbrev pub oval_entry : ℕ → ℕ → ℕ → ℤ → ℤ → Option ℕ
-oval_entry colors w h i j = only_if (is_within w h i j) (option_or (only_if (is_edge w h i j) (entry_of colors 2)) (entry_of colors 1))
+abbrev pub oval_index : ℕ → ℕ → ℕ → ℤ → ℤ → Option ℕ
+oval_index colors w h i j = only_if (is_within w h i j) (option_or (only_if (is_edge w h i j) (palette_index colors 2)) (palette_index colors 1))
 
 abbrev pub oval_painter : ℕ → ℤ → ℤ → ℤ → ℤ → Painter
 oval_painter colors x y w h u v =
-    only_if (is_inside x (x +ℤ w) y (y +ℤ h) u v) (oval_entry colors (natural w) (natural h) (pos u -ℤ x) (pos v -ℤ y))
+    only_if (is_inside x (x +ℤ w) y (y +ℤ h) u v) (oval_index colors (natural w) (natural h) (pos u -ℤ x) (pos v -ℤ y))
 
 -- ---- line
 
@@ -119,7 +119,7 @@ line_from x1 y1 x2 y2 = points_painter
 -- a line starts at the end with the smaller y, at a tie at the first
 abbrev pub line_painter : ℕ → ℤ → ℤ → ℤ → ℤ → Painter
 line_painter colors x1 y1 x2 y2 =
-    if int_lt y2 y1 then line_from x2 y2 x1 y1 (entry_of colors 1) else line_from x1 y1 x2 y2 (entry_of colors 1)
+    if int_lt y2 y1 then line_from x2 y2 x1 y1 (palette_index colors 1) else line_from x1 y1 x2 y2 (palette_index colors 1)
 
 -- ---- worked cases
 

@@ -9,7 +9,7 @@ use Rattle.w4_defs.specs.declared.console.Tone.{Tone}
 use Rattle.w4_defs.specs.declared.console.Voice.{Voice}
 use Rattle.w4_defs.specs.declared.console.Sound.{Sound}
 use Rattle.w4_defs.specs.Logs.{empty_log, logged, kept_tones}
-use Rattle.w4_defs.specs.Tones.{Channels, IsPlaying, silent, played, all_aged, sound_of, decoded, sounds_at, level_at, frequency_at}
+use Rattle.w4_defs.specs.Tones.{Channels, IsPlaying, silent, channels_after_tone, all_aged, sound_of, decoded, sounds_at, level_at, frequency_at}
 use Rattle.w4_defs.specs.State.{FrameRecord, empty_record}
 
 -- how many ticks a second and a frame have
@@ -129,14 +129,14 @@ abbrev pub silenced : Option Voice → Option Sound → Option Voice
 silenced voice None = None
 silenced voice (Some sound) = voice
 
-abbrev pub with_channels : Wave → Channels → Wave
-with_channels wave channels = record { channels = channels; phases = wave.phases; noise = wave.noise }
+abbrev pub wave_with_channels : Wave → Channels → Wave
+wave_with_channels wave channels = record { channels = channels; phases = wave.phases; noise = wave.noise }
 
 -- a frame before its first tick: a tone that the log dropped isn't played
 abbrev pub with_record : FrameRecord → Wave → Wave
 with_record made wave =
-    with_channels wave
-    (map (λ pair. silenced pair.0 pair.1) (zip (fold played wave.channels made.tones.kept) made.sounds))
+    wave_with_channels wave
+    (map (λ pair. silenced pair.0 pair.1) (zip (fold channels_after_tone wave.channels made.tones.kept) made.sounds))
 
 -- the bytes of a frame: 735 samples of 4 bytes
 unfoldable pub frame_samples : Wave → List ℕ
@@ -150,7 +150,7 @@ rendered made wave = frame_samples (with_record made wave)
 abbrev pub after_frame : FrameRecord → Wave → Wave
 after_frame made wave =
     let last = after_ticks (with_record made wave) ticks_a_frame in
-    with_channels last (all_aged last.channels)
+    wave_with_channels last (all_aged last.channels)
 
 -- the samples of records, one after another
 abbrev pub samples_from : Wave → List FrameRecord → List ℕ
@@ -217,17 +217,17 @@ header-case = refl
 
 -- the record of one tone, with this frequency, these flags and one frame of sustain at level 100; and its
 -- frame
-abbrev pub record_of : ℕ → ℕ → FrameRecord
-record_of frequency flags =
+abbrev pub one_tone_record : ℕ → ℕ → FrameRecord
+one_tone_record frequency flags =
     let tone = decoded frequency 1 100 flags in
     record {
       tones = logged kept_tones empty_log tone;
       traces = empty_log;
-      sounds = sounds_at 0 (played silent tone);
+      sounds = sounds_at 0 (channels_after_tone silent tone);
     }
 
-abbrev pub frame_of : ℕ → ℕ → Wave
-frame_of frequency flags = with_record (record_of frequency flags) first_wave
+abbrev pub one_tone_frame : ℕ → ℕ → Wave
+one_tone_frame frequency flags = with_record (one_tone_record frequency flags) first_wave
 
 abbrev pub first_samples : (ℕ → Bool) → Wave → List ℤ
 first_samples side wave = map (λ tick. sample side tick (after_ticks wave tick)) (0 ∷ 1 ∷ 2 ∷ 3 ∷ [])
@@ -244,16 +244,16 @@ low = negsuc 7999
 -- the centre, as bytes; both sides of the triangle's cut toward 0; and silence in the frame after the tone.
 abbrev pub SampleCases : Type 0
 SampleCases =
-    (first_samples on_left (frame_of 11025 24) ≡ high ∷ high ∷ low ∷ low ∷ [])
-    × (first_samples on_right (frame_of 11025 24) ≡ pos 0 ∷ pos 0 ∷ pos 0 ∷ pos 0 ∷ [])
-    × (first_samples on_right (frame_of 11025 2) ≡ pos 0 ∷ high ∷ pos 0 ∷ low ∷ [])
-    × (first_samples on_right (frame_of 22050 3) ≡ high ∷ high ∷ low ∷ low ∷ [])
-    × (first_samples on_left (frame_of 11025 72) ≡ pos 0 ∷ pos 0 ∷ pos 0 ∷ pos 0 ∷ [])
-    × (flat_map (λ tick. sample_bytes tick (after_ticks (frame_of 11025 8) tick)) (0 ∷ 1 ∷ 2 ∷ [])
+    (first_samples on_left (one_tone_frame 11025 24) ≡ high ∷ high ∷ low ∷ low ∷ [])
+    × (first_samples on_right (one_tone_frame 11025 24) ≡ pos 0 ∷ pos 0 ∷ pos 0 ∷ pos 0 ∷ [])
+    × (first_samples on_right (one_tone_frame 11025 2) ≡ pos 0 ∷ high ∷ pos 0 ∷ low ∷ [])
+    × (first_samples on_right (one_tone_frame 22050 3) ≡ high ∷ high ∷ low ∷ low ∷ [])
+    × (first_samples on_left (one_tone_frame 11025 72) ≡ pos 0 ∷ pos 0 ∷ pos 0 ∷ pos 0 ∷ [])
+    × (flat_map (λ tick. sample_bytes tick (after_ticks (one_tone_frame 11025 8) tick)) (0 ∷ 1 ∷ 2 ∷ [])
     ≡ 0x40 ∷ 0x1f ∷ 0x40 ∷ 0x1f ∷ 0x40 ∷ 0x1f ∷ 0x40 ∷ 0x1f ∷ 0xc0 ∷ 0xe0 ∷ 0xc0 ∷ 0xe0 ∷ [])
     × (triangle 80 441 ≡ pos 3)
     × (triangle 80 43659 ≡ negsuc 2)
-    × ((with_record empty_record (after_frame (record_of 11025 8) first_wave)).channels ≡ silent)
+    × ((with_record empty_record (after_frame (one_tone_record 11025 8) first_wave)).channels ≡ silent)
 
 pub sample-cases : SampleCases
 unfolding after_ticks level_at frequency_at

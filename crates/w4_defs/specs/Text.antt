@@ -1,13 +1,13 @@
 -- Text: which codes a source gives and what they paint (WASM-4 reference: text, textUtf8, textUtf16).
--- Own rule, the font: 1,792 bytes, eight for each code from 32 to 255, one a row, the highest bit leftmost;
--- a bit 0 is painted in colour 1, a bit 1 in colour 2. Code 10 goes to the first x, 8 further down; every
--- other code moves 8 to the right, and those from 32 to 255 paint 8 by 8 cells.
+-- Project rule, the font: 1,792 bytes, eight for each code from 32 to 255, one a row, the highest bit
+-- leftmost; a bit 0 is painted in colour 1, a bit 1 in colour 2. Code 10 goes to the first x, 8 further down;
+-- every other code moves 8 to the right, and those from 32 to 255 paint 8 by 8 cells.
 use Rattle.std.specs.Prelude.{◌≡◌, ℕ, ◌+◌, ◌-◌, ◌*◌, ◌/◌, ◌%◌, ◌^◌, ◌&&◌, not, List, [], ◌∷◌, take, drop, take_while, nat_lt, nat_le, ◌==◌, if◌then◌else◌, slice_index, ℤ, pos, ◌+ℤ◌, ◌-ℤ◌, Option, Some, None, refl}
 use Rattle.std.specs.Option.{option_or}
 use Rattle.w4_defs.specs.declared.console.TextSource.{TextSource}
 use Rattle.w4_defs.specs.declared.console.TextSource.TheVariants.{Cstr, Utf8, Utf16}
 use Rattle.w4_defs.specs.Framebuffer.{Painter}
-use Rattle.w4_defs.specs.Colours.{entry_of}
+use Rattle.w4_defs.specs.Colours.{palette_index}
 use Rattle.w4_defs.specs.Shapes.{only_if, is_inside, natural, asked}
 
 -- the bytes of a source: up to the first 0 or the page's end, or so many, cut at the page's end
@@ -36,7 +36,7 @@ glyph_bit font code column row = slice_index font (8 * (code - 32) + row) / 2 ^ 
 abbrev pub glyph_painter : List ℕ → ℕ → ℕ → ℤ → ℤ → Painter
 glyph_painter font colors code x y u v =
     only_if ((nat_le 32 code && nat_lt code 256) && is_inside x (x +ℤ pos 8) y (y +ℤ pos 8) u v)
-    (entry_of colors (glyph_bit font code (natural (pos u -ℤ x)) (natural (pos v -ℤ y)) + 1))
+    (palette_index colors (glyph_bit font code (natural (pos u -ℤ x)) (natural (pos v -ℤ y)) + 1))
 
 -- what codes paint from (x, y) on, where lines begin at column `left`
 abbrev pub codes_painter : List ℕ → ℕ → ℤ → List ℕ → ℤ → ℤ → Painter

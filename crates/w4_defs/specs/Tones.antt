@@ -1,5 +1,5 @@
 -- Tones (WASM-4 reference, `tone`): what one call asks for, and what a channel sounds at each tick.
--- Own rule: a peak of 0 means 100 and levels are cut at 100; a frame has 735 ticks; levels and
+-- Project rule: a peak of 0 means 100 and levels are cut at 100; a frame has 735 ticks; levels and
 -- frequencies go along straight lines, in whole numbers.
 use Rattle.std.specs.Prelude.{◌≡◌, ◌<◌, ◌≤◌, ℕ, zero, suc, ◌+◌, ◌-◌, ◌*◌, ◌/◌, ◌%◌, min, ◌==◌, nat_lt, nat_le, ◌||◌, if◌then◌else◌, List, [], ◌∷◌, map, replicate, slice_set, Option, Some, None, option_map, slice_index_or, refl}
 use Rattle.w4_defs.specs.declared.console.Tone.{Tone}
@@ -44,8 +44,8 @@ abbrev pub ticks : ℕ → ℕ
 ticks frames = 735 * frames
 
 -- the level after u of len ticks on the way between two levels
-abbrev pub mix : ℕ → ℕ → ℕ → ℕ → ℕ
-mix from to u len = (from * (len - u) + to * u) / len
+abbrev pub interpolate : ℕ → ℕ → ℕ → ℕ → ℕ
+interpolate from to u len = (from * (len - u) + to * u) / len
 
 -- the level at tick t of a tone: up to the peak, down to the sustain level, constant, down to 0
 unfoldable pub level_at : Tone → ℕ → ℕ
@@ -53,21 +53,21 @@ level_at tone t =
     let attack = ticks tone.attack in
     let decay = ticks tone.decay in
     let sustain = ticks tone.sustain in
-    if nat_lt t attack then mix 0 tone.peak t attack
-    else if nat_lt t (attack + decay) then mix tone.peak tone.level (t - attack) decay
+    if nat_lt t attack then interpolate 0 tone.peak t attack
+    else if nat_lt t (attack + decay) then interpolate tone.peak tone.level (t - attack) decay
     else if nat_lt t (attack + decay + sustain) then tone.level
-    else mix tone.level 0 (t - (attack + decay + sustain)) (ticks tone.release)
+    else interpolate tone.level 0 (t - (attack + decay + sustain)) (ticks tone.release)
 
 -- the frequency after t of len ticks on the way from the first to the second, cut toward the first
-abbrev pub slide : ℕ → ℕ → ℕ → ℕ → ℕ
-slide first second t len =
+abbrev pub frequency_slide : ℕ → ℕ → ℕ → ℕ → ℕ
+frequency_slide first second t len =
     if nat_le first second then first + (second - first) * t / len
     else first - (first - second) * t / len
 
 unfoldable pub frequency_at : Tone → ℕ → ℕ
 frequency_at tone t =
     if (tone.second == 0) || tone.note then tone.first
-    else slide tone.first tone.second t (ticks (tone_frames tone))
+    else frequency_slide tone.first tone.second t (ticks (tone_frames tone))
 
 -- what a voice sounds at a tick of its frame
 abbrev pub sound_of : ℕ → Voice → Sound
@@ -97,8 +97,8 @@ abbrev pub started : Tone → Option Voice
 started tone = if tone_frames tone == 0 then None else Some (record { tone = tone; age = 0 })
 
 -- a call replaces what its channel plays
-abbrev pub played : Channels → Tone → Channels
-played channels tone = slice_set channels tone.channel (started tone)
+abbrev pub channels_after_tone : Channels → Tone → Channels
+channels_after_tone channels tone = slice_set channels tone.channel (started tone)
 
 -- one frame later: a voice that has reached the length of its tone ends
 abbrev pub older : Voice → Option Voice
@@ -127,7 +127,7 @@ abbrev pub sounding : ℕ → ℕ → Option Sound
 sounding level frequency = Some (record { level = level; frequency = frequency })
 
 abbrev pub TenFrames : Type 0
-TenFrames = heard 11 (played silent (decoded 14418360 67109890 50 0)) ≡
+TenFrames = heard 11 (channels_after_tone silent (decoded 14418360 67109890 50 0)) ≡
     sounding 0 440 ∷ sounding 25 418 ∷ sounding 50 396 ∷ sounding 75 374 ∷ sounding 50 352
     ∷ sounding 50 330 ∷ sounding 50 308 ∷ sounding 37 286 ∷ sounding 25 264 ∷ sounding 12 242 ∷ None ∷ []
 
@@ -135,9 +135,10 @@ pub ten-frames : TenFrames
 unfolding level_at frequency_at
 ten-frames = refl
 
--- 100 to 900 hertz with decay 4 and sustain 1, from peak 80 to level 20: the level falls and the frequency rises
+-- 100 to 900 hertz with decay 4 and sustain 1, from peak 80 to level 20: the level falls and the frequency
+-- rises
 abbrev pub DecayCase : Type 0
-DecayCase = heard 6 (played silent (decoded 58982500 262145 20500 0)) ≡
+DecayCase = heard 6 (channels_after_tone silent (decoded 58982500 262145 20500 0)) ≡
     sounding 80 100 ∷ sounding 65 260 ∷ sounding 50 420 ∷ sounding 35 580 ∷ sounding 20 740 ∷ None ∷ []
 
 pub decay-case : DecayCase
@@ -146,7 +147,7 @@ decay-case = refl
 
 -- in note mode the first frequency stays
 abbrev pub NoteCase : Type 0
-NoteCase = heard 2 (played silent (decoded 58982500 262145 20500 64)) ≡ sounding 80 100 ∷ sounding 65 100 ∷ []
+NoteCase = heard 2 (channels_after_tone silent (decoded 58982500 262145 20500 64)) ≡ sounding 80 100 ∷ sounding 65 100 ∷ []
 
 pub note-case : NoteCase
 unfolding level_at frequency_at
@@ -154,7 +155,7 @@ note-case = refl
 
 -- a second tone on the channel, of length 0, makes it silent
 abbrev pub SilencedCase : Type 0
-SilencedCase = played (played silent (decoded 14418360 67109890 50 0)) (decoded 14418360 0 50 0) ≡ silent
+SilencedCase = channels_after_tone (channels_after_tone silent (decoded 14418360 67109890 50 0)) (decoded 14418360 0 50 0) ≡ silent
 
 pub silenced-case : SilencedCase
 silenced-case = refl

@@ -1,4 +1,4 @@
--- Trace lines (WASM-4 reference: `trace`, `traceUtf8`, `traceUtf16`, `tracef`). Own rule: a line is cut
+-- Trace lines (WASM-4 reference: `trace`, `traceUtf8`, `traceUtf16`, `tracef`). Project rule: a line is cut
 -- after 128 bytes, and the places of tracef's format are those below.
 use Rattle.std.specs.Prelude.{◌≡◌, ℕ, ◌+◌, ◌%◌, ◌==◌, nat_le, ◌||◌, if◌then◌else◌, List, [], ◌∷◌, ◌++◌, map, take, take_while, not, drop, codes, false, length, replicate, refl}
 use Rattle.std.specs.Fmt.{digits, signed_decimal}
@@ -32,8 +32,8 @@ trace_line page source = line_of (traced page source)
 
 -- what tracef writes for % and a letter, whose argument stands at this address: c a byte, d a signed
 -- decimal, x hexadecimal, s the text at that address, f a fixed word; any other letter is itself
-abbrev pub placed : List ℕ → ℕ → ℕ → List ℕ
-placed page letter at =
+abbrev pub argument_text : List ℕ → ℕ → ℕ → List ℕ
+argument_text page letter at =
     if letter == 99 then word_at page at % 256 ∷ []
     else if letter == 100 then signed_decimal (signed_word (word_at page at))
     else if letter == 120 then digits 16 false (word_at page at)
@@ -53,7 +53,7 @@ abbrev pub formatted : List ℕ → List ℕ → ℕ → List ℕ
 formatted page [] at = []
 formatted page (byte ∷ []) at = if byte == 37 then [] else byte ∷ []
 formatted page (byte ∷ letter ∷ rest) at =
-    if byte == 37 then placed page letter at ++ formatted page rest (at + argument_bytes letter)
+    if byte == 37 then argument_text page letter at ++ formatted page rest (at + argument_bytes letter)
     else byte ∷ formatted page (letter ∷ rest) at
 
 -- the line of `tracef`

@@ -57,31 +57,31 @@ abbrev pub others : List Expr → List Expr
 others [] = []
 others (e ∷ es) = es
 
-abbrev pub joined : Head → Option ValType → List Expr → List Expr
-joined ends r es = done ∷ es
-joined blocks r es = block r (first es) (first (others es)) ∷ others (others es)
-joined loops r es = loop r (first es) (first (others es)) ∷ others (others es)
-joined chooses r es = if_then r (first es) (first (others es)) ∷ others (others es)
-joined parts r es =
+abbrev pub rebuilt : Head → Option ValType → List Expr → List Expr
+rebuilt ends r es = done ∷ es
+rebuilt blocks r es = block r (first es) (first (others es)) ∷ others (others es)
+rebuilt loops r es = loop r (first es) (first (others es)) ∷ others (others es)
+rebuilt chooses r es = if_then r (first es) (first (others es)) ∷ others (others es)
+rebuilt parts r es =
     if_else r (first es) (first (others es)) (first (others (others es))) ∷ others (others (others es))
 
 abbrev pub trees : List Sign → List Expr
 trees [] = []
 trees (inl m ∷ ss) = plain m (first (trees ss)) ∷ others (trees ss)
-trees (inr s ∷ ss) = joined s.0 s.1 (trees ss)
+trees (inr s ∷ ss) = rebuilt s.0 s.1 (trees ss)
 
 pub trees-signs : (e : Expr) (ss : List Sign) → trees (signs e ++ ss) ≡ e ∷ trees ss
 trees-signs done ss = refl
 trees-signs (plain m rest) ss = ap (λ es. plain m (first es) ∷ others es) (trees-signs rest ss)
 trees-signs (block r inner rest) ss =
-    ap (joined blocks r) (ap trees (append_assoc (signs inner) (signs rest) ss) ∙ trees-signs inner (signs rest ++ ss) ∙ ap (λ es. inner ∷ es) (trees-signs rest ss))
+    ap (rebuilt blocks r) (ap trees (append_assoc (signs inner) (signs rest) ss) ∙ trees-signs inner (signs rest ++ ss) ∙ ap (λ es. inner ∷ es) (trees-signs rest ss))
 trees-signs (loop r inner rest) ss =
-    ap (joined loops r) (ap trees (append_assoc (signs inner) (signs rest) ss) ∙ trees-signs inner (signs rest ++ ss) ∙ ap (λ es. inner ∷ es) (trees-signs rest ss))
+    ap (rebuilt loops r) (ap trees (append_assoc (signs inner) (signs rest) ss) ∙ trees-signs inner (signs rest ++ ss) ∙ ap (λ es. inner ∷ es) (trees-signs rest ss))
 trees-signs (if_then r taken rest) ss =
-    ap (joined chooses r) (ap trees (append_assoc (signs taken) (signs rest) ss) ∙ trees-signs taken (signs rest ++ ss) ∙ ap (λ es. taken ∷ es) (trees-signs rest ss))
+    ap (rebuilt chooses r) (ap trees (append_assoc (signs taken) (signs rest) ss) ∙ trees-signs taken (signs rest ++ ss) ∙ ap (λ es. taken ∷ es) (trees-signs rest ss))
 trees-signs (if_else r taken other rest) ss =
     ap
-    (joined parts r)
+    (rebuilt parts r)
     (ap trees (append_assoc (signs taken ++ signs other) (signs rest) ss ∙ append_assoc (signs taken) (signs other) (signs rest ++ ss))
     ∙ trees-signs taken (signs other ++ (signs rest ++ ss))
     ∙ ap (λ es. taken ∷ es) (trees-signs other (signs rest ++ ss) ∙ ap (λ es. other ∷ es) (trees-signs rest ss)))

@@ -9,7 +9,7 @@ use Rattle.w4_defs.specs.declared.operation.Op.TheVariants.{Unreachable, Nop, Br
 use Rattle.w4_defs.specs.Tree.{Mark, Expr, done, plain, block, loop, if_then, if_else}
 use Rattle.w4_defs.specs.Module.{Signature, Function, WasmModule}
 use Rattle.w4_defs.specs.Lookup.{signature_of, global_types, tables_of, memories_of, local_types}
-use Rattle.w4_defs.specs.OperandTypes.{Arrow, arrow_if, gives, unary, memory_type}
+use Rattle.w4_defs.specs.OperandTypes.{Arrow, arrow_if, gives, unary_type, memory_type}
 
 -- what a list stands in: its module, the types of the locals, of the enclosing labels, the innermost
 -- first, and of the function's results
@@ -51,7 +51,7 @@ only_type c (CallIndirect signature table) =
     if nat_lt table (length (tables_of c.within)) then option_and_then calls_indirectly (slice_get c.within.types signature) else None
 only_type c (LocalGet index) = option_and_then gives (slice_get c.locals index)
 only_type c (LocalSet index) = option_and_then consumes (slice_get c.locals index)
-only_type c (LocalTee index) = option_and_then unary (slice_get c.locals index)
+only_type c (LocalTee index) = option_and_then unary_type (slice_get c.locals index)
 only_type c (GlobalGet index) = option_and_then (λ g. gives g.value) (slice_get (global_types c.within) index)
 only_type c (GlobalSet index) = option_and_then sets (slice_get (global_types c.within) index)
 only_type c op = memory_type (nat_lt 0 (length (memories_of c.within))) op
@@ -116,17 +116,17 @@ BodyHasType m index f =
     (s : Signature) × (slice_get m.types index ≡ Some s) × HasType (body_context m s f) f.list [] s.results
 
 -- one list, and then another
-abbrev pub joined : Expr → Expr → Expr
-joined done tail = tail
-joined (plain m rest) tail = plain m (joined rest tail)
-joined (block r inner rest) tail = block r inner (joined rest tail)
-joined (loop r inner rest) tail = loop r inner (joined rest tail)
-joined (if_then r taken rest) tail = if_then r taken (joined rest tail)
-joined (if_else r taken other rest) tail = if_else r taken other (joined rest tail)
+abbrev pub followed_by : Expr → Expr → Expr
+followed_by done tail = tail
+followed_by (plain m rest) tail = plain m (followed_by rest tail)
+followed_by (block r inner rest) tail = block r inner (followed_by rest tail)
+followed_by (loop r inner rest) tail = loop r inner (followed_by rest tail)
+followed_by (if_then r taken rest) tail = if_then r taken (followed_by rest tail)
+followed_by (if_else r taken other rest) tail = if_else r taken other (followed_by rest tail)
 
--- a list has a type just where its two parts have, wherever it is cut: so it may be read from its
+-- a list has a type if and only if its two parts have, wherever it is cut: so it may be read from its
 -- first instruction on, as here, or from its last, as in the standard
 abbrev pub TypesInParts : Type 0
 TypesInParts =
     (c : Context) (e tail : Expr) (ins outs : List ValType)
-    → HasType c (joined e tail) ins outs ↔ ((mid : List ValType) × HasType c e ins mid × HasType c tail mid outs)
+    → HasType c (followed_by e tail) ins outs ↔ ((mid : List ValType) × HasType c e ins mid × HasType c tail mid outs)

@@ -1,7 +1,7 @@
 -- Numbers of 32 bits: in the page, the lowest byte first; by their bytes; and read as signed.
 use Rattle.std.specs.Prelude.{◌≡◌, ℕ, ◌/◌, ◌%◌, ◌^◌, List, [], ◌∷◌, ℤ, pos, negsuc, refl}
 use Rattle.w4_defs.specs.Bytes.{number_at}
-use Rattle.w4_defs.specs.Integers.{signed}
+use Rattle.w4_defs.specs.Integers.{as_signed}
 
 -- the number in the four bytes at an address; a byte past the page's end reads 0
 abbrev pub word_at : List ℕ → ℕ → ℕ
@@ -13,7 +13,7 @@ byte_of number k = number / 256 ^ k % 256
 
 -- 32 bits as a signed number: from 2^31 on, less 2^32
 abbrev pub signed_word : ℕ → ℤ
-signed_word word = signed 32 word
+signed_word word = as_signed 32 word
 
 abbrev pub WordCases : Type 0
 WordCases =

@@ -1,20 +1,21 @@
--- Worked cases of calls, globals and branches, each by computation: a function of two arguments with a result, a
--- global, a branch that keeps a value, an indirect call of an import, and the stack rule at its two bounds.
+-- Worked cases of calls, globals and branches, each by computation: a function of two arguments with a
+-- result, a global, a branch that keeps a value, an indirect call of an import, and the stack rule at its two
+-- bounds.
 use Rattle.std.specs.Prelude.{◌≡◌, ℕ, List, [], ◌∷◌, true, false, Some, None, codes, refl}
 use Rattle.w4_defs.specs.declared.value.Val.{Val}
 use Rattle.w4_defs.specs.declared.value.Val.TheVariants as val
 use Rattle.w4_defs.specs.declared.value.ValType.TheVariants as type
 use Rattle.w4_defs.specs.declared.module.ImportKind.TheVariants.{Func}
 use Rattle.w4_defs.specs.declared.operation.Op.TheVariants as op
-use Rattle.w4_defs.specs.Tree.{Expr, mark, done, plain, block}
-use Rattle.w4_defs.specs.Module.{Signature, WasmModule}
+use Rattle.w4_defs.specs.Tree.{Expr, mark, done, plain, block, sequence}
+use Rattle.w4_defs.specs.Module.{Signature, WasmModule, nothing_to_nothing}
 use Rattle.w4_defs.specs.Outcome.{Store, Ended, Finished, Exhausted}
 use Rattle.w4_defs.specs.Program.{Own}
 use Rattle.w4_defs.specs.Evaluation.{Env, allowed, run_entry, eval, eval_within}
-use Rattle.w4_defs.specs.WorkedRuns.{sequence, nothing_to_nothing, marking}
+use Rattle.w4_defs.specs.WorkedRuns.{marking}
 
--- function 0 is the import `trace`, which a table of one entry holds too; function 1 takes nothing; function 2 takes
--- two numbers and answers their difference; there is one global
+-- function 0 is the import `trace`, which a table of one entry holds too; function 1 takes nothing; function
+-- 2 takes two numbers and answers their difference; there is one global
 abbrev pub two_functions : Expr → WasmModule
 two_functions body = record {
   types =

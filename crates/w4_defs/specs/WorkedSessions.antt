@@ -6,9 +6,9 @@ use Rattle.w4_defs.specs.declared.editing.EditRefusal.{EditRefusal}
 use Rattle.w4_defs.specs.declared.editing.EditRefusal.TheVariants.{NoFrame, FullRecording, NothingToUndo, NothingToRedo, Kept, NotKept}
 use Rattle.w4_defs.specs.State.{State}
 use Rattle.w4_defs.specs.Tones.{silent}
-use Rattle.w4_defs.specs.Session.{Session, places_alone, kept_after_set, kept_after_insert, kept_after_delete, opened, insert_refusal, set_input, insert_input, delete_input, undo, redo, keep, drop_kept, keep_every, multiples}
+use Rattle.w4_defs.specs.Session.{Session, places_alone, kept_after_set, kept_after_insert, kept_after_delete, new_session, insert_refusal, set_input, insert_input, delete_input, undo, redo, keep, drop_kept, keep_every, multiples}
 use Rattle.w4_defs.specs.SameState.{same_state}
-use Rattle.w4_defs.specs.KeptList.{Entry, entries, without_entry, relinked_at, replaced_at, last_up_to, doubtful, show_frames, settle_frames}
+use Rattle.w4_defs.specs.KeptList.{Entry, kept_entries, without_entry, relinked_at, replaced_at, last_up_to, doubtful, show_frames, settle_frames}
 
 -- an input with these pad bits, and a session of so many inputs without any
 abbrev pad : ℕ → Input
@@ -16,7 +16,7 @@ pad bits =
     record { pads = bits ∷ 0 ∷ 0 ∷ 0 ∷ []; mouse_x = pos 0; mouse_y = pos 0; buttons = 0; reset = false }
 
 abbrev still : ℕ → Session ℕ
-still inputs = opened (replicate inputs (pad 0)) 0
+still inputs = new_session (replicate inputs (pad 0)) 0
 
 -- one order after another, up to a refusal
 infixl 10 ◌then◌
@@ -57,13 +57,13 @@ deleted-case = (refl, refl, refl, refl, refl, refl, refl, refl)
 -- what each edit does to the inputs
 abbrev pub InputCases : Type 0
 InputCases =
-    let three = opened (pad 1 ∷ pad 2 ∷ pad 3 ∷ []) 0 in
-    (pads_of (set_input places_alone 1 (pad 9) three) ≡ pads_of (Ok (opened (pad 1 ∷ pad 9 ∷ pad 3 ∷ []) 0)))
+    let three = new_session (pad 1 ∷ pad 2 ∷ pad 3 ∷ []) 0 in
+    (pads_of (set_input places_alone 1 (pad 9) three) ≡ pads_of (Ok (new_session (pad 1 ∷ pad 9 ∷ pad 3 ∷ []) 0)))
     × (pads_of (insert_input places_alone 1 (pad 9) three)
-    ≡ pads_of (Ok (opened (pad 1 ∷ pad 9 ∷ pad 2 ∷ pad 3 ∷ []) 0)))
+    ≡ pads_of (Ok (new_session (pad 1 ∷ pad 9 ∷ pad 2 ∷ pad 3 ∷ []) 0)))
     × (pads_of (insert_input places_alone 3 (pad 9) three)
-    ≡ pads_of (Ok (opened (pad 1 ∷ pad 2 ∷ pad 3 ∷ pad 9 ∷ []) 0)))
-    × (pads_of (delete_input places_alone 0 three) ≡ pads_of (Ok (opened (pad 2 ∷ pad 3 ∷ []) 0)))
+    ≡ pads_of (Ok (new_session (pad 1 ∷ pad 2 ∷ pad 3 ∷ pad 9 ∷ []) 0)))
+    × (pads_of (delete_input places_alone 0 three) ≡ pads_of (Ok (new_session (pad 2 ∷ pad 3 ∷ []) 0)))
     × (pads_of (delete_input places_alone 0 three then undo) ≡ pads_of (Ok three))
 
 pub input-cases : InputCases
@@ -115,7 +115,7 @@ redos (suc n) session = redos n session then redo
 abbrev pub HistoryCase : Type 0
 HistoryCase =
     let made = edits 33 (Ok (still 1)) in
-    (pads_of (undos 32 made) ≡ pads_of (Ok (opened (pad 1 ∷ []) 0)))
+    (pads_of (undos 32 made) ≡ pads_of (Ok (new_session (pad 1 ∷ []) 0)))
     × (undos 33 made ≡ Err NothingToUndo)
     × (redos 32 (undos 32 made) ≡ made)
     × (redos 33 (undos 32 made) ≡ Err NothingToRedo)
@@ -137,16 +137,16 @@ entry place n linked = record { place = place; state = state n; linked = linked 
 abbrev pub EntryCases : Type 0
 EntryCases =
     let kept = entry 0 0 true ∷ entry 5 1 true ∷ entry 6 2 true ∷ entry 9 3 true ∷ [] in
-    (kept_after_set entries 4 kept ≡ entry 0 0 true ∷ entry 5 1 false ∷ entry 6 2 true ∷ entry 9 3 true ∷ [])
-    × (kept_after_set entries 5 kept
+    (kept_after_set kept_entries 4 kept ≡ entry 0 0 true ∷ entry 5 1 false ∷ entry 6 2 true ∷ entry 9 3 true ∷ [])
+    × (kept_after_set kept_entries 5 kept
     ≡ entry 0 0 true ∷ entry 5 1 true ∷ entry 6 2 false ∷ entry 9 3 true ∷ [])
-    × (kept_after_set entries 9 kept ≡ kept)
-    × (kept_after_insert entries 5 kept
+    × (kept_after_set kept_entries 9 kept ≡ kept)
+    × (kept_after_insert kept_entries 5 kept
     ≡ entry 0 0 true ∷ entry 5 1 true ∷ entry 7 2 false ∷ entry 10 3 true ∷ [])
-    × (kept_after_delete entries 5 kept ≡ entry 0 0 true ∷ entry 5 1 true ∷ entry 8 3 false ∷ [])
-    × (kept_after_delete entries 4 kept
+    × (kept_after_delete kept_entries 5 kept ≡ entry 0 0 true ∷ entry 5 1 true ∷ entry 8 3 false ∷ [])
+    × (kept_after_delete kept_entries 4 kept
     ≡ entry 0 0 true ∷ entry 4 1 false ∷ entry 5 2 true ∷ entry 8 3 true ∷ [])
-    × (kept_after_delete entries 6 kept
+    × (kept_after_delete kept_entries 6 kept
     ≡ entry 0 0 true ∷ entry 5 1 true ∷ entry 6 2 true ∷ entry 8 3 false ∷ [])
 
 pub entry-cases : EntryCases

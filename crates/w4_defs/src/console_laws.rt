@@ -5,12 +5,12 @@ ghost use Rattle.w4_defs.specs.declared.console.Tone.{Tone as ATone};
 ghost use Rattle.w4_defs.specs.Board.{BoardCases};
 ghost use Rattle.w4_defs.specs.Disk.{DiskCases};
 ghost use Rattle.w4_defs.specs.Frame.{ClearedIsPainted, HaltStays, ResetKeepsDisk};
-ghost use Rattle.w4_defs.specs.FrameCases.{BudgetCases, EntryCases, LineCases, MouseCase, PageCases, StartCase};
+ghost use Rattle.w4_defs.specs.FrameCases.{BudgetCases, MouseCase, PageCases, StartCase, StartCases, TraceLineCases};
 ghost use Rattle.w4_defs.specs.FrameTexts.{TextCases};
 ghost use Rattle.w4_defs.specs.Logs.{DroppedCase, LogsInOrder};
 ghost use Rattle.w4_defs.specs.Reset.{FirstRegisters};
 ghost use Rattle.w4_defs.specs.Run.{FoldsInParts, FoldsState, PlaysInParts, RunsBetween, RunsOn};
-ghost use Rattle.w4_defs.specs.Tones.{DecayCase, NoteCase, SilencedCase, TenFrames, aged_often, decoded, frequency_at, IsTone, level_at, mix, slide, started, ticks, tone_frames};
+ghost use Rattle.w4_defs.specs.Tones.{DecayCase, IsTone, NoteCase, SilencedCase, TenFrames, aged_often, decoded, frequency_at, frequency_slide, interpolate, level_at, started, ticks, tone_frames};
 ghost use Rattle.w4_defs.specs.Traces.{PlaceCases, TraceCase, TracefCase};
 ghost use Rattle.w4_defs.specs.Words.{WordCases};
 
@@ -24,8 +24,8 @@ pub fn decoded_ranges(frequency: u32, duration: u32, volume: u32, flags: u32)
 /// A level on its way lies between its two ends.
 pub fn level_between(from: u32, to: u32, at: u32, len: u32)
     requires { at < len }
-    ensures low { min from to ≤ mix from to at len }
-    ensures high { mix from to at len ≤ max from to }
+    ensures low { min from to ≤ interpolate from to at len }
+    ensures high { interpolate from to at len ≤ max from to }
 {}
 
 /// No level of a tone exceeds 100, where its peak and its sustain level don't.
@@ -46,7 +46,7 @@ pub fn frequency_between(tone: Tone, tick: u32)
 /// A sliding frequency is the first one and the part of the signed difference, cut toward zero.
 pub fn frequency_cut(first: u16, second: u16, at: u32, len: u32)
     requires { at < len }
-    ensures { pos (slide first second at len) ≡ pos first +ℤ int_div ((pos second -ℤ pos first) *ℤ pos at) (pos len) }
+    ensures { pos (frequency_slide first second at len) ≡ pos first +ℤ int_div ((pos second -ℤ pos first) *ℤ pos at) (pos len) }
 {}
 
 /// A new tone sounds for exactly its frames, and then its channel is silent.
@@ -71,7 +71,8 @@ pub fn runs_in_parts()
     ensures between { RunsBetween }
 {}
 
-/// Clearing is painting every pixel 0, a halt stays until a reset, and a frame with a reset depends on the disk alone.
+/// Clearing is painting every pixel 0, a halt stays until a reset, and a frame with a reset depends on the
+/// disk alone.
 pub fn halts_and_resets()
     ensures cleared { ClearedIsPainted }
     ensures halt_stays { HaltStays }
@@ -94,9 +95,9 @@ pub fn console_cases()
     ensures registers { FirstRegisters }
     ensures board { BoardCases }
     ensures budgets { BudgetCases }
-    ensures entries { EntryCases }
+    ensures entries { StartCases }
     ensures pages { PageCases }
-    ensures lines { LineCases }
+    ensures lines { TraceLineCases }
     ensures mouse { MouseCase }
     ensures start { StartCase }
 {}

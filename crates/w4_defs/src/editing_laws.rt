@@ -9,7 +9,7 @@ ghost use Rattle.w4_defs.specs.Session.{
   PlacesDecide,
   PlacesStayRight,
 };
-ghost use Rattle.w4_defs.specs.KeptList.{ConsistentPlaces, Entry, KeptInOrder, LinkedIsRun, UnlinksOne, entries};
+ghost use Rattle.w4_defs.specs.KeptList.{ConsistentPlaces, Entry, KeptInOrder, LinkedIsRun, UnlinksOne, kept_entries};
 ghost use Rattle.w4_defs.specs.WorkedSessions.{
   DeletedCase,
   InputCases,
@@ -37,7 +37,7 @@ pub fn histories_are_kept()
 
 /// A session of entries has the places and the refusals of the session of places alone.
 pub fn places_decide()
-    ensures { PlacesDecide entries }
+    ensures { PlacesDecide kept_entries }
 {}
 
 /// Kept places rise from place 0 within the recording, after each edit, keep and drop too; so do those of

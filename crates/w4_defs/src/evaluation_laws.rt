@@ -2,9 +2,9 @@
 
 ghost use Rattle.w4_defs.specs.Bytes.{PutIsFound, PutKeepsLength, PutKeepsOthers};
 ghost use Rattle.w4_defs.specs.Flattening.{FlatteningDetermines, FlatteningIsReadBack};
+ghost use Rattle.w4_defs.specs.InstructionSoundness.{PlainInstructionsAreSound};
 ghost use Rattle.w4_defs.specs.Integers.{BinaryInRange, ExtendedInRange, UnaryInRange};
 ghost use Rattle.w4_defs.specs.RunLaws.{BudgetOnlyFalls, EvalTakesSteps, FaultsChangeNothing, ForbiddenCallLeavesStore, GlobalsKeepTypes, LargeEntryTraps, RefusedCallsLeaveStore, ResumedTakesSteps, RunIsResumed, SpentImportsChangeNothing};
-ghost use Rattle.w4_defs.specs.Soundness.{PlainInstructionsAreSound};
 ghost use Rattle.w4_defs.specs.WorkedBodies as bodies;
 ghost use Rattle.w4_defs.specs.WorkedCalls as calls;
 ghost use Rattle.w4_defs.specs.WorkedNumbers as numbers;

@@ -1,23 +1,23 @@
 //! The definitions that all other crates are proved against, and the plain types they speak of.
-//! Sources: the WebAssembly Core Specification and the WASM-4 reference; where a file says "own rule",
+//! Sources: the WebAssembly Core Specification and the WASM-4 reference; where a file says "project rule",
 //! the rule is this project's. The definitions themselves are in `specs/`, one file a subject.
 #![tactic(auto)]
 
 pub mod batch;
 pub mod console;
 pub mod console_laws;
-pub mod drawing;
+pub mod drawing_laws;
 pub mod editing;
 pub mod editing_laws;
-pub mod encoded;
 pub mod evaluation_laws;
+pub mod file_laws;
 pub mod inspect;
 pub mod instruction;
 pub mod instruction_table;
 pub mod integer;
-pub mod laws_module;
 pub mod memory;
 pub mod module;
+pub mod module_laws;
 pub mod netplay;
 pub mod operation;
 pub mod order;

@@ -1,4 +1,4 @@
-//! Want of memory, the one answer that no clause ties to a cause.
+//! Running out of memory, which is always permitted: no clause ties it to a cause.
 
 use std::alloc::{AllocError, AllocFailed};
 

@@ -1,6 +1,6 @@
 //! Why a file is no cart of this console.
 
-/// Why a module is outside the console's profile (own rules). The causes are looked at in this order,
+/// Why a module is outside the console's profile (project rules). The causes are looked at in this order,
 /// and the first that holds is the answer. Numbers count from 0.
 #[derive(Clone, Copy, PartialEq, Eq, Debug)]
 pub enum ProfileRefusal {
@@ -30,7 +30,7 @@ pub enum ProfileRefusal {
 pub enum CartKind {
     /// There are more than 65,536 bytes.
     TooLarge,
-    /// The bytes spell no module.
+    /// The bytes encode no module.
     Malformed,
     Profile(ProfileRefusal),
     /// A module rule fails (None), or this own function, counted from 0, is the first without a typing.

@@ -15,7 +15,7 @@ ghost use Rattle.w4_defs.specs.Rollback.{
   SamePacketsSameInputs,
   SamePacketsSameKnown,
 };
-ghost use Rattle.w4_defs.specs.Search.{LeftIsNarrowed, LeftRises, SearchCases};
+ghost use Rattle.w4_defs.specs.Search.{RemainingIsNarrowed, RemainingRises, SearchCases};
 ghost use Rattle.w4_defs.specs.Sound.{
   FramesAreCounted,
   HeaderCase,
@@ -39,8 +39,8 @@ pub fn tool_cases()
 
 /// What a search has left are, in rising order, the addresses at which each test holds.
 pub fn search_laws()
-    ensures left { LeftIsNarrowed }
-    ensures rising { LeftRises }
+    ensures left { RemainingIsNarrowed }
+    ensures rising { RemainingRises }
 {}
 
 /// A prediction is the latest byte that is known, and the same accepted packets give the same inputs.

@@ -37,7 +37,7 @@ impl Disk {
         Disk { bytes: kept }
     }
 
-    /// `diskr`: copies the disk's first bytes into the page at `ptr`, and answers how many were copied: as
+    /// `diskr`: copies the disk's first bytes into the page at `ptr`, and returns how many were copied: as
     /// many as are asked for, are on the disk, and fit before the page's end.
     pub fn read_into(&self, page: &mut PageBytes, ptr: u32, size: u32) -> u32
         ensures count { result ≡ disk_read_count self.now page.old ptr size }
@@ -53,7 +53,7 @@ impl Disk {
         count as u32
     }
 
-    /// `diskw`: replaces the disk by the page's bytes at `ptr`, and answers how many these are: as many as
+    /// `diskw`: replaces the disk by the page's bytes at `ptr`, and returns how many these are: as many as
     /// are asked for, at most 1,024, and none past the page's end.
     pub fn write_from(&mut self, page: &PageBytes, ptr: u32, size: u32) -> u32
         ensures disk { self.new ≡ disk_write page.now ptr size }

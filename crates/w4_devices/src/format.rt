@@ -1,7 +1,7 @@
-//! The line of `tracef` (own rule): a format whose places take their arguments from the page.
+//! The line of `tracef` (project rule): a format whose places take their arguments from the page.
 
 ghost use Rattle.std.specs.Prelude.{◌≡◌, ◌+◌, ◌++◌, ◌<◌, ◌≤◌, ◌^◌, length};
-ghost use Rattle.w4_defs.specs.Traces.{argument_bytes, formatted, line_of, placed, tracef_line};
+ghost use Rattle.w4_defs.specs.Traces.{argument_bytes, argument_text, formatted, line_of, tracef_line};
 ghost use Rattle.w4_defs.specs.Words.{signed_word};
 ghost use Rattle.std.specs.Fmt.{signed_decimal};
 
@@ -50,7 +50,7 @@ fn formatted_line(page: &PageBytes, format: &[u8], args: usize) -> Line
 /// Adds what `%` and a letter stand for, whose argument stands at `at`.
 fn show(line: &mut Line, page: &PageBytes, letter: u8, at: usize)
     requires { at < 2 ^ 40 }
-    ensures { line.new ≡ line_of (line.old ++ placed page.now letter at) }
+    ensures { line.new ≡ line_of (line.old ++ argument_text page.now letter at) }
 {
     match letter {
         b'c' => line.add((word_at(page, at) % 256) as u8),

@@ -1,5 +1,5 @@
 //! The disk, the logs of one frame, and their texts (WASM-4 reference: `diskr`, `diskw`, the trace calls;
-//! own rule: bounds of the logs and the texts). A contract sees lists of bytes, lines and tones.
+//! project rule: bounds of the logs and the texts). A contract sees lists of bytes, lines and tones.
 #![tactic(auto)]
 
 mod bounded;

@@ -1,4 +1,4 @@
-//! The schedule text and the trace text of a place (own rule). Each line ends with byte 10.
+//! The schedule text and the trace text of a place (project rule). Each line ends with byte 10.
 
 ghost use Rattle.std.specs.Prelude.{◌≡◌, ◌++◌, ◌∷◌, flat_map, OnErr, OnOk};
 ghost use Rattle.w4_defs.specs.FrameTexts.{dropped_line, escaped, numbered, schedule_text, sound_line, sound_lines, spaced, tone_line, trace_text, trace_text_line};

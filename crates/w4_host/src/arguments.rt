@@ -1,7 +1,7 @@
 //! The arguments of an import: each is 32 bits, read as unsigned or as signed.
 
 ghost use Rattle.std.specs.Prelude.{◌<◌, ◌≡◌, ◌≤◌, length};
-ghost use Rattle.w4_defs.specs.Board.{argument, cstr, signed, utf16, utf8};
+ghost use Rattle.w4_defs.specs.Board.{argument, cstr_source, signed_argument, utf16_source, utf8_source};
 
 use w4_defs::TextSource;
 
@@ -16,7 +16,7 @@ pub(crate) fn argument(args: &[u32], k: usize) -> u32
 /// Argument `k`, signed.
 pub(crate) fn signed(args: &[u32], k: usize) -> i32
     requires { k < length args.now }
-    ensures { result ≡ signed args.now k }
+    ensures { result ≡ signed_argument args.now k }
 {
     args[k].cast_signed()
 }
@@ -24,7 +24,7 @@ pub(crate) fn signed(args: &[u32], k: usize) -> i32
 /// The text up to a zero byte that begins at argument 0.
 pub(crate) fn cstr(args: &[u32]) -> TextSource
     requires { 1 ≤ length args.now }
-    ensures { result ≡ cstr args.now }
+    ensures { result ≡ cstr_source args.now }
 {
     TextSource::Cstr { ptr: args[0] }
 }
@@ -32,7 +32,7 @@ pub(crate) fn cstr(args: &[u32]) -> TextSource
 /// The text of so many bytes as argument 1 says.
 pub(crate) fn utf8(args: &[u32]) -> TextSource
     requires { 2 ≤ length args.now }
-    ensures { result ≡ utf8 args.now }
+    ensures { result ≡ utf8_source args.now }
 {
     TextSource::Utf8 {
         ptr: args[0],
@@ -43,7 +43,7 @@ pub(crate) fn utf8(args: &[u32]) -> TextSource
 /// The text of 16-bit units in so many bytes as argument 1 says.
 pub(crate) fn utf16(args: &[u32]) -> TextSource
     requires { 2 ≤ length args.now }
-    ensures { result ≡ utf16 args.now }
+    ensures { result ≡ utf16_source args.now }
 {
     TextSource::Utf16 {
         ptr: args[0],

@@ -33,14 +33,14 @@ impl<'a> Model for Board<'a> {
 }
 
 impl Host for Board<'_> {
-    ghost use Rattle.w4_defs.specs.Board.{effect, weight};
-    ghost use Rattle.w4_host.specs.Answers.{answers};
+    ghost use Rattle.w4_defs.specs.Board.{import_effect, import_weight};
+    ghost use Rattle.w4_host.specs.Answers.{answers_by_type};
 
-    ghost weight = { λ board. weight };
+    ghost weight = { λ board. import_weight };
 
-    ghost effect = { effect };
+    ghost effect = { import_effect };
 
-    #[tactic(auto, unfolding(w4_defs::specs::Board::weight))]
+    #[tactic(auto, unfolding(w4_defs::specs::Board::import_weight))]
     fn weight(&self, name: Import, args: &[u32], page: &PageBytes) -> u64 {
         match name {
             Import::Blit
@@ -58,7 +58,7 @@ impl Host for Board<'_> {
         }
     }
 
-    #[tactic(auto, unfolding(w4_defs::specs::Board::effect))]
+    #[tactic(auto, unfolding(w4_defs::specs::Board::import_effect))]
     fn call(&mut self, name: Import, args: &[u32], page: &mut PageBytes) -> Option<u32> {
         match name {
             Import::Blit => drawing::blit(args, page),
@@ -90,7 +90,7 @@ impl Host for Board<'_> {
         None
     }
 
-    ghost answers_by_type = { answers };
+    ghost answers_by_type = { answers_by_type };
 }
 
 impl Board<'_> {

@@ -1,7 +1,7 @@
 //! The imports that draw, in the colours that DRAW_COLORS has at the call.
 
 ghost use Rattle.std.specs.Prelude.{◌+◌, ◌≡◌, ◌≤◌, length};
-ghost use Rattle.w4_defs.specs.Board.{blit_picture, blit_sub_picture, signed};
+ghost use Rattle.w4_defs.specs.Board.{blit_picture, blit_sub_picture, signed_argument};
 ghost use Rattle.w4_defs.specs.Blit.{blit_painter};
 ghost use Rattle.w4_defs.specs.Framebuffer.{paint};
 ghost use Rattle.w4_defs.specs.MemoryMap.{draw_colors};
@@ -17,7 +17,7 @@ use w4_map::draw_colors;
 pub(crate) fn blit(args: &[u32], page: &mut PageBytes)
     requires { length args.now ≡ 6 }
     ensures { page.new ≡ paint page.old
-        (blit_painter page.old (blit_picture args.now page.old) (signed args.now 1) (signed args.now 2)) }
+        (blit_painter page.old (blit_picture args.now page.old) (signed_argument args.now 1) (signed_argument args.now 2)) }
 {
     blit_sub(
         page,
@@ -38,7 +38,7 @@ pub(crate) fn blit(args: &[u32], page: &mut PageBytes)
 pub(crate) fn blit_part(args: &[u32], page: &mut PageBytes)
     requires { length args.now ≡ 9 }
     ensures { page.new ≡ paint page.old
-        (blit_painter page.old (blit_sub_picture args.now page.old) (signed args.now 1) (signed args.now 2)) }
+        (blit_painter page.old (blit_sub_picture args.now page.old) (signed_argument args.now 1) (signed_argument args.now 2)) }
 {
     blit_sub(
         page,
@@ -59,7 +59,7 @@ pub(crate) fn blit_part(args: &[u32], page: &mut PageBytes)
 pub(crate) fn line(args: &[u32], page: &mut PageBytes)
     requires { length args.now ≡ 4 }
     ensures { page.new ≡ paint page.old (line_painter (draw_colors page.old)
-        (signed args.now 0) (signed args.now 1) (signed args.now 2) (signed args.now 3)) }
+        (signed_argument args.now 0) (signed_argument args.now 1) (signed_argument args.now 2) (signed_argument args.now 3)) }
 {
     let colors = draw_colors(page);
     w4_shapes::line(
@@ -76,7 +76,7 @@ pub(crate) fn line(args: &[u32], page: &mut PageBytes)
 pub(crate) fn hline(args: &[u32], page: &mut PageBytes)
     requires { length args.now ≡ 3 }
     ensures { page.new ≡ paint page.old (hline_painter (draw_colors page.old)
-        (signed args.now 0) (signed args.now 1) (signed args.now 2)) }
+        (signed_argument args.now 0) (signed_argument args.now 1) (signed_argument args.now 2)) }
 {
     let colors = draw_colors(page);
     w4_shapes::hline(
@@ -92,7 +92,7 @@ pub(crate) fn hline(args: &[u32], page: &mut PageBytes)
 pub(crate) fn vline(args: &[u32], page: &mut PageBytes)
     requires { length args.now ≡ 3 }
     ensures { page.new ≡ paint page.old (vline_painter (draw_colors page.old)
-        (signed args.now 0) (signed args.now 1) (signed args.now 2)) }
+        (signed_argument args.now 0) (signed_argument args.now 1) (signed_argument args.now 2)) }
 {
     let colors = draw_colors(page);
     w4_shapes::vline(
@@ -108,7 +108,7 @@ pub(crate) fn vline(args: &[u32], page: &mut PageBytes)
 pub(crate) fn oval(args: &[u32], page: &mut PageBytes)
     requires { length args.now ≡ 4 }
     ensures { page.new ≡ paint page.old (oval_painter (draw_colors page.old)
-        (signed args.now 0) (signed args.now 1) (signed args.now 2) (signed args.now 3)) }
+        (signed_argument args.now 0) (signed_argument args.now 1) (signed_argument args.now 2) (signed_argument args.now 3)) }
 {
     let colors = draw_colors(page);
     w4_shapes::oval(
@@ -125,7 +125,7 @@ pub(crate) fn oval(args: &[u32], page: &mut PageBytes)
 pub(crate) fn rect(args: &[u32], page: &mut PageBytes)
     requires { length args.now ≡ 4 }
     ensures { page.new ≡ paint page.old (rect_painter (draw_colors page.old)
-        (signed args.now 0) (signed args.now 1) (signed args.now 2) (signed args.now 3)) }
+        (signed_argument args.now 0) (signed_argument args.now 1) (signed_argument args.now 2) (signed_argument args.now 3)) }
 {
     let colors = draw_colors(page);
     w4_shapes::rect(
@@ -142,7 +142,7 @@ pub(crate) fn rect(args: &[u32], page: &mut PageBytes)
 pub(crate) fn text(font: &Font, args: &[u32], page: &mut PageBytes, source: TextSource, k: usize)
     requires { k + 2 ≤ length args.now }
     ensures { page.new ≡ paint page.old (text_painter font.now (draw_colors page.old) (text_codes page.old source)
-        (signed args.now k) (signed args.now (k + 1))) }
+        (signed_argument args.now k) (signed_argument args.now (k + 1))) }
 {
     let colors = draw_colors(page);
     w4_blit::text(

@@ -1,4 +1,4 @@
-//! What an import weighs of the budget (own rule): a text 64 and a unit for each byte of its source.
+//! What an import weighs of the budget (project rule): a text 64 and a unit for each byte of its source.
 
 ghost use Rattle.std.specs.Prelude.{◌≡◌, ◌≤◌, drop, length};
 ghost use Rattle.w4_defs.specs.declared.console.TextSource.TheVariants.{Cstr};

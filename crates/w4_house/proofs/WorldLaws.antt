@@ -4,7 +4,7 @@ use Rattle.std.proofs.Math.Seq.{take-append-add, take-append_seam, take-length}
 use Rattle.std.proofs.lemmas.List.{take-append-drop}
 use Rattle.w4_house.specs.World.{Files, World, Rises, Appends, AppendsFront, OpensOnly, LeavesReading, LeavesPrinting, LeavesReporting, LeavesSaving}
 
--- Where the files are as before, all but one are.
+-- Where the files are unchanged, all but one are.
 pub opens_none : (old new : Option Files) (name : List ℕ) → new ≡ old → OpensOnly old new name
 opens_none old new name same files told = (files, same ∙ told, λ other _. refl)
 

@@ -13,6 +13,6 @@ real_world house = record {
   err_faults = house.err_faults;
 }
 
--- A count of faults after a call with this answer: one more after each refusal, and else as before.
+-- A count of faults after a call with this answer: one more after each refusal, and unchanged otherwise.
 abbrev pub count_since : {T E : Type 0} → Result T E → ℕ → ℕ
 count_since answer count = if is_ok answer then count else raised count

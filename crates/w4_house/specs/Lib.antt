@@ -1,5 +1,5 @@
 pub mod World
 pub mod Stored
-pub mod Told
+pub mod InMemory
 pub mod Edge
 pub mod Given

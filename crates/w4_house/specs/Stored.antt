@@ -4,5 +4,5 @@ use Rattle.std.specs.FinMap.{from_entries}
 use Rattle.std.specs.BTreeMap.{BTreeMap}
 use Rattle.w4_house.specs.World.{Files}
 
-abbrev pub stored : {Y Z : Type 0} → BTreeMap (String Y) (Vec ℕ Z) → Files
-stored kept = from_entries (map (λ entry. (string_bytes entry.0, entry.1.items)) kept.entries)
+abbrev pub stored_files : {Y Z : Type 0} → BTreeMap (String Y) (Vec ℕ Z) → Files
+stored_files kept = from_entries (map (λ entry. (string_bytes entry.0, entry.1.items)) kept.entries)

@@ -1,5 +1,5 @@
--- What stands outside the program: its files, what it has written, and how often a call has failed (own rule).
--- A part that a house doesn't tell is None; a house that tells its files tells all of them.
+-- What stands outside the program: its files, what it has written, and how often a call has failed (project
+-- rule). A part that a house doesn't tell is None; a house that tells its files tells all of them.
 use Rattle.std.specs.Prelude.{◌≡◌, ◌≢◌, ℕ, ◌+◌, ◌-◌, ◌^◌, ◌≤◌, min, List, ◌++◌, take, Option, Some, None, option_map}
 use Rattle.std.specs.Option.{ForSome}
 use Rattle.std.specs.FinMap.{FinMap, get, insert}
@@ -44,11 +44,11 @@ Appends old new bytes = ForSome old (λ before. new ≡ Some (before ++ bytes))
 abbrev pub AppendsFront : Option (List ℕ) → Option (List ℕ) → List ℕ → Type 0
 AppendsFront old new bytes = (count : ℕ) × Appends old new (take count bytes)
 
--- Where told, the file of this name has just these bytes, and all other files are as before.
+-- Where told, the file of this name has just these bytes, and all other files are unchanged.
 abbrev pub Puts : Option Files → Option Files → List ℕ → List ℕ → Type 0
 Puts old new name bytes = ForSome old (λ files. new ≡ Some (insert files name bytes))
 
--- Where told, all files but the one of this name are as before.
+-- Where told, all files but the one of this name are unchanged.
 abbrev pub OpensOnly : Option Files → Option Files → List ℕ → Type 0
 OpensOnly old new name = ForSome old (λ files. (now : Files) × (new ≡ Some now)
     × ((other : List ℕ) → other ≢ name → get now other ≡ get files other))

@@ -108,8 +108,8 @@ pub trait House {
         ensures failed { IsErrOf result WriteRefusal.Failed → Rises (world self.old).err_faults (world self.new).err_faults }
         ensures rest { LeavesReporting (world self.old) (world self.new) };
 
-    /// Makes a file of just these bytes. After a failure any bytes may stand in this one file; after want
-    /// of memory it is as before.
+    /// Makes a file of just these bytes. After a failure any bytes may stand in this one file; when memory
+    /// runs out, it is unchanged.
     fn write_file(&mut self, alloc: Global, name: &str, bytes: &[u8]) -> Result<(), WriteRefusal>
         ensures whole { OnOk result (Puts (world self.old).files (world self.new).files name.now bytes.now) }
         ensures others { OnErr result (OpensOnly (world self.old).files (world self.new).files name.now) }

@@ -31,7 +31,7 @@ use w4_defs::OutOfMemory;
 /// It tells everything, and has a list of the numbers of calls that are to fail.
 ///
 /// The calls of the trait are numbered from 1 in the order in which they come. One whose number is in
-/// the list answers Failed, raises its own count, and appends and changes nothing.
+/// the list returns Failed, raises its own count, and appends and changes nothing.
 #[derive(Drop)]
 pub struct MemoryHouse {
     store: SureHouse,
@@ -45,7 +45,7 @@ pub struct MemoryHouse {
 impl MemoryHouse {
     ghost use Rattle.std.specs.FinMap.{get, empty};
     ghost use Rattle.w4_house.specs.World.{Puts, OnlyFiles, SameWorld};
-    ghost use Rattle.w4_house.specs.Told.{memory_files, memory_world, last_call, failing_calls};
+    ghost use Rattle.w4_house.specs.InMemory.{failing_calls, last_call, memory_files, memory_world};
 
     /// A house with no files and nothing written, in which no call is to fail.
     pub fn new(alloc: Global) -> MemoryHouse
@@ -68,7 +68,7 @@ impl MemoryHouse {
         }
     }
 
-    /// Makes a file of just these bytes. After want of memory nothing has changed.
+    /// Makes a file of just these bytes. When memory runs out, nothing has changed.
     pub fn put_file(&mut self, name: &str, bytes: &[u8]) -> Result<(), OutOfMemory>
         ensures whole { OnOk result (Puts (memory_world self.old).files (memory_world self.new).files name.now bytes.now) }
         ensures refused { OnErr result ((memory_world self.new).files ≡ (memory_world self.old).files) }
@@ -79,7 +79,7 @@ impl MemoryHouse {
         self.store.put_file(name, bytes)
     }
 
-    /// Adds a number to the list of calls that are to fail. After want of memory nothing has changed.
+    /// Adds a number to the list of calls that are to fail. When memory runs out, nothing has changed.
     pub fn fail_at(&mut self, call: u64) -> Result<(), OutOfMemory>
         ensures listed { OnOk result (failing_calls self.new ≡ failing_calls self.old ++ call ∷ []) }
         ensures refused { OnErr result (failing_calls self.new ≡ failing_calls self.old) }
@@ -89,7 +89,7 @@ impl MemoryHouse {
         Ok(self.failing.push(call)?)
     }
 
-    /// The bytes of a file, or None exactly where there is no file of this name.
+    /// The bytes of a file, or None if and only if there is no file of this name.
     pub fn file(&self, name: &str) -> Option<&[u8]>
         ensures { option_copied result ≡ get (memory_files self.now) name.now }
     {
@@ -135,11 +135,11 @@ impl House for MemoryHouse {
       LeavesReporting,
       LeavesSaving,
     };
-    ghost use Rattle.w4_house.specs.Told.{memory_world, CountsCall, count_after, fails_next};
+    ghost use Rattle.w4_house.specs.InMemory.{CountsCall, count_after, fails_next, memory_world};
 
     ghost world = { memory_world };
 
-    /// Failed comes exactly where the number of the call is in the list.
+    /// Failed comes if and only if the number of the call is in the list.
     fn read_front(&mut self, alloc: Global, name: &str, most: usize) -> Result<Vec<u8>, HouseFault>
         ensures bytes { IfOk result (λ bytes. ForSome (memory_world self.old).files (λ files. front_of files name.now most ≡ Some bytes.items)) }
         ensures most { IfOk result (λ bytes. length bytes.items ≤ most) }

@@ -2,7 +2,7 @@
 
 ghost use Rattle.std.specs.Prelude.{◌≡◌, OnOk, OnErr};
 ghost use Rattle.std.specs.FinMap.{insert};
-ghost use Rattle.w4_house.specs.Stored.{stored};
+ghost use Rattle.w4_house.specs.Stored.{stored_files};
 
 use std::alloc::Global;
 use std::collections::BTreeMap;
@@ -15,8 +15,8 @@ pub(crate) fn put(
     name: &str,
     bytes: &[u8],
 ) -> Result<(), OutOfMemory>
-    ensures whole { OnOk result (stored files.new ≡ insert (stored files.old) name.now bytes.now) }
-    ensures refused { OnErr result (stored files.new ≡ stored files.old) }
+    ensures whole { OnOk result (stored_files files.new ≡ insert (stored_files files.old) name.now bytes.now) }
+    ensures refused { OnErr result (stored_files files.new ≡ stored_files files.old) }
 {
     let key = String::from_str(alloc, name)?;
     let value = Vec::from_slice(alloc, bytes)?;

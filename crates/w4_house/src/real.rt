@@ -32,8 +32,8 @@ const PIECE: usize = 4096;
 
 /// Over the files of a runtime and two writers, in the program its standard streams.
 ///
-/// It tells no content. Each count rises at each refusal of its calls, that of an absent file and of
-/// want of memory among them.
+/// It tells no content. Each count rises at each refusal of its calls, an absent file and running out of
+/// memory among them.
 #[derive(Drop)]
 pub struct RealHouse<'a, R: Files, O: Write + Drop, E: Write + Drop> {
     runtime: &'a R,
@@ -102,7 +102,7 @@ fn read_some<F: Read>(alloc: Global, file: &mut F, most: usize) -> Result<Vec<u8
     Ok(bytes)
 }
 
-/// The same of a file by name.
+/// The first bytes of the file of this name.
 fn read_file<R: Files>(
     alloc: Global,
     runtime: &R,

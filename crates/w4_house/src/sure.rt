@@ -20,7 +20,7 @@ pub struct SureHouse {
 impl SureHouse {
     ghost use Rattle.std.specs.FinMap.{get, empty};
     ghost use Rattle.w4_house.specs.World.{Files, Puts, OnlyFiles};
-    ghost use Rattle.w4_house.specs.Told.{sure_files, sure_world};
+    ghost use Rattle.w4_house.specs.InMemory.{sure_files, sure_world};
 
     /// A house with no files and nothing written.
     pub fn new(alloc: Global) -> SureHouse
@@ -36,7 +36,7 @@ impl SureHouse {
         }
     }
 
-    /// Makes a file of just these bytes. After want of memory nothing has changed.
+    /// Makes a file of just these bytes. When memory runs out, nothing has changed.
     pub fn put_file(&mut self, name: &str, bytes: &[u8]) -> Result<(), OutOfMemory>
         ensures whole { OnOk result (Puts (sure_world self.old).files (sure_world self.new).files name.now bytes.now) }
         ensures refused { OnErr result ((sure_world self.new).files ≡ (sure_world self.old).files) }
@@ -45,7 +45,7 @@ impl SureHouse {
         put(self.alloc, &mut self.files, name, bytes)
     }
 
-    /// The bytes of a file, or None exactly where there is no file of this name.
+    /// The bytes of a file, or None if and only if there is no file of this name.
     pub fn file(&self, name: &str) -> Option<&[u8]>
         ensures { option_copied result ≡ get (sure_files self.now) name.now }
     {
@@ -71,7 +71,7 @@ impl SureHouse {
 }
 
 impl House for SureHouse {
-    ghost use Rattle.w4_house.specs.Told.{sure_world};
+    ghost use Rattle.w4_house.specs.InMemory.{sure_world};
 
     ghost world = { sure_world };
 

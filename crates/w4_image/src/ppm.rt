@@ -2,7 +2,7 @@
 
 ghost use Rattle.std.specs.Prelude.{◌+◌, ◌*◌, ◌/◌, ◌%◌, ◌++◌, ◌<◌, ◌≡◌, ◌≤◌, drop, take};
 ghost use Rattle.w4_defs.specs.Framebuffer.{pixel};
-ghost use Rattle.w4_defs.specs.Image.{image, image_header, shown};
+ghost use Rattle.w4_defs.specs.Image.{image, image_header, pixel_colour};
 ghost use Rattle.w4_defs.specs.MemoryMap.{palette};
 
 use w4_defs::PageBytes;
@@ -31,17 +31,17 @@ fn put_header(out: &mut [u8; IMAGE_LEN])
 /// Red, green and blue of the n-th pixel in rows from the top.
 fn color_at(page: &PageBytes, n: usize) -> [u8; 3]
     requires { n < 25600 }
-    ensures { result ≡ shown page.now n }
+    ensures { result ≡ pixel_colour page.now n }
 {
     palette(page, pixel(page, (n % 160) as u32, (n / 160) as u32))
 }
 
-/// Red, green and blue of a palette entry, which the page has as blue, green and red.
-fn palette(page: &PageBytes, entry: u8) -> [u8; 3]
-    requires { entry < 4 }
-    ensures { result ≡ palette page.now entry }
+/// Red, green and blue by a palette index, which the page has as blue, green and red.
+fn palette(page: &PageBytes, index: u8) -> [u8; 3]
+    requires { index < 4 }
+    ensures { result ≡ palette page.now index }
 {
-    let at = 4 + 4 * entry as usize;
+    let at = 4 + 4 * index as usize;
     [page[at + 2], page[at + 1], page[at]]
 }
 

@@ -55,11 +55,11 @@ pub fn system_flags(page: &PageBytes) -> u8
     page[0x1f]
 }
 
-/// Red, green and blue of a palette entry, 0 to 3. The page has them as blue, green and red, from 0x04 on.
-pub fn palette(page: &PageBytes, entry: u8) -> [u8; 3]
-    requires { entry < 4 }
-    ensures { result ≡ palette page.now entry }
+/// Red, green and blue by a palette index, 0 to 3. The page has them as blue, green and red, from 0x04 on.
+pub fn palette(page: &PageBytes, index: u8) -> [u8; 3]
+    requires { index < 4 }
+    ensures { result ≡ palette page.now index }
 {
-    let at = 0x04 + 4 * entry as usize;
+    let at = 0x04 + 4 * index as usize;
     [page[at + 2], page[at + 1], page[at]]
 }

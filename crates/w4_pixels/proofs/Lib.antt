@@ -1,3 +1,3 @@
 -- Lemmas of the pixels.
 mod PackedLaws
-pub mod BoxLaws
+pub mod ClippingLaws

@@ -1,4 +1,4 @@
--- What a byte with an entry in some of its digits shows.
+-- What a byte with a palette index in some of its digits shows.
 use Rattle.std.proofs.Common.{append_assoc, ◌⊎◌, subst, ◌++◌, take, drop, length, replicate, ◌≡◌, ℕ, ◌+◌, ◌-◌, ◌*◌, ◌/◌, ◌%◌, ◌^◌, ◌<◌, ◌≤◌, min, Bool, true, false, ◌&&◌, cond, List, get_or, Option, Some, unwrap_or, sym, ◌∙◌, ap, arith}
 use Rattle.std.specs.Prelude.{ℤ, pos, int_le, ◌==◌, nat_le, nat_lt, if◌then◌else◌}
 use Rattle.std.proofs.lemmas.Bool.Decides.{nat_tests}
@@ -12,25 +12,25 @@ use Rattle.w4_defs.proofs.PaintLaws.{paint_only}
 use Rattle.w4_defs.proofs.RegisterLaws.{spliced}
 use Rattle.w4_pixels.specs.Packed.{part_painter, row_painter, zero_painter}
 
-chosen_entry : (test : Bool) (entry digit : ℕ) → entry < 4 → digit < 4 → cond test entry digit ≡ unwrap_or (only_if test (Some entry)) digit % 4
-chosen_entry true entry digit h g = omega arith
-chosen_entry false entry digit h g = omega arith
+chosen_index : (test : Bool) (index digit : ℕ) → index < 4 → digit < 4 → cond test index digit ≡ unwrap_or (only_if test (Some index)) digit % 4
+chosen_index true index digit h g = omega arith
+chosen_index false index digit h g = omega arith
 
-pub part_digit : (page : List ℕ) (q first end row entry low high k digit : ℕ) → first < end → first < 4 * q + 4 → 4 * q < end → q < 40 → row < 160 → entry < 4
+pub part_digit : (page : List ℕ) (q first end row index low high k digit : ℕ) → first < end → first < 4 * q + 4 → 4 * q < end → q < 40 → row < 160 → index < 4
     → low ≡ first - 4 * q → high ≡ min (end - 4 * q) 4 → k < 4
-    → digit ≡ (if nat_le low k && nat_lt k high then entry else get_or page (160 + (40 * row + q)) 0 / 4 ^ k % 4)
-    → digit ≡ painted_pixel page (part_painter q first end row (Some entry)) (4 * q + k) row
-part_digit page q first end row entry low high k digit some left here hq hrow hentry el eh hk e =
+    → digit ≡ (if nat_le low k && nat_lt k high then index else get_or page (160 + (40 * row + q)) 0 / 4 ^ k % 4)
+    → digit ≡ painted_pixel page (part_painter q first end row (Some index)) (4 * q + k) row
+part_digit page q first end row index low high k digit some left here hq hrow hentry el eh hk e =
     let place : (160 * row + (4 * q + k)) / 4 ≡ 40 * row + q = omega arith in
     let which : (4 * q + k) % 4 ≡ k = omega arith in
     let test : ((4 * q + k) / 4 == q && ((nat_le first (4 * q + k) && nat_lt (4 * q + k) end) && row == row)) ≡ (nat_le low k && nat_lt k high) = grind (arith, nat_tests) in
-    rw (place, which, test) (e ∙ chosen_entry (nat_le low k && nat_lt k high) entry (get_or page (160 + (40 * row + q)) 0 / 4 ^ k % 4) hentry (omega arith))
+    rw (place, which, test) (e ∙ chosen_index (nat_le low k && nat_lt k high) index (get_or page (160 + (40 * row + q)) 0 / 4 ^ k % 4) hentry (omega arith))
 
 -- a span in columns of the screen is the span of the coordinates
-pub span_row : (x0 x1 y : ℤ) (first end row u v : ℕ) (entry : Option ℕ)
+pub span_row : (x0 x1 y : ℤ) (first end row u v : ℕ) (index : Option ℕ)
     → nat_le first u ≡ int_le x0 (pos u) → nat_le end u ≡ int_le x1 (pos u) → y ≡ pos row
-    → row_painter first end row entry u v ≡ span_painter x0 x1 y entry u v
-span_row x0 x1 y first end row u v entry low high line = ap (λ t. only_if t entry) (grind (arith, ints, nat_tests))
+    → row_painter first end row index u v ≡ span_painter x0 x1 y index u v
+span_row x0 x1 y first end row u v index low high line = ap (λ t. only_if t index) (grind (arith, ints, nat_tests))
 
 zero_digit : (k : ℕ) → 0 / 4 ^ k % 4 ≡ 0
 zero_digit k = ap (λ d. d % 4) (zero-div (4 ^ k))

@@ -1,3 +1,3 @@
 -- What the contracts of this crate cite besides the definitions of drawing.
-pub mod Boxes
+pub mod Clipping
 pub mod Packed

@@ -2,13 +2,13 @@
 
 ghost use Rattle.std.specs.Option.{ForSome};
 ghost use Rattle.std.specs.Prelude.{◌-◌, ◌/◌, ◌%◌, ◌<◌, ◌≡◌, ◌≤◌, ◌^◌};
-ghost use Rattle.w4_defs.specs.Colours.{entry_of};
+ghost use Rattle.w4_defs.specs.Colours.{palette_index};
 
-/// The palette entry, 0 to 3, of colour 1, 2, 3 or 4 of DRAW_COLORS. None is transparent.
+/// The palette index, 0 to 3, of colour 1, 2, 3 or 4 of DRAW_COLORS. None is transparent.
 pub fn entry_of(colors: u16, number: u8) -> Option<u8>
     requires from_one { 1 ≤ number }
     requires to_four { number ≤ 4 }
-    ensures value { result ≡ entry_of colors number }
+    ensures value { result ≡ palette_index colors number }
     ensures bound { ForSome result (λ e. e < 4) }
 {
     let nibble = nibble_of(colors, number);

@@ -15,46 +15,46 @@ pub fn digit(byte: u8, k: u32) -> u8
     }
 }
 
-/// The byte with the entry in its digits from `low` up to `high`, which is left out.
-pub fn with_part(byte: u8, low: u32, high: u32, entry: u8) -> u8
-    requires { entry < 4 }
-    ensures { (k : ℕ) → k < 4 → result / 4 ^ k % 4 ≡ (if nat_le low k && nat_lt k high then entry else byte / 4 ^ k % 4) }
+/// The byte with the palette index in its digits from `low` up to `high`, which is left out.
+pub fn with_part(byte: u8, low: u32, high: u32, index: u8) -> u8
+    requires { index < 4 }
+    ensures { (k : ℕ) → k < 4 → result / 4 ^ k % 4 ≡ (if nat_le low k && nat_lt k high then index else byte / 4 ^ k % 4) }
 {
     if low == 0 && high == 4 {
-        filled(entry)
+        filled(index)
     } else {
-        mixed(byte, low, high, entry)
+        mixed(byte, low, high, index)
     }
 }
 
 /// A byte of four times the same digit.
-fn filled(entry: u8) -> u8
-    requires { entry < 4 }
-    ensures { (k : ℕ) → k < 4 → result / 4 ^ k % 4 ≡ entry }
+fn filled(index: u8) -> u8
+    requires { index < 4 }
+    ensures { (k : ℕ) → k < 4 → result / 4 ^ k % 4 ≡ index }
 {
-    85 * entry
+    85 * index
 }
 
-fn mixed(byte: u8, low: u32, high: u32, entry: u8) -> u8
-    requires { entry < 4 }
-    ensures { (k : ℕ) → k < 4 → result / 4 ^ k % 4 ≡ (if nat_le low k && nat_lt k high then entry else byte / 4 ^ k % 4) }
+fn mixed(byte: u8, low: u32, high: u32, index: u8) -> u8
+    requires { index < 4 }
+    ensures { (k : ℕ) → k < 4 → result / 4 ^ k % 4 ≡ (if nat_le low k && nat_lt k high then index else byte / 4 ^ k % 4) }
 {
-    let first = chosen(byte, 0, low, high, entry);
-    let second = chosen(byte, 1, low, high, entry);
-    let third = chosen(byte, 2, low, high, entry);
-    let fourth = chosen(byte, 3, low, high, entry);
+    let first = chosen(byte, 0, low, high, index);
+    let second = chosen(byte, 1, low, high, index);
+    let third = chosen(byte, 2, low, high, index);
+    let fourth = chosen(byte, 3, low, high, index);
     first + 4 * second + 16 * third + 64 * fourth
 }
 
-/// The entry where `k` is from `low` up to `high`, else the byte's own digit.
-fn chosen(byte: u8, k: u32, low: u32, high: u32, entry: u8) -> u8
+/// The palette index where `k` is from `low` up to `high`, else the byte's own digit.
+fn chosen(byte: u8, k: u32, low: u32, high: u32, index: u8) -> u8
     requires digit { k < 4 }
-    requires entry { entry < 4 }
-    ensures value { result ≡ (if nat_le low k && nat_lt k high then entry else byte / 4 ^ k % 4) }
+    requires index { index < 4 }
+    ensures value { result ≡ (if nat_le low k && nat_lt k high then index else byte / 4 ^ k % 4) }
     ensures bound { result < 4 }
 {
     if low <= k && k < high {
-        entry
+        index
     } else {
         digit(byte, k)
     }

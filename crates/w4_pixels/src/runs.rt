@@ -18,24 +18,24 @@ pub fn clear(page: &mut PageBytes)
 
 /// Paints the pixels of row `y` from column `x0` up to `x1`, which is left out, as far as they are on the
 /// screen.
-pub fn span(page: &mut PageBytes, x0: i64, x1: i64, y: i64, entry: u8)
-    requires { entry < 4 }
-    ensures { page.new ≡ paint page.old (span_painter x0 x1 y (Some entry)) }
+pub fn span(page: &mut PageBytes, x0: i64, x1: i64, y: i64, index: u8)
+    requires { index < 4 }
+    ensures { page.new ≡ paint page.old (span_painter x0 x1 y (Some index)) }
 {
     if 0 <= y && y < 160 {
-        put_span(page, on_screen(x0), on_screen(x1), y as usize, entry);
+        put_span(page, on_screen(x0), on_screen(x1), y as usize, index);
     }
 }
 
-fn put_span(page: &mut PageBytes, first: usize, end: usize, row: usize, entry: u8)
+fn put_span(page: &mut PageBytes, first: usize, end: usize, row: usize, index: u8)
     requires end { end ≤ 160 }
     requires row { row < 160 }
-    requires entry { entry < 4 }
-    ensures { page.new ≡ paint page.old (row_painter first end row (Some entry)) }
+    requires index { index < 4 }
+    ensures { page.new ≡ paint page.old (row_painter first end row (Some index)) }
 {
     if first < end {
         for q in first / 4..(end + 3) / 4 {
-            put_part(page, q, first, end, row, entry);
+            put_part(page, q, first, end, row, index);
         }
     }
 }
@@ -47,18 +47,18 @@ pub(crate) fn put_part(
     first: usize,
     end: usize,
     row: usize,
-    entry: u8,
+    index: u8,
 )
     requires some { first < end }
     requires left { first < 4 * q + 4 }
     requires here { 4 * q < end }
     requires end { end ≤ 160 }
     requires row { row < 160 }
-    requires entry { entry < 4 }
-    ensures { page.new ≡ paint page.old (part_painter q first end row (Some entry)) }
+    requires index { index < 4 }
+    ensures { page.new ≡ paint page.old (part_painter q first end row (Some index)) }
 {
     let low = first.saturating_sub(4 * q) as u32;
     let high = (end - 4 * q).min(4) as u32;
     let at = 160 + (40 * row + q);
-    page[at] = with_part(page[at], low, high, entry);
+    page[at] = with_part(page[at], low, high, index);
 }

@@ -27,14 +27,14 @@ pub fn screen_part(x: i32, count: u32) -> (usize, usize)
     (on_screen(x), on_screen(x + i64::from(count)))
 }
 
-/// Paints the pixel at column `u` and row `v` of the screen; nothing where there is no entry.
-pub fn cell(page: &mut PageBytes, u: usize, v: usize, entry: Option<u8>)
-    requires small { ForSome entry (λ e. e < 4) }
+/// Paints the pixel at column `u` and row `v` of the screen; nothing where there is no palette index.
+pub fn cell(page: &mut PageBytes, u: usize, v: usize, index: Option<u8>)
+    requires small { ForSome index (λ e. e < 4) }
     requires column { u < 160 }
     requires row { v < 160 }
-    ensures { page.new ≡ paint page.old (λ a b. only_if (a == u && b == v) entry) }
+    ensures { page.new ≡ paint page.old (λ a b. only_if (a == u && b == v) index) }
 {
-    if let Some(entry) = entry {
-        put_part(page, u / 4, u, u + 1, v, entry);
+    if let Some(index) = index {
+        put_part(page, u / 4, u, u + 1, v, index);
     }
 }

@@ -8,7 +8,7 @@ use Rattle.w4_program.specs.declared.order.Order.{Order}
 use Rattle.w4_defs.specs.Reset.{Setup}
 use Rattle.w4_defs.specs.Run.{run}
 use Rattle.w4_house.specs.World.{World, Appends}
-use Rattle.w4_program.specs.Texts.{picture, told_state}
+use Rattle.w4_program.specs.Texts.{picture, state_text}
 use Rattle.w4_program.proofs.OwesLaws.{Owes, owes_less}
 use Rattle.w4_program.specs.Answering.{Answered, no_frame, refused, answer, answer_set, answer_show, answer_state, answers}
 
@@ -88,7 +88,7 @@ unfolding answer_state
 answer_state-past setup disk inputs p lt = rw (lt-leb p (length inputs) lt) refl
 
 pub answer_state-within : (setup : Setup) (disk : List ℕ) (inputs : List Input) (p : ℕ) → p ≤ length inputs
-    → (answer_state setup disk inputs p).out ≡ told_state p (length inputs) (run setup disk inputs p)
+    → (answer_state setup disk inputs p).out ≡ state_text p (length inputs) (run setup disk inputs p)
 unfolding answer_state
 answer_state-within setup disk inputs p le = rw (le-leb p (length inputs) le) refl
 
@@ -100,7 +100,7 @@ answer_state-inputs setup disk inputs p =
     elim (leb p (length inputs)) as
     (λ b. inputs
     ≡ (cond b
-    (record { out = told_state p (length inputs) (run setup disk inputs p); inputs = inputs })
+    (record { out = state_text p (length inputs) (run setup disk inputs p); inputs = inputs })
     (refused inputs)).inputs)
     [ true ↦ refl | false ↦ refl ]
 

@@ -9,8 +9,8 @@ use Rattle.w4_program.specs.declared.status.Status.{Status}
 use Rattle.w4_program.specs.declared.status.Status.TheVariants as status
 use Rattle.w4_program.specs.Refusals.{Refusal, NoFile, Manner, Finished, Formless, ReadFailed, WriteFailed, NoMemory, Refused, manner_of}
 use Rattle.w4_program.specs.Forms.{EditWords}
-use Rattle.w4_program.specs.Output.{◌>>=◌, Made, Loaded, loaded, answered, left, printed, saved, edited, CartIn, OverCart}
-use Rattle.w4_program.specs.Causes.{Does, ReadFails, Stops, StopsWriting, Untouched, Writes, Ends, Carries, Prints}
+use Rattle.w4_program.specs.Output.{◌>>=◌, Output, Loaded, edit_files, edit_answers, edited_recording, only_printed, edit_result, edit_output, CartIn, OverCart}
+use Rattle.w4_program.specs.Causes.{ResultsIn, ReadFails, Stops, StopsWriting, LeavesOutputs, Writes, Ends, Carries, Prints}
 use Rattle.w4_program.proofs.StepLaws.{stops_first}
 
 -- a write that stopped after other writes
@@ -57,57 +57,57 @@ prints_formed old new why out h e = subst (λ s. Prints old new (manner_of s) ou
 
 -- the cart wasn't read or is none
 pub ends_unjudged : (old new : World) (why : Manner) (name : List ℕ)
-    (make : WasmModule → Files → Result Made Refusal)
+    (make : WasmModule → Files → Result Output Refusal)
     → LeavesReading old new
     → Stops old new why (λ files cart. CartIn name files cart)
     → Ends old new why (λ files made. OverCart name make files made)
 ends_unjudged old new Finished name make leaves h = absurd h
 ends_unjudged old new Formless name make leaves h = absurd h
 ends_unjudged old new ReadFailed name make leaves (inl rise) = (inl rise, (leaves.out, leaves.files))
-ends_unjudged old new ReadFailed name make leaves (inr (files, told, none)) =
-    (inr (files, told, (Err NoFile, none, refl)), (leaves.out, leaves.files))
+ends_unjudged old new ReadFailed name make leaves (inr (files, texts, none)) =
+    (inr (files, texts, (Err NoFile, none, refl)), (leaves.out, leaves.files))
 ends_unjudged old new WriteFailed name make leaves h = absurd h
 ends_unjudged old new NoMemory name make leaves h = tt
 ends_unjudged old new (Refused refusal) name make leaves h =
-    ((λ files told. (Err refusal, h files told, refl)), (leaves.out, leaves.files))
+    ((λ files texts. (Err refusal, h files texts, refl)), (leaves.out, leaves.files))
 
 -- the cart was judged, and the rest ended so
 pub ends_judged : (first second third : World) (why : Manner) (name : List ℕ) (m : WasmModule)
-    (make : WasmModule → Files → Result Made Refusal)
+    (make : WasmModule → Files → Result Output Refusal)
     → LeavesReading first second
     → ForSome first.files (λ files. CartIn name files (Ok m))
-    → Ends second third why (Does (λ files. make m files))
+    → Ends second third why (ResultsIn (λ files. make m files))
     → Ends first third why (λ files made. OverCart name make files made)
-ends_judged first second third Finished name m make leaves given h = λ files told.
-    let made = h files (leaves.files ∙ told) in
-    (made.0, (Ok m, given files told, made.1), ((λ before t. made.2.0 before (leaves.out ∙ t)), made.2.1))
+ends_judged first second third Finished name m make leaves given h = λ files texts.
+    let made = h files (leaves.files ∙ texts) in
+    (made.0, (Ok m, given files texts, made.1), ((λ before t. made.2.0 before (leaves.out ∙ t)), made.2.1))
 ends_judged first second third Formless name m make leaves given h = (
-  (λ files told. (Ok m, given files told, h.0 files (leaves.files ∙ told))),
+  (λ files texts. (Ok m, given files texts, h.0 files (leaves.files ∙ texts))),
   (h.1.0 ∙ leaves.out, h.1.1 ∙ leaves.files),
 )
 ends_judged first second third ReadFailed name m make leaves given (inl rise, same) = (
   inl (rises_later first.read_faults second.read_faults third.read_faults leaves.later rise),
   (same.0 ∙ leaves.out, same.1 ∙ leaves.files),
 )
-ends_judged first second third ReadFailed name m make leaves given (inr (files, told, none), same) = (
-  inr (files, sym leaves.files ∙ told, (Ok m, given files (sym leaves.files ∙ told), none)),
+ends_judged first second third ReadFailed name m make leaves given (inr (files, texts, none), same) = (
+  inr (files, sym leaves.files ∙ texts, (Ok m, given files (sym leaves.files ∙ texts), none)),
   (same.0 ∙ leaves.out, same.1 ∙ leaves.files),
 )
 ends_judged first second third WriteFailed name m make leaves given h = (
   subst (λ n. Rises n third.write_faults) leaves.writes h.0,
-  λ files told. let made = h.1 files (leaves.files ∙ told) in (made.0, (Ok m, given files told, made.1)),
+  λ files texts. let made = h.1 files (leaves.files ∙ texts) in (made.0, (Ok m, given files texts, made.1)),
 )
 ends_judged first second third NoMemory name m make leaves given h = tt
 ends_judged first second third (Refused refusal) name m make leaves given h = (
-  (λ files told. (Ok m, given files told, h.0 files (leaves.files ∙ told))),
+  (λ files texts. (Ok m, given files texts, h.0 files (leaves.files ∙ texts))),
   (h.1.0 ∙ leaves.out, h.1.1 ∙ leaves.files),
 )
 
 -- what was to be read wasn't right
 pub ends_untold : {G : Type 0} (old new : World) (why : Manner) (step : Files → Result G Refusal)
-    (make : Files → G → Made)
+    (make : Files → G → Output)
     → LeavesReading old new
-    → Stops old new why (Does step) → Ends old new why (Does (λ files. step files >>= λ g. Ok (make files g)))
+    → Stops old new why (ResultsIn step) → Ends old new why (ResultsIn (λ files. step files >>= λ g. Ok (make files g)))
 ends_untold old new Finished step make leaves h = absurd h
 ends_untold old new Formless step make leaves h = absurd h
 ends_untold old new ReadFailed step make leaves h =
@@ -120,74 +120,74 @@ ends_untold old new (Refused refusal) step make leaves h =
 -- it was, and bytes were written to standard output
 pub ends_printed : (old new : World) (why : Manner) (out : List ℕ) → new.files ≡ old.files
     → Prints old new why out
-    → Ends old new why (Does (λ files. Ok (printed out files)))
-ends_printed old new Finished out same h = λ files told. (printed out files, refl, (h, same ∙ told))
+    → Ends old new why (ResultsIn (λ files. Ok (only_printed out files)))
+ends_printed old new Finished out same h = λ files texts. (only_printed out files, refl, (h, same ∙ texts))
 ends_printed old new Formless out same h = absurd h
 ends_printed old new ReadFailed out same h = absurd h
-ends_printed old new WriteFailed out same h = (h, λ files told. (printed out files, refl))
+ends_printed old new WriteFailed out same h = (h, λ files texts. (only_printed out files, refl))
 ends_printed old new NoMemory out same h = tt
 ends_printed old new (Refused refusal) out same h = absurd h
 
-pub ends_told : {G : Type 0} (first second third : World) (why : Manner) (step : Files → Result G Refusal)
+pub ends_texts : {G : Type 0} (first second third : World) (why : Manner) (step : Files → Result G Refusal)
     (g : G) (out : G → List ℕ)
     → LeavesReading first second
     → LeavesPrinting second third → ForSome first.files (λ files. step files ≡ Ok g)
     → Prints second third why (out g)
-    → Ends first third why (Does (λ files. step files >>= λ g. Ok (printed (out g) files)))
-ends_told first second third Finished step g out leaves rest given h = λ files told. (
-  printed (out g) files,
-  rw (given files told) refl,
-  ((λ before t. h before (leaves.out ∙ t)), rest.files ∙ (leaves.files ∙ told)),
+    → Ends first third why (ResultsIn (λ files. step files >>= λ g. Ok (only_printed (out g) files)))
+ends_texts first second third Finished step g out leaves rest given h = λ files texts. (
+  only_printed (out g) files,
+  rw (given files texts) refl,
+  ((λ before t. h before (leaves.out ∙ t)), rest.files ∙ (leaves.files ∙ texts)),
 )
-ends_told first second third Formless step g out leaves rest given h = absurd h
-ends_told first second third ReadFailed step g out leaves rest given h = absurd h
-ends_told first second third WriteFailed step g out leaves rest given h = (
+ends_texts first second third Formless step g out leaves rest given h = absurd h
+ends_texts first second third ReadFailed step g out leaves rest given h = absurd h
+ends_texts first second third WriteFailed step g out leaves rest given h = (
   subst (λ n. Rises n third.write_faults) leaves.writes h,
-  λ files told. (printed (out g) files, rw (given files told) refl),
+  λ files texts. (only_printed (out g) files, rw (given files texts) refl),
 )
-ends_told first second third NoMemory step g out leaves rest given h = tt
-ends_told first second third (Refused refusal) step g out leaves rest given h = absurd h
+ends_texts first second third NoMemory step g out leaves rest given h = tt
+ends_texts first second third (Refused refusal) step g out leaves rest given h = absurd h
 
 -- it was, and an edit was carried out
 pub ends_carried : (first second third : World) (why : Manner) (words : EditWords) (m : WasmModule)
     (l : Loaded)
     → LeavesReading first second
-    → ForSome first.files (λ files. loaded words files ≡ Ok l)
-    → Carries second third why (answered m l).out words.out (spelling (left m l))
-    → Ends first third why (Does (λ files. edited words m files))
-unfolding edited
-ends_carried first second third Finished words m l leaves given h = λ files told. (
-  saved m l words.out files,
-  rw (given files told) refl,
-  ((λ before t. h.0 before (leaves.out ∙ t)), h.1 files (leaves.files ∙ told)),
+    → ForSome first.files (λ files. edit_files words files ≡ Ok l)
+    → Carries second third why (edit_answers m l).out words.out (spelling (edited_recording m l))
+    → Ends first third why (ResultsIn (λ files. edit_output words m files))
+unfolding edit_output
+ends_carried first second third Finished words m l leaves given h = λ files texts. (
+  edit_result m l words.out files,
+  rw (given files texts) refl,
+  ((λ before t. h.0 before (leaves.out ∙ t)), h.1 files (leaves.files ∙ texts)),
 )
 ends_carried first second third Formless words m l leaves given h = absurd h
 ends_carried first second third ReadFailed words m l leaves given h = absurd h
 ends_carried first second third WriteFailed words m l leaves given h = (
   subst (λ n. Rises n third.write_faults) leaves.writes h,
-  λ files told. (saved m l words.out files, rw (given files told) refl),
+  λ files texts. (edit_result m l words.out files, rw (given files texts) refl),
 )
 ends_carried first second third NoMemory words m l leaves given h = tt
 ends_carried first second third (Refused refusal) words m l leaves given h = absurd h
 
-writes_reported : (old mid new : World) (made : Made) → LeavesReporting mid new → Writes old mid made
+writes_reported : (old mid new : World) (made : Output) → LeavesReporting mid new → Writes old mid made
     → Writes old new made
 writes_reported old mid new made leaves h =
-    ((λ before told. leaves.out ∙ h.0 before told), leaves.files ∙ h.1)
+    ((λ before texts. leaves.out ∙ h.0 before texts), leaves.files ∙ h.1)
 
-untouched_reported : (old mid new : World) → LeavesReporting mid new → Untouched old mid → Untouched old new
+untouched_reported : (old mid new : World) → LeavesReporting mid new → LeavesOutputs old mid → LeavesOutputs old new
 untouched_reported old mid new leaves h = (leaves.out ∙ h.0, leaves.files ∙ h.1)
 
-read_fails_reported : (old mid new : World) (step : Files → Result Made Refusal → Type 0)
+read_fails_reported : (old mid new : World) (step : Files → Result Output Refusal → Type 0)
     → LeavesReporting mid new → ReadFails old mid step → ReadFails old new step
 read_fails_reported old mid new step leaves (inl rise) =
     inl (subst (λ n. Rises old.read_faults n) (sym leaves.reads) rise)
 read_fails_reported old mid new step leaves (inr absent) = inr absent
 
-ends_kept : (old mid new : World) (why : Manner) (step : Files → Result Made Refusal → Type 0)
+ends_kept : (old mid new : World) (why : Manner) (step : Files → Result Output Refusal → Type 0)
     → LeavesReporting mid new → Ends old mid why step → Ends old new why step
 ends_kept old mid new Finished step leaves h =
-    λ files told. let made = h files told in
+    λ files texts. let made = h files texts in
     (made.0, made.1, writes_reported old mid new made.0 leaves made.2)
 ends_kept old mid new Formless step leaves h = (h.0, untouched_reported old mid new leaves h.1)
 ends_kept old mid new ReadFailed step leaves h =
@@ -198,7 +198,7 @@ ends_kept old mid new NoMemory step leaves h = tt
 ends_kept old mid new (Refused refusal) step leaves h = (h.0, untouched_reported old mid new leaves h.1)
 
 -- after the report, too
-pub ends_reported : (old mid new : World) (why result : Status) (step : Files → Result Made Refusal → Type 0)
+pub ends_reported : (old mid new : World) (why result : Status) (step : Files → Result Output Refusal → Type 0)
     → LeavesReporting mid new → (result ≡ why) ⊎ (result ≡ status.OutOfMemory)
     → Ends old mid (manner_of why) step → Ends old new (manner_of result) step
 ends_reported old mid new why result step leaves (inl e) h =

@@ -12,7 +12,7 @@ use Rattle.wasm_read.specs.Unique.{AtMostOneModule}
 use Rattle.w4_house.specs.World.{Files}
 use Rattle.w4_program.specs.Refusals.{Refusal, Usage, NoFile, CartRefused, FontRefused, FrameRefused, NotBuilt}
 use Rattle.w4_program.specs.Forms.{Form, form_of}
-use Rattle.w4_program.specs.Output.{Made, ◌>>=◌, JudgedCart, OverFile, OutputsForm, cart_word, made_by}
+use Rattle.w4_program.specs.Output.{Output, ◌>>=◌, JudgedCart, OverFile, OutputsForm, cart_word, output_of}
 use Rattle.w4_program.specs.OneOutput.{AtMostOneOutput}
 
 -- the first function without a typing is one
@@ -112,8 +112,8 @@ judged_once unique (Ok bytes) (Err (FrameRefused number n)) other one two = absu
 judged_once unique (Ok bytes) (Err NotBuilt) other one two = absurd one
 
 over_once : AtMostOneModule
-    → (word : Option (List ℕ)) (make : WasmModule → Files → Result Made Refusal) (files : Files)
-    (made other : Result Made Refusal)
+    → (word : Option (List ℕ)) (make : WasmModule → Files → Result Output Refusal) (files : Files)
+    (made other : Result Output Refusal)
     → OverFile word make files made → OverFile word make files other → made ≡ other
 over_once unique None make files made other one two = one ∙ sym two
 over_once unique (Some name) make files made other (cart, judged, e) (again, rejudged, d) =
@@ -122,11 +122,11 @@ over_once unique (Some name) make files made other (cart, judged, e) (again, rej
     (judged_once unique _ cart again judged rejudged)
     ∙ d
 
-form_once : AtMostOneModule → (form : Option Form) (files : Files) (made other : Result Made Refusal)
+form_once : AtMostOneModule → (form : Option Form) (files : Files) (made other : Result Output Refusal)
     → OutputsForm form files made → OutputsForm form files other → made ≡ other
 form_once unique None files made other one two = one ∙ sym two
 form_once unique (Some form) files made other one two =
-    over_once unique (cart_word form) (made_by form) files made other one two
+    over_once unique (cart_word form) (output_of form) files made other one two
 
 pub one_output : AtMostOneModule → AtMostOneOutput
 one_output unique words files made other one two = form_once unique (form_of words) files made other one two

@@ -11,21 +11,21 @@ Owes first now owed whole =
     (λ before. (written : List ℕ) × (now.out ≡ Some written) × (written ++ owed ≡ before ++ whole))
 
 pub owes_all : (world : World) (owed whole : List ℕ) → owed ≡ whole → Owes world world owed whole
-owes_all world owed whole e = λ before told. (before, told, ap (λ bytes. before ++ bytes) e)
+owes_all world owed whole e = λ before texts. (before, texts, ap (λ bytes. before ++ bytes) e)
 
 pub owes_less : (first now next : World) (some owed whole : List ℕ) → Appends now.out next.out some
     → Owes first now (some ++ owed) whole → Owes first next owed whole
-owes_less first now next some owed whole more so_far = λ before told.
-    let h = so_far before told in
+owes_less first now next some owed whole more so_far = λ before texts.
+    let h = so_far before texts in
     (h.0 ++ some, more h.0 h.1, append_assoc h.0 some owed ∙ h.2)
 
 pub owes_nothing : (first now : World) (owed whole : List ℕ) → owed ≡ [] → Owes first now owed whole
     → Appends first.out now.out whole
-owes_nothing first now owed whole none so_far = λ before told.
-    let h = so_far before told in
+owes_nothing first now owed whole none so_far = λ before texts.
+    let h = so_far before texts in
     h.1 ∙ ap (λ (bytes : List ℕ). Some bytes) (sym (ap (λ bytes. h.0 ++ bytes) none ∙ append-nil h.0) ∙ h.2)
 
 pub owes_after : (first now : World) (some owed whole : List ℕ) → Appends first.out now.out some
     → some ++ owed ≡ whole → Owes first now owed whole
-owes_after first now some owed whole written e = λ before told.
-    (before ++ some, written before told, append_assoc before some owed ∙ ap (λ bytes. before ++ bytes) e)
+owes_after first now some owed whole written e = λ before texts.
+    (before ++ some, written before texts, append_assoc before some owed ∙ ap (λ bytes. before ++ bytes) e)

@@ -6,7 +6,7 @@ use Rattle.w4_program.specs.declared.order.Order.{Order}
 use Rattle.w4_defs.specs.Reading.{◌>>=◌}
 use Rattle.w4_program.specs.FirstScript.{at_most, digits_after, first_of, lines_of}
 use Rattle.w4_program.specs.Refusals.{Refusal, Manner, Finished, Formless, ReadFailed, WriteFailed, NoMemory, Refused}
-use Rattle.w4_program.specs.Reads.{Unread}
+use Rattle.w4_program.specs.Reads.{GivesNoValue}
 
 -- digits never make a value smaller
 pub too_large : (n : ℕ) (ds : List ℕ) → 4294967295 < n → (digits_after n ds >>= at_most 4294967295) ≡ None
@@ -55,8 +55,8 @@ lines_of-step front count i bytes after order whole lt first so_far =
 
 pub lines_of-stops : (refusal : Refusal) (why : Manner) (front : List Order) (count i : ℕ) (bytes : List ℕ)
     (whole : Option (List Order))
-    → i < count → Unread refusal why (first_of bytes)
-    → with_front front (lines_of (count - i) bytes) ≡ whole → Unread refusal why whole
+    → i < count → GivesNoValue refusal why (first_of bytes)
+    → with_front front (lines_of (count - i) bytes) ≡ whole → GivesNoValue refusal why whole
 unfolding lines_of
 lines_of-stops refusal Finished front count i bytes whole lt stops so_far = stops
 lines_of-stops refusal Formless front count i bytes whole lt stops so_far = stops

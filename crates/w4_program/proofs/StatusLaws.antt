@@ -6,52 +6,52 @@ use Rattle.w4_house.specs.World.{Files, World, Rises, Appends}
 use Rattle.w4_program.specs.declared.status.Status.{Status}
 use Rattle.w4_program.specs.declared.status.Status.TheVariants as status
 use Rattle.w4_program.specs.Refusals.{Refusal, Usage, NoFile, CartRefused, FontRefused, FrameRefused, NotBuilt, manner_of}
-use Rattle.w4_program.specs.Output.{Made}
-use Rattle.w4_program.specs.Causes.{ReadFails, Refuses, Untouched, Ends, IsExact, IsRefusal, Reports, LeavesErr}
+use Rattle.w4_program.specs.Output.{Output}
+use Rattle.w4_program.specs.Causes.{ReadFails, Refuses, LeavesOutputs, Ends, IsExact, IsRefusal, Reports, LeavesErr}
 
-pub done_out : (old new : World) (result : Status) (step : Files → Result Made Refusal → Type 0)
+pub done_out : (old new : World) (result : Status) (step : Files → Result Output Refusal → Type 0)
     → Ends old new (manner_of result) step → result ≡ status.Done
-    → ForSome old.files (λ files. (made : Made) × step files (Ok made) × Appends old.out new.out made.out)
-done_out old new result step h e = λ files told.
-    let made = subst (λ s. Ends old new (manner_of s) step) e h files told in (made.0, made.1, made.2.0)
+    → ForSome old.files (λ files. (made : Output) × step files (Ok made) × Appends old.out new.out made.out)
+done_out old new result step h e = λ files texts.
+    let made = subst (λ s. Ends old new (manner_of s) step) e h files texts in (made.0, made.1, made.2.0)
 
-pub done_files : (old new : World) (result : Status) (step : Files → Result Made Refusal → Type 0)
+pub done_files : (old new : World) (result : Status) (step : Files → Result Output Refusal → Type 0)
     → Ends old new (manner_of result) step → result ≡ status.Done
-    → ForSome old.files (λ files. (made : Made) × step files (Ok made) × (new.files ≡ Some made.files))
-done_files old new result step h e = λ files told.
-    let made = subst (λ s. Ends old new (manner_of s) step) e h files told in (made.0, made.1, made.2.1)
+    → ForSome old.files (λ files. (made : Output) × step files (Ok made) × (new.files ≡ Some made.files))
+done_files old new result step h e = λ files texts.
+    let made = subst (λ s. Ends old new (manner_of s) step) e h files texts in (made.0, made.1, made.2.1)
 
-pub write_fault : (old new : World) (result : Status) (step : Files → Result Made Refusal → Type 0)
+pub write_fault : (old new : World) (result : Status) (step : Files → Result Output Refusal → Type 0)
     → Ends old new (manner_of result) step → result ≡ status.WriteFault
     → Rises old.write_faults new.write_faults
-    × ForSome old.files (λ files. (made : Made) × step files (Ok made))
+    × ForSome old.files (λ files. (made : Output) × step files (Ok made))
 write_fault old new result step h e = subst (λ s. Ends old new (manner_of s) step) e h
 
-pub read_fault : (old new : World) (result : Status) (step : Files → Result Made Refusal → Type 0)
+pub read_fault : (old new : World) (result : Status) (step : Files → Result Output Refusal → Type 0)
     → Ends old new (manner_of result) step → result ≡ status.ReadFault → ReadFails old new step
 read_fault old new result step h e = (subst (λ s. Ends old new (manner_of s) step) e h).0
 
-pub cart_refused : (old new : World) (result : Status) (step : Files → Result Made Refusal → Type 0)
+pub cart_refused : (old new : World) (result : Status) (step : Files → Result Output Refusal → Type 0)
     → Ends old new (manner_of result) step
     → (kind : CartKind) → result ≡ status.CartRefused kind → Refuses old (CartRefused kind) step
 cart_refused old new result step h kind e = (subst (λ s. Ends old new (manner_of s) step) e h).0
 
-pub font_refused : (old new : World) (result : Status) (step : Files → Result Made Refusal → Type 0)
+pub font_refused : (old new : World) (result : Status) (step : Files → Result Output Refusal → Type 0)
     → Ends old new (manner_of result) step
     → result ≡ status.FontRefused → Refuses old FontRefused step
 font_refused old new result step h e = (subst (λ s. Ends old new (manner_of s) step) e h).0
 
-pub frame_refused : (old new : World) (result : Status) (step : Files → Result Made Refusal → Type 0)
+pub frame_refused : (old new : World) (result : Status) (step : Files → Result Output Refusal → Type 0)
     → Ends old new (manner_of result) step
     → (number n : ℕ) → result ≡ status.FrameRefused number n → Refuses old (FrameRefused number n) step
 frame_refused old new result step h number n e = (subst (λ s. Ends old new (manner_of s) step) e h).0
 
-pub not_built : (old new : World) (result : Status) (step : Files → Result Made Refusal → Type 0)
+pub not_built : (old new : World) (result : Status) (step : Files → Result Output Refusal → Type 0)
     → Ends old new (manner_of result) step → result ≡ status.NotBuilt → Refuses old NotBuilt step
 not_built old new result step h e = (subst (λ s. Ends old new (manner_of s) step) e h).0
 
-pub refused : (old new : World) (result : Status) (step : Files → Result Made Refusal → Type 0)
-    → Ends old new (manner_of result) step → IsRefusal result → Untouched old new
+pub refused : (old new : World) (result : Status) (step : Files → Result Output Refusal → Type 0)
+    → Ends old new (manner_of result) step → IsRefusal result → LeavesOutputs old new
 refused old new status.Done step h r = absurd r
 refused old new status.Usage step h r = h.1
 refused old new (status.CartRefused kind) step h r = h.1
@@ -64,11 +64,11 @@ refused old new status.NotBuilt step h r = h.1
 
 pub line_reported : (old mid new : World) (line : List ℕ) → LeavesErr old mid → Reports mid new line
     → Reports old new line
-line_reported old mid new line leaves (inl all) = inl (λ before told. all before (leaves.0 ∙ told))
+line_reported old mid new line leaves (inl all) = inl (λ before texts. all before (leaves.0 ∙ texts))
 line_reported old mid new line leaves (inr (rise, (count, front))) =
     inr (
       subst (λ n. Rises n new.err_faults) leaves.1 rise,
-      (count, λ before told. front before (leaves.0 ∙ told)),
+      (count, λ before texts. front before (leaves.0 ∙ texts)),
     )
 
 abbrev some_files : Files → Option Files
@@ -78,35 +78,35 @@ some_is : (a b : Files) → some_files a ≡ some_files b → a ≡ b
 some_is a b e = cc
 
 -- where no count has risen, the status is that of what the step allows, or memory ran out
-pub exact : (old new : World) (result : Status) (step : Files → Result Made Refusal → Type 0)
+pub exact : (old new : World) (result : Status) (step : Files → Result Output Refusal → Type 0)
     → Ends old new (manner_of result) step
     → ForSome old.files
     (λ files. ¬ Rises old.read_faults new.read_faults → ¬ Rises old.write_faults new.write_faults
     → IsExact result (λ made. step files made))
 exact old new status.Done step h =
-    λ files told reads writes. let made = h files told in inr (Ok made.0, made.1, refl)
-exact old new status.Usage step h = λ files told reads writes. inr (Err Usage, h.0 files told, refl)
+    λ files texts reads writes. let made = h files texts in inr (Ok made.0, made.1, refl)
+exact old new status.Usage step h = λ files texts reads writes. inr (Err Usage, h.0 files texts, refl)
 exact old new (status.CartRefused kind) step h =
-    λ files told reads writes. inr (Err (CartRefused kind), h.0 files told, refl)
+    λ files texts reads writes. inr (Err (CartRefused kind), h.0 files texts, refl)
 exact old new status.FontRefused step h =
-    λ files told reads writes. inr (Err FontRefused, h.0 files told, refl)
-exact old new status.ReadFault step (inl rise, same) = λ files told reads writes. absurd (reads rise)
-exact old new status.ReadFault step (inr (found, known, absent), same) = λ files told reads writes.
-    inr (Err NoFile, subst (λ fs. step fs (Err NoFile)) (some_is found files (sym known ∙ told)) absent, refl)
-exact old new status.WriteFault step h = λ files told reads writes. absurd (writes h.0)
-exact old new status.OutOfMemory step h = λ files told reads writes. inl refl
+    λ files texts reads writes. inr (Err FontRefused, h.0 files texts, refl)
+exact old new status.ReadFault step (inl rise, same) = λ files texts reads writes. absurd (reads rise)
+exact old new status.ReadFault step (inr (found, known, absent), same) = λ files texts reads writes.
+    inr (Err NoFile, subst (λ fs. step fs (Err NoFile)) (some_is found files (sym known ∙ texts)) absent, refl)
+exact old new status.WriteFault step h = λ files texts reads writes. absurd (writes h.0)
+exact old new status.OutOfMemory step h = λ files texts reads writes. inl refl
 exact old new (status.FrameRefused number n) step h =
-    λ files told reads writes. inr (Err (FrameRefused number n), h.0 files told, refl)
-exact old new status.NotBuilt step h = λ files told reads writes. inr (Err NotBuilt, h.0 files told, refl)
+    λ files texts reads writes. inr (Err (FrameRefused number n), h.0 files texts, refl)
+exact old new status.NotBuilt step h = λ files texts reads writes. inr (Err NotBuilt, h.0 files texts, refl)
 
 -- a status that stands, or memory that ran out while it was reported
-pub told_or_memory : (told why result : Status) → told ≡ why → (result ≡ told) ⊎ (result ≡ status.OutOfMemory)
+pub texts_or_memory : (texts why result : Status) → texts ≡ why → (result ≡ texts) ⊎ (result ≡ status.OutOfMemory)
     → (result ≡ why) ⊎ (result ≡ status.OutOfMemory)
-told_or_memory told why result e (inl same) = inl (same ∙ e)
-told_or_memory told why result e (inr memory) = inr memory
+texts_or_memory texts why result e (inl same) = inl (same ∙ e)
+texts_or_memory texts why result e (inr memory) = inr memory
 
--- so one that isn't want of memory is that which was told
-pub usage_told : (told result : Status) → (result ≡ told) ⊎ (result ≡ status.OutOfMemory)
-    → result ≡ status.Usage → told ≡ status.Usage
-usage_told told result (inl same) e = sym same ∙ e
-usage_told told result (inr memory) e = cc
+-- so a status other than out of memory is the one that was given
+pub usage_texts : (texts result : Status) → (result ≡ texts) ⊎ (result ≡ status.OutOfMemory)
+    → result ≡ status.Usage → texts ≡ status.Usage
+usage_texts texts result (inl same) e = sym same ∙ e
+usage_texts texts result (inr memory) e = cc

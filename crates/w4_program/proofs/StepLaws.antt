@@ -6,37 +6,37 @@ use Rattle.w4_house.proofs.WorldLaws.{rises_later}
 use Rattle.w4_program.specs.declared.status.Status.{Status}
 use Rattle.w4_program.specs.Refusals.{Refusal, Manner, Finished, Formless, ReadFailed, WriteFailed, NoMemory, Refused, manner_of}
 use Rattle.w4_program.specs.Output.{◌>>=◌, reading, judged}
-use Rattle.w4_program.specs.Reads.{Unread, Reads}
-use Rattle.w4_program.specs.Causes.{Does, Stops, Gives}
+use Rattle.w4_program.specs.Reads.{GivesNoValue, GivesValue}
+use Rattle.w4_program.specs.Causes.{ResultsIn, Stops, StepGives}
 
 -- what stops a step stops what begins with it
 pub stops_first : {A B : Type 0} (old new : World) (why : Manner) (step : Files → Result A Refusal)
     (next : Files → A → Result B Refusal)
-    → Stops old new why (Does step) → Stops old new why (Does (λ files. step files >>= next files))
+    → Stops old new why (ResultsIn step) → Stops old new why (ResultsIn (λ files. step files >>= next files))
 stops_first old new Finished step next h = h
 stops_first old new Formless step next h = h
 stops_first old new ReadFailed step next (inl rise) = inl rise
-stops_first old new ReadFailed step next (inr (files, told, e)) = inr (files, told, rw e refl)
+stops_first old new ReadFailed step next (inr (files, texts, e)) = inr (files, texts, rw e refl)
 stops_first old new WriteFailed step next h = h
 stops_first old new NoMemory step next h = tt
-stops_first old new (Refused refusal) step next h = λ files told. rw (h files told) refl
+stops_first old new (Refused refusal) step next h = λ files texts. rw (h files texts) refl
 
 -- what stops a later step stops what went before it
 pub stops_later : {A B : Type 0} (first second third : World) (why : Manner) (step : Files → Result A Refusal)
     (x : A) (next : Files → A → Result B Refusal)
     → LeavesReading first second → ForSome first.files (λ files. step files ≡ Ok x)
-    → Stops second third why (Does (λ files. next files x))
-    → Stops first third why (Does (λ files. step files >>= next files))
+    → Stops second third why (ResultsIn (λ files. next files x))
+    → Stops first third why (ResultsIn (λ files. step files >>= next files))
 stops_later first second third Finished step x next leaves given h = h
 stops_later first second third Formless step x next leaves given h = h
 stops_later first second third ReadFailed step x next leaves given (inl rise) =
     inl (rises_later first.read_faults second.read_faults third.read_faults leaves.later rise)
-stops_later first second third ReadFailed step x next leaves given (inr (files, told, e)) =
-    inr (files, sym leaves.files ∙ told, rw (given files (sym leaves.files ∙ told)) e)
+stops_later first second third ReadFailed step x next leaves given (inr (files, texts, e)) =
+    inr (files, sym leaves.files ∙ texts, rw (given files (sym leaves.files ∙ texts)) e)
 stops_later first second third WriteFailed step x next leaves given h = h
 stops_later first second third NoMemory step x next leaves given h = tt
 stops_later first second third (Refused refusal) step x next leaves given h =
-    λ files told. rw (given files told) (h files (leaves.files ∙ told))
+    λ files texts. rw (given files texts) (h files (leaves.files ∙ texts))
 
 -- two steps that were done
 pub gives_then : {A B : Type 0} (first second : World) (step : Files → Result A Refusal) (x : A)
@@ -45,29 +45,29 @@ pub gives_then : {A B : Type 0} (first second : World) (step : Files → Result 
     → ForSome second.files (λ files. next files x ≡ Ok y)
     → ForSome first.files (λ files. (step files >>= next files) ≡ Ok y)
 gives_then first second step x next y leaves one other =
-    λ files told. rw (one files told) (other files (leaves.files ∙ told))
+    λ files texts. rw (one files texts) (other files (leaves.files ∙ texts))
 
 -- a file that was read and then found wrong
 pub unread_stops : {Y : Type 0} (old new : World) (why : Manner) (refusal : Refusal)
     (judge : List ℕ → Option Y) (limit : ℕ) (name bytes : List ℕ)
     → ForSome old.files (λ files. reading files name (limit + 1) ≡ Ok bytes)
-    → Unread refusal why (judge bytes)
-    → Stops old new why (Does (λ files. judged limit refusal judge files name))
+    → GivesNoValue refusal why (judge bytes)
+    → Stops old new why (ResultsIn (λ files. judged limit refusal judge files name))
 unread_stops old new Finished refusal judge limit name bytes given h = absurd h
 unread_stops old new Formless refusal judge limit name bytes given h = absurd h
 unread_stops old new ReadFailed refusal judge limit name bytes given h = absurd h
 unread_stops old new WriteFailed refusal judge limit name bytes given h = absurd h
 unread_stops old new NoMemory refusal judge limit name bytes given h = tt
 unread_stops old new (Refused why) refusal judge limit name bytes given h =
-    λ files told. rw (given files told, h.0, h.1) refl
+    λ files texts. rw (given files texts, h.0, h.1) refl
 
 -- a file that was read and then judged
 pub judged_by : {X Y : Type 0} (old new : World) (refusal : Refusal) (view : X → Y) (result : Result X Status)
     (judge : List ℕ → Option Y) (limit : ℕ) (name bytes : List ℕ)
     → ForSome old.files (λ files. reading files name (limit + 1) ≡ Ok bytes)
-    → Reads refusal view result (judge bytes)
-    → Gives old new view result (Does (λ files. judged limit refusal judge files name))
+    → GivesValue refusal view result (judge bytes)
+    → StepGives old new view result (ResultsIn (λ files. judged limit refusal judge files name))
 judged_by old new refusal view (Ok x) judge limit name bytes given h =
-    λ files told. rw (given files told, h) refl
+    λ files texts. rw (given files texts, h) refl
 judged_by old new refusal view (Err why) judge limit name bytes given h =
     unread_stops old new (manner_of why) refusal judge limit name bytes given h

@@ -6,11 +6,11 @@ use Rattle.w4_house.specs.World.{Files, World, Rises, Appends, AppendsFront, Put
 use Rattle.w4_program.specs.declared.status.Status.{Status}
 use Rattle.w4_program.specs.declared.status.Status.TheVariants as status
 use Rattle.w4_program.specs.Refusals.{Refusal, Usage, NoFile, Manner, Finished, Formless, ReadFailed, WriteFailed, NoMemory, Refused, manner_of, status_of_refusal}
-use Rattle.w4_program.specs.Output.{Made}
+use Rattle.w4_program.specs.Output.{Output}
 
 -- a step that is a function of the files
-abbrev pub Does : {Y : Type 0} → (Files → Result Y Refusal) → Files → Result Y Refusal → Type 0
-Does step files result = step files ≡ result
+abbrev pub ResultsIn : {Y : Type 0} → (Files → Result Y Refusal) → Files → Result Y Refusal → Type 0
+ResultsIn step files result = step files ≡ result
 
 -- a read failed, or a file whose turn came isn't among those that the house tells
 abbrev pub ReadFails : {Y : Type 0} → World → World → (Files → Result Y Refusal → Type 0) → Type 0
@@ -31,10 +31,10 @@ Stops old new NoMemory step = ⊤
 Stops old new (Refused refusal) step = Refuses old refusal step
 
 -- what such a step gave
-abbrev pub Gives : {X Y : Type 0} → World → World → (X → Y) → Result X Status
+abbrev pub StepGives : {X Y : Type 0} → World → World → (X → Y) → Result X Status
     → (Files → Result Y Refusal → Type 0) → Type 0
-Gives old new view (Ok x) step = ForSome old.files (λ files. step files (Ok (view x)))
-Gives old new view (Err why) step = Stops old new (manner_of why) step
+StepGives old new view (Ok x) step = ForSome old.files (λ files. step files (Ok (view x)))
+StepGives old new view (Err why) step = Stops old new (manner_of why) step
 
 -- why a step that only writes stopped
 abbrev pub StopsWriting : World → World → Manner → Type 0
@@ -45,25 +45,25 @@ StopsWriting old new WriteFailed = Rises old.write_faults new.write_faults
 StopsWriting old new NoMemory = ⊤
 StopsWriting old new (Refused refusal) = ⊥
 
--- standard output and all files are as before
-abbrev pub Untouched : World → World → Type 0
-Untouched old new = (new.out ≡ old.out) × (new.files ≡ old.files)
+-- standard output and all files are unchanged
+abbrev pub LeavesOutputs : World → World → Type 0
+LeavesOutputs old new = (new.out ≡ old.out) × (new.files ≡ old.files)
 
 -- where told, all that was to be made has been written, and no other file has changed
-abbrev pub Writes : World → World → Made → Type 0
+abbrev pub Writes : World → World → Output → Type 0
 Writes old new made = Appends old.out new.out made.out × (new.files ≡ Some made.files)
 
 -- how a whole step ended
-abbrev pub Ends : World → World → Manner → (Files → Result Made Refusal → Type 0) → Type 0
+abbrev pub Ends : World → World → Manner → (Files → Result Output Refusal → Type 0) → Type 0
 Ends old new Finished step =
-    ForSome old.files (λ files. (made : Made) × step files (Ok made) × Writes old new made)
-Ends old new Formless step = Refuses old Usage step × Untouched old new
-Ends old new ReadFailed step = ReadFails old new step × Untouched old new
+    ForSome old.files (λ files. (made : Output) × step files (Ok made) × Writes old new made)
+Ends old new Formless step = Refuses old Usage step × LeavesOutputs old new
+Ends old new ReadFailed step = ReadFails old new step × LeavesOutputs old new
 Ends old new WriteFailed step =
     Rises old.write_faults new.write_faults
-    × ForSome old.files (λ files. (made : Made) × step files (Ok made))
+    × ForSome old.files (λ files. (made : Output) × step files (Ok made))
 Ends old new NoMemory step = ⊤
-Ends old new (Refused refusal) step = Refuses old refusal step × Untouched old new
+Ends old new (Refused refusal) step = Refuses old refusal step × LeavesOutputs old new
 
 -- a refusal or a failed read, which leaves standard output and all files as they were
 abbrev pub IsRefusal : Status → Type 0
@@ -84,14 +84,14 @@ Reports old new line = Appends old.err new.err line
     ⊎ (Rises old.err_faults new.err_faults × AppendsFront old.err new.err line)
 
 -- the status of what the program makes
-abbrev pub status_of : Result Made Refusal → Status
+abbrev pub status_of : Result Output Refusal → Status
 status_of (Ok made) = status.Done
 status_of (Err refusal) = status_of_refusal refusal
 
 -- memory ran out, or the status is that of a result which the step allows
-abbrev pub IsExact : Status → (Result Made Refusal → Type 0) → Type 0
+abbrev pub IsExact : Status → (Result Output Refusal → Type 0) → Type 0
 IsExact result step =
-    (result ≡ status.OutOfMemory) ⊎ ((made : Result Made Refusal) × step made × (result ≡ status_of made))
+    (result ≡ status.OutOfMemory) ⊎ ((made : Result Output Refusal) × step made × (result ≡ status_of made))
 
 -- nothing was written to standard error
 abbrev pub LeavesErr : World → World → Type 0

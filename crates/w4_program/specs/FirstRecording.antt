@@ -1,13 +1,14 @@
--- A recording, version 1, which is what the program reads and writes until it is given both versions (own rule): `W4RC`, a byte 1, the cart's SHA-256, the budget of a frame, the disk's
--- length and bytes, how many frames, then nine bytes for each: pads 1 to 4, mouse x and y, mouse buttons.
--- Numbers are little-endian, the lengths and the budget of 2, 4 and 4 bytes. Nothing follows. The budget is
--- at least 1, the disk has at most 1,024 bytes, and there are at most 36,000 frames. No frame has a reset.
+-- A recording, version 1, which is what the program reads and writes until it is given both versions (project
+-- rule): `W4RC`, a byte 1, the cart's SHA-256, the budget of a frame, the disk's length and bytes, how many
+-- frames, then nine bytes for each: pads 1 to 4, mouse x and y, mouse buttons. Numbers are little-endian, the
+-- lengths and the budget of 2, 4 and 4 bytes. Nothing follows. The budget is at least 1, the disk has at most
+-- 1,024 bytes, and there are at most 36,000 frames. No frame has a reset.
 use Rattle.std.specs.Prelude.{ℕ, zero, suc, ◌*◌, ◌==◌, ◌&&◌, List, [], ◌∷◌, ◌++◌, length, take, drop, slice_index, Option, Some, None, false, nat_le, if◌then◌else◌}
 use Rattle.std.specs.Str.{bytes_eq}
 use Rattle.std.specs.List.{flat_map}
 use Rattle.std.specs.Int.{w16, w32, to_le_bytes, from_le_bytes, cast_signed, cast_unsigned}
 use Rattle.w4_defs.specs.declared.console.Input.{Input}
-use Rattle.w4_defs.specs.Reading.{◌>>=◌, front_at, number_at}
+use Rattle.w4_defs.specs.Reading.{◌>>=◌, front_at, little_endian_at}
 
 pub record Recording : Type 0 where
   pub digest : List ℕ
@@ -25,13 +26,13 @@ input_bytes input = input.pads
     ++ to_le_bytes w16 (cast_unsigned w16 input.mouse_x) ++ to_le_bytes w16 (cast_unsigned w16 input.mouse_y)
     ++ input.buttons ∷ []
 
--- the one spelling of a recording
+-- the one encoding of a recording
 unfoldable pub spelling : Recording → List ℕ
 spelling r = heading ++ r.digest ++ to_le_bytes w32 r.budget
     ++ to_le_bytes w16 (length r.disk) ++ r.disk
     ++ to_le_bytes w32 (length r.inputs) ++ flat_map input_bytes r.inputs
 
--- Reading it back. The input that nine bytes spell:
+-- Reading it back. The input that nine bytes encode:
 abbrev pub input_of : List ℕ → Input
 input_of bytes = record {
   pads = slice_index bytes 0 ∷ slice_index bytes 1 ∷ slice_index bytes 2 ∷ slice_index bytes 3 ∷ [];
@@ -54,20 +55,20 @@ pub record Fields : Type 0 where
   pub count : ℕ
   pub frames : List ℕ
 
--- the fields that the bytes spell, all of the bytes; None where they spell no recording
+-- the fields that the bytes encode, all of the bytes; None where they encode no recording
 unfoldable pub fields_of : List ℕ → Option Fields
 fields_of bytes = do
   head ← front_at 5 bytes
   digest ← front_at 32 head.1
-  budget ← number_at w32 digest.1
-  size ← number_at w16 budget.1
+  budget ← little_endian_at w32 digest.1
+  size ← little_endian_at w16 budget.1
   disk ← front_at size.0 size.1
-  count ← number_at w32 disk.1
+  count ← little_endian_at w32 disk.1
   if bytes_eq head.0 heading && nat_le 1 budget.0 && nat_le size.0 1024 && nat_le count.0 36000 && length count.1 == 9 * count.0
       then Some (record { digest = digest.0; budget = budget.0; disk = disk.0; count = count.0; frames = count.1 })
       else None
 
--- the recording that the bytes spell
+-- the recording that the bytes encode
 unfoldable pub recording_of : List ℕ → Option Recording
 recording_of bytes = do
   fields ← fields_of bytes

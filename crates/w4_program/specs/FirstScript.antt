@@ -1,7 +1,7 @@
--- A first script (own rule): at most 1,048,576 bytes, lines each ended by a byte 10. A line is
--- `set K P1 P2 P3 P4 X Y B`, `show P` or `state P`, its words parted by one space each. A number has 1 to 10 decimal
--- digits, leading zeros among them, and is at most 4,294,967,295. Pads and B are 0 to 255, X and Y -32768 to
--- 32767 with a `-` directly before the digits, of 0 too.
+-- A first script (project rule): at most 1,048,576 bytes, lines each ended by a byte 10. A line is
+-- `set K P1 P2 P3 P4 X Y B`, `show P` or `state P`, its words parted by one space each. A number has 1 to 10
+-- decimal digits, leading zeros among them, and is at most 4,294,967,295. Pads and B are 0 to 255, X and Y
+-- -32768 to 32767 with a `-` directly before the digits, of 0 too.
 use Rattle.std.specs.Prelude.{ℕ, zero, suc, ◌+◌, ◌-◌, ◌*◌, ◌==◌, ◌&&◌, List, [], ◌∷◌, ◌++◌, length, Option, Some, None, false, nat_le, count_by, codes, if◌then◌else◌, ℤ, pos, neg_ℤ}
 use Rattle.std.specs.Str.{bytes_eq}
 use Rattle.w4_defs.specs.declared.console.Input.{Input}

@@ -1,5 +1,5 @@
--- The number that a run ends with, and the line that it writes to standard error (own rule). Each line ends
--- with byte 10; numbers are decimal without leading zeros.
+-- The number that a run ends with, and the line that it writes to standard error (project rule). Each line
+-- ends with byte 10; numbers are decimal without leading zeros.
 use Rattle.std.specs.Prelude.{◌≡◌, ℕ, List, [], ◌++◌, codes, Option, Some, None, refl}
 use Rattle.std.specs.Fmt.{digits}
 use Rattle.w4_defs.specs.declared.refusal.CartKind.{CartKind}
@@ -54,20 +54,20 @@ status_words OutOfMemory = codes "out of memory"
 status_words (FrameRefused number n) = codes "frame" ++ (spaced number ++ (codes " of" ++ spaced n))
 status_words NotBuilt = codes "not built"
 
-abbrev pub line_of : Status → List ℕ
-line_of status = codes "w4: " ++ status_words status ++ line_end
+abbrev pub status_line : Status → List ℕ
+status_line status = codes "w4: " ++ status_words status ++ line_end
 
 -- Worked cases: one line of each shape.
-abbrev pub LineCases : Type 0
-LineCases =
-    (line_of Usage ≡ codes "w4: usage\n")
-    × (line_of (CartRefused (cart.Profile (profile.UnknownImport 12)))
+abbrev pub StatusLineCases : Type 0
+StatusLineCases =
+    (status_line Usage ≡ codes "w4: usage\n")
+    × (status_line (CartRefused (cart.Profile (profile.UnknownImport 12)))
     ≡ codes "w4: cart: unknown import 12\n")
-    × (line_of (CartRefused (cart.Invalid None)) ≡ codes "w4: cart: invalid module\n")
-    × (line_of (CartRefused (cart.Invalid (Some 0))) ≡ codes "w4: cart: invalid function 0\n")
-    × (line_of (FrameRefused 2 1) ≡ codes "w4: frame 2 of 1\n")
-    × (line_of ReadFault ≡ codes "w4: cannot read\n")
+    × (status_line (CartRefused (cart.Invalid None)) ≡ codes "w4: cart: invalid module\n")
+    × (status_line (CartRefused (cart.Invalid (Some 0))) ≡ codes "w4: cart: invalid function 0\n")
+    × (status_line (FrameRefused 2 1) ≡ codes "w4: frame 2 of 1\n")
+    × (status_line ReadFault ≡ codes "w4: cannot read\n")
 
-pub line-cases : LineCases
+pub status-line-cases : StatusLineCases
 unfolding digits
-line-cases = (refl, refl, refl, refl, refl, refl)
+status-line-cases = (refl, refl, refl, refl, refl, refl)

@@ -3,8 +3,8 @@
 use Rattle.std.specs.Prelude.{◌≡◌, ℕ, List, Result}
 use Rattle.w4_house.specs.World.{Files}
 use Rattle.w4_program.specs.Refusals.{Refusal}
-use Rattle.w4_program.specs.Output.{Made, Outputs}
+use Rattle.w4_program.specs.Output.{Output, Outputs}
 
 abbrev pub AtMostOneOutput : Type 0
-AtMostOneOutput = (words : List (List ℕ)) (files : Files) (made other : Result Made Refusal)
+AtMostOneOutput = (words : List (List ℕ)) (files : Files) (made other : Result Output Refusal)
     → Outputs words files made → Outputs words files other → made ≡ other

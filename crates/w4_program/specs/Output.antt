@@ -1,5 +1,5 @@
--- What the program makes of its words and of the files that it finds, or the first refusal (own rule). The
--- words are judged first, then the cart, the recording, the font and the script, each before the next is
+-- What the program makes of its words and of the files that it finds, or the first refusal (project rule).
+-- The words are judged first, then the cart, the recording, the font and the script, each before the next is
 -- read, and last the places that the words name. A file is judged by its first bytes, one more than its
 -- limit: 65,536 of a cart, 325,071 of a recording, 1,792 of a font, 1,048,576 of a script. What a cart's
 -- bytes are is a relation; all that follows is a function of the cart's module.
@@ -15,15 +15,15 @@ use Rattle.w4_defs.specs.Reset.{Setup}
 use Rattle.w4_defs.specs.Run.{run}
 use Rattle.w4_defs.specs.State.{Moment}
 use Rattle.w4_house.specs.World.{Files, front_of}
-use Rattle.w4_program.specs.declared.telling.Telling.{Telling}
-use Rattle.w4_program.specs.declared.telling.Telling.TheVariants.{Image, Schedule, Traces, DiskBytes}
+use Rattle.w4_program.specs.declared.place_text.PlaceText.{PlaceText}
+use Rattle.w4_program.specs.declared.place_text.PlaceText.TheVariants.{Image, Schedule, Traces, DiskBytes}
 use Rattle.w4_program.specs.Refusals.{Refusal, Usage, NoFile, CartRefused, FontRefused, FrameRefused, NotBuilt}
 use Rattle.w4_program.specs.Forms.{RunWords, EditWords, Form, Check, Blank, Frames, Tones, Trace, Disk, Edit, Make, form_of}
-use Rattle.w4_program.specs.Texts.{told, told_places}
+use Rattle.w4_program.specs.Texts.{place_text, place_texts}
 use Rattle.w4_program.specs.Answering.{Answered, answers}
 
 -- what standard output gets, and all files afterwards
-pub record Made : Type 0 where
+pub record Output : Type 0 where
   pub out : List ℕ
   pub files : Files
 
@@ -73,16 +73,16 @@ pub record Played : Type 0 where
   pub recording : Recording
   pub font : List ℕ
 
-unfoldable pub played : RunWords → Files → Result Played Refusal
-played words files = do
+unfoldable pub run_files : RunWords → Files → Result Played Refusal
+run_files words files = do
   recording ← recording_in files words.recording
   font ← font_in files words.font
   Ok (record { recording = recording; font = font })
 
 -- where it has this place
-unfoldable pub played_to : RunWords → ℕ → Files → Result Played Refusal
-played_to words place files = do
-  p ← played words files
+unfoldable pub run_files_to : RunWords → ℕ → Files → Result Played Refusal
+run_files_to words place files = do
+  p ← run_files words files
   if nat_le place (length p.recording.inputs) then Ok p
       else Err (FrameRefused place (length p.recording.inputs))
 
@@ -90,9 +90,9 @@ pub record Loaded : Type 0 where
   pub run : Played
   pub orders : List Order
 
-unfoldable pub loaded : EditWords → Files → Result Loaded Refusal
-loaded words files = do
-  run ← played words.run files
+unfoldable pub edit_files : EditWords → Files → Result Loaded Refusal
+edit_files words files = do
+  run ← run_files words.run files
   orders ← orders_in files words.script
   Ok (record { run = run; orders = orders })
 
@@ -104,45 +104,45 @@ abbrev pub moment_at : WasmModule → Played → ℕ → Option Moment
 moment_at m p place = run (setup_of m p) p.recording.disk p.recording.inputs place
 
 -- what is told of places one after another
-abbrev pub told_from : Telling → WasmModule → Played → ℕ → ℕ → List ℕ
-told_from telling m p from count = told_places (λ place. told telling place (moment_at m p place)) from count
+abbrev pub place_texts_from : PlaceText → WasmModule → Played → ℕ → ℕ → List ℕ
+place_texts_from wanted m p from count = place_texts (λ place. place_text wanted place (moment_at m p place)) from count
 
 -- the answers of all orders
-abbrev pub answered : WasmModule → Loaded → Answered
-answered m l = answers (setup_of m l.run) l.run.recording.disk l.run.recording.inputs l.orders
+abbrev pub edit_answers : WasmModule → Loaded → Answered
+edit_answers m l = answers (setup_of m l.run) l.run.recording.disk l.run.recording.inputs l.orders
 
 -- the recording left
-abbrev pub left : WasmModule → Loaded → Recording
-left m l = record l.run.recording { inputs = (answered m l).inputs }
+abbrev pub edited_recording : WasmModule → Loaded → Recording
+edited_recording m l = record l.run.recording { inputs = (edit_answers m l).inputs }
 
 -- bytes on standard output, and no file
-abbrev pub printed : List ℕ → Files → Made
-printed out files = record { out = out; files = files }
+abbrev pub only_printed : List ℕ → Files → Output
+only_printed out files = record { out = out; files = files }
 
-abbrev pub saved : WasmModule → Loaded → List ℕ → Files → Made
-saved m l name files = record { out = (answered m l).out; files = insert files name (spelling (left m l)) }
+abbrev pub edit_result : WasmModule → Loaded → List ℕ → Files → Output
+edit_result m l name files = record { out = (edit_answers m l).out; files = insert files name (spelling (edited_recording m l)) }
 
-unfoldable pub edited : EditWords → WasmModule → Files → Result Made Refusal
-edited words m files = do
-  l ← loaded words files
-  Ok (saved m l words.out files)
+unfoldable pub edit_output : EditWords → WasmModule → Files → Result Output Refusal
+edit_output words m files = do
+  l ← edit_files words files
+  Ok (edit_result m l words.out files)
 
 -- the images of places FROM to TO
-unfoldable pub framed : RunWords → ℕ → ℕ → WasmModule → Files → Result Made Refusal
-framed words from to m files = do
-  p ← played_to words to files
-  Ok (printed (told_from Image m p from (to + 1 - from)) files)
+unfoldable pub images_output : RunWords → ℕ → ℕ → WasmModule → Files → Result Output Refusal
+images_output words from to m files = do
+  p ← run_files_to words to files
+  Ok (only_printed (place_texts_from Image m p from (to + 1 - from)) files)
 
 -- the texts of all places, or the disk of one
-unfoldable pub texts_of : Telling → RunWords → WasmModule → Files → Result Made Refusal
-texts_of telling words m files = do
-  p ← played words files
-  Ok (printed (told_from telling m p 0 (length p.recording.inputs + 1)) files)
+unfoldable pub texts_output : PlaceText → RunWords → WasmModule → Files → Result Output Refusal
+texts_output wanted words m files = do
+  p ← run_files words files
+  Ok (only_printed (place_texts_from wanted m p 0 (length p.recording.inputs + 1)) files)
 
-unfoldable pub disk_of : RunWords → ℕ → WasmModule → Files → Result Made Refusal
-disk_of words place m files = do
-  p ← played_to words place files
-  Ok (printed (told_from DiskBytes m p place 1) files)
+unfoldable pub disk_output : RunWords → ℕ → WasmModule → Files → Result Output Refusal
+disk_output words place m files = do
+  p ← run_files_to words place files
+  Ok (only_printed (place_texts_from DiskBytes m p place 1) files)
 
 abbrev pub checked : List ℕ
 checked = codes "ok" ++ 10 ∷ []
@@ -159,31 +159,31 @@ cart_word (Edit words) = Some words.run.cart
 cart_word (Make number) = None
 
 -- what is made of a cart with this module and of the files
-abbrev pub made_by : Form → WasmModule → Files → Result Made Refusal
-made_by (Check cart) m files = Ok (printed checked files)
-made_by (Blank cart budget) m files = Err NotBuilt
-made_by (Frames words from to) m files = framed words from to m files
-made_by (Tones words) m files = texts_of Schedule words m files
-made_by (Trace words) m files = texts_of Traces words m files
-made_by (Disk words place) m files = disk_of words place m files
-made_by (Edit words) m files = edited words m files
-made_by (Make number) m files = Err NotBuilt
+abbrev pub output_of : Form → WasmModule → Files → Result Output Refusal
+output_of (Check cart) m files = Ok (only_printed checked files)
+output_of (Blank cart budget) m files = Err NotBuilt
+output_of (Frames words from to) m files = images_output words from to m files
+output_of (Tones words) m files = texts_output Schedule words m files
+output_of (Trace words) m files = texts_output Traces words m files
+output_of (Disk words place) m files = disk_output words place m files
+output_of (Edit words) m files = edit_output words m files
+output_of (Make number) m files = Err NotBuilt
 
 -- the cart is judged, and then the rest
-abbrev pub OverCart : List ℕ → (WasmModule → Files → Result Made Refusal) → Files → Result Made Refusal
+abbrev pub OverCart : List ℕ → (WasmModule → Files → Result Output Refusal) → Files → Result Output Refusal
     → Type 0
 OverCart name make files made =
     (cart : Result WasmModule Refusal) × CartIn name files cart × ((cart >>= λ m. make m files) ≡ made)
 
-abbrev pub OverFile : Option (List ℕ) → (WasmModule → Files → Result Made Refusal) → Files
-    → Result Made Refusal → Type 0
+abbrev pub OverFile : Option (List ℕ) → (WasmModule → Files → Result Output Refusal) → Files
+    → Result Output Refusal → Type 0
 OverFile (Some name) make files made = OverCart name make files made
 OverFile None make files made = made ≡ Err NotBuilt
 
-abbrev pub OutputsForm : Option Form → Files → Result Made Refusal → Type 0
+abbrev pub OutputsForm : Option Form → Files → Result Output Refusal → Type 0
 OutputsForm None files made = made ≡ Err Usage
-OutputsForm (Some form) files made = OverFile (cart_word form) (made_by form) files made
+OutputsForm (Some form) files made = OverFile (cart_word form) (output_of form) files made
 
 -- what the program makes of these words and files
-abbrev pub Outputs : List (List ℕ) → Files → Result Made Refusal → Type 0
+abbrev pub Outputs : List (List ℕ) → Files → Result Output Refusal → Type 0
 Outputs words files made = OutputsForm (form_of words) files made

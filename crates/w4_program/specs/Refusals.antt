@@ -1,11 +1,11 @@
--- Why the program refuses, and in which ways a run ends (own rule).
+-- Why the program refuses, and in which ways a run ends (project rule).
 use Rattle.std.specs.Prelude.{ℕ}
 use Rattle.w4_defs.specs.declared.refusal.CartKind.{CartKind}
 use Rattle.w4_program.specs.declared.status.Status.{Status}
 use Rattle.w4_program.specs.declared.status.Status.TheVariants as status
 
 pub data Refusal : Type 0 where
-  -- the words have none of the forms
+  -- the arguments match no command
   Usage : Refusal
   -- a file whose turn came is absent
   NoFile : Refusal
@@ -18,7 +18,7 @@ pub data Refusal : Type 0 where
   -- the words or a file ask for what isn't built
   NotBuilt : Refusal
 
--- all was written; the words have none of the forms; a read failed or a file is absent; a write failed;
+-- all was written; the arguments match no command; a read failed or a file is absent; a write failed;
 -- memory was refused; all other refusals
 pub data Manner : Type 0 where
   Finished : Manner

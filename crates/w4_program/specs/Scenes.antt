@@ -13,10 +13,10 @@ abbrev pub scene_setup : Scene → Setup
 scene_setup s = console_setup s.cart.now s.font.now s.budget
 
 -- the state and the record that the stage holds
-abbrev pub shown : Stage → Moment
-shown stage = moment stage.console stage.made
+abbrev pub stage_moment : Stage → Moment
+stage_moment stage = moment stage.console stage.made
 
-abbrev pub StandsAt : Scene → List Input → ℕ → Stage → Type 0
-StandsAt scene inputs place stage =
-    (run (scene_setup scene) scene.disk.now inputs place ≡ Some (shown stage))
+abbrev pub IsAtPlace : Scene → List Input → ℕ → Stage → Type 0
+IsAtPlace scene inputs place stage =
+    (run (scene_setup scene) scene.disk.now inputs place ≡ Some (stage_moment stage))
     × HasGlobals scene.cart.now stage.console

@@ -19,21 +19,21 @@ ghost use Rattle.w4_program.specs.Answering.{
   answers,
 };
 ghost use Rattle.w4_program.specs.Refusals.{manner_of};
-ghost use Rattle.w4_program.specs.Output.{answered, left};
+ghost use Rattle.w4_program.specs.Output.{edit_answers, edited_recording};
 ghost use Rattle.w4_program.specs.Causes.{StopsWriting, Carries, LeavesErr};
 ghost use Rattle.w4_program.specs.Scenes.{scene_setup};
 ghost use Rattle.w4_program.specs.Views.{loaded_view};
 
 use crate::load::{Loaded, Played};
+use crate::order::Order;
+use crate::place_text::{PlaceText, write_place};
 use crate::printing::print;
 use crate::recording::Recording;
 use crate::scene::Scene;
 use crate::stage::{Stage, new_stage, run_to, state_text};
 use crate::status::Status;
-use crate::telling::{Telling, tell_place};
 use crate::writing::write_recording;
 use std::alloc::Global;
-use crate::order::Order;
 use w4_defs::Input;
 use w4_house::{House, WriteRefusal};
 use wasm_valid::Cart;
@@ -78,7 +78,7 @@ fn show<H: House>(
         return print(alloc, house, b"refused no frame\n");
     }
     run_to(stage, scene, inputs, place);
-    tell_place(alloc, house, stage, Telling::Image, place)
+    write_place(alloc, house, stage, PlaceText::Image, place)
 }
 
 /// The line of the state at a place, or that there is no such place.
@@ -201,9 +201,9 @@ fn work<H: House>(
     name: &str,
 ) -> Result<(), Status>
     ensures out { OnOk result (Appends (H.world house.old).out (H.world house.new).out
-        (answered cart.now (loaded_view loaded)).out) }
+        (edit_answers cart.now (loaded_view loaded)).out) }
     ensures saved { OnOk result (Puts (H.world house.old).files (H.world house.new).files
-        name.now (spelling (left cart.now (loaded_view loaded)))) }
+        name.now (spelling (edited_recording cart.now (loaded_view loaded)))) }
     ensures stops { IfErr result (λ why.
         StopsWriting (H.world house.old) (H.world house.new) (manner_of why)) }
     ensures err { LeavesErr (H.world house.old) (H.world house.new) }
@@ -250,8 +250,8 @@ pub fn carry_out<H: House>(
     name: &str,
 ) -> Status
     ensures ends { Carries (H.world house.old) (H.world house.new) (manner_of result)
-        (answered cart.now (loaded_view loaded)).out name.now
-        (spelling (left cart.now (loaded_view loaded))) }
+        (edit_answers cart.now (loaded_view loaded)).out name.now
+        (spelling (edited_recording cart.now (loaded_view loaded))) }
     ensures err { LeavesErr (H.world house.old) (H.world house.new) }
 {
     match work(alloc, house, cart, loaded, name) {

@@ -8,25 +8,25 @@ ghost use Rattle.w4_program.specs.Output.{
   OverCart,
   cart_word,
   checked,
-  disk_of,
-  edited,
-  framed,
-  made_by,
-  printed,
-  texts_of,
-  told_from,
+  disk_output,
+  edit_output,
+  images_output,
+  output_of,
+  only_printed,
+  texts_output,
+  place_texts_from,
 };
-ghost use Rattle.w4_program.specs.Causes.{Does, Ends, LeavesErr, Prints, StopsWriting};
+ghost use Rattle.w4_program.specs.Causes.{Ends, LeavesErr, Prints, ResultsIn, StopsWriting};
 ghost use Rattle.w4_program.specs.Views.{edit_view, form_view, played_view, run_view};
 
 use crate::carry::carry_out;
 use crate::load::{Played, load_cart, load_edit, load_run, load_run_to};
+use crate::place_text::{PlaceText, write_places};
 use crate::places::Places;
 use crate::printing::print;
 use crate::scene::Scene;
 use crate::stage::new_stage;
 use crate::status::Status;
-use crate::telling::{Telling, tell_places};
 use crate::words::{EditNames, Form, RunNames};
 use std::alloc::Global;
 use w4_house::House;
@@ -64,7 +64,7 @@ fn cart_name(form: Form<'_>) -> Option<&str>
 /// Judges the cart, and does the rest with it.
 fn over_cart<H: House>(alloc: Global, house: &mut H, name: &str, form: Form<'_>) -> Status
     ensures ends { Ends (H.world house.old) (H.world house.new) (manner_of result)
-        (λ files made. OverCart name.now (made_by (form_view form.entry)) files made) }
+        (λ files made. OverCart name.now (output_of (form_view form.entry)) files made) }
     ensures formed { result ≡ Status.Usage → ⊥ }
     ensures err { LeavesErr (H.world house.old) (H.world house.new) }
 {
@@ -77,7 +77,7 @@ fn over_cart<H: House>(alloc: Global, house: &mut H, name: &str, form: Form<'_>)
 /// What a form makes of a cart.
 fn make<H: House>(alloc: Global, house: &mut H, cart: &Cart, form: Form<'_>) -> Status
     ensures ends { Ends (H.world house.old) (H.world house.new) (manner_of result)
-        (Does (λ files. made_by (form_view form.entry) cart.now files)) }
+        (ResultsIn (λ files. output_of (form_view form.entry) cart.now files)) }
     ensures formed { result ≡ Status.Usage → ⊥ }
     ensures err { LeavesErr (H.world house.old) (H.world house.new) }
 {
@@ -85,8 +85,8 @@ fn make<H: House>(alloc: Global, house: &mut H, cart: &Cart, form: Form<'_>) -> 
         Form::Check(_) => check(alloc, house),
         Form::Blank(_, _) => Status::NotBuilt,
         Form::Frames(names, places) => frames(alloc, house, cart, names, places),
-        Form::Tones(names) => texts(alloc, house, cart, names, Telling::Schedule),
-        Form::Trace(names) => texts(alloc, house, cart, names, Telling::Traces),
+        Form::Tones(names) => texts(alloc, house, cart, names, PlaceText::Schedule),
+        Form::Trace(names) => texts(alloc, house, cart, names, PlaceText::Traces),
         Form::Disk(names, place) => disk(alloc, house, cart, names, place),
         Form::Edit(names) => edit(alloc, house, cart, names),
         Form::Make(_) => Status::NotBuilt,
@@ -96,7 +96,7 @@ fn make<H: House>(alloc: Global, house: &mut H, cart: &Cart, form: Form<'_>) -> 
 /// `check CART`, of a cart that is accepted.
 fn check<H: House>(alloc: Global, house: &mut H) -> Status
     ensures ends { Ends (H.world house.old) (H.world house.new) (manner_of result)
-        (Does (λ files. Ok (printed checked files))) }
+        (ResultsIn (λ files. Ok (only_printed checked files))) }
     ensures formed { result ≡ Status.Usage → ⊥ }
     ensures err { LeavesErr (H.world house.old) (H.world house.new) }
 {
@@ -107,7 +107,7 @@ fn check<H: House>(alloc: Global, house: &mut H) -> Status
 }
 
 /// `frames CART REC FONT FROM TO`.
-#[tactic(auto, unfolding(crate::specs::Output::framed))]
+#[tactic(auto, unfolding(crate::specs::Output::images_output))]
 fn frames<H: House>(
     alloc: Global,
     house: &mut H,
@@ -116,42 +116,42 @@ fn frames<H: House>(
     places: Places,
 ) -> Status
     ensures ends { Ends (H.world house.old) (H.world house.new) (manner_of result)
-        (Does (λ files. framed (run_view names.entry) places.from places.to cart.now files)) }
+        (ResultsIn (λ files. images_output (run_view names.entry) places.from places.to cart.now files)) }
     ensures formed { result ≡ Status.Usage → ⊥ }
     ensures err { LeavesErr (H.world house.old) (H.world house.new) }
 {
     let (from, to) = (places.from as usize, places.to as usize);
     match load_run_to(alloc, house, names, places.to) {
-        Ok(run) => tell_run(alloc, house, cart, run, Telling::Image, from, to),
+        Ok(run) => write_run(alloc, house, cart, run, PlaceText::Image, from, to),
         Err(status) => status,
     }
 }
 
 /// `tones CART REC FONT` or `trace CART REC FONT`.
-#[tactic(auto, unfolding(crate::specs::Output::texts_of))]
+#[tactic(auto, unfolding(crate::specs::Output::texts_output))]
 fn texts<H: House>(
     alloc: Global,
     house: &mut H,
     cart: &Cart,
     names: RunNames<'_>,
-    telling: Telling,
+    wanted: PlaceText,
 ) -> Status
     ensures ends { Ends (H.world house.old) (H.world house.new) (manner_of result)
-        (Does (λ files. texts_of telling (run_view names.entry) cart.now files)) }
+        (ResultsIn (λ files. texts_output wanted (run_view names.entry) cart.now files)) }
     ensures formed { result ≡ Status.Usage → ⊥ }
     ensures err { LeavesErr (H.world house.old) (H.world house.new) }
 {
     match load_run(alloc, house, names) {
         Ok(run) => {
             let n = run.recording.inputs.len();
-            tell_run(alloc, house, cart, run, telling, 0, n)
+            write_run(alloc, house, cart, run, wanted, 0, n)
         }
         Err(status) => status,
     }
 }
 
 /// `disk CART REC FONT PLACE`.
-#[tactic(auto, unfolding(crate::specs::Output::disk_of))]
+#[tactic(auto, unfolding(crate::specs::Output::disk_output))]
 fn disk<H: House>(
     alloc: Global,
     house: &mut H,
@@ -160,22 +160,22 @@ fn disk<H: House>(
     place: u32,
 ) -> Status
     ensures ends { Ends (H.world house.old) (H.world house.new) (manner_of result)
-        (Does (λ files. disk_of (run_view names.entry) place cart.now files)) }
+        (ResultsIn (λ files. disk_output (run_view names.entry) place cart.now files)) }
     ensures formed { result ≡ Status.Usage → ⊥ }
     ensures err { LeavesErr (H.world house.old) (H.world house.new) }
 {
     let at = place as usize;
     match load_run_to(alloc, house, names, place) {
-        Ok(run) => tell_run(alloc, house, cart, run, Telling::DiskBytes, at, at),
+        Ok(run) => write_run(alloc, house, cart, run, PlaceText::DiskBytes, at, at),
         Err(status) => status,
     }
 }
 
 /// `edit CART REC FONT SCRIPT OUT`.
-#[tactic(auto, unfolding(crate::specs::Output::edited))]
+#[tactic(auto, unfolding(crate::specs::Output::edit_output))]
 fn edit<H: House>(alloc: Global, house: &mut H, cart: &Cart, names: EditNames<'_>) -> Status
     ensures ends { Ends (H.world house.old) (H.world house.new) (manner_of result)
-        (Does (λ files. edited (edit_view names.entry) cart.now files)) }
+        (ResultsIn (λ files. edit_output (edit_view names.entry) cart.now files)) }
     ensures formed { result ≡ Status.Usage → ⊥ }
     ensures err { LeavesErr (H.world house.old) (H.world house.new) }
 {
@@ -186,41 +186,41 @@ fn edit<H: House>(alloc: Global, house: &mut H, cart: &Cart, names: EditNames<'_
 }
 
 /// What is told of the places `from` to `to` of a run, and no more.
-fn tell_run<H: House>(
+fn write_run<H: House>(
     alloc: Global,
     house: &mut H,
     cart: &Cart,
     run: Played,
-    telling: Telling,
+    wanted: PlaceText,
     from: usize,
     to: usize,
 ) -> Status
     requires order { from ≤ to }
     requires place { to ≤ length run.recording.inputs.items }
     ensures prints { Prints (H.world house.old) (H.world house.new) (manner_of result)
-        (told_from telling cart.now (played_view run) from (to + 1 - from)) }
+        (place_texts_from wanted cart.now (played_view run) from (to + 1 - from)) }
     ensures rest { LeavesPrinting (H.world house.old) (H.world house.new) }
 {
-    match try_tell_run(alloc, house, cart, run, telling, from, to) {
+    match try_write_run(alloc, house, cart, run, wanted, from, to) {
         Ok(()) => Status::Done,
         Err(status) => status,
     }
 }
 
-/// The same.
-fn try_tell_run<H: House>(
+/// Writes the texts of the places, or gives the status that ends the run.
+fn try_write_run<H: House>(
     alloc: Global,
     house: &mut H,
     cart: &Cart,
     run: Played,
-    telling: Telling,
+    wanted: PlaceText,
     from: usize,
     to: usize,
 ) -> Result<(), Status>
     requires order { from ≤ to }
     requires place { to ≤ length run.recording.inputs.items }
     ensures out { OnOk result (Appends (H.world house.old).out (H.world house.new).out
-        (told_from telling cart.now (played_view run) from (to + 1 - from))) }
+        (place_texts_from wanted cart.now (played_view run) from (to + 1 - from))) }
     ensures stops { IfErr result (λ why.
         StopsWriting (H.world house.old) (H.world house.new) (manner_of why)) }
     ensures rest { LeavesPrinting (H.world house.old) (H.world house.new) }
@@ -233,5 +233,5 @@ fn try_tell_run<H: House>(
         budget: run.recording.budget,
     };
     let inputs = run.recording.inputs.as_slice();
-    tell_places(alloc, house, &mut stage, &scene, inputs, telling, from, to)
+    write_places(alloc, house, &mut stage, &scene, inputs, wanted, from, to)
 }

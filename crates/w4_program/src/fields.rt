@@ -3,7 +3,7 @@
 ghost use Rattle.std.specs.Prelude.{◌≡◌, ◌<◌, ◌==◌, length, option_map, IfSome};
 ghost use Rattle.std.specs.List.{position};
 ghost use Rattle.std.specs.Int.{w16, w32};
-ghost use Rattle.w4_defs.specs.Reading.{front_at, number_at, cut_at};
+ghost use Rattle.w4_defs.specs.Reading.{cut_at, front_at, little_endian_at};
 
 /// The first `len` bytes.
 pub fn front(bytes: &[u8], len: usize) -> Option<(&[u8], &[u8])>
@@ -18,7 +18,7 @@ pub fn front(bytes: &[u8], len: usize) -> Option<(&[u8], &[u8])>
 
 /// A little-endian number of two bytes.
 pub fn u16_at(bytes: &[u8]) -> Option<(u16, &[u8])>
-    ensures { option_map (λ p. (p.0, p.1.now)) result ≡ number_at w16 bytes.now }
+    ensures { option_map (λ p. (p.0, p.1.now)) result ≡ little_endian_at w16 bytes.now }
 {
     if bytes.len() < 2 {
         return None;
@@ -29,7 +29,7 @@ pub fn u16_at(bytes: &[u8]) -> Option<(u16, &[u8])>
 
 /// A little-endian number of four bytes.
 pub fn u32_at(bytes: &[u8]) -> Option<(u32, &[u8])>
-    ensures { option_map (λ p. (p.0, p.1.now)) result ≡ number_at w32 bytes.now }
+    ensures { option_map (λ p. (p.0, p.1.now)) result ≡ little_endian_at w32 bytes.now }
 {
     if bytes.len() < 4 {
         return None;

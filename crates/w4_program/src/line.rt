@@ -2,7 +2,7 @@
 
 ghost use Rattle.std.specs.Prelude.{◌≡◌, ◌++◌, IfOk, OnOk};
 ghost use Rattle.w4_defs.specs.FrameTexts.{spaced};
-ghost use Rattle.w4_program.specs.Lines.{cart_words, invalid_words, line_of, profile_words, status_words};
+ghost use Rattle.w4_program.specs.Lines.{cart_words, invalid_words, profile_words, status_line, status_words};
 
 use crate::status::Status;
 use crate::text::{add_number, add_words};
@@ -85,7 +85,7 @@ fn add_status(text: &mut Vec<u8>, status: Status) -> Result<(), OutOfMemory>
 
 /// The line that standard error gets. After `Done` none is written.
 pub fn line(alloc: Global, status: Status) -> Result<Vec<u8>, OutOfMemory>
-    ensures { IfOk result (λ line. line.items ≡ line_of status) }
+    ensures { IfOk result (λ line. line.items ≡ status_line status) }
 {
     let mut text = Vec::new(alloc);
     add_words(&mut text, b"w4: ")?;

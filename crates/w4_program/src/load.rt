@@ -8,20 +8,21 @@ ghost use Rattle.w4_program.specs.Output.{
   CartIn,
   font_in,
   font_of,
-  loaded,
+  edit_files,
   orders_in,
-  played,
-  played_to,
+  run_files,
+  run_files_to,
   reading,
   recording_in,
 };
-ghost use Rattle.w4_program.specs.Reads.{Reads};
+ghost use Rattle.w4_program.specs.Reads.{GivesValue};
 ghost use Rattle.w4_program.specs.Recorded.{recording_view};
 ghost use Rattle.w4_program.specs.Refusals.{FontRefused};
-ghost use Rattle.w4_program.specs.Causes.{Does, Gives};
+ghost use Rattle.w4_program.specs.Causes.{ResultsIn, StepGives};
 ghost use Rattle.w4_program.specs.Views.{edit_view, loaded_view, played_view, run_view};
 
 use crate::cart::{CartRefusal, accept};
+use crate::order::Order;
 use crate::reading::read_recording;
 use crate::recording::Recording;
 use crate::script::read_script;
@@ -29,7 +30,6 @@ use crate::status::Status;
 use crate::words::{EditNames, RunNames};
 use std::alloc::Global;
 use w4_blit::{Font, FontLength};
-use crate::order::Order;
 use w4_house::{House, HouseFault};
 use wasm_valid::Cart;
 
@@ -54,8 +54,8 @@ fn read_file<H: House>(
     name: &str,
     most: usize,
 ) -> Result<Vec<u8>, Status>
-    ensures gives { Gives (H.world house.old) (H.world house.new) (λ bytes. bytes.items) result
-        (Does (λ files. reading files name.now most)) }
+    ensures gives { StepGives (H.world house.old) (H.world house.new) (λ bytes. bytes.items) result
+        (ResultsIn (λ files. reading files name.now most)) }
     ensures rest { LeavesReading (H.world house.old) (H.world house.new) }
 {
     match house.read_front(alloc, name, most) {
@@ -68,7 +68,7 @@ fn read_file<H: House>(
 
 /// Reads and judges a cart.
 pub fn load_cart<H: House>(alloc: Global, house: &mut H, name: &str) -> Result<Cart, Status>
-    ensures gives { Gives (H.world house.old) (H.world house.new) (λ cart. cart) result
+    ensures gives { StepGives (H.world house.old) (H.world house.new) (λ cart. cart) result
         (λ files cart. CartIn name.now files cart) }
     ensures rest { LeavesReading (H.world house.old) (H.world house.new) }
 {
@@ -82,7 +82,7 @@ pub fn load_cart<H: House>(alloc: Global, house: &mut H, name: &str) -> Result<C
 
 /// The font, where the bytes are one.
 fn read_font(bytes: &[u8]) -> Result<Font, Status>
-    ensures { Reads FontRefused (λ font. font) result (font_of bytes.now) }
+    ensures { GivesValue FontRefused (λ font. font) result (font_of bytes.now) }
 {
     match Font::new(bytes) {
         Ok(font) => Ok(font),
@@ -92,8 +92,8 @@ fn read_font(bytes: &[u8]) -> Result<Font, Status>
 
 #[tactic(auto, unfolding(crate::specs::Output::recording_in))]
 fn load_recording<H: House>(alloc: Global, house: &mut H, name: &str) -> Result<Recording, Status>
-    ensures gives { Gives (H.world house.old) (H.world house.new) recording_view result
-        (Does (λ files. recording_in files name.now)) }
+    ensures gives { StepGives (H.world house.old) (H.world house.new) recording_view result
+        (ResultsIn (λ files. recording_in files name.now)) }
     ensures rest { LeavesReading (H.world house.old) (H.world house.new) }
 {
     let bytes = read_file(alloc, house, name, 325_072)?;
@@ -102,8 +102,8 @@ fn load_recording<H: House>(alloc: Global, house: &mut H, name: &str) -> Result<
 
 #[tactic(auto, unfolding(crate::specs::Output::font_in))]
 fn load_font<H: House>(alloc: Global, house: &mut H, name: &str) -> Result<Font, Status>
-    ensures gives { Gives (H.world house.old) (H.world house.new) (λ font. font) result
-        (Does (λ files. font_in files name.now)) }
+    ensures gives { StepGives (H.world house.old) (H.world house.new) (λ font. font) result
+        (ResultsIn (λ files. font_in files name.now)) }
     ensures rest { LeavesReading (H.world house.old) (H.world house.new) }
 {
     let bytes = read_file(alloc, house, name, 1793)?;
@@ -112,8 +112,8 @@ fn load_font<H: House>(alloc: Global, house: &mut H, name: &str) -> Result<Font,
 
 #[tactic(auto, unfolding(crate::specs::Output::orders_in))]
 fn load_orders<H: House>(alloc: Global, house: &mut H, name: &str) -> Result<Vec<Order>, Status>
-    ensures gives { Gives (H.world house.old) (H.world house.new) (λ orders. orders.items) result
-        (Does (λ files. orders_in files name.now)) }
+    ensures gives { StepGives (H.world house.old) (H.world house.new) (λ orders. orders.items) result
+        (ResultsIn (λ files. orders_in files name.now)) }
     ensures rest { LeavesReading (H.world house.old) (H.world house.new) }
 {
     let bytes = read_file(alloc, house, name, 1_048_577)?;
@@ -121,14 +121,14 @@ fn load_orders<H: House>(alloc: Global, house: &mut H, name: &str) -> Result<Vec
 }
 
 /// Reads what a run is made of.
-#[tactic(auto, unfolding(crate::specs::Output::played))]
+#[tactic(auto, unfolding(crate::specs::Output::run_files))]
 pub fn load_run<H: House>(
     alloc: Global,
     house: &mut H,
     names: RunNames<'_>,
 ) -> Result<Played, Status>
-    ensures gives { Gives (H.world house.old) (H.world house.new) played_view result
-        (Does (λ files. played (run_view names.entry) files)) }
+    ensures gives { StepGives (H.world house.old) (H.world house.new) played_view result
+        (ResultsIn (λ files. run_files (run_view names.entry) files)) }
     ensures rest { LeavesReading (H.world house.old) (H.world house.new) }
 {
     let recording = load_recording(alloc, house, names.recording)?;
@@ -137,15 +137,15 @@ pub fn load_run<H: House>(
 }
 
 /// Reads what a run is made of, which has to have this place.
-#[tactic(auto, unfolding(crate::specs::Output::played_to))]
+#[tactic(auto, unfolding(crate::specs::Output::run_files_to))]
 pub fn load_run_to<H: House>(
     alloc: Global,
     house: &mut H,
     names: RunNames<'_>,
     place: u32,
 ) -> Result<Played, Status>
-    ensures gives { Gives (H.world house.old) (H.world house.new) played_view result
-        (Does (λ files. played_to (run_view names.entry) place files)) }
+    ensures gives { StepGives (H.world house.old) (H.world house.new) played_view result
+        (ResultsIn (λ files. run_files_to (run_view names.entry) place files)) }
     ensures place { IfOk result (λ run. place ≤ length run.recording.inputs.items) }
     ensures rest { LeavesReading (H.world house.old) (H.world house.new) }
 {
@@ -158,14 +158,14 @@ pub fn load_run_to<H: House>(
 }
 
 /// Reads what an edit is made of.
-#[tactic(auto, unfolding(crate::specs::Output::loaded))]
+#[tactic(auto, unfolding(crate::specs::Output::edit_files))]
 pub fn load_edit<H: House>(
     alloc: Global,
     house: &mut H,
     names: EditNames<'_>,
 ) -> Result<Loaded, Status>
-    ensures gives { Gives (H.world house.old) (H.world house.new) loaded_view result
-        (Does (λ files. loaded (edit_view names.entry) files)) }
+    ensures gives { StepGives (H.world house.old) (H.world house.new) loaded_view result
+        (ResultsIn (λ files. edit_files (edit_view names.entry) files)) }
     ensures rest { LeavesReading (H.world house.old) (H.world house.new) }
 {
     let run = load_run(alloc, house, names.run)?;

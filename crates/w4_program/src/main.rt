@@ -11,6 +11,7 @@ mod fields;
 mod line;
 mod load;
 mod order;
+mod place_text;
 mod places;
 mod printing;
 mod reading;
@@ -21,7 +22,6 @@ mod script;
 mod stage;
 mod state_line;
 mod status;
-mod telling;
 #[cfg(test)]
 mod tests;
 mod text;
@@ -35,7 +35,7 @@ use std::rt::Env;
 use std::{env, io};
 use w4_house::RealHouse;
 
-/// The words after the program's name.
+/// The arguments after the program's name.
 fn words_of<R: Env + AllocGlobal>(rt: &R) -> io::Result<Vec<String>> {
     let mut words = Vec::new(rt.alloc());
     for word in env::args(rt)?.skip(1) {
@@ -44,7 +44,7 @@ fn words_of<R: Env + AllocGlobal>(rt: &R) -> io::Result<Vec<String>> {
     Ok(words)
 }
 
-/// The same, or none where a word isn't UTF-8 or memory is refused.
+/// The arguments after the program's name, or none where one isn't UTF-8 or memory runs out.
 fn words_or_none<R: Env + AllocGlobal>(rt: &R) -> Vec<String> {
     match words_of(rt) {
         Ok(words) => words,

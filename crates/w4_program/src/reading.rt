@@ -2,7 +2,7 @@
 
 ghost use Rattle.std.specs.Prelude.{◌≡◌, ◌*◌, ◌≤◌, length, IfOk, IfSome, option_map, vec_len};
 ghost use Rattle.w4_program.specs.FirstRecording.{fields_of, input_of, inputs_of, recording_of};
-ghost use Rattle.w4_program.specs.Reads.{Reads};
+ghost use Rattle.w4_program.specs.Reads.{GivesValue};
 ghost use Rattle.w4_program.specs.Recorded.{fields_view, recording_view};
 ghost use Rattle.w4_program.specs.Refusals.{NotBuilt};
 
@@ -22,7 +22,7 @@ struct Fields<'a> {
     frames: &'a [u8],
 }
 
-/// The bytes cut into fields, or None where they spell no recording.
+/// The bytes cut into fields, or None where they encode no recording.
 #[tactic(auto, unfolding(w4_defs::specs::Recording::fields_of))]
 fn split_fields(bytes: &[u8]) -> Option<Fields<'_>>
     ensures fields { option_map fields_view result ≡ fields_of bytes.now }
@@ -56,7 +56,7 @@ fn split_fields(bytes: &[u8]) -> Option<Fields<'_>>
     }
 }
 
-/// The input that nine bytes spell.
+/// The input that nine bytes encode.
 fn input_at(bytes: &[u8]) -> Input
     requires { length bytes.now ≡ 9 }
     ensures { result ≡ input_of bytes.now }
@@ -70,7 +70,7 @@ fn input_at(bytes: &[u8]) -> Input
     }
 }
 
-/// The inputs that the bytes spell, nine bytes each.
+/// The inputs that the bytes encode, nine bytes each.
 fn inputs_at(alloc: Global, count: u32, frames: &[u8]) -> Result<Vec<Input>, OutOfMemory>
     requires { length frames.now ≡ 9 * count }
     ensures inputs { IfOk result (λ inputs. inputs.items ≡ inputs_of count frames.now) }
@@ -86,10 +86,10 @@ fn inputs_at(alloc: Global, count: u32, frames: &[u8]) -> Result<Vec<Input>, Out
     Ok(inputs)
 }
 
-/// The recording that the bytes spell.
+/// The recording that the bytes encode.
 #[tactic(auto, unfolding(w4_defs::specs::Recording::recording_of))]
 pub fn read_recording(alloc: Global, bytes: &[u8]) -> Result<Recording, Status>
-    ensures { Reads NotBuilt recording_view result (recording_of bytes.now) }
+    ensures { GivesValue NotBuilt recording_view result (recording_of bytes.now) }
 {
     let Some(fields) = split_fields(bytes) else {
         return Err(Status::NotBuilt);

@@ -1,4 +1,4 @@
-//! The top call: all that the program does, over any house.
+//! The top call: all that the program does, for every implementation of `House`.
 
 ghost use Rattle.std.specs.Prelude.{
   ℕ,
@@ -13,10 +13,10 @@ ghost use Rattle.std.specs.Prelude.{
 ghost use Rattle.std.specs.Option.{ForSome};
 ghost use Rattle.w4_defs.specs.declared.refusal.CartKind.{CartKind};
 ghost use Rattle.w4_house.specs.World.{Rises, Appends, LeavesReporting};
-ghost use Rattle.w4_program.specs.Lines.{line_of};
+ghost use Rattle.w4_program.specs.Lines.{status_line};
 ghost use Rattle.w4_program.specs.Forms.{form_of};
 ghost use Rattle.w4_program.specs.Refusals.{CartRefused, FontRefused, FrameRefused, NotBuilt, manner_of};
-ghost use Rattle.w4_program.specs.Output.{Made, Outputs};
+ghost use Rattle.w4_program.specs.Output.{Output, Outputs};
 ghost use Rattle.w4_program.specs.OneOutput.{AtMostOneOutput};
 ghost use Rattle.w4_program.specs.Causes.{
   ReadFails,
@@ -49,11 +49,11 @@ pub fn w4_run<R: Threads + Sync, H: House>(
 ) -> Status
     // Where it is done, standard output has got exactly the definition's bytes.
     ensures done_out { result ≡ Status.Done → ForSome (H.world house.old).files (λ files.
-        (made : Made) × Outputs (map string_bytes words.now) files (Ok made)
+        (made : Output) × Outputs (map string_bytes words.now) files (Ok made)
         × Appends (H.world house.old).out (H.world house.new).out made.out) }
     // And the files are the definition's: OUT is the recording left, and no other file has changed.
     ensures done_files { result ≡ Status.Done → ForSome (H.world house.old).files (λ files.
-        (made : Made) × Outputs (map string_bytes words.now) files (Ok made)
+        (made : Output) × Outputs (map string_bytes words.now) files (Ok made)
         × ((H.world house.new).files ≡ Some made.files)) }
     ensures done_err { result ≡ Status.Done → (H.world house.new).err ≡ (H.world house.old).err }
     // Words that have no form are refused over every house, and no others are.
@@ -79,12 +79,12 @@ pub fn w4_run<R: Threads + Sync, H: House>(
     ensures write_fault { result ≡ Status.WriteFault →
         Rises (H.world house.old).write_faults (H.world house.new).write_faults }
     ensures write_fault_made { result ≡ Status.WriteFault → ForSome (H.world house.old).files (λ files.
-        (made : Made) × Outputs (map string_bytes words.now) files (Ok made)) }
+        (made : Output) × Outputs (map string_bytes words.now) files (Ok made)) }
     // A refusal leaves standard output and all files.
     ensures refused_out { IsRefusal result → (H.world house.new).out ≡ (H.world house.old).out }
     ensures refused_files { IsRefusal result → (H.world house.new).files ≡ (H.world house.old).files }
     // Standard error gets the status's line, or a first part of it where a write to it failed.
-    ensures line { IsReported result → Reports (H.world house.old) (H.world house.new) (line_of result) }
+    ensures line { IsReported result → Reports (H.world house.old) (H.world house.new) (status_line result) }
     // Where no count has risen, it is the definition's answer, or memory ran out.
     ensures exact { ForSome (H.world house.old).files (λ files.
         ¬ Rises (H.world house.old).read_faults (H.world house.new).read_faults →
@@ -112,7 +112,7 @@ fn obey<H: House>(alloc: Global, words: &[String], house: &mut H) -> Status
 /// Writes the status's line. Where there is no memory for that, this is the status.
 fn report<H: House>(alloc: Global, house: &mut H, status: Status) -> Status
     ensures status { (result ≡ status) ⊎ (result ≡ Status.OutOfMemory) }
-    ensures line { IsReported result → Reports (H.world house.old) (H.world house.new) (line_of result) }
+    ensures line { IsReported result → Reports (H.world house.old) (H.world house.new) (status_line result) }
     ensures done { result ≡ Status.Done → (H.world house.new).err ≡ (H.world house.old).err }
     ensures rest { LeavesReporting (H.world house.old) (H.world house.new) }
 {
@@ -129,7 +129,7 @@ fn report<H: House>(alloc: Global, house: &mut H, status: Status) -> Status
     }
 }
 
-/// What the program makes of given words and files is one thing, so each status comes exactly where the
+/// What the program makes of given words and files is one thing, so each status comes if and only if the
 /// definition has it.
 pub fn one_output()
     ensures { AtMostOneOutput }

@@ -14,13 +14,13 @@ ghost use Rattle.w4_program.specs.FirstScript.{
   lines_of,
   orders_of,
 };
-ghost use Rattle.w4_program.specs.Reads.{Reads};
+ghost use Rattle.w4_program.specs.Reads.{GivesValue};
 ghost use Rattle.w4_program.specs.Refusals.{NotBuilt};
 
 use crate::fields::cut;
+use crate::order::Order;
 use crate::status::Status;
 use std::alloc::Global;
-use crate::order::Order;
 use w4_defs::Input;
 
 /// The value of decimal digits, or None where a byte is no digit or the value is above 4,294,967,295.
@@ -175,7 +175,7 @@ fn is_short(bytes: &[u8]) -> bool
 /// The order of the first line, and the bytes after it.
 #[tactic(auto, unfolding(w4_defs::specs::Script::first_of))]
 fn first_order(bytes: &[u8]) -> Result<(Order, &[u8]), Status>
-    ensures { Reads NotBuilt (λ p. (p.0, p.1.now)) result (first_of bytes.now) }
+    ensures { GivesValue NotBuilt (λ p. (p.0, p.1.now)) result (first_of bytes.now) }
 {
     let Some((line, rest)) = cut(bytes, b'\n') else {
         return Err(Status::NotBuilt);
@@ -188,7 +188,7 @@ fn first_order(bytes: &[u8]) -> Result<(Order, &[u8]), Status>
 
 /// The orders of so many lines, which are all of the bytes.
 fn orders(alloc: Global, count: usize, bytes: &[u8]) -> Result<Vec<Order>, Status>
-    ensures { Reads NotBuilt (λ orders. orders.items) result (lines_of count bytes.now) }
+    ensures { GivesValue NotBuilt (λ orders. orders.items) result (lines_of count bytes.now) }
 {
     let mut orders = Vec::new(alloc);
     let mut rest = bytes;
@@ -207,7 +207,7 @@ fn orders(alloc: Global, count: usize, bytes: &[u8]) -> Result<Vec<Order>, Statu
 /// The orders of a script.
 #[tactic(auto, unfolding(w4_defs::specs::Script::orders_of))]
 pub fn read_script(alloc: Global, bytes: &[u8]) -> Result<Vec<Order>, Status>
-    ensures { Reads NotBuilt (λ orders. orders.items) result (orders_of bytes.now) }
+    ensures { GivesValue NotBuilt (λ orders. orders.items) result (orders_of bytes.now) }
 {
     if !is_short(bytes) {
         return Err(Status::NotBuilt);

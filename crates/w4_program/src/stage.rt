@@ -3,7 +3,7 @@
 ghost use Rattle.std.specs.Prelude.{◌≡◌, ◌+◌, ◌≤◌, ◌<◌, ◌∷◌, [], Some, length, IfOk};
 ghost use Rattle.w4_console.specs.UnderWay.{HasGlobals};
 ghost use Rattle.w4_defs.specs.Frame.{frame};
-ghost use Rattle.w4_program.specs.Scenes.{StandsAt, scene_setup, shown};
+ghost use Rattle.w4_program.specs.Scenes.{IsAtPlace, scene_setup, stage_moment};
 ghost use Rattle.w4_defs.specs.FrameTexts.{schedule_text, state_line, trace_text};
 ghost use Rattle.w4_defs.specs.Image.{image};
 
@@ -46,7 +46,7 @@ fn begin(stage: &mut Stage, scene: &Scene<'_>, inputs: &[Input])
     requires disk { length scene.now.disk.now ≤ 1024 }
     requires budget { 1 ≤ scene.now.budget }
     requires globals { HasGlobals scene.now.cart.now stage.old.console }
-    ensures { StandsAt scene.now inputs.now 0 stage.new }
+    ensures { IsAtPlace scene.now inputs.now 0 stage.new }
 {
     let made = &mut stage.made;
     stage
@@ -61,7 +61,7 @@ fn play<L: Ledger>(stage: &mut Stage, scene: &Scene<'_>, input: &Input, blank: B
     requires some { 0 < L.parts }
     requires budget { 1 ≤ scene.now.budget }
     requires globals { HasGlobals scene.now.cart.now stage.old.console }
-    ensures frame { frame (scene_setup scene.now) stage.old.console input.now ≡ Some (shown stage.new) }
+    ensures frame { frame (scene_setup scene.now) stage.old.console input.now ≡ Some (stage_moment stage.new) }
     ensures globals { HasGlobals scene.now.cart.now stage.new.console }
 {
     let mut steps: Steps<L> = Steps::new(blank);
@@ -80,8 +80,8 @@ fn play<L: Ledger>(stage: &mut Stage, scene: &Scene<'_>, input: &Input, blank: B
 pub fn step(stage: &mut Stage, scene: &Scene<'_>, inputs: &[Input], place: usize)
     requires place { place < length inputs.now }
     requires budget { 1 ≤ scene.now.budget }
-    requires here { StandsAt scene.now inputs.now place stage.old }
-    ensures { StandsAt scene.now inputs.now (place + 1) stage.new }
+    requires here { IsAtPlace scene.now inputs.now place stage.old }
+    ensures { IsAtPlace scene.now inputs.now (place + 1) stage.new }
 {
     runs_in_parts();
     play::<Brand>(stage, scene, &inputs[place], Blank::new(1));
@@ -93,7 +93,7 @@ pub fn run_to(stage: &mut Stage, scene: &Scene<'_>, inputs: &[Input], place: usi
     requires disk { length scene.now.disk.now ≤ 1024 }
     requires budget { 1 ≤ scene.now.budget }
     requires globals { HasGlobals scene.now.cart.now stage.old.console }
-    ensures { StandsAt scene.now inputs.now place stage.new }
+    ensures { IsAtPlace scene.now inputs.now place stage.new }
 {
     begin(stage, scene, inputs);
     for passed in 0..place {
@@ -126,7 +126,7 @@ pub fn disk(stage: &Stage) -> &[u8]
 
 /// The schedule of the frame that led to this place.
 pub fn schedule(alloc: Global, stage: &Stage, place: usize) -> Result<Vec<u8>, OutOfMemory>
-    ensures { IfOk result (λ text. text.items ≡ schedule_text place (shown stage.now).made) }
+    ensures { IfOk result (λ text. text.items ≡ schedule_text place (stage_moment stage.now).made) }
 {
     let mut text = Vec::new(alloc);
     schedule_text(alloc, place, &stage.made, &mut text)?;
@@ -135,7 +135,7 @@ pub fn schedule(alloc: Global, stage: &Stage, place: usize) -> Result<Vec<u8>, O
 
 /// The trace lines of the frame that led to this place.
 pub fn traces(alloc: Global, stage: &Stage, place: usize) -> Result<Vec<u8>, OutOfMemory>
-    ensures { IfOk result (λ text. text.items ≡ trace_text place (shown stage.now).made) }
+    ensures { IfOk result (λ text. text.items ≡ trace_text place (stage_moment stage.now).made) }
 {
     let mut text = Vec::new(alloc);
     trace_text(alloc, place, &stage.made, &mut text)?;

@@ -11,7 +11,7 @@ use w4_defs::{CartKind, OutOfMemory};
 pub enum Status {
     /// All was written.
     Done,
-    /// The words have none of the forms.
+    /// The arguments match no command.
     Usage,
     /// The bytes of the cart's file are no cart, by the first cause that holds.
     CartRefused(CartKind),

@@ -2,16 +2,16 @@
 
 ghost use Rattle.std.specs.Prelude.{◌≡◌, map, option_map, string_bytes};
 ghost use Rattle.w4_program.specs.Forms.{
-  blank_of,
-  check_of,
-  disk_of,
-  edit_of,
+  blank_form,
+  check_form,
+  disk_form,
+  edit_form,
   form_of,
-  frames_of,
-  make_of,
+  frames_form,
+  make_form,
   run_words,
-  tones_of,
-  trace_of,
+  tones_form,
+  trace_form,
 };
 ghost use Rattle.w4_program.specs.Views.{form_view, run_view};
 
@@ -68,7 +68,7 @@ fn run_names<'a>(cart: &'a String, recording: &'a String, font: &'a String) -> R
 }
 
 fn check(words: &[String]) -> Option<Form<'_>>
-    ensures { option_map form_view result ≡ check_of (map string_bytes words.now) }
+    ensures { option_map form_view result ≡ check_form (map string_bytes words.now) }
 {
     let [cart] = words else {
         return None;
@@ -76,9 +76,9 @@ fn check(words: &[String]) -> Option<Form<'_>>
     Some(Form::Check(cart.as_str()))
 }
 
-#[tactic(auto, unfolding(crate::specs::Forms::blank_of))]
+#[tactic(auto, unfolding(crate::specs::Forms::blank_form))]
 fn blank(words: &[String]) -> Option<Form<'_>>
-    ensures { option_map form_view result ≡ blank_of (map string_bytes words.now) }
+    ensures { option_map form_view result ≡ blank_form (map string_bytes words.now) }
 {
     let [cart, budget] = words else {
         return None;
@@ -90,9 +90,9 @@ fn blank(words: &[String]) -> Option<Form<'_>>
     Some(Form::Blank(cart.as_str(), budget))
 }
 
-#[tactic(auto, unfolding(crate::specs::Forms::frames_of))]
+#[tactic(auto, unfolding(crate::specs::Forms::frames_form))]
 fn frames(words: &[String]) -> Option<Form<'_>>
-    ensures { option_map form_view result ≡ frames_of (map string_bytes words.now) }
+    ensures { option_map form_view result ≡ frames_form (map string_bytes words.now) }
 {
     let [cart, recording, font, from, to] = words else {
         return None;
@@ -106,7 +106,7 @@ fn frames(words: &[String]) -> Option<Form<'_>>
 }
 
 fn tones(words: &[String]) -> Option<Form<'_>>
-    ensures { option_map form_view result ≡ tones_of (map string_bytes words.now) }
+    ensures { option_map form_view result ≡ tones_form (map string_bytes words.now) }
 {
     let [cart, recording, font] = words else {
         return None;
@@ -115,7 +115,7 @@ fn tones(words: &[String]) -> Option<Form<'_>>
 }
 
 fn trace(words: &[String]) -> Option<Form<'_>>
-    ensures { option_map form_view result ≡ trace_of (map string_bytes words.now) }
+    ensures { option_map form_view result ≡ trace_form (map string_bytes words.now) }
 {
     let [cart, recording, font] = words else {
         return None;
@@ -123,9 +123,9 @@ fn trace(words: &[String]) -> Option<Form<'_>>
     Some(Form::Trace(run_names(cart, recording, font)))
 }
 
-#[tactic(auto, unfolding(crate::specs::Forms::disk_of))]
+#[tactic(auto, unfolding(crate::specs::Forms::disk_form))]
 fn disk(words: &[String]) -> Option<Form<'_>>
-    ensures { option_map form_view result ≡ disk_of (map string_bytes words.now) }
+    ensures { option_map form_view result ≡ disk_form (map string_bytes words.now) }
 {
     let [cart, recording, font, place] = words else {
         return None;
@@ -135,7 +135,7 @@ fn disk(words: &[String]) -> Option<Form<'_>>
 }
 
 fn edit(words: &[String]) -> Option<Form<'_>>
-    ensures { option_map form_view result ≡ edit_of (map string_bytes words.now) }
+    ensures { option_map form_view result ≡ edit_form (map string_bytes words.now) }
 {
     let [cart, recording, font, script, out] = words else {
         return None;
@@ -147,9 +147,9 @@ fn edit(words: &[String]) -> Option<Form<'_>>
     }))
 }
 
-#[tactic(auto, unfolding(crate::specs::Forms::make_of))]
+#[tactic(auto, unfolding(crate::specs::Forms::make_form))]
 fn make(words: &[String]) -> Option<Form<'_>>
-    ensures { option_map form_view result ≡ make_of (map string_bytes words.now) }
+    ensures { option_map form_view result ≡ make_form (map string_bytes words.now) }
 {
     let [number_word] = words else {
         return None;

@@ -30,7 +30,7 @@ fn push_inputs(bytes: &mut Vec<u8>, inputs: &[Input]) -> Result<(), OutOfMemory>
     Ok(())
 }
 
-/// The one spelling of a recording.
+/// The one encoding of a recording.
 #[tactic(auto, unfolding(w4_defs::specs::Recording::spelling))]
 pub fn write_recording(alloc: Global, recording: &Recording) -> Result<Vec<u8>, OutOfMemory>
     ensures { IfOk result (λ bytes. bytes.items ≡ spelling (recording_view recording.now)) }

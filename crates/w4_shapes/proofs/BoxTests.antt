@@ -9,7 +9,7 @@ use Rattle.w4_defs.proofs.PaintLaws.{paint-paint, paint_step}
 use Rattle.w4_defs.specs.Shapes.{only_if, is_at, is_inside, span_painter, column_painter, box_painter, outline_painter}
 use Rattle.w4_shapes.specs.Painted.{rows_painter}
 
--- the same entry, where one test or the other holds
+-- one palette index, where one test or the other holds
 pub union : (s t : Bool) (o : Option ℕ) → option_or (only_if s o) (only_if t o) ≡ only_if (s || t) o
 union true true None = refl
 union true false None = refl
@@ -28,20 +28,20 @@ at_row : (row v : ℕ) → is_at (pos row) v ≡ (v == row)
 at_row row v = grind (arith, ints, nat_tests)
 
 -- one more row
-pub rows_more : (left right : ℤ) (top row u v : ℕ) (entry : Option ℕ) → top ≤ row
-    → option_or (span_painter left right (pos row) entry u v) (rows_painter left right top row entry u v) ≡ rows_painter left right top (row + 1) entry u v
-rows_more left right top row u v entry h =
+pub rows_more : (left right : ℤ) (top row u v : ℕ) (index : Option ℕ) → top ≤ row
+    → option_or (span_painter left right (pos row) index u v) (rows_painter left right top row index u v) ≡ rows_painter left right top (row + 1) index u v
+rows_more left right top row u v index h =
     let next : (nat_le top v && nat_lt v (row + 1)) ≡ ((nat_le top v && nat_lt v row) || v == row) = grind (arith, nat_tests) in
     let line : (nat_le top v && nat_lt v (row + 1)) ≡ ((nat_le top v && nat_lt v row) || is_at (pos row) v) =
     next ∙ sym (ap (λ t. (nat_le top v && nat_lt v row) || t) (at_row row v)) in
-    union _ _ entry ∙ ap (λ t. only_if t entry)
+    union _ _ index ∙ ap (λ t. only_if t index)
     (shared (int_le left (pos u)) (int_lt (pos u) right) (is_at (pos row) v) (nat_le top v && nat_lt v row) ∙ ap (λ t. (int_le left (pos u) && int_lt (pos u) right) && t) (sym line))
 
 -- rows of the screen are the rows of the coordinates
-pub rows_all : (left right top bottom : ℤ) (first end u v : ℕ) (entry : Option ℕ)
+pub rows_all : (left right top bottom : ℤ) (first end u v : ℕ) (index : Option ℕ)
     → nat_le first v ≡ int_le top (pos v) → nat_le end v ≡ int_le bottom (pos v)
-    → rows_painter left right first end entry u v ≡ box_painter left right top bottom entry u v
-rows_all left right top bottom first end u v entry hf he =
+    → rows_painter left right first end index u v ≡ box_painter left right top bottom index u v
+rows_all left right top bottom first end u v index hf he =
     let stop : nat_lt v end ≡ int_lt (pos v) bottom = grind (arith, ints, nat_tests) in
     rw (hf, stop) refl
 
@@ -57,11 +57,11 @@ three false b c = refl
 three true b c = refl
 
 -- a box of one row is a span, one of one column a column
-pub row_box : (x0 x1 y : ℤ) (u v : ℕ) (entry : Option ℕ) → box_painter x0 x1 y (y +ℤ pos 1) entry u v ≡ span_painter x0 x1 y entry u v
-row_box x0 x1 y u v entry = rw (one_from y v) refl
+pub row_box : (x0 x1 y : ℤ) (u v : ℕ) (index : Option ℕ) → box_painter x0 x1 y (y +ℤ pos 1) index u v ≡ span_painter x0 x1 y index u v
+row_box x0 x1 y u v index = rw (one_from y v) refl
 
-pub column_box : (x y0 y1 : ℤ) (u v : ℕ) (entry : Option ℕ) → box_painter x (x +ℤ pos 1) y0 y1 entry u v ≡ column_painter x y0 y1 entry u v
-column_box x y0 y1 u v entry = rw (one_from x u) (ap (λ t. only_if t entry) (three (is_at x u) (int_le y0 (pos v)) (int_lt (pos v) y1)))
+pub column_box : (x y0 y1 : ℤ) (u v : ℕ) (index : Option ℕ) → box_painter x (x +ℤ pos 1) y0 y1 index u v ≡ column_painter x y0 y1 index u v
+column_box x y0 y1 u v index = rw (one_from x u) (ap (λ t. only_if t index) (three (is_at x u) (int_le y0 (pos v)) (int_lt (pos v) y1)))
 
 -- the four sides together, where each side's cells are in the box
 sides : (columns rows left right top bottom : Bool) → (left && columns) ≡ left → (right && columns) ≡ right → (top && rows) ≡ top → (bottom && rows) ≡ bottom
@@ -76,11 +76,11 @@ last_in : (first end : ℤ) (u : ℕ) → first <ℤ end → (is_at (end -ℤ po
 last_in first end u h = grind (arith, ints)
 
 -- the four sides of a box, painted one after the other, are its outline
-pub four_sides : (left right top bottom : ℤ) (u v : ℕ) (entry : Option ℕ) → left <ℤ right → top <ℤ bottom
-    → option_or (box_painter (right -ℤ pos 1) right top bottom entry u v) (option_or (box_painter left (left +ℤ pos 1) top bottom entry u v)
-    (option_or (box_painter left right (bottom -ℤ pos 1) bottom entry u v) (box_painter left right top (top +ℤ pos 1) entry u v)))
-    ≡ outline_painter left right top bottom entry u v
-four_sides left right top bottom u v entry wide high =
+pub four_sides : (left right top bottom : ℤ) (u v : ℕ) (index : Option ℕ) → left <ℤ right → top <ℤ bottom
+    → option_or (box_painter (right -ℤ pos 1) right top bottom index u v) (option_or (box_painter left (left +ℤ pos 1) top bottom index u v)
+    (option_or (box_painter left right (bottom -ℤ pos 1) bottom index u v) (box_painter left right top (top +ℤ pos 1) index u v)))
+    ≡ outline_painter left right top bottom index u v
+four_sides left right top bottom u v index wide high =
     let columns : Bool = int_le left (pos u) && int_lt (pos u) right in
     let rows : Bool = int_le top (pos v) && int_lt (pos v) bottom in
     let all = sides columns rows (is_at left u) (is_at (right -ℤ pos 1) u) (is_at top v) (is_at (bottom -ℤ pos 1) v)
@@ -89,14 +89,14 @@ four_sides left right top bottom u v entry wide high =
     let fourth : Bool = columns && is_at top v in
     let second : Bool = is_at left u && rows in
     let first : Bool = is_at (right -ℤ pos 1) u && rows in
-    let two : option_or (only_if third entry) (only_if fourth entry) ≡ only_if (third || fourth) entry = union third fourth entry in
-    let more : option_or (only_if second entry) (only_if (third || fourth) entry) ≡ only_if (second || (third || fourth)) entry = union second (third || fourth) entry in
-    let most : option_or (only_if first entry) (only_if (second || (third || fourth)) entry) ≡ only_if (first || (second || (third || fourth))) entry = union first (second || (third || fourth)) entry in
-    let ends = ap (λ (t : Bool). only_if t entry) all in
-    let last_column : box_painter (right -ℤ pos 1) right top bottom entry u v ≡ only_if first entry = rw (one_before right u) refl in
-    let first_column : box_painter left (left +ℤ pos 1) top bottom entry u v ≡ only_if second entry = rw (one_from left u) refl in
-    let last_row : box_painter left right (bottom -ℤ pos 1) bottom entry u v ≡ only_if third entry = rw (one_before bottom v) refl in
-    let first_row : box_painter left right top (top +ℤ pos 1) entry u v ≡ only_if fourth entry = rw (one_from top v) refl in
+    let two : option_or (only_if third index) (only_if fourth index) ≡ only_if (third || fourth) index = union third fourth index in
+    let more : option_or (only_if second index) (only_if (third || fourth) index) ≡ only_if (second || (third || fourth)) index = union second (third || fourth) index in
+    let most : option_or (only_if first index) (only_if (second || (third || fourth)) index) ≡ only_if (first || (second || (third || fourth))) index = union first (second || (third || fourth)) index in
+    let ends = ap (λ (t : Bool). only_if t index) all in
+    let last_column : box_painter (right -ℤ pos 1) right top bottom index u v ≡ only_if first index = rw (one_before right u) refl in
+    let first_column : box_painter left (left +ℤ pos 1) top bottom index u v ≡ only_if second index = rw (one_from left u) refl in
+    let last_row : box_painter left right (bottom -ℤ pos 1) bottom index u v ≡ only_if third index = rw (one_before bottom v) refl in
+    let first_row : box_painter left right top (top +ℤ pos 1) index u v ≡ only_if fourth index = rw (one_from top v) refl in
     rw (last_column, first_column, last_row, first_row, two, more, most) ends
 
 -- no column or no row, no cell

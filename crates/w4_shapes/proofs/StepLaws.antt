@@ -64,27 +64,27 @@ and_fails true b e = absurd (cc)
 and_fails false b e = refl
 
 -- no step
-pub steps_none : (xs ys : ℕ → ℤ) (first u v : ℕ) (entry : Option ℕ) → steps_painter xs ys first first entry u v ≡ None
-steps_none xs ys first u v entry = ap (λ b. only_if b entry)
+pub steps_none : (xs ys : ℕ → ℤ) (first u v : ℕ) (index : Option ℕ) → steps_painter xs ys first first index u v ≡ None
+steps_none xs ys first u v index = ap (λ b. only_if b index)
     (any_none (λ t. nat_le first t && (is_at (xs t) u && is_at (ys t) v)) 0 first (λ t low high. and_fails (nat_le first t) (is_at (xs t) u && is_at (ys t) v) (grind (arith, nat_tests))))
 
 -- one more step
-pub steps_more : (xs ys : ℕ → ℤ) (first step u v : ℕ) (entry : Option ℕ) → first ≤ step
-    → option_or (point_painter (xs step) (ys step) entry u v) (steps_painter xs ys first step entry u v) ≡ steps_painter xs ys first (step + 1) entry u v
-steps_more xs ys first step u v entry h =
+pub steps_more : (xs ys : ℕ → ℤ) (first step u v : ℕ) (index : Option ℕ) → first ≤ step
+    → option_or (point_painter (xs step) (ys step) index u v) (steps_painter xs ys first step index u v) ≡ steps_painter xs ys first (step + 1) index u v
+steps_more xs ys first step u v index h =
     let here : ℕ → Bool = λ t. is_at (xs t) u && is_at (ys t) v in
     let p : ℕ → Bool = λ t. nat_le first t && here t in
     let now : p step ≡ here step = and_holds (nat_le first step) (here step) (grind (arith, nat_tests)) in
     let before : Bool = list_any p (range_with_len 0 step) in
     let size : suc step ≡ step + 1 = omega arith in
-    union (here step) before entry ∙ ap (λ b. only_if b entry)
+    union (here step) before index ∙ ap (λ b. only_if b index)
     (or_turned (here step) before ∙ sym (ap (λ b. before || b) now) ∙ sym (any_more p 0 step step (omega arith)) ∙ ap (λ n. list_any p (range_with_len 0 n)) size)
 
 -- the steps left out are none of the screen's
-pub steps_all : (xs ys : ℕ → ℤ) (first end n u v : ℕ) (entry : Option ℕ) → end ≤ n
+pub steps_all : (xs ys : ℕ → ℤ) (first end n u v : ℕ) (index : Option ℕ) → end ≤ n
     → ((t : ℕ) → (t < first) ⊎ (end ≤ t) → t < n → (is_at (xs t) u && is_at (ys t) v) ≡ false)
-    → steps_painter xs ys first end entry u v ≡ points_painter xs ys n entry u v
-steps_all xs ys first end n u v entry h off =
+    → steps_painter xs ys first end index u v ≡ points_painter xs ys n index u v
+steps_all xs ys first end n u v index h off =
     let here : ℕ → Bool = λ t. is_at (xs t) u && is_at (ys t) v in
     let p : ℕ → Bool = λ t. nat_le first t && here t in
     let size : end + (n - end) ≡ n = omega arith in
@@ -92,7 +92,7 @@ steps_all xs ys first end n u v entry h off =
       | inl below ↦ and_fails (nat_le first t) (here t) (grind (arith, nat_tests)) ∙ sym (off t (inl below) (omega arith))
       | inr above ↦ and_holds (nat_le first t) (here t) (grind (arith, nat_tests))
     ] in
-    ap (λ b. only_if b entry)
+    ap (λ b. only_if b index)
     (any_ext p here 0 end same
     ∙ any_past here end (n - end) (λ t low high. off t (inr low) (omega arith))
     ∙ ap (λ k. list_any here (range_with_len 0 k)) size)

@@ -6,8 +6,8 @@ use Rattle.w4_defs.specs.Shapes.{only_if, is_at, toward, moved, apart}
 
 -- the columns from `left` up to `right` of the screen's rows from `top` up to `bottom`
 abbrev pub rows_painter : ℤ → ℤ → ℕ → ℕ → Option ℕ → Painter
-rows_painter left right top bottom entry u v =
-    only_if ((int_le left (pos u) && int_lt (pos u) right) && (nat_le top v && nat_lt v bottom)) entry
+rows_painter left right top bottom index u v =
+    only_if ((int_le left (pos u) && int_lt (pos u) right) && (nat_le top v && nat_lt v bottom)) index
 
 -- the pixel is the point of a line that starts at its first end after t steps
 abbrev pub is_point : ℤ → ℤ → ℤ → ℤ → ℕ → ℕ → ℕ → Bool
@@ -16,5 +16,5 @@ is_point x1 y1 x2 y2 t u v =
 
 -- those of a line's points that it has after the steps from `first` up to `end`
 abbrev pub steps_painter : (ℕ → ℤ) → (ℕ → ℤ) → ℕ → ℕ → Option ℕ → Painter
-steps_painter xs ys first end entry u v =
-    only_if (list_any (λ t. nat_le first t && (is_at (xs t) u && is_at (ys t) v)) (range_with_len 0 end)) entry
+steps_painter xs ys first end index u v =
+    only_if (list_any (λ t. nat_le first t && (is_at (xs t) u && is_at (ys t) v)) (range_with_len 0 end)) index

@@ -39,35 +39,35 @@ pub fn rect(page: &mut PageBytes, colors: u16, x: i32, y: i32, w: i32, h: i32)
 }
 
 /// Paints the columns from `left` up to `right` of the rows from `top` up to `bottom`.
-fn fill(page: &mut PageBytes, left: i64, right: i64, top: i64, bottom: i64, entry: Option<u8>)
-    requires { ForSome entry (λ e. e < 4) }
-    ensures { page.new ≡ paint page.old (box_painter left right top bottom entry) }
+fn fill(page: &mut PageBytes, left: i64, right: i64, top: i64, bottom: i64, index: Option<u8>)
+    requires { ForSome index (λ e. e < 4) }
+    ensures { page.new ≡ paint page.old (box_painter left right top bottom index) }
 {
-    if let Some(entry) = entry {
-        fill_rows(page, left, right, on_screen(top), on_screen(bottom), entry);
+    if let Some(index) = index {
+        fill_rows(page, left, right, on_screen(top), on_screen(bottom), index);
     }
 }
 
 /// Fills rows of the screen.
-fn fill_rows(page: &mut PageBytes, left: i64, right: i64, top: usize, bottom: usize, entry: u8)
+fn fill_rows(page: &mut PageBytes, left: i64, right: i64, top: usize, bottom: usize, index: u8)
     requires rows { bottom ≤ 160 }
-    requires entry { entry < 4 }
-    ensures { page.new ≡ paint page.old (rows_painter left right top bottom (Some entry)) }
+    requires index { index < 4 }
+    ensures { page.new ≡ paint page.old (rows_painter left right top bottom (Some index)) }
 {
     for row in top..bottom {
-        span(page, left, right, row as i64, entry);
+        span(page, left, right, row as i64, index);
     }
 }
 
 /// Paints the first and last columns and rows of a box of cells.
-fn outline(page: &mut PageBytes, left: i64, right: i64, top: i64, bottom: i64, entry: Option<u8>)
-    requires small { ForSome entry (λ e. e < 4) }
+fn outline(page: &mut PageBytes, left: i64, right: i64, top: i64, bottom: i64, index: Option<u8>)
+    requires small { ForSome index (λ e. e < 4) }
     requires wide { left <ℤ right }
     requires high { top <ℤ bottom }
-    ensures { page.new ≡ paint page.old (outline_painter left right top bottom entry) }
+    ensures { page.new ≡ paint page.old (outline_painter left right top bottom index) }
 {
-    fill(page, left, right, top, top + 1, entry);
-    fill(page, left, right, bottom - 1, bottom, entry);
-    fill(page, left, left + 1, top, bottom, entry);
-    fill(page, right - 1, right, top, bottom, entry);
+    fill(page, left, right, top, top + 1, index);
+    fill(page, left, right, bottom - 1, bottom, index);
+    fill(page, left, left + 1, top, bottom, index);
+    fill(page, right - 1, right, top, bottom, index);
 }

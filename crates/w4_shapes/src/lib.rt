@@ -1,4 +1,4 @@
-//! Lines, rectangles and ovals on the framebuffer (WASM-4 reference; own rules where the definitions say
+//! Lines, rectangles and ovals on the framebuffer (WASM-4 reference; project rules where the definitions say
 //! so). Every call's contract is the painted page, for every argument: coordinates are signed and added
 //! exactly, what lies off the screen is skipped, and no call does more work than the screen has room for.
 #![tactic(auto)]

@@ -14,34 +14,34 @@ use w4_pixels::{entry_of, point};
 pub fn line(page: &mut PageBytes, colors: u16, x1: i32, y1: i32, x2: i32, y2: i32)
     ensures { page.new ≡ paint page.old (line_painter colors x1 y1 x2 y2) }
 {
-    let entry = entry_of(colors, 1);
+    let index = entry_of(colors, 1);
     if y2 < y1 {
-        line_from(page, x2, y2, x1, y1, entry);
+        line_from(page, x2, y2, x1, y1, index);
     } else {
-        line_from(page, x1, y1, x2, y2, entry);
+        line_from(page, x1, y1, x2, y2, index);
     }
 }
 
 /// Paints a line that starts at its first end.
-fn line_from(page: &mut PageBytes, x1: i32, y1: i32, x2: i32, y2: i32, entry: Option<u8>)
-    requires { ForSome entry (λ e. e < 4) }
-    ensures { page.new ≡ paint page.old (line_from x1 y1 x2 y2 entry) }
+fn line_from(page: &mut PageBytes, x1: i32, y1: i32, x2: i32, y2: i32, index: Option<u8>)
+    requires { ForSome index (λ e. e < 4) }
+    ensures { page.new ≡ paint page.old (line_from x1 y1 x2 y2 index) }
 {
     let (wide, high) = (distance(x1, x2), distance(y1, y2));
     let (first, end) = line_steps(x1, y1, x2, y2);
     for step in first..end {
         let x = axis_at(x1, x2, wide, high, step);
         let y = axis_at(y1, y2, high, wide, step);
-        dot(page, x, y, entry);
+        dot(page, x, y, index);
     }
 }
 
-fn dot(page: &mut PageBytes, x: i64, y: i64, entry: Option<u8>)
-    requires { ForSome entry (λ e. e < 4) }
-    ensures { page.new ≡ paint page.old (point_painter x y entry) }
+fn dot(page: &mut PageBytes, x: i64, y: i64, index: Option<u8>)
+    requires { ForSome index (λ e. e < 4) }
+    ensures { page.new ≡ paint page.old (point_painter x y index) }
 {
-    if let Some(entry) = entry {
-        point(page, x, y, entry);
+    if let Some(index) = index {
+        point(page, x, y, index);
     }
 }
 

@@ -2,10 +2,10 @@
 
 ghost use Rattle.std.specs.Option.{ForSome, option_or};
 ghost use Rattle.std.specs.Prelude.{◌&&◌, ◌*◌, ◌+◌, ◌+ℤ◌, ◌<◌, ◌≡◌, ◌≤◌, ◌≤ℤ◌, ◌^◌, negsuc, not, pos};
-ghost use Rattle.w4_defs.specs.Colours.{entry_of};
+ghost use Rattle.w4_defs.specs.Colours.{palette_index};
 ghost use Rattle.w4_defs.specs.Framebuffer.{paint};
-ghost use Rattle.w4_defs.specs.Shapes.{aside, is_edge, is_within, only_if, oval_entry, oval_painter};
-ghost use Rattle.w4_pixels.specs.Boxes.{boxed};
+ghost use Rattle.w4_defs.specs.Shapes.{aside, is_edge, is_within, only_if, oval_index, oval_painter};
+ghost use Rattle.w4_pixels.specs.Clipping.{clipped};
 ghost use Rattle.w4_shapes.specs.OvalCells.{painter_of};
 
 use w4_defs::PageBytes;
@@ -51,15 +51,15 @@ fn oval_row(page: &mut PageBytes, cells: Cells, left: usize, right: usize, v: us
     requires high { cells.h < 2147483648 }
     requires columns { right ≤ 160 }
     requires row { v < 160 }
-    ensures { page.new ≡ paint page.old (boxed (painter_of cells) left right v (v + 1)) }
+    ensures { page.new ≡ paint page.old (clipped (painter_of cells) left right v (v + 1)) }
 {
     for u in left..right {
-        cell(page, u, v, entry_at(cells, u, v));
+        cell(page, u, v, index_at(cells, u, v));
     }
 }
 
 /// What the oval paints at column `u` and row `v` of the screen.
-fn entry_at(cells: Cells, u: usize, v: usize) -> Option<u8>
+fn index_at(cells: Cells, u: usize, v: usize) -> Option<u8>
     requires wide { cells.w < 2147483648 }
     requires high { cells.h < 2147483648 }
     requires column { u < 160 }
@@ -69,38 +69,38 @@ fn entry_at(cells: Cells, u: usize, v: usize) -> Option<u8>
 {
     let (i, j) = (u as i64 - i64::from(cells.x), v as i64 - i64::from(cells.y));
     if 0 <= i && i < i64::from(cells.w) && 0 <= j && j < i64::from(cells.h) {
-        cell_entry(cells.colors, cells.w, cells.h, i, j)
+        cell_index(cells.colors, cells.w, cells.h, i, j)
     } else {
         None
     }
 }
 
 /// What an oval paints at its cell (i, j).
-fn cell_entry(colors: u16, w: u32, h: u32, i: i64, j: i64) -> Option<u8>
+fn cell_index(colors: u16, w: u32, h: u32, i: i64, j: i64) -> Option<u8>
     requires wide { w < 2147483648 }
     requires high { h < 2147483648 }
     requires left { pos 0 ≤ℤ i }
     requires right { (i +ℤ pos 1) ≤ℤ pos w }
     requires top { pos 0 ≤ℤ j }
     requires bottom { (j +ℤ pos 1) ≤ℤ pos h }
-    ensures value { result ≡ oval_entry colors w h i j }
+    ensures value { result ≡ oval_index colors w h i j }
     ensures bound { ForSome result (λ e. e < 4) }
 {
     if is_within(w, h, i, j) {
-        within_entry(colors, is_edge(w, h, i, j))
+        inner_index(colors, is_edge(w, h, i, j))
     } else {
         None
     }
 }
 
 /// What a cell within the oval is given: at the edge colour 2, unless that is transparent.
-fn within_entry(colors: u16, edge: bool) -> Option<u8>
-    ensures value { result ≡ option_or (only_if edge (entry_of colors 2)) (entry_of colors 1) }
+fn inner_index(colors: u16, edge: bool) -> Option<u8>
+    ensures value { result ≡ option_or (only_if edge (palette_index colors 2)) (palette_index colors 1) }
     ensures bound { ForSome result (λ e. e < 4) }
 {
     if edge {
-        if let Some(entry) = entry_of(colors, 2) {
-            return Some(entry);
+        if let Some(index) = entry_of(colors, 2) {
+            return Some(index);
         }
     }
     entry_of(colors, 1)

@@ -1,7 +1,7 @@
 //! The four channels: pulse 1, pulse 2, triangle and noise.
 
 ghost use Rattle.std.specs.Prelude.{◌≡◌, ◌<◌, None, option_map, slice_index_or};
-ghost use Rattle.w4_defs.specs.Tones.{all_aged, IsTone, played, silent, sound_of, sounds_at};
+ghost use Rattle.w4_defs.specs.Tones.{IsTone, all_aged, channels_after_tone, silent, sound_of, sounds_at};
 
 use crate::voice::{begun, channel_sound, one_frame_on};
 use std::marker::Model;
@@ -39,7 +39,7 @@ impl Channels {
     /// channel silent. `decode` gives tones in the ranges asked for.
     pub fn play(&mut self, tone: Tone)
         requires { IsTone tone }
-        ensures { self.new ≡ played self.old tone }
+        ensures { self.new ≡ channels_after_tone self.old tone }
     {
         self.voices[usize::from(tone.channel)] = begun(tone);
     }
@@ -57,7 +57,7 @@ impl Channels {
         ];
     }
 
-    /// What a channel sounds at a tick of the present frame, of which there are 735. None exactly where
+    /// What a channel sounds at a tick of the present frame, of which there are 735. None if and only if
     /// the channel is silent.
     pub fn sound(&self, channel: usize, tick: u32) -> Option<Sound>
         requires channel { channel < 4 }

@@ -1,7 +1,7 @@
 //! A tone's level at a tick: up to the peak, down to the sustain level, constant, down to 0.
 
 ghost use Rattle.std.specs.Prelude.{◌≡◌, ◌<◌, ◌≤◌};
-ghost use Rattle.w4_defs.specs.Tones.{level_at, mix, ticks, tone_frames};
+ghost use Rattle.w4_defs.specs.Tones.{interpolate, level_at, ticks, tone_frames};
 
 use w4_defs::Tone;
 
@@ -35,23 +35,23 @@ pub fn tone_level(tone: Tone, at: u32) -> u8
     let release = ticks_of(tone.release.into());
     let fall = attack + decay + sustain;
     if at < attack {
-        return mixed(0, tone.peak, at, attack);
+        return interpolated(0, tone.peak, at, attack);
     }
     if at < attack + decay {
-        return mixed(tone.peak, tone.level, at - attack, decay);
+        return interpolated(tone.peak, tone.level, at - attack, decay);
     }
     if at < fall {
         return tone.level;
     }
-    mixed(tone.level, 0, at - fall, release)
+    interpolated(tone.level, 0, at - fall, release)
 }
 
 /// The level after `at` of `len` ticks on the way between two levels.
 #[tactic(auto, using(w4_defs::proofs::ToneLaws::mix_below))]
-fn mixed(from: u8, to: u8, at: u32, len: u32) -> u8
+fn interpolated(from: u8, to: u8, at: u32, len: u32) -> u8
     requires within { at < len }
     requires bound { len ≤ 187425 }
-    ensures { result ≡ mix from to at len }
+    ensures { result ≡ interpolate from to at len }
 {
     ((u32::from(from) * (len - at) + u32::from(to) * at) / len) as u8
 }

@@ -5,7 +5,7 @@
 pub mod channels;
 pub mod decoding;
 mod envelope;
-mod sliding;
+mod frequency;
 mod voice;
 
 pub use channels::Channels;

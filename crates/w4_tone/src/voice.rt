@@ -4,7 +4,7 @@ ghost use Rattle.std.specs.Prelude.{◌≡◌, ◌<◌, ◌≤◌, option_map};
 ghost use Rattle.w4_defs.specs.Tones.{aged, IsPlaying, IsTone, IsVoice, older, sound_of, started};
 
 use crate::envelope::{frames_of, ticks_of, tone_level};
-use crate::sliding::tone_frequency;
+use crate::frequency::tone_frequency;
 use w4_defs::{Sound, Tone, Voice};
 
 /// The voice that a tone begins; none where the tone's length is 0.

@@ -6,7 +6,7 @@ use Rattle.w4_defs.specs.declared.operation.Op.{Op}
 use Rattle.w4_defs.specs.declared.operation.Op.TheVariants.{End}
 use Rattle.w4_defs.specs.Tree.{Mark, Expr, done, plain, block, loop, if_then, if_else, span, flat_at, flat}
 use Rattle.w4_defs.specs.Module.{ElementSegment, DataSegment, WasmModule}
-use Rattle.w4_defs.specs.Profile.{constant, single_constant, passes, outside, table_size}
+use Rattle.w4_defs.specs.Profile.{i32_constant, single_constant, exceeds_size, segments_outside, table_size}
 use Rattle.wasm_tree.specs.Pool.{operations_of}
 use Rattle.std.proofs.lemmas.List.{length-map}
 use Rattle.std.proofs.lemmas.Option.{same_Some}
@@ -15,11 +15,11 @@ use Rattle.wasm_tree.proofs.ShiftLaws.{length_flat}
 use Rattle.wasm_link.proofs.ListSteps.{first_is}
 
 abbrev Two : Expr → Type 0
-Two e = (ops : List Op) (op d : Op) → ops ≡ operations_of (flat e) → 2 ≡ span e + 1 → op ≡ get_or ops 0 d → constant op ≡ single_constant e
+Two e = (ops : List Op) (op d : Op) → ops ≡ operations_of (flat e) → 2 ≡ span e + 1 → op ≡ get_or ops 0 d → i32_constant op ≡ single_constant e
 
 two : (e : Expr) → Two e
 two done ops op d is n first = absurd (omega (arith, n))
-two (plain m done) ops op d is n first = ap constant (first ∙ ap (λ xs. get_or xs 0 d) is)
+two (plain m done) ops op d is n first = ap i32_constant (first ∙ ap (λ xs. get_or xs 0 d) is)
 two (plain m (plain m' rest)) ops op d is n first = absurd (omega (arith, n))
 two (plain m (block r inner rest)) ops op d is n first = absurd (omega (arith, n))
 two (plain m (loop r inner rest)) ops op d is n first = absurd (omega (arith, n))
@@ -31,7 +31,7 @@ two (if_then r taken rest) ops op d is n first = absurd (omega (arith, n))
 two (if_else r taken other rest) ops op d is n first = absurd (omega (arith, n))
 
 -- two operations: an instruction and the end
-pub two_ops : (e : Expr) (ops : List Op) (op d : Op) → ops ≡ operations_of (flat e) → length ops ≡ 2 → op ≡ get_or ops 0 d → constant op ≡ single_constant e
+pub two_ops : (e : Expr) (ops : List Op) (op d : Op) → ops ≡ operations_of (flat e) → length ops ≡ 2 → op ≡ get_or ops 0 d → i32_constant op ≡ single_constant e
 two_ops e ops op d is n first = two e ops op d is (sym n ∙ ap length is ∙ length-map (flat e) (λ m. m.0) ∙ length_flat End 0 e) first
 
 pub other_ops : (e : Expr) (ops : List Op) → ops ≡ operations_of (flat e) → (length ops ≡ 2 → ⊥) → single_constant e ≡ None
@@ -100,32 +100,32 @@ position_small p xs i e =
     grind (arith, nat_tests)
 
 abbrev pub element_test : ℕ → ElementSegment → Bool
-element_test size s = passes (single_constant s.offset) (length s.functions) size
+element_test size s = exceeds_size (single_constant s.offset) (length s.functions) size
 
 abbrev pub data_test : DataSegment → Bool
-data_test s = passes (single_constant s.offset) (length s.bytes) 65536
+data_test s = exceeds_size (single_constant s.offset) (length s.bytes) 65536
 
 first_element : (m : WasmModule) (es : List ElementSegment) (size : ℕ) (r : Option ℕ) → es ≡ m.elements → size ≡ table_size (slice_get m.tables 0) → r ≡ position (element_test size) es
     → r ≡ position (element_test (table_size (slice_get m.tables 0))) m.elements
 first_element m es size r ee en er = er ∙ ap (λ n. position (element_test n) es) en ∙ ap (position (element_test (table_size (slice_get m.tables 0)))) ee
 
 pub element_outside : (m : WasmModule) (es : List ElementSegment) (size k : ℕ) (r : Option ℕ) → es ≡ m.elements → size ≡ table_size (slice_get m.tables 0) → r ≡ position (element_test size) es
-    → r ≡ Some k → Some k ≡ position (λ b. b) (outside m)
+    → r ≡ Some k → Some k ≡ position (λ b. b) (segments_outside m)
 element_outside m es size k r ee en er some =
     sym (in_first (element_test (table_size (slice_get m.tables 0))) data_test m.elements m.segments k (sym (first_element m es size r ee en er) ∙ some))
 
 past_elements : (m : WasmModule) (es : List ElementSegment) (ss : List DataSegment) (size : ℕ) (r r' : Option ℕ) → es ≡ m.elements → ss ≡ m.segments → size ≡ table_size (slice_get m.tables 0)
-    → r ≡ position (element_test size) es → r ≡ None → r' ≡ position data_test ss → option_map (λ k. length es + k) r' ≡ position (λ b. b) (outside m)
+    → r ≡ position (element_test size) es → r ≡ None → r' ≡ position data_test ss → option_map (λ k. length es + k) r' ≡ position (λ b. b) (segments_outside m)
 past_elements m es ss size r r' ee es' en er none er' =
     ap (option_map (λ k. length es + k)) (er' ∙ ap (position data_test) es') ∙ ap (λ xs. option_map (λ k. length xs + k) (position data_test m.segments)) ee
     ∙ sym (in_second (element_test (table_size (slice_get m.tables 0))) data_test m.elements m.segments (sym (first_element m es size r ee en er) ∙ none))
 
 pub data_outside : (m : WasmModule) (es : List ElementSegment) (ss : List DataSegment) (size k n : ℕ) (r r' : Option ℕ) → es ≡ m.elements → ss ≡ m.segments → size ≡ table_size (slice_get m.tables 0)
-    → r ≡ position (element_test size) es → r ≡ None → r' ≡ position data_test ss → r' ≡ Some k → n ≡ length es + k → Some n ≡ position (λ b. b) (outside m)
+    → r ≡ position (element_test size) es → r ≡ None → r' ≡ position data_test ss → r' ≡ Some k → n ≡ length es + k → Some n ≡ position (λ b. b) (segments_outside m)
 data_outside m es ss size k n r r' ee es' en er none er' some e =
     ap Some e ∙ sym (ap (option_map (λ j. length es + j)) some) ∙ past_elements m es ss size r r' ee es' en er none er'
 
 pub none_outside : (m : WasmModule) (es : List ElementSegment) (ss : List DataSegment) (size : ℕ) (r r' : Option ℕ) → es ≡ m.elements → ss ≡ m.segments → size ≡ table_size (slice_get m.tables 0)
-    → r ≡ position (element_test size) es → r ≡ None → r' ≡ position data_test ss → r' ≡ None → None ≡ position (λ b. b) (outside m)
+    → r ≡ position (element_test size) es → r ≡ None → r' ≡ position data_test ss → r' ≡ None → None ≡ position (λ b. b) (segments_outside m)
 none_outside m es ss size r r' ee es' en er none er' none' =
     sym (ap (option_map (λ j. length es + j)) none') ∙ past_elements m es ss size r r' ee es' en er none er'

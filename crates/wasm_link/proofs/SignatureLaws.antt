@@ -4,7 +4,7 @@ use Rattle.std.specs.Prelude.{not}
 use Rattle.std.specs.List.{list_any}
 use Rattle.w4_defs.specs.declared.value.ValType.{ValType}
 use Rattle.w4_defs.specs.declared.value.ValType.TheVariants.{I32, I64, F32, F64}
-use Rattle.w4_defs.specs.Kinds.{same_type, same_types}
+use Rattle.w4_defs.specs.ValueTypes.{same_type, same_types}
 use Rattle.wasm_link.specs.Judging.{is_other}
 
 pub all_i32 : (ts : List ValType) (n : ℕ) → length ts ≡ n → not (list_any is_other ts) ≡ same_types ts (replicate n I32)

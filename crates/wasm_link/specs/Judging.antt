@@ -8,7 +8,7 @@ use Rattle.w4_defs.specs.declared.operation.Op.{Op}
 use Rattle.w4_defs.specs.declared.operation.Op.TheVariants.{Block, Loop, If}
 use Rattle.w4_defs.specs.declared.module.ImportKind.{ImportKind}
 use Rattle.w4_defs.specs.declared.module.ImportKind.TheVariants as kind
-use Rattle.w4_defs.specs.Kinds.{same_type}
+use Rattle.w4_defs.specs.ValueTypes.{same_type}
 use Rattle.w4_defs.specs.Floats.{is_float, is_float_result, is_float_operation}
 
 abbrev pub is_other : ValType → Bool

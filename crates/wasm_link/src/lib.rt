@@ -1,5 +1,6 @@
-//! The console's profile (own rules): nine causes for which a module is refused, in their order. The layer
-//! above asks once, before the module is typed, and relies on the answer being the first cause that holds.
+//! The console's profile (project rules): nine causes for which a module is refused, in their order. The
+//! layer above asks once, before the module is typed, and relies on the answer being the first cause that
+//! holds.
 #![tactic(auto)]
 
 mod condition;

@@ -1,7 +1,7 @@
 //! The nine causes, in their order.
 
 ghost use Rattle.std.specs.Prelude.{◌≡◌, MatchResult, None, Some, drop, option_map};
-ghost use Rattle.w4_defs.specs.Profile.{causes, first_of, profile_refusal};
+ghost use Rattle.w4_defs.specs.Profile.{causes, first_cause, profile_refusal};
 ghost use Rattle.w4_defs.specs.declared.refusal.ProfileRefusal.TheVariants.{SegmentOutside};
 
 use crate::condition::{Condition, any};
@@ -15,7 +15,7 @@ use wasm_tree::Code;
 
 /// Judges a module by the profile. It takes no memory.
 ///
-/// Ok exactly where none of the nine causes holds; the refusal is that of the first that does.
+/// Ok if and only if none of the nine causes holds; the refusal is that of the first that does.
 pub fn check_profile(code: &Code) -> Result<(), ProfileRefusal>
     ensures { MatchResult result (λ _. profile_refusal code.now ≡ None) (λ refusal. profile_refusal code.now ≡ Some refusal) }
 {
@@ -42,7 +42,7 @@ fn refusal(code: &Code) -> Option<ProfileRefusal>
 
 /// The fourth cause and those after it.
 fn import_refusal(code: &Code) -> Option<ProfileRefusal>
-    ensures { result ≡ first_of (drop 3 (causes code.now)) }
+    ensures { result ≡ first_cause (drop 3 (causes code.now)) }
 {
     match unknown_import(code) {
         Some(refusal) => Some(refusal),
@@ -55,7 +55,7 @@ fn import_refusal(code: &Code) -> Option<ProfileRefusal>
 
 /// The sixth cause and those after it.
 fn last_refusal(code: &Code) -> Option<ProfileRefusal>
-    ensures { result ≡ first_of (drop 5 (causes code.now)) }
+    ensures { result ≡ first_cause (drop 5 (causes code.now)) }
 {
     if !any(&IsMemory, code.imports()) {
         return Some(ProfileRefusal::NoMemory);

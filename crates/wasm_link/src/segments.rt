@@ -1,7 +1,7 @@
 //! Whether each segment with a constant offset stays within the table or the page.
 
 ghost use Rattle.std.specs.Prelude.{◌+◌, ◌<◌, ◌≡◌, length, position, slice_get};
-ghost use Rattle.w4_defs.specs.Profile.{constant, outside, passes, single_constant, table_size};
+ghost use Rattle.w4_defs.specs.Profile.{exceeds_size, i32_constant, segments_outside, single_constant, table_size};
 
 use crate::condition::{Condition, first};
 use w4_defs::Op;
@@ -9,7 +9,7 @@ use wasm_tree::{Code, FlatElement, FlatExpression, FlatSegment};
 
 /// The first segment that is outside; the element segments are numbered first.
 pub fn first_outside(code: &Code) -> Option<usize>
-    ensures { result ≡ position (λ b. b) (outside code.now) }
+    ensures { result ≡ position (λ b. b) (segments_outside code.now) }
 {
     let elements = code.elements();
     let segments = code.segments();
@@ -31,9 +31,9 @@ struct IsOutside {
 
 impl Condition<FlatElement> for IsOutside {
     ghost use Rattle.std.specs.Prelude.{length};
-    ghost use Rattle.w4_defs.specs.Profile.{passes, single_constant};
+    ghost use Rattle.w4_defs.specs.Profile.{exceeds_size, single_constant};
 
-    ghost holds = { λ c s. passes (single_constant s.offset) (length s.functions) c.size };
+    ghost holds = { λ c s. exceeds_size (single_constant s.offset) (length s.functions) c.size };
 
     fn holds(&self, segment: &FlatElement) -> bool {
         passes(
@@ -46,9 +46,9 @@ impl Condition<FlatElement> for IsOutside {
 
 impl Condition<FlatSegment> for IsOutside {
     ghost use Rattle.std.specs.Prelude.{length};
-    ghost use Rattle.w4_defs.specs.Profile.{passes, single_constant};
+    ghost use Rattle.w4_defs.specs.Profile.{exceeds_size, single_constant};
 
-    ghost holds = { λ c s. passes (single_constant s.offset) (length s.bytes) c.size };
+    ghost holds = { λ c s. exceeds_size (single_constant s.offset) (length s.bytes) c.size };
 
     fn holds(&self, segment: &FlatSegment) -> bool {
         passes(
@@ -60,7 +60,7 @@ impl Condition<FlatSegment> for IsOutside {
 }
 
 fn passes(offset: Option<u32>, count: usize, size: usize) -> bool
-    ensures { result ≡ passes offset count size }
+    ensures { result ≡ exceeds_size offset count size }
 {
     match offset {
         Some(offset) => size < count || size - count < offset as usize,
@@ -81,7 +81,7 @@ fn single_constant(expression: &FlatExpression) -> Option<u32>
 }
 
 fn constant(op: Op) -> Option<u32>
-    ensures { result ≡ constant op }
+    ensures { result ≡ i32_constant op }
 {
     match op {
         Op::I32Const { value } => Some(value),

@@ -2,7 +2,7 @@
 
 ghost use Rattle.std.specs.Prelude.{◌≡◌, replicate};
 ghost use Rattle.w4_defs.specs.Imports.{import_type};
-ghost use Rattle.w4_defs.specs.Kinds.{same_signature, same_types};
+ghost use Rattle.w4_defs.specs.ValueTypes.{same_signature, same_types};
 ghost use Rattle.w4_defs.specs.declared.value.ValType.TheVariants.{I32};
 ghost use Rattle.wasm_link.specs.Judging.{is_other};
 

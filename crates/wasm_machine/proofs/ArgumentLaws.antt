@@ -2,7 +2,7 @@
 use Rattle.std.proofs.Common.{◌≡◌, ℕ, zero, suc, ◌-◌, ◌<◌, ◌≤◌, List, [], ◌∷◌, ◌++◌, length, take, drop, reverse, map, refl, ap, sym, ◌∙◌, arith}
 use Rattle.std.proofs.Math.ListN.{set}
 use Rattle.std.proofs.lemmas.List.{reverse-append}
-use Rattle.wasm_machine.specs.HostCalls.{low, arguments_of}
+use Rattle.wasm_machine.specs.HostCalls.{low_half, arguments_of}
 
 put_front : (args : List ℕ) (i params y : ℕ) → i < params → params ≤ length args
     → drop i (take params (set args i y)) ≡ y ∷ drop (suc i) (take params args)
@@ -27,7 +27,7 @@ pub taken_next : (params left x : ℕ) (old slots slots' args : List ℕ) → 0 
     → slots ≡ drop (params - left) old → slots ≡ x ∷ slots' → drop left (take params args)
     ≡ arguments_of (params - left) old
     → (slots' ≡ drop (params - (left - 1)) old)
-    × (drop (left - 1) (take params (set args (left - 1) (low x)))
+    × (drop (left - 1) (take params (set args (left - 1) (low_half x)))
     ≡ arguments_of (params - (left - 1)) old)
 taken_next params left x old slots slots' args some within few at top taken =
     let k : ℕ = params - left in
@@ -35,9 +35,9 @@ taken_next params left x old slots slots' args some within few at top taken =
     let w = one_more old k x slots' (sym at ∙ top) in
     let back : suc (left - 1) ≡ left = omega arith in (
       sym w.1 ∙ ap (λ n. drop n old) next,
-      put_front args (left - 1) params (low x) (omega arith) few
-          ∙ ap (λ n. low x ∷ drop n (take params args)) back
-          ∙ ap (λ l. low x ∷ l) taken
-          ∙ ap (map low) (sym (ap reverse w.0 ∙ reverse-append (take k old) (x ∷ [])))
+      put_front args (left - 1) params (low_half x) (omega arith) few
+          ∙ ap (λ n. low_half x ∷ drop n (take params args)) back
+          ∙ ap (λ l. low_half x ∷ l) taken
+          ∙ ap (map low_half) (sym (ap reverse w.0 ∙ reverse-append (take k old) (x ∷ [])))
           ∙ ap (λ n. arguments_of n old) next,
     )

@@ -1,6 +1,6 @@
 -- Lemmas of the machine's proof, one file a subject.
-pub mod SlotLaws
-pub mod LabelLaws
+pub mod ValueStackLaws
+pub mod LabelStackLaws
 pub mod SameLaws
 pub mod LocalLaws
 pub mod NumberLaws
@@ -20,14 +20,14 @@ pub mod LeapLaws
 pub mod BeginLaws
 pub mod IfLaws
 pub mod BranchLaws
-pub mod TableLaws
+pub mod CallIndirectLaws
 pub mod WidthLaws
 pub mod PlainLaws
-pub mod StretchLaws
-pub mod TurnLaws
+pub mod BrTableLaws
+pub mod StepLaws
 pub mod BulkLaws
-pub mod BulkTurns
+pub mod BulkSteps
 pub mod DirectLaws
 pub mod GlobalLaws
-pub mod EntryLaws
+pub mod InvocationLaws
 pub mod RunLaws

@@ -1,19 +1,19 @@
 -- The words of the machine's clauses, one file a subject.
-pub mod Slots
+pub mod ValueStack
 pub mod Plain
-pub mod Labels
+pub mod LabelStack
 pub mod Standing
 pub mod Stack
-pub mod Framing
+pub mod OpenLabels
 pub mod Tie
 pub mod UnderWay
 pub mod HostCalls
 pub mod Meeting
 pub mod Entering
 pub mod Calling
-pub mod Kinds
+pub mod TypeNumbers
 pub mod Moves
-pub mod Turning
+pub mod Step
 pub mod Bulk
 pub mod Progress
 pub mod Ends

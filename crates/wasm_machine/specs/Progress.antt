@@ -1,4 +1,4 @@
--- A run ends (own rule): each instruction takes a unit and opens at most one list, and each end takes one
+-- A run ends: each instruction takes a unit and opens at most one list, and each end takes one
 -- away.
 use Rattle.std.specs.Prelude.{◌+◌, ◌*◌, ◌<◌, ℕ, List, length}
 use Rattle.wasm_machine.specs.declared.label.Label.{Label}

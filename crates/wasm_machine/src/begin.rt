@@ -2,18 +2,18 @@
 
 ghost use Rattle.std.specs.Prelude.{◌≡◌, ◌<◌, ◌+◌, ◌∷◌, length, IfSome};
 ghost use Rattle.w4_defs.specs.Effects.{truth};
-ghost use Rattle.w4_defs.specs.Kinds.{size_of};
-ghost use Rattle.wasm_machine.specs.Moves.{chosen};
+ghost use Rattle.w4_defs.specs.ValueTypes.{result_arity};
+ghost use Rattle.wasm_machine.specs.Moves.{if_target};
 
 use crate::label::Label;
-use crate::labels::Labels;
-use crate::slots::Slots;
+use crate::label_stack::LabelStack;
+use crate::value_stack::ValueStack;
 use w4_defs::ValType;
 
 /// Whether a block leaves a value.
 #[inline(always)]
 pub(crate) fn answers(result_type: Option<ValType>) -> bool
-    ensures { truth result ≡ size_of result_type }
+    ensures { truth result ≡ result_arity result_type }
 {
     match result_type {
         None => false,
@@ -23,7 +23,7 @@ pub(crate) fn answers(result_type: Option<ValType>) -> bool
 
 /// A block or an if begins, which ends at this place.
 #[inline(always)]
-pub(crate) fn begin_list(answers: bool, end: usize, labels: &mut Labels, slots: &Slots)
+pub(crate) fn begin_list(answers: bool, end: usize, labels: &mut LabelStack, slots: &ValueStack)
     requires end { end < 4294967296 }
     requires room { length labels.old < 1048576 }
     ensures { labels.new ≡ Label.List answers end (length slots.now) ∷ labels.old }
@@ -36,9 +36,9 @@ pub(crate) fn begin_list(answers: bool, end: usize, labels: &mut Labels, slots: 
     });
 }
 
-/// A turn of a loop begins at this place.
+/// An iteration of a loop begins at this place.
 #[inline(always)]
-pub(crate) fn begin_loop(start: usize, labels: &mut Labels, slots: &Slots)
+pub(crate) fn begin_loop(start: usize, labels: &mut LabelStack, slots: &ValueStack)
     requires start { start < 4294967296 }
     requires room { length labels.old < 1048576 }
     ensures { labels.new ≡ Label.Loop start (length slots.now) ∷ labels.old }
@@ -55,7 +55,7 @@ pub(crate) fn begin_loop(start: usize, labels: &mut Labels, slots: &Slots)
 pub(crate) fn choose(condition: u64, place: usize, other: Option<usize>) -> Option<usize>
     requires place { place < 4294967296 }
     requires other { IfSome other (λ p. p < 4294967296) }
-    ensures { result ≡ chosen condition place other }
+    ensures { result ≡ if_target condition place other }
 {
     if condition != 0 {
         return Some(place + 1);

@@ -4,11 +4,11 @@ ghost use Rattle.std.specs.Prelude.{◌≡◌, ◌≤◌, ◌<◌, ◌+◌, ◌�
 ghost use Rattle.w4_defs.specs.Effects.{truth};
 ghost use Rattle.wasm_machine.specs.Moves.{caller, cut, is_list, lists_of, CanClose, CanLand, CanLeave, Closes, Lands};
 
+use crate::activation::Activation;
 use crate::flow::Flow;
-use crate::frame::Frame;
 use crate::label::Label;
-use crate::labels::Labels;
-use crate::slots::Slots;
+use crate::label_stack::LabelStack;
+use crate::value_stack::ValueStack;
 
 /// How many values there are: one or none.
 #[inline(always)]
@@ -19,24 +19,35 @@ fn count(answers: bool) -> usize
     if answers { 1 } else { 0 }
 }
 
-/// Leaves the active function for its caller, whose base is handed in.
+/// Leaves the active function for its caller, whose base is passed.
 #[inline(always)]
-fn leave(answers: bool, base: u32, reserve: u32, frame: &mut Frame, slots: &mut Slots)
-    requires { CanLeave answers reserve slots.old frame.old }
-    ensures slots { slots.new ≡ cut frame.old.base (truth answers) slots.old }
-    ensures frame { frame.new ≡ caller base reserve frame.old }
+fn leave(
+    answers: bool,
+    base: u32,
+    reserve: u32,
+    activation: &mut Activation,
+    slots: &mut ValueStack,
+)
+    requires { CanLeave answers reserve slots.old activation.old }
+    ensures slots { slots.new ≡ cut activation.old.base (truth answers) slots.old }
+    ensures activation { activation.new ≡ caller base reserve activation.old }
 {
-    slots.cut(frame.base, count(answers));
-    frame.base = base as usize;
-    frame.depth -= 1;
-    frame.reserve -= reserve as usize;
+    slots.cut(activation.base, count(answers));
+    activation.base = base as usize;
+    activation.depth -= 1;
+    activation.reserve -= reserve as usize;
 }
 
 /// A branch to the innermost label.
 #[inline(always)]
-pub(crate) fn land(rest: u32, frame: &mut Frame, labels: &mut Labels, slots: &mut Slots) -> Flow
-    requires { CanLand labels.old slots.old frame.old }
-    ensures { Lands labels.old slots.old frame.old rest result labels.new slots.new frame.new }
+pub(crate) fn land(
+    rest: u32,
+    activation: &mut Activation,
+    labels: &mut LabelStack,
+    slots: &mut ValueStack,
+) -> Flow
+    requires { CanLand labels.old slots.old activation.old }
+    ensures { Lands labels.old slots.old activation.old rest result labels.new slots.new activation.new }
 {
     match labels.top() {
         None => Flow::Done { rest },
@@ -70,7 +81,7 @@ pub(crate) fn land(rest: u32, frame: &mut Frame, labels: &mut Labels, slots: &mu
             },
         ) => {
             labels.leave(1);
-            leave(answers, base, reserve, frame, slots);
+            leave(answers, base, reserve, activation, slots);
             Flow::Go {
                 place: back as usize,
                 rest,
@@ -84,21 +95,21 @@ pub(crate) fn land(rest: u32, frame: &mut Frame, labels: &mut Labels, slots: &mu
 pub(crate) fn branch(
     label: usize,
     rest: u32,
-    frame: &mut Frame,
-    labels: &mut Labels,
-    slots: &mut Slots,
+    activation: &mut Activation,
+    labels: &mut LabelStack,
+    slots: &mut ValueStack,
 ) -> Flow
     requires label { label ≤ length labels.old }
-    requires lands { CanLand (drop label labels.old) slots.old frame.old }
-    ensures { Lands (drop label labels.old) slots.old frame.old rest result labels.new slots.new frame.new }
+    requires lands { CanLand (drop label labels.old) slots.old activation.old }
+    ensures { Lands (drop label labels.old) slots.old activation.old rest result labels.new slots.new activation.new }
 {
     labels.leave(label);
-    land(rest, frame, labels, slots)
+    land(rest, activation, labels, slots)
 }
 
 /// Whether the innermost label is that of a list within the active function.
 #[inline(always)]
-fn in_list(labels: &Labels) -> bool
+fn in_list(labels: &LabelStack) -> bool
     ensures { result ≡ is_list labels.now }
 {
     match labels.top() {
@@ -110,7 +121,7 @@ fn in_list(labels: &Labels) -> bool
 }
 
 /// Leaves all lists that are open in the active function.
-pub(crate) fn leave_lists(labels: &mut Labels)
+pub(crate) fn leave_lists(labels: &mut LabelStack)
     ensures left { labels.new ≡ drop (lists_of labels.old) labels.old }
 {
     while in_list(labels) {
@@ -123,13 +134,13 @@ pub(crate) fn leave_lists(labels: &mut Labels)
 pub(crate) fn close(
     place: usize,
     rest: u32,
-    frame: &mut Frame,
-    labels: &mut Labels,
-    slots: &mut Slots,
+    activation: &mut Activation,
+    labels: &mut LabelStack,
+    slots: &mut ValueStack,
 ) -> Flow
     requires place { place < 4294967296 }
-    requires closes { CanClose labels.old slots.old frame.old }
-    ensures { Closes place labels.old slots.old frame.old rest result labels.new slots.new frame.new }
+    requires closes { CanClose labels.old slots.old activation.old }
+    ensures { Closes place labels.old slots.old activation.old rest result labels.new slots.new activation.new }
 {
     match labels.top() {
         None => Flow::Done { rest },
@@ -156,7 +167,7 @@ pub(crate) fn close(
             },
         ) => {
             labels.leave(1);
-            leave(answers, base, reserve, frame, slots);
+            leave(answers, base, reserve, activation, slots);
             Flow::Go {
                 place: back as usize,
                 rest,

@@ -3,19 +3,19 @@
 ghost use Rattle.std.specs.Prelude.{◌≡◌, ◌+◌, ◌<◌, ◌≤◌, ℕ, List, Some, length, slice_get};
 ghost use Rattle.w4_defs.specs.declared.operation.Op.TheVariants as op;
 ghost use Rattle.w4_defs.specs.declared.value.Val.{Val};
-ghost use Rattle.wasm_machine.specs.Calling.{Calling, Calls};
-ghost use Rattle.wasm_machine.specs.Kinds.{kind_of};
-ghost use Rattle.wasm_machine.specs.Tie.{outside};
-ghost use Rattle.wasm_machine.specs.Turning.{Turned, Turning};
+ghost use Rattle.wasm_machine.specs.Calling.{Calls, IsCallUnderWay};
+ghost use Rattle.wasm_machine.specs.Step.{IsAfterStep, IsBeforeStep};
+ghost use Rattle.wasm_machine.specs.Tie.{host_functions};
+ghost use Rattle.wasm_machine.specs.TypeNumbers.{type_number_of};
 ghost use Rattle.wasm_tree.specs.Layout.{entries};
 ghost use Rattle.wasm_tree.specs.Pool.{operations_of};
 
+use crate::activation::Activation;
 use crate::enter::{enter, is_allowed};
 use crate::flow::Flow;
-use crate::frame::Frame;
 use crate::host_call::call_host;
-use crate::labels::Labels;
-use crate::slots::Slots;
+use crate::label_stack::LabelStack;
+use crate::value_stack::ValueStack;
 use w4_defs::Cause;
 use wasm_page::Page;
 use wasm_tree::Host;
@@ -28,18 +28,18 @@ pub(crate) fn call<H: Host>(
     callee: Call,
     back: usize,
     budget: u32,
-    frame: &mut Frame,
-    labels: &mut Labels,
-    slots: &mut Slots,
+    activation: &mut Activation,
+    labels: &mut LabelStack,
+    slots: &mut ValueStack,
     page: &mut Page,
     host: &mut H,
 ) -> Flow
-    requires calling { Calling (outside H.weight H.effect) callee back frame.old labels.old slots.old
+    requires calling { IsCallUnderWay (host_functions H.weight H.effect) callee back activation.old labels.old slots.old
         page.old host.old budget }
     requires back { back < 4294967296 }
-    ensures calls { Calls (outside H.weight H.effect) callee back frame.old labels.old slots.old page.old
+    ensures calls { Calls (host_functions H.weight H.effect) callee back activation.old labels.old slots.old page.old
         host.old budget
-        result frame.new labels.new slots.new page.new host.new }
+        result activation.new labels.new slots.new page.new host.new }
     ensures grows { length labels.new ≤ length labels.old + 1 }
 {
     match callee {
@@ -51,10 +51,12 @@ pub(crate) fn call<H: Host>(
             reserve,
             ..
         } => {
-            if !is_allowed(reserve, frame) {
+            if !is_allowed(reserve, activation) {
                 return Flow::Trap(Cause::Stack);
             }
-            enter(params, zeros, answers, reserve, back, frame, labels, slots);
+            enter(
+                params, zeros, answers, reserve, back, activation, labels, slots,
+            );
             Flow::Go {
                 place: start,
                 rest: budget,
@@ -75,33 +77,42 @@ pub(crate) fn call_direct<H: Host>(
     func: u32,
     place: usize,
     budget: u32,
-    frame: &mut Frame,
-    labels: &mut Labels,
-    slots: &mut Slots,
+    activation: &mut Activation,
+    labels: &mut LabelStack,
+    slots: &mut ValueStack,
     page: &mut Page,
     host: &mut H,
 ) -> Flow
-    requires going { (globals : List Val) × Turning (outside H.weight H.effect) cart.now place frame.old
+    requires going { (globals : List Val) × IsBeforeStep (host_functions H.weight H.effect) cart.now place activation.old
         labels.old slots.old page.old globals host.old (budget + 1) }
     requires op { slice_get (operations_of (entries cart.now)) place ≡ Some (op.Call func) }
     requires bound { length (entries cart.now) < 4294967296 }
-    ensures goes { (globals : List Val) → Turned (outside H.weight H.effect) cart.now place frame.old
+    ensures goes { (globals : List Val) → IsAfterStep (host_functions H.weight H.effect) cart.now place activation.old
         labels.old slots.old page.old globals host.old (budget + 1)
-        result frame.new labels.new slots.new page.new globals host.new budget }
+        result activation.new labels.new slots.new page.new globals host.new budget }
     ensures grows { length labels.new ≤ length labels.old + 1 }
 {
     let calls = cart.calls();
     let callee = calls[func as usize];
-    call(callee, place + 1, budget, frame, labels, slots, page, host)
+    call(
+        callee,
+        place + 1,
+        budget,
+        activation,
+        labels,
+        slots,
+        page,
+        host,
+    )
 }
 
 /// The number of a function's type.
-fn kind(callee: &Call) -> u32
-    ensures { result ≡ kind_of callee.now }
+fn type_number(callee: &Call) -> u32
+    ensures { result ≡ type_number_of callee.now }
 {
     match callee {
-        Call::Own { kind, .. } => *kind,
-        Call::Import { kind, .. } => *kind,
+        Call::Own { type_number, .. } => *type_number,
+        Call::Import { type_number, .. } => *type_number,
     }
 }
 
@@ -113,20 +124,20 @@ pub(crate) fn call_indirect<H: Host>(
     table_index: u32,
     place: usize,
     budget: u32,
-    frame: &mut Frame,
-    labels: &mut Labels,
-    slots: &mut Slots,
+    activation: &mut Activation,
+    labels: &mut LabelStack,
+    slots: &mut ValueStack,
     page: &mut Page,
     host: &mut H,
 ) -> Flow
-    requires going { (globals : List Val) × Turning (outside H.weight H.effect) cart.now place frame.old
+    requires going { (globals : List Val) × IsBeforeStep (host_functions H.weight H.effect) cart.now place activation.old
         labels.old slots.old page.old globals host.old (budget + 1) }
     requires op { slice_get (operations_of (entries cart.now)) place
         ≡ Some (op.CallIndirect type_index table_index) }
     requires bound { length (entries cart.now) < 4294967296 }
-    ensures goes { (globals : List Val) → Turned (outside H.weight H.effect) cart.now place frame.old
+    ensures goes { (globals : List Val) → IsAfterStep (host_functions H.weight H.effect) cart.now place activation.old
         labels.old slots.old page.old globals host.old (budget + 1)
-        result frame.new labels.new slots.new page.new globals host.new budget }
+        result activation.new labels.new slots.new page.new globals host.new budget }
     ensures grows { length labels.new ≤ length labels.old + 1 }
 {
     let index = slots.pop() as usize;
@@ -142,8 +153,17 @@ pub(crate) fn call_indirect<H: Host>(
     let callee = calls[func as usize];
     let numbers = cart.type_numbers();
     let named = numbers[type_index as usize];
-    if kind(&callee) != named {
+    if type_number(&callee) != named {
         return Flow::Trap(Cause::Type_);
     }
-    call(callee, place + 1, budget, frame, labels, slots, page, host)
+    call(
+        callee,
+        place + 1,
+        budget,
+        activation,
+        labels,
+        slots,
+        page,
+        host,
+    )
 }

@@ -1,12 +1,12 @@
-//! The stack rule, and what entering an own function does (own rule).
+//! The stack rule, and what entering an own function does (project rule).
 
 ghost use Rattle.std.specs.Prelude.{◌≡◌, ◌+◌, ◌<◌, ◌≤◌, ◌++◌, ◌∷◌, length, replicate};
-ghost use Rattle.wasm_machine.specs.Entering.{allows, entered};
+ghost use Rattle.wasm_machine.specs.Entering.{allows, callee_activation};
 
-use crate::frame::Frame;
+use crate::activation::Activation;
 use crate::label::Label;
-use crate::labels::Labels;
-use crate::slots::Slots;
+use crate::label_stack::LabelStack;
+use crate::value_stack::ValueStack;
 
 /// How many own functions may be active.
 const MOST_ACTIVE: usize = 4096;
@@ -16,11 +16,11 @@ pub(crate) const MOST_RESERVE: usize = 1_048_576;
 
 /// Whether the stack rule allows a call of a function with this reserve.
 #[inline(always)]
-pub(crate) fn is_allowed(reserve: usize, frame: &Frame) -> bool
-    requires { frame.now.reserve ≤ 1048576 }
-    ensures { result ≡ allows reserve frame.now }
+pub(crate) fn is_allowed(reserve: usize, activation: &Activation) -> bool
+    requires { activation.now.reserve ≤ 1048576 }
+    ensures { result ≡ allows reserve activation.now }
 {
-    frame.depth < MOST_ACTIVE && reserve <= MOST_RESERVE - frame.reserve
+    activation.depth < MOST_ACTIVE && reserve <= MOST_RESERVE - activation.reserve
 }
 
 /// A function with so many parameters and further locals begins: its arguments are its first locals where
@@ -32,31 +32,31 @@ pub(crate) fn enter(
     answers: bool,
     reserve: usize,
     back: usize,
-    frame: &mut Frame,
-    labels: &mut Labels,
-    slots: &mut Slots,
+    activation: &mut Activation,
+    labels: &mut LabelStack,
+    slots: &mut ValueStack,
 )
     requires arguments { params ≤ length slots.old }
     requires back { back < 4294967296 }
-    requires base { frame.old.base ≤ 1048576 }
-    requires reserves { frame.old.reserve + reserve ≤ 1048576 }
-    requires depth { frame.old.depth < 4096 }
+    requires base { activation.old.base ≤ 1048576 }
+    requires reserves { activation.old.reserve + reserve ≤ 1048576 }
+    requires depth { activation.old.depth < 4096 }
     requires labels { length labels.old < 1048576 }
     requires slots { length slots.old + zeros ≤ 1048576 }
-    ensures frame { frame.new ≡ entered params reserve slots.old frame.old }
-    ensures labels { labels.new ≡ Label.Call answers back frame.old.base reserve ∷ labels.old }
+    ensures activation { activation.new ≡ callee_activation params reserve slots.old activation.old }
+    ensures labels { labels.new ≡ Label.Call answers back activation.old.base reserve ∷ labels.old }
     ensures slots { slots.new ≡ replicate zeros 0 ++ slots.old }
 {
     labels.push(Label::Call {
         answers,
         back: back as u32,
-        base: frame.base as u32,
+        base: activation.base as u32,
         reserve: reserve as u32,
     });
-    *frame = Frame {
+    *activation = Activation {
         base: slots.len() - params,
-        depth: frame.depth + 1,
-        reserve: frame.reserve + reserve,
+        depth: activation.depth + 1,
+        reserve: activation.reserve + reserve,
     };
     slots.push_zeros(zeros);
 }

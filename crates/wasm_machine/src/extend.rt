@@ -1,7 +1,7 @@
 //! Sign extension of a number's lowest bytes, into the width of a type.
 
 ghost use Rattle.std.specs.Prelude.{◌≡◌, ◌*◌, ◌%◌, ◌^◌, ◌<◌, ◌⊎◌};
-ghost use Rattle.w4_defs.specs.Integers.{signed, extended};
+ghost use Rattle.w4_defs.specs.Integers.{as_signed, extended};
 
 /// From 1 or 2 bytes to 32 bits.
 #[inline(always)]
@@ -31,21 +31,21 @@ pub(crate) fn extend_64(bytes: usize, number: u64) -> u64
 
 #[inline(always)]
 fn low_byte(number: u64) -> i8
-    ensures { result ≡ signed 8 (number % 2 ^ 8) }
+    ensures { result ≡ as_signed 8 (number % 2 ^ 8) }
 {
     ((number % 0x100) as u8).cast_signed()
 }
 
 #[inline(always)]
 fn low_half(number: u64) -> i16
-    ensures { result ≡ signed 16 (number % 2 ^ 16) }
+    ensures { result ≡ as_signed 16 (number % 2 ^ 16) }
 {
     ((number % 0x1_0000) as u16).cast_signed()
 }
 
 #[inline(always)]
 fn low_word(number: u64) -> i32
-    ensures { result ≡ signed 32 (number % 2 ^ 32) }
+    ensures { result ≡ as_signed 32 (number % 2 ^ 32) }
 {
     ((number % 0x1_0000_0000) as u32).cast_signed()
 }

@@ -1,8 +1,8 @@
-//! How a run goes on after a turn.
+//! How a run goes on after a step.
 
 use w4_defs::Cause;
 
-/// The answer of one turn.
+/// The result of one step.
 #[derive(Clone, Copy, PartialEq, Eq, Debug)]
 pub(crate) enum Flow {
     /// On at this place, with this much of the budget.

@@ -1,11 +1,11 @@
-//! Calls of imports (own rule): the weight is taken before the effect.
+//! Calls of imports (project rule): the weight is taken before the effect.
 
 ghost use Rattle.std.specs.Prelude.{◌≡◌, ◌<◌, ◌≤◌, drop, length, take};
 ghost use Rattle.w4_defs.specs.Imports.{import_type};
 ghost use Rattle.wasm_machine.specs.HostCalls.{answered_with, arguments_of, Pays};
-ghost use Rattle.wasm_machine.specs.Tie.{outside};
+ghost use Rattle.wasm_machine.specs.Tie.{host_functions};
 
-use crate::slots::Slots;
+use crate::value_stack::ValueStack;
 use w4_defs::Import;
 use wasm_page::Page;
 use wasm_tree::Host;
@@ -14,7 +14,7 @@ use wasm_tree::Host;
 const MOST_ARGUMENTS: usize = 9;
 
 /// Takes the arguments of a call from the stack, in order.
-fn take_arguments(params: usize, slots: &mut Slots, args: &mut [u32; MOST_ARGUMENTS])
+fn take_arguments(params: usize, slots: &mut ValueStack, args: &mut [u32; MOST_ARGUMENTS])
     requires few { params ≤ 9 }
     requires there { params ≤ length slots.old }
     ensures taken { take params args.new ≡ arguments_of params slots.old }
@@ -28,7 +28,7 @@ fn take_arguments(params: usize, slots: &mut Slots, args: &mut [u32; MOST_ARGUME
 }
 
 /// Puts the answer on the stack, where there is one.
-fn put_answer(answer: Option<u32>, slots: &mut Slots)
+fn put_answer(answer: Option<u32>, slots: &mut ValueStack)
     requires { length slots.old < 1048576 }
     ensures { slots.new ≡ answered_with answer slots.old }
 {
@@ -43,7 +43,7 @@ pub(crate) fn call_host<H: Host>(
     name: Import,
     params: usize,
     budget: u32,
-    slots: &mut Slots,
+    slots: &mut ValueStack,
     page: &mut Page,
     host: &mut H,
 ) -> Option<u32>
@@ -51,7 +51,7 @@ pub(crate) fn call_host<H: Host>(
     requires few { params ≤ 9 }
     requires there { params ≤ length slots.old }
     requires room { length slots.old < 1048576 }
-    ensures { Pays (outside H.weight H.effect) name (arguments_of params slots.old)
+    ensures { Pays (host_functions H.weight H.effect) name (arguments_of params slots.old)
         (drop params slots.old) page.old host.old budget
         result slots.new page.new host.new }
 {

@@ -10,7 +10,7 @@ pub(crate) enum Label {
         end: u32,
         height: u32,
     },
-    /// A loop, whose next turn begins at `start`.
+    /// A loop, whose next iteration begins at `start`.
     Loop {
         start: u32,
         height: u32,

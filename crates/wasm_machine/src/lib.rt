@@ -3,7 +3,9 @@
 //! relies on the ending, the page, the globals and the host being exactly those of the evaluator.
 #![tactic(auto)]
 
+mod activation;
 mod begin;
+mod br_table;
 mod branch;
 mod bulk;
 mod call;
@@ -12,21 +14,19 @@ mod ending;
 mod enter;
 mod extend;
 mod flow;
-mod frame;
 mod globals;
 mod host_call;
+mod instruction;
 mod label;
-mod labels;
+mod label_stack;
 mod machine;
 mod memory;
 mod operands;
 mod plain;
 mod run;
-mod slots;
-mod table;
 #[cfg(test)]
 mod tests;
-mod turn;
+mod value_stack;
 mod variables;
 
 pub use ending::Ending;

@@ -4,17 +4,22 @@
 ghost use Rattle.std.specs.Prelude.{◌≡◌, ◌+◌, ◌≤◌, length};
 ghost use Rattle.w4_defs.specs.declared.value.ValType.TheVariants.{I32, I64};
 ghost use Rattle.w4_defs.specs.Effects.{eqz as is_zero, comparison, one_operand, two_operands};
-ghost use Rattle.wasm_machine.specs.Plain.{Ready, Did};
+ghost use Rattle.wasm_machine.specs.Plain.{HasDone, Ready};
 
-use crate::slots::Slots;
+use crate::value_stack::ValueStack;
 use w4_defs::{Binary, Cause, Compare, Unary, ValType};
 use wasm_num::{binary32, binary64, compare32, compare64, unary32, unary64};
 use wasm_page::Page;
 
 #[inline(always)]
-pub(crate) fn eqz(kind: ValType, base: usize, slots: &mut Slots, page: &Page) -> Option<Cause>
-    requires { Ready (is_zero kind) base slots.old page.now }
-    ensures did { Did (is_zero kind) base slots.old page.now result slots.new page.now }
+pub(crate) fn eqz(
+    value_type: ValType,
+    base: usize,
+    slots: &mut ValueStack,
+    page: &Page,
+) -> Option<Cause>
+    requires { Ready (is_zero value_type) base slots.old page.now }
+    ensures did { HasDone (is_zero value_type) base slots.old page.now result slots.new page.now }
     ensures grows { length slots.new ≤ length slots.old + 1 }
 {
     let a = slots.pop();
@@ -23,9 +28,14 @@ pub(crate) fn eqz(kind: ValType, base: usize, slots: &mut Slots, page: &Page) ->
 }
 
 #[inline(always)]
-pub(crate) fn compare_32(op: Compare, base: usize, slots: &mut Slots, page: &Page) -> Option<Cause>
+pub(crate) fn compare_32(
+    op: Compare,
+    base: usize,
+    slots: &mut ValueStack,
+    page: &Page,
+) -> Option<Cause>
     requires { Ready (comparison I32 op) base slots.old page.now }
-    ensures did { Did (comparison I32 op) base slots.old page.now result slots.new page.now }
+    ensures did { HasDone (comparison I32 op) base slots.old page.now result slots.new page.now }
     ensures grows { length slots.new ≤ length slots.old + 1 }
 {
     let b = slots.pop() as u32;
@@ -35,9 +45,14 @@ pub(crate) fn compare_32(op: Compare, base: usize, slots: &mut Slots, page: &Pag
 }
 
 #[inline(always)]
-pub(crate) fn compare_64(op: Compare, base: usize, slots: &mut Slots, page: &Page) -> Option<Cause>
+pub(crate) fn compare_64(
+    op: Compare,
+    base: usize,
+    slots: &mut ValueStack,
+    page: &Page,
+) -> Option<Cause>
     requires { Ready (comparison I64 op) base slots.old page.now }
-    ensures did { Did (comparison I64 op) base slots.old page.now result slots.new page.now }
+    ensures did { HasDone (comparison I64 op) base slots.old page.now result slots.new page.now }
     ensures grows { length slots.new ≤ length slots.old + 1 }
 {
     let b = slots.pop();
@@ -47,9 +62,9 @@ pub(crate) fn compare_64(op: Compare, base: usize, slots: &mut Slots, page: &Pag
 }
 
 #[inline(always)]
-pub(crate) fn unary_32(op: Unary, base: usize, slots: &mut Slots, page: &Page) -> Option<Cause>
+pub(crate) fn unary_32(op: Unary, base: usize, slots: &mut ValueStack, page: &Page) -> Option<Cause>
     requires { Ready (one_operand I32 op) base slots.old page.now }
-    ensures did { Did (one_operand I32 op) base slots.old page.now result slots.new page.now }
+    ensures did { HasDone (one_operand I32 op) base slots.old page.now result slots.new page.now }
     ensures grows { length slots.new ≤ length slots.old + 1 }
 {
     let a = slots.pop() as u32;
@@ -58,9 +73,9 @@ pub(crate) fn unary_32(op: Unary, base: usize, slots: &mut Slots, page: &Page) -
 }
 
 #[inline(always)]
-pub(crate) fn unary_64(op: Unary, base: usize, slots: &mut Slots, page: &Page) -> Option<Cause>
+pub(crate) fn unary_64(op: Unary, base: usize, slots: &mut ValueStack, page: &Page) -> Option<Cause>
     requires { Ready (one_operand I64 op) base slots.old page.now }
-    ensures did { Did (one_operand I64 op) base slots.old page.now result slots.new page.now }
+    ensures did { HasDone (one_operand I64 op) base slots.old page.now result slots.new page.now }
     ensures grows { length slots.new ≤ length slots.old + 1 }
 {
     let a = slots.pop();
@@ -69,9 +84,14 @@ pub(crate) fn unary_64(op: Unary, base: usize, slots: &mut Slots, page: &Page) -
 }
 
 #[inline(always)]
-pub(crate) fn binary_32(op: Binary, base: usize, slots: &mut Slots, page: &Page) -> Option<Cause>
+pub(crate) fn binary_32(
+    op: Binary,
+    base: usize,
+    slots: &mut ValueStack,
+    page: &Page,
+) -> Option<Cause>
     requires { Ready (two_operands I32 op) base slots.old page.now }
-    ensures did { Did (two_operands I32 op) base slots.old page.now result slots.new page.now }
+    ensures did { HasDone (two_operands I32 op) base slots.old page.now result slots.new page.now }
     ensures grows { length slots.new ≤ length slots.old + 1 }
 {
     let b = slots.pop() as u32;
@@ -86,9 +106,14 @@ pub(crate) fn binary_32(op: Binary, base: usize, slots: &mut Slots, page: &Page)
 }
 
 #[inline(always)]
-pub(crate) fn binary_64(op: Binary, base: usize, slots: &mut Slots, page: &Page) -> Option<Cause>
+pub(crate) fn binary_64(
+    op: Binary,
+    base: usize,
+    slots: &mut ValueStack,
+    page: &Page,
+) -> Option<Cause>
     requires { Ready (two_operands I64 op) base slots.old page.now }
-    ensures did { Did (two_operands I64 op) base slots.old page.now result slots.new page.now }
+    ensures did { HasDone (two_operands I64 op) base slots.old page.now result slots.new page.now }
     ensures grows { length slots.new ≤ length slots.old + 1 }
 {
     let b = slots.pop();

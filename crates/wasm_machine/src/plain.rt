@@ -1,8 +1,8 @@
 //! The plain instructions: those that need neither host, budget nor label (Core Specification, section 4.4).
 
 ghost use Rattle.std.specs.Prelude.{◌≡◌, ◌+◌, ◌<◌, ◌≤◌, length};
-ghost use Rattle.w4_defs.specs.Effects.{effect, pushed};
-ghost use Rattle.wasm_machine.specs.Plain.{Ready, Did};
+ghost use Rattle.w4_defs.specs.Effects.{effect, push_value};
+ghost use Rattle.wasm_machine.specs.Plain.{HasDone, Ready};
 ghost use Rattle.w4_defs.specs.declared.value.Val.TheVariants as val;
 ghost use Rattle.w4_defs.specs.declared.operation.Op.TheVariants as op_of;
 
@@ -11,21 +11,21 @@ use crate::memory::{
     load_32, load_64, load_signed_32, load_signed_64, memory_copy, memory_fill, memory_grow, store,
 };
 use crate::operands::{binary_32, binary_64, compare_32, compare_64, eqz, unary_32, unary_64};
-use crate::slots::Slots;
+use crate::value_stack::ValueStack;
 use crate::variables::{local_get, local_set, local_tee, select};
 use w4_defs::{Binary, Cause, Compare, Op, Unary, ValType};
 use wasm_page::Page;
 
-/// Does one plain instruction, and gives the cause where it traps; then the page is as before. `base` slots
+/// Does one plain instruction, and gives the cause where it traps; then the page is unchanged. `base` slots
 /// lie below the function's locals. Condition: operands and locals are there, each of the instruction's type.
 ///
 /// All rows stand in one table, since a jump finds the row: tables that go on to one another would cost an
 /// instruction a jump for each table before its own.
 #[inline(always)]
-pub(crate) fn plain(op: &Op, base: usize, slots: &mut Slots, page: &mut Page) -> Option<Cause>
+pub(crate) fn plain(op: &Op, base: usize, slots: &mut ValueStack, page: &mut Page) -> Option<Cause>
     requires ready { Ready (effect op.now) base slots.old page.old }
     requires room { length slots.old < 1048576 }
-    ensures did { Did (effect op.now) base slots.old page.old result slots.new page.new }
+    ensures did { HasDone (effect op.now) base slots.old page.old result slots.new page.new }
     ensures grows { length slots.new ≤ length slots.old + 1 }
 {
     match *op {
@@ -150,9 +150,9 @@ pub(crate) fn plain(op: &Op, base: usize, slots: &mut Slots, page: &mut Page) ->
 }
 
 #[inline(always)]
-fn drop_operand(base: usize, slots: &mut Slots, page: &Page) -> Option<Cause>
+fn drop_operand(base: usize, slots: &mut ValueStack, page: &Page) -> Option<Cause>
     requires { Ready (effect op_of.Drop) base slots.old page.now }
-    ensures did { Did (effect op_of.Drop) base slots.old page.now result slots.new page.now }
+    ensures did { HasDone (effect op_of.Drop) base slots.old page.now result slots.new page.now }
     ensures grows { length slots.new ≤ length slots.old + 1 }
 {
     slots.pop();
@@ -160,9 +160,9 @@ fn drop_operand(base: usize, slots: &mut Slots, page: &Page) -> Option<Cause>
 }
 
 #[inline(always)]
-fn push_32(value: u32, base: usize, slots: &mut Slots, page: &Page) -> Option<Cause>
+fn push_32(value: u32, base: usize, slots: &mut ValueStack, page: &Page) -> Option<Cause>
     requires { length slots.old < 1048576 }
-    ensures did { Did (pushed (val.I32 value)) base slots.old page.now result slots.new page.now }
+    ensures did { HasDone (push_value (val.I32 value)) base slots.old page.now result slots.new page.now }
     ensures grows { length slots.new ≤ length slots.old + 1 }
 {
     slots.push(u64::from(value));
@@ -170,9 +170,9 @@ fn push_32(value: u32, base: usize, slots: &mut Slots, page: &Page) -> Option<Ca
 }
 
 #[inline(always)]
-fn push_64(value: u64, base: usize, slots: &mut Slots, page: &Page) -> Option<Cause>
+fn push_64(value: u64, base: usize, slots: &mut ValueStack, page: &Page) -> Option<Cause>
     requires { length slots.old < 1048576 }
-    ensures did { Did (pushed (val.I64 value)) base slots.old page.now result slots.new page.now }
+    ensures did { HasDone (push_value (val.I64 value)) base slots.old page.now result slots.new page.now }
     ensures grows { length slots.new ≤ length slots.old + 1 }
 {
     slots.push(value);

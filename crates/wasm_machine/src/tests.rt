@@ -3,7 +3,7 @@
 
 ghost use Rattle.std.specs.Prelude.{◌≡◌, IfSome, Some, slice_index};
 ghost use Rattle.w4_defs.specs.Lookup.{signature_of};
-ghost use Rattle.wasm_valid.specs.Carts.{nothing};
+ghost use Rattle.w4_defs.specs.Module.{nothing_to_nothing};
 
 use crate::{Ending, Machine};
 use std::alloc::Global;
@@ -79,7 +79,7 @@ const CART: &[u8] = b"\0asm\x01\0\0\0\x01\x0a\x02\x60\0\0\x60\x03\x7f\x7f\x7f\0\
     \x07\x0a\x01\x06update\0\x01\
     \x0a\x13\x01\x11\0\x41\0\x41\x07\x3a\0\0\x41\x05\x41\x03\x41\x09\x10\0\x0b";
 
-/// The cart that bytes spell, if they spell one.
+/// The cart that bytes encode, if they encode one.
 fn cart_of(alloc: Global, bytes: &[u8]) -> Option<Cart> {
     let Ok(code) = read_module(alloc, bytes) else {
         return None;
@@ -95,12 +95,12 @@ fn cart_of(alloc: Global, bytes: &[u8]) -> Option<Cart> {
 
 /// The function that is `update`.
 fn update_of(cart: &Cart) -> Option<u32>
-    ensures { IfSome result (λ f. signature_of cart.now f ≡ Some nothing) }
+    ensures { IfSome result (λ f. signature_of cart.now f ≡ Some nothing_to_nothing) }
 {
     cart.entry(Entry::Update)
 }
 
-/// How `update` of the cart ends under a budget. None where the bytes spell no cart without globals.
+/// How `update` of the cart ends under a budget. None where the bytes encode no cart without globals.
 fn ended(alloc: Global, machine: &mut Machine, page: &mut Page, budget: u32) -> Option<Ending> {
     let Some(cart) = cart_of(alloc, CART) else {
         return None;

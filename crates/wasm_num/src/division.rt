@@ -1,4 +1,4 @@
-//! Quotients and remainders. DivideByZero exactly where the divisor is 0.
+//! Quotients and remainders. DivideByZero if and only if the divisor is 0.
 
 ghost use Rattle.std.specs.Prelude.{◌≡◌};
 ghost use Rattle.w4_defs.specs.Integers.{div_s, div_u, rem_s, rem_u};

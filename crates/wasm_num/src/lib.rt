@@ -1,6 +1,6 @@
 //! The integer operations of 32 and 64 bits by machine operations (Core Specification, section 4.3.2).
 //! The layers above rely on this: each call gives exactly what the definition of the operation says, for
-//! every operand, and traps exactly where the definition does.
+//! every operand, and traps if and only if the definition does.
 #![tactic(auto)]
 
 pub mod bits32;

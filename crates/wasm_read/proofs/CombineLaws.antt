@@ -10,7 +10,7 @@ use Rattle.w4_defs.specs.Reading.{◌>>=◌, front_at}
 use Rattle.w4_defs.proofs.ReadingLaws.{front_again}
 use Rattle.wasm_read.specs.Reader.{Reader, read_as, Takes, Reads, ReadsWhole, row_of, coded_at}
 use Rattle.wasm_read.specs.ReadNumber.{unsigned_at}
-use Rattle.wasm_read.specs.Combine.{both_at, mapped_at, tested_at, headed_at, items_at, vector_at, whole_at, cut_at, sized_at}
+use Rattle.wasm_read.specs.Combine.{both_at, mapped_at, tested_at, headed_at, items_at, vector_at, whole_at, sized_bytes_at, sized_at}
 use Rattle.wasm_read.proofs.Basics.{bind_some, split_if, if_some, same_read, moved}
 use Rattle.wasm_read.proofs.NumberLaws.{unsigned_reads}
 
@@ -150,8 +150,8 @@ front_taken n bytes front rest e =
           (ap (λ xs. length xs) (sym same.0) ∙ length-take-le n bytes long, sym (take-append-drop n bytes) ∙ ap (λ f. f ++ drop n bytes) same.0 ∙ ap (λ r. front ++ r) same.1)
     ]
 
-pub cut_reads : Reads bytes cut_at
-unfolding cut_at
+pub cut_reads : Reads bytes sized_bytes_at
+unfolding sized_bytes_at
 cut_reads = record {
   sound = λ text front rest e.
       let n = bind_some (unsigned_at 32 text) (λ (k : ℕ × List ℕ). front_at k.0 k.1) (front, rest) e in
@@ -165,14 +165,14 @@ cut_reads = record {
   complete = λ text rest x h.
       let e = (unsigned_reads 32).complete h.0 (h.1 ++ rest) (length h.1) h.3 in
       let e2 = front_again h.1 rest (length h.1) refl in
-      ap cut_at (ap (λ t. t ++ rest) h.2 ∙ append_assoc h.0 h.1 rest) ∙ (rw (e, e2) refl) ∙ ap (λ m. read_as m rest) h.4;
+      ap sized_bytes_at (ap (λ t. t ++ rest) h.2 ∙ append_assoc h.0 h.1 rest) ∙ (rw (e, e2) refl) ∙ ap (λ m. read_as m rest) h.4;
 }
 
 pub sized_reads : {A : Type 0} (P : A → Texts) (whole : List ℕ → Option A) → ReadsWhole P whole → Reads (sized P) (sized_at whole)
 unfolding sized_at
 sized_reads {A} P whole r = record {
   sound = λ text x rest e.
-      let f = bind_some (cut_at text) (λ (g : List ℕ × List ℕ). whole g.0 >>= λ y. read_as y g.1) (x, rest) e in
+      let f = bind_some (sized_bytes_at text) (λ (g : List ℕ × List ℕ). whole g.0 >>= λ y. read_as y g.1) (x, rest) e in
       let w = bind_some (whole f.0.0) (λ y. read_as y f.0.1) (x, rest) f.2 in
       let t = cut_reads.sound text f.0.0 f.0.1 f.1 in
       let c = t.2 in
@@ -185,7 +185,7 @@ sized_reads {A} P whole r = record {
       rw (e, e3) refl;
 }
 
--- every row's value is spelled by its byte
+-- every row's value is encoded by its byte
 abbrev pub AllCoded : {A : Type 0} → (A → Texts) → List (ℕ × A) → Type 0
 AllCoded P [] = Unit {0}
 AllCoded P (row ∷ rows) = P row.1 (row.0 ∷ []) × AllCoded P rows

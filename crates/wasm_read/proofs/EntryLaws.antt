@@ -114,7 +114,7 @@ unlabelled_sound bytes op rest e =
 labels_reads : Reads (λ (x : List ℕ × ℕ). vector (unsigned 32) x.0 then unsigned 32 x.1) (both_at (vector_at (unsigned_at 32)) (unsigned_at 32))
 labels_reads = both_reads (vector (unsigned 32)) (unsigned 32) (vector_at (unsigned_at 32)) (unsigned_at 32) (vector_reads (unsigned 32) (unsigned_at 32) (unsigned_reads 32)) (unsigned_reads 32)
 
--- a br_table whose labels these bytes spell
+-- a br_table whose labels these bytes encode
 table_taken : (b : ℕ) (bs : List ℕ) (x : List ℕ × ℕ) (after labels rest : List ℕ) → b ≡ 0x0e
     → Takes (λ (y : List ℕ × ℕ). vector (unsigned 32) y.0 then unsigned 32 y.1) bs x after
     → read_as (with_last x) after ≡ Some (labels, rest)

@@ -1,4 +1,4 @@
--- What the second pass makes of entries are the flattenings of trees that the bytes spell.
+-- What the second pass makes of entries are the flattenings of trees that the bytes encode.
 use Rattle.std.proofs.Common.{◌≡◌, ℕ, ◌+◌, ◌≤◌, true, if◌then◌else◌, List, [], ◌∷◌, ◌++◌, length, Option, Some, None, refl, ap, sym, ◌∙◌, subst, append_assoc, append-nil, arith}
 use Rattle.std.proofs.lemmas.List.{length-append}
 use Rattle.w4_defs.specs.declared.value.ValType.{ValType}
@@ -15,7 +15,7 @@ use Rattle.wasm_tree.specs.Expressions.{IsFlat}
 use Rattle.wasm_read.specs.declared.brackets.Close.{Close}
 use Rattle.wasm_read.specs.declared.brackets.Close.TheVariants.{Ends, Parts}
 use Rattle.wasm_read.specs.Reader.{read_as, Reads}
-use Rattle.wasm_read.specs.ReadExpression.{entries_at, placed, filled, is_one_end, matched, flattening_at, expression_at}
+use Rattle.wasm_read.specs.ReadExpression.{entries_at, entry_with_places, entries_with_places, is_one_end, matched, flattening_at, expression_at}
 use Rattle.wasm_read.proofs.Basics.{bind_some, if_some, moved}
 use Rattle.wasm_read.proofs.EntryLaws.{entry_of, entry, entries_long}
 use Rattle.wasm_read.proofs.Passes.{filled_as, raw, list_proper, raw_spelled, end_spelled, whole_walks, entries_found, entries_sound, filled_raw}
@@ -32,7 +32,7 @@ abbrev op_of : Close → Op
 op_of (Ends place) = End
 op_of (Parts place) = Else
 
--- the text spells the lists that these close, one after the other, and the entries are their flattenings
+-- the text encodes the lists that these close, one after the other, and the entries are their flattenings
 abbrev Forest : ℕ → List Close → List ℕ → List Mark → Type 0
 Forest at [] text ms = (text ≡ []) × (ms ≡ [])
 Forest at (c ∷ cs) text ms =
@@ -181,7 +181,7 @@ grow_else at r j k c cs a b ms h (taken, n1, a1, b1, m1, e1, e2, t1, l1, f1, (ot
 -- one entry more, from the front
 abbrev Grows : ℕ → Op → List ℕ → List Close → Op → List Close → List ℕ → List ℕ → List Mark → Type 0
 Grows at op labels cs x ds a b ms =
-    entry_of op labels a → placed at op cs ≡ placed_as x ds → Forest (at + 1) cs b ms → Forest at ds (a ++ b) ((x, labels) ∷ ms)
+    entry_of op labels a → entry_with_places at op cs ≡ placed_as x ds → Forest (at + 1) cs b ms → Forest at ds (a ++ b) ((x, labels) ∷ ms)
 
 grow : (at : ℕ) (op : Op) (labels : List ℕ) (cs : List Close) (x : Op) (ds : List Close) (a b : List ℕ) (ms : List Mark) → Grows at op labels cs x ds a b ms
 grow at End labels cs x ds a b ms h e f =
@@ -219,12 +219,12 @@ forest_joined at text ts ms ns cs ds t e f =
     let R : List Close → Type 0 = λ x. Forest at x text ns in
     subst R second (subst Q first (subst P (sym t) f))
 
-filled_sound : (ms : List Mark) (at : ℕ) (text : List ℕ) (ns : List Mark) (cs : List Close) → items entry ms text → filled at ms ≡ filled_as ns cs → Forest at cs text ns
+filled_sound : (ms : List Mark) (at : ℕ) (text : List ℕ) (ns : List Mark) (cs : List Close) → items entry ms text → entries_with_places at ms ≡ filled_as ns cs → Forest at cs text ns
 filled_sound [] at text ns cs h e = forest_joined at text [] [] ns [] cs h e (refl, refl)
 filled_sound (m ∷ ms) at text ns cs h e =
-    let after = bind_some (filled (at + 1) ms) (λ (f : List Mark × List Close). placed at m.0 f.1 >>= λ p. filled_as ((p.0, m.1) ∷ f.0) p.1) (ns, cs) e in
+    let after = bind_some (entries_with_places (at + 1) ms) (λ (f : List Mark × List Close). entry_with_places at m.0 f.1 >>= λ p. filled_as ((p.0, m.1) ∷ f.0) p.1) (ns, cs) e in
     let f = filled_sound ms (at + 1) h.1 after.0.0 after.0.1 h.4 after.1 in
-    let p = bind_some (placed at m.0 after.0.1) (λ (p : Op × List Close). filled_as ((p.0, m.1) ∷ after.0.0) p.1) (ns, cs) after.2 in
+    let p = bind_some (entry_with_places at m.0 after.0.1) (λ (p : Op × List Close). filled_as ((p.0, m.1) ∷ after.0.0) p.1) (ns, cs) after.2 in
     forest_joined at text (h.0 ++ h.1) ((p.0.0, m.1) ∷ after.0.0) ns p.0.1 cs h.2 p.2
     (grow at m.0 m.1 after.0.1 p.0.0 p.0.1 h.0 h.1 after.0.0 h.3 p.1 f)
 
@@ -246,7 +246,7 @@ closed_tree (Ends k ∷ (c ∷ cs)) text ms e f = absurd cc
 
 matched_sound : (ms : List Mark) (text : List ℕ) (ns : List Mark) → items entry ms text → matched ms ≡ Some ns → Spelled text ns
 matched_sound ms text ns h e =
-    let f = bind_some (filled 0 ms) (λ (f : List Mark × List Close). if is_one_end f.1 then Some f.0 else None) ns e in
+    let f = bind_some (entries_with_places 0 ms) (λ (f : List Mark × List Close). if is_one_end f.1 then Some f.0 else None) ns e in
     let i = if_some (is_one_end f.0.1) (Some f.0.0) ns f.2 in
     let forest = filled_sound ms 0 text f.0.0 f.0.1 h f.1 in
     let P : List Mark → Type 0 = λ x. Spelled text x in
@@ -271,8 +271,8 @@ flattening_complete text rest e h =
     let first = entries_found (length (text ++ rest)) 1 (raw End e) text rest spelled (whole_walks e proper) few in
     let second = filled_raw End Ends (λ i ds. refl) e proper 0 (0 + span e + 1) (0 + span e) refl refl [] [] [] refl in
     let same = append-nil (raw End e) in
-    let filled_whole : filled 0 (raw End e) ≡ filled_as (flat e) (Ends (0 + span e) ∷ []) =
-    ap (λ ms. filled 0 ms) (sym same) ∙ second ∙ ap (λ ms. filled_as ms (Ends (0 + span e) ∷ [])) (append-nil (flat e)) in
+    let filled_whole : entries_with_places 0 (raw End e) ≡ filled_as (flat e) (Ends (0 + span e) ∷ []) =
+    ap (λ ms. entries_with_places 0 ms) (sym same) ∙ second ∙ ap (λ ms. filled_as ms (Ends (0 + span e) ∷ [])) (append-nil (flat e)) in
     rw (first, filled_whole) refl
 
 pub expression_reads : Reads expression expression_at

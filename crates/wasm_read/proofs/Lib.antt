@@ -3,7 +3,7 @@ pub mod NumberBounds
 pub mod NumberLaws
 pub mod CombineLaws
 pub mod TypeLaws
-pub mod RowLaws
+pub mod InstructionTableLaws
 pub mod OperationSound
 pub mod OperationLaws
 pub mod EntryLaws

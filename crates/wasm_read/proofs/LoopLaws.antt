@@ -15,14 +15,14 @@ use Rattle.wasm_read.specs.declared.brackets.Close.{Close}
 use Rattle.wasm_read.specs.declared.brackets.Close.TheVariants.{Ends, Parts}
 use Rattle.wasm_read.specs.declared.refusal.ReadRefusal.{ReadRefusal}
 use Rattle.wasm_read.specs.declared.refusal.ReadRefusal.TheVariants.{Malformed, OutOfMemory}
-use Rattle.wasm_read.specs.Reader.{Reader, read_as, Refused}
+use Rattle.wasm_read.specs.Reader.{Reader, read_as, IsUnread}
 use Rattle.wasm_read.specs.Combine.{items_at, after_items}
 use Rattle.wasm_read.proofs.Passes.{filled_as}
 use Rattle.wasm_read.proofs.ExpressionLaws.{placed_as}
 use Rattle.wasm_read.proofs.Basics.{differs_tested}
-use Rattle.wasm_read.specs.ReadExpression.{entry_at, depth_after, entries_at, placed, filled, is_one_end, matched}
+use Rattle.wasm_read.specs.ReadExpression.{entry_at, depth_after, entries_at, entry_with_places, entries_with_places, is_one_end, matched}
 
-pub refused : (M N : Type 0) → (M → N) → (e : ReadRefusal) → Refused M e → Refused N e
+pub refused : (M N : Type 0) → (M → N) → (e : ReadRefusal) → IsUnread M e → IsUnread N e
 refused M N f Malformed h = f h
 refused M N f OutOfMemory h = h
 
@@ -94,26 +94,26 @@ same_entry i xs ys d e =
 
 -- the entry at place i, when those after it are filled
 entry_filled : (i : ℕ) (start : List Mark) (m d : Mark) (after : List Mark) (cs : List Close) → i < length start → get_or start i d ≡ m
-    → filled (i + 1) (drop (suc i) start) ≡ filled_as after cs
-    → filled i (drop i start) ≡ (placed i m.0 cs >>= λ p. filled_as ((p.0, m.1) ∷ after) p.1)
+    → entries_with_places (i + 1) (drop (suc i) start) ≡ filled_as after cs
+    → entries_with_places i (drop i start) ≡ (entry_with_places i m.0 cs >>= λ p. filled_as ((p.0, m.1) ∷ after) p.1)
 entry_filled i start m d after cs low e f =
     let split : drop i start ≡ m ∷ drop (suc i) start = drop-cons start i d low ∙ ap (λ x. x ∷ drop (suc i) start) e in
-    ap (λ xs. filled i xs) split ∙ (rw f refl)
+    ap (λ xs. entries_with_places i xs) split ∙ (rw f refl)
 
 known_before : (i at : ℕ) (start ms : List Mark) → at ≡ suc i → take at ms ≡ take at start → take (suc i) ms ≡ take (suc i) start
 known_before i at start ms e h =
     let P : ℕ → Type 0 = λ k. take k ms ≡ take k start in
     subst P e h
 
-known_after : (i at : ℕ) (start ms : List Mark) (cs : List Close) → at ≡ suc i → filled at (drop at start) ≡ filled_as (drop at ms) cs
-    → filled (i + 1) (drop (suc i) start) ≡ filled_as (drop (suc i) ms) cs
+known_after : (i at : ℕ) (start ms : List Mark) (cs : List Close) → at ≡ suc i → entries_with_places at (drop at start) ≡ filled_as (drop at ms) cs
+    → entries_with_places (i + 1) (drop (suc i) start) ≡ filled_as (drop (suc i) ms) cs
 known_after i at start ms cs e h =
     let next : i + 1 ≡ at = omega arith in
-    ap (λ k. filled k (drop (suc i) start)) next ∙ ap (λ k. filled at (drop k start)) (sym e) ∙ h ∙ ap (λ k. filled_as (drop k ms) cs) e
+    ap (λ k. entries_with_places k (drop (suc i) start)) next ∙ ap (λ k. entries_with_places at (drop k start)) (sym e) ∙ h ∙ ap (λ k. filled_as (drop k ms) cs) e
 
 fill_more : (i : ℕ) (start ms ns : List Mark) (cs ds : List Close) (was op : Op) → i < length ms → length ms ≡ length start → take (suc i) ms ≡ take (suc i) start
-    → filled (i + 1) (drop (suc i) start) ≡ filled_as (drop (suc i) ms) cs → option_map (λ (m : Mark). m.0) (slice_get ms i) ≡ Some was → placed i was cs ≡ placed_as op ds
-    → ns ≡ slice_set ms i (op, (get_or ms i (op, [])).1) → filled i (drop i start) ≡ filled_as (drop i ns) ds
+    → entries_with_places (i + 1) (drop (suc i) start) ≡ filled_as (drop (suc i) ms) cs → option_map (λ (m : Mark). m.0) (slice_get ms i) ≡ Some was → entry_with_places i was cs ≡ placed_as op ds
+    → ns ≡ slice_set ms i (op, (get_or ms i (op, [])).1) → entries_with_places i (drop i start) ≡ filled_as (drop i ns) ds
 fill_more i start ms ns cs ds was op low long before f read p e =
     let d : Mark = (op, []) in
     let m : Mark = get_or ms i d in
@@ -125,13 +125,13 @@ fill_more i start ms ns cs ds was op low long before f read p e =
     let tail : drop i ns ≡ new ∷ drop (i + 1) ms = ap (λ xs. drop i xs) e ∙ drop-set ms i new low in
     let last : drop (i + 1) ms ≡ drop (suc i) ms = ap (λ k. drop k ms) (add-one i) in
     let first = entry_filled i start m d (drop (suc i) ms) cs (omega arith) same f in
-    let placing : placed i m.0 cs ≡ placed_as op ds = ap (λ o. placed i o cs) is ∙ p in
+    let placing : entry_with_places i m.0 cs ≡ placed_as op ds = ap (λ o. entry_with_places i o cs) is ∙ p in
     first ∙ ap (λ q. q >>= λ r. filled_as ((r.0, m.1) ∷ drop (suc i) ms) r.1) placing
     ∙ ap (λ xs. filled_as xs ds) (ap (λ xs. new ∷ xs) (sym last) ∙ sym tail)
 
 pub turn_filled : (i at : ℕ) (start ms ns : List Mark) (cs ds : List Close) (was op : Op) → at ≡ suc i → i < length ms → length ms ≡ length start → take at ms ≡ take at start
-    → filled at (drop at start) ≡ filled_as (drop at ms) cs → option_map (λ (m : Mark). m.0) (slice_get ms i) ≡ Some was → placed i was cs ≡ placed_as op ds
-    → ns ≡ slice_set ms i (op, (get_or ms i (op, [])).1) → (length ns ≡ length start) × (take i ns ≡ take i start) × (filled i (drop i start) ≡ filled_as (drop i ns) ds)
+    → entries_with_places at (drop at start) ≡ filled_as (drop at ms) cs → option_map (λ (m : Mark). m.0) (slice_get ms i) ≡ Some was → entry_with_places i was cs ≡ placed_as op ds
+    → ns ≡ slice_set ms i (op, (get_or ms i (op, [])).1) → (length ns ≡ length start) × (take i ns ≡ take i start) × (entries_with_places i (drop i start) ≡ filled_as (drop i ns) ds)
 turn_filled i at start ms ns cs ds was op there low long before f read p e =
     let new : Mark = (op, (get_or ms i (op, [])).1) in
     let earlier = known_before i at start ms there before in (
@@ -154,17 +154,17 @@ one_end_reversed (c ∷ (d ∷ cs)) =
     let count : length (reverse (c ∷ (d ∷ cs))) ≡ length (c ∷ (d ∷ cs)) = length-reverse (c ∷ (d ∷ cs)) in
     several (reverse (c ∷ (d ∷ cs))) (omega (arith, count)) ∙ sym (several (c ∷ (d ∷ cs)) (omega arith))
 
-pub unmatched_left : (at : ℕ) (start ms : List Mark) (cs : List Close) → at ≡ 0 → filled at (drop at start) ≡ filled_as (drop at ms) (reverse cs) → is_one_end cs ≡ false → matched start ≡ None
+pub unmatched_left : (at : ℕ) (start ms : List Mark) (cs : List Close) → at ≡ 0 → entries_with_places at (drop at start) ≡ filled_as (drop at ms) (reverse cs) → is_one_end cs ≡ false → matched start ≡ None
 unmatched_left at start ms cs e f h =
-    let all : filled 0 start ≡ filled_as ms (reverse cs) =
-    ap (λ k. filled k (drop k start)) (sym e) ∙ f ∙ ap (λ k. filled_as (drop k ms) (reverse cs)) e in
+    let all : entries_with_places 0 start ≡ filled_as ms (reverse cs) =
+    ap (λ k. entries_with_places k (drop k start)) (sym e) ∙ f ∙ ap (λ k. filled_as (drop k ms) (reverse cs)) e in
     let test : is_one_end (reverse cs) ≡ false = one_end_reversed cs ∙ h in
     rw (all, test) refl
 
-fill_none : (before : List Mark) (at n : ℕ) (after : List Mark) → n ≡ at + length before → filled n after ≡ None → filled at (before ++ after) ≡ None
+fill_none : (before : List Mark) (at n : ℕ) (after : List Mark) → n ≡ at + length before → entries_with_places n after ≡ None → entries_with_places at (before ++ after) ≡ None
 fill_none [] at n after e h =
     let same : at ≡ n = omega arith in
-    ap (λ k. filled k after) same ∙ h
+    ap (λ k. entries_with_places k after) same ∙ h
 fill_none (m ∷ ms) at n after e h =
     let next = fill_none ms (at + 1) n after (omega arith) h in
     rw next refl
@@ -173,7 +173,7 @@ taken_count : (i : ℕ) (xs : List Mark) → i ≤ length xs → i ≡ 0 + lengt
 taken_count i xs low = let e = length-take-le i xs low in omega (arith, e)
 
 fill_stopped : (i : ℕ) (start ms : List Mark) (cs : List Close) (was : Op) → i < length ms → length ms ≡ length start → take (suc i) ms ≡ take (suc i) start
-    → filled (i + 1) (drop (suc i) start) ≡ filled_as (drop (suc i) ms) cs → option_map (λ (m : Mark). m.0) (slice_get ms i) ≡ Some was → placed i was cs ≡ None → matched start ≡ None
+    → entries_with_places (i + 1) (drop (suc i) start) ≡ filled_as (drop (suc i) ms) cs → option_map (λ (m : Mark). m.0) (slice_get ms i) ≡ Some was → entry_with_places i was cs ≡ None → matched start ≡ None
 fill_stopped i start ms cs was low long before f read p =
     let d : Mark = (was, []) in
     let m : Mark = get_or ms i d in
@@ -182,15 +182,15 @@ fill_stopped i start ms cs was low long before f read p =
     let value : Some m.0 ≡ Some was = sym (ap (λ o. option_map (λ (x : Mark). x.0) o) got) ∙ read in
     let is : m.0 ≡ was = cc in
     let here = entry_filled i start m d (drop (suc i) ms) cs (omega arith) same f in
-    let none : filled i (drop i start) ≡ None =
-    here ∙ ap (λ o. placed i o cs >>= λ r. filled_as ((r.0, m.1) ∷ drop (suc i) ms) r.1) is
+    let none : entries_with_places i (drop i start) ≡ None =
+    here ∙ ap (λ o. entry_with_places i o cs >>= λ r. filled_as ((r.0, m.1) ∷ drop (suc i) ms) r.1) is
     ∙ ap (λ q. q >>= λ r. filled_as ((r.0, m.1) ∷ drop (suc i) ms) r.1) p in
     let count : i ≡ 0 + length (take i start) = taken_count i start (omega arith) in
     let all = fill_none (take i start) 0 i (drop i start) count none in
-    ap (λ o. o >>= λ g. if is_one_end g.1 then Some g.0 else None) (ap (λ xs. filled 0 xs) (sym (take-append-drop i start)) ∙ all)
+    ap (λ o. o >>= λ g. if is_one_end g.1 then Some g.0 else None) (ap (λ xs. entries_with_places 0 xs) (sym (take-append-drop i start)) ∙ all)
 
 pub turn_stopped : (i at : ℕ) (start ms : List Mark) (cs : List Close) (was : Op) → at ≡ suc i → i < length ms → length ms ≡ length start → take at ms ≡ take at start
-    → filled at (drop at start) ≡ filled_as (drop at ms) cs → option_map (λ (m : Mark). m.0) (slice_get ms i) ≡ Some was → placed i was cs ≡ None → matched start ≡ None
+    → entries_with_places at (drop at start) ≡ filled_as (drop at ms) cs → option_map (λ (m : Mark). m.0) (slice_get ms i) ≡ Some was → entry_with_places i was cs ≡ None → matched start ≡ None
 turn_stopped i at start ms cs was there low long before f read p =
     fill_stopped i start ms cs was low long (known_before i at start ms there before) (known_after i at start ms cs there f) read p
 

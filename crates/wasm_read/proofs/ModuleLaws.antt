@@ -17,7 +17,7 @@ use Rattle.wasm_read.specs.Combine.{vector_at, whole_at}
 use Rattle.wasm_read.specs.ReadType.{limits_at, table_type_at, func_type_at}
 use Rattle.wasm_read.specs.ReadPart.{import_at, global_at, export_at, element_at, body_at, segment_at}
 use Rattle.wasm_read.specs.ReadSection.{ordered_at, part_at, alone_at, is_number, is_counted}
-use Rattle.wasm_read.specs.ReadModule.{both_some, Contents, Front, front_of, Middle, middle_of, Back, back_of, module_of, collected, contents_in, sections_at, after_these, module_at}
+use Rattle.wasm_read.specs.ReadModule.{both_some, Contents, Front, front_sections, Middle, middle_sections, Back, back_sections, module_of, collected, contents_in, sections_at, after_these, module_at}
 use Rattle.wasm_read.specs.Unique.{AtMostOneModule}
 use Rattle.wasm_read.proofs.Basics.{bind_some, if_some, and_true}
 use Rattle.wasm_read.proofs.NumberLaws.{unsigned_reads}
@@ -93,9 +93,9 @@ record Gathers (c : Contents) (m : WasmModule) : Type 0 where
   segments : Part segment (c 11) m.segments
   as_many : length m.functions ≡ length m.bodies
 
-gathered : (c : Contents) (f : Front) (k : Middle) (b : Back) → front_of c ≡ Some f → middle_of c ≡ Some k → back_of c ≡ Some b
+gathered : (c : Contents) (f : Front) (k : Middle) (b : Back) → front_sections c ≡ Some f → middle_sections c ≡ Some k → back_sections c ≡ Some b
     → length f.1.1.0 ≡ length b.1.0 → Counted (c 12) (length b.1.1) → Gathers c (module_of f k b)
-unfolding front_of middle_of back_of
+unfolding front_sections middle_sections back_sections
 gathered c f k b ef ek eb many count =
     let f1 = both_sound (part_at func_type_at (c 1)) (both_some (part_at import_at (c 2)) (both_some (part_at (unsigned_at 32) (c 3)) (part_at table_type_at (c 4)))) f ef in
     let f2 = both_sound (part_at import_at (c 2)) (both_some (part_at (unsigned_at 32) (c 3)) (part_at table_type_at (c 4))) f.1 f1.1 in
@@ -124,9 +124,9 @@ gathered c f k b ef ek eb many count =
 collected_sound : (c : Contents) (m : WasmModule) → collected c ≡ Some m → Gathers c m
 unfolding collected
 collected_sound c m e =
-    let f = bind_some (front_of c) (λ (f : Front). middle_of c >>= λ k. back_of c >>= λ b. if eqb (length f.1.1.0) (length b.1.0) && is_counted (c 12) (length b.1.1) then Some (module_of f k b) else None) m e in
-    let k = bind_some (middle_of c) (λ (k : Middle). back_of c >>= λ b. if eqb (length f.0.1.1.0) (length b.1.0) && is_counted (c 12) (length b.1.1) then Some (module_of f.0 k b) else None) m f.2 in
-    let b = bind_some (back_of c) (λ (b : Back). if eqb (length f.0.1.1.0) (length b.1.0) && is_counted (c 12) (length b.1.1) then Some (module_of f.0 k.0 b) else None) m k.2 in
+    let f = bind_some (front_sections c) (λ (f : Front). middle_sections c >>= λ k. back_sections c >>= λ b. if eqb (length f.1.1.0) (length b.1.0) && is_counted (c 12) (length b.1.1) then Some (module_of f k b) else None) m e in
+    let k = bind_some (middle_sections c) (λ (k : Middle). back_sections c >>= λ b. if eqb (length f.0.1.1.0) (length b.1.0) && is_counted (c 12) (length b.1.1) then Some (module_of f.0 k b) else None) m f.2 in
+    let b = bind_some (back_sections c) (λ (b : Back). if eqb (length f.0.1.1.0) (length b.1.0) && is_counted (c 12) (length b.1.1) then Some (module_of f.0 k.0 b) else None) m k.2 in
     let i = if_some (eqb (length f.0.1.1.0) (length b.0.1.0) && is_counted (c 12) (length b.0.1.1)) (Some (module_of f.0 k.0 b.0)) m b.2 in
     let t = and_true (eqb (length f.0.1.1.0) (length b.0.1.0)) (is_counted (c 12) (length b.0.1.1)) i.0 in
     let g = gathered c f.0 k.0 b.0 f.1 k.1 b.1 (eqb-true (length f.0.1.1.0) (length b.0.1.0) t.0) (counted_sound (c 12) (length b.0.1.1) t.1) in
@@ -135,19 +135,19 @@ collected_sound c m e =
     subst P same g
 
 collected_complete : (c : Contents) (m : WasmModule) → Gathers c m → collected c ≡ Some m
-unfolding collected front_of middle_of back_of
+unfolding collected front_sections middle_sections back_sections
 collected_complete c m g =
-    let f : front_of c ≡ Some (m.types, (m.imports, (m.functions, m.tables))) =
+    let f : front_sections c ≡ Some (m.types, (m.imports, (m.functions, m.tables))) =
     both_found (part_at func_type_at (c 1)) _ m.types _ (part_complete func_type func_type_at func_type_reads (c 1) m.types g.types)
     (both_found (part_at import_at (c 2)) _ m.imports _ (part_complete imported import_at import_reads (c 2) m.imports g.imports)
     (both_found (part_at (unsigned_at 32) (c 3)) (part_at table_type_at (c 4)) m.functions m.tables (part_complete (unsigned 32) (unsigned_at 32) (unsigned_reads 32) (c 3) m.functions g.functions)
     (part_complete table_type table_type_at table_type_reads (c 4) m.tables g.tables))) in
-    let k : middle_of c ≡ Some (m.memories, (m.globals, (m.exports, m.start))) =
+    let k : middle_sections c ≡ Some (m.memories, (m.globals, (m.exports, m.start))) =
     both_found (part_at limits_at (c 5)) _ m.memories _ (part_complete limits limits_at limits_reads (c 5) m.memories g.memories)
     (both_found (part_at global_at (c 6)) _ m.globals _ (part_complete global global_at global_reads (c 6) m.globals g.globals)
     (both_found (part_at export_at (c 7)) (alone_at (unsigned_at 32) (c 8)) m.exports m.start (part_complete exported export_at export_reads (c 7) m.exports g.exports)
     (alone_complete (unsigned 32) (unsigned_at 32) (unsigned_reads 32) (c 8) m.start g.start))) in
-    let b : back_of c ≡ Some (m.elements, (m.bodies, m.segments)) =
+    let b : back_sections c ≡ Some (m.elements, (m.bodies, m.segments)) =
     both_found (part_at element_at (c 9)) _ m.elements _ (part_complete element element_at element_reads (c 9) m.elements g.elements)
     (both_found (part_at body_at (c 10)) (part_at segment_at (c 11)) m.bodies m.segments (part_complete body body_at body_reads (c 10) m.bodies g.bodies)
     (part_complete segment segment_at segment_reads (c 11) m.segments g.segments)) in
@@ -241,8 +241,8 @@ part_few : (o : Option (List ℕ)) (ts : List Signature) → Part func_type o ts
 part_few None ts h = subst (λ (xs : List Signature). All (λ s. length s.results ≤ 1) xs) (sym h) (λ k d below. absurd (omega (arith, below)))
 part_few (Some text) ts h = items_few ts h.1 h.4
 
-pub front_few : (c : Contents) (f : Front) → front_of c ≡ Some f → All (λ s. length s.results ≤ 1) f.0
-unfolding front_of
+pub front_few : (c : Contents) (f : Front) → front_sections c ≡ Some f → All (λ s. length s.results ≤ 1) f.0
+unfolding front_sections
 front_few c f e =
     let f1 = both_sound (part_at func_type_at (c 1)) (both_some (part_at import_at (c 2)) (both_some (part_at (unsigned_at 32) (c 3)) (part_at table_type_at (c 4)))) f e in
     part_few (c 1) f.0 (part_sound func_type func_type_at func_type_reads (c 1) f.0 f1.0)

@@ -5,7 +5,7 @@ use Rattle.std.proofs.lemmas.Bool.Decides.{nat_tests}
 use Rattle.w4_defs.specs.Reading.{◌>>=◌}
 use Rattle.w4_defs.specs.BinaryNumber.{leb, LastUnsigned, LastSigned, unsigned, signed}
 use Rattle.wasm_read.specs.Reader.{read_as, Takes, Reads}
-use Rattle.wasm_read.specs.ReadNumber.{last_unsigned, last_signed, joined, leb_at, unsigned_at, signed_at}
+use Rattle.wasm_read.specs.ReadNumber.{last_unsigned, last_signed, with_low_bits, leb_at, unsigned_at, signed_at}
 use Rattle.wasm_read.proofs.Basics.{bind_some, split_if, if_some, same_read}
 
 -- the last byte is judged as the grammar has it
@@ -17,7 +17,7 @@ pub record IsLast (Last : ℕ → ℕ → ℕ → Type 0) (last : ℕ → ℕ �
 not_below : (a b : ℕ) → nat_lt a b ≡ false → b ≤ a
 not_below a b h = grind (arith, nat_tests)
 
-joined_sound : (Last : ℕ → ℕ → ℕ → Type 0) (w b n : ℕ) (bs rest : List ℕ) (high : ℕ × List ℕ) → 128 ≤ b → 7 < w → Some (joined b high) ≡ read_as n rest
+joined_sound : (Last : ℕ → ℕ → ℕ → Type 0) (w b n : ℕ) (bs rest : List ℕ) (high : ℕ × List ℕ) → 128 ≤ b → 7 < w → Some (with_low_bits b high) ≡ read_as n rest
     → Takes (leb Last (w - 7)) bs high.0 high.1 → Takes (leb Last w) (b ∷ bs) n rest
 joined_sound Last w b n bs rest high up wide e t =
     let same = same_read (b - 128 + 128 * high.0) n high.1 rest e in
@@ -28,14 +28,14 @@ leb_sound : (Last : ℕ → ℕ → ℕ → Type 0) (last : ℕ → ℕ → Opti
     → leb_at last w bytes ≡ Some (n, rest) → Takes (leb Last w) bytes n rest
 leb_sound Last last is w [] n rest e = absurd cc
 leb_sound Last last is w (b ∷ bs) n rest e =
-    elim (split_if (nat_lt b 128) (last w b >>= λ m. read_as m bs) (if nat_lt 7 w then (leb_at last (w - 7) bs >>= λ high. Some (joined b high)) else None) (read_as n rest) e) [
+    elim (split_if (nat_lt b 128) (last w b >>= λ m. read_as m bs) (if nat_lt 7 w then (leb_at last (w - 7) bs >>= λ high. Some (with_low_bits b high)) else None) (read_as n rest) e) [
       | inl h ↦
           let s = bind_some (last w b) (λ m. read_as m bs) (n, rest) h.1 in
           let same = same_read s.0 n bs rest s.2 in
           (b ∷ [], ap (λ r. b ∷ r) same.1, inl (refl, is.sound w b n (ltb-true b 128 h.0) (s.1 ∙ ap (λ m. Some m) same.0)))
       | inr h ↦
-          let wide = if_some (nat_lt 7 w) (leb_at last (w - 7) bs >>= λ high. Some (joined b high)) (n, rest) h.1 in
-          let s = bind_some (leb_at last (w - 7) bs) (λ high. Some (joined b high)) (n, rest) wide.1 in
+          let wide = if_some (nat_lt 7 w) (leb_at last (w - 7) bs >>= λ high. Some (with_low_bits b high)) (n, rest) h.1 in
+          let s = bind_some (leb_at last (w - 7) bs) (λ high. Some (with_low_bits b high)) (n, rest) wide.1 in
           joined_sound Last w b n bs rest s.0 (not_below b 128 h.0) (ltb-true 7 w wide.0) s.2 (leb_sound Last last is (w - 7) bs s.0.0 s.0.1 s.1)
     ]
 

@@ -1,4 +1,4 @@
--- Every spelling of an instruction is read.
+-- Every encoding of an instruction is read.
 use Rattle.std.proofs.Common.{◌≡◌, ℕ, ◌≤◌, Bool, true, false, ◌||◌, nat_le, inl, inr, List, [], ◌∷◌, ◌++◌, Some, refl, ap, sym, ◌∙◌, subst, append_assoc}
 use Rattle.std.specs.Int.{w32, w64}
 use Rattle.std.proofs.lemmas.Bool.{le-leb}
@@ -9,11 +9,11 @@ use Rattle.w4_defs.specs.BinaryNumber.{unsigned, signed, little_endian}
 use Rattle.w4_defs.specs.BinaryNumeric.{IsFloatCode}
 use Rattle.w4_defs.specs.BinaryMemory.{immediate, IsFloatAccess}
 use Rattle.w4_defs.specs.BinaryInstruction.{operation}
-use Rattle.w4_defs.specs.Reading.{◌>>=◌, number_at}
+use Rattle.w4_defs.specs.Reading.{◌>>=◌, little_endian_at}
 use Rattle.wasm_read.specs.Reader.{Reader, read_as, Reads, row_of}
 use Rattle.wasm_read.specs.ReadNumber.{unsigned_at, signed_at}
 use Rattle.wasm_read.specs.Combine.{mapped_at}
-use Rattle.wasm_read.specs.Rows.{index_rows}
+use Rattle.wasm_read.specs.InstructionTable.{index_rows}
 use Rattle.wasm_read.specs.ReadOperation.{is_between, is_float_code, access_of, indexed_at, indices_at, access_at, indirect_of, operation_after, operation_at}
 use Rattle.wasm_read.proofs.NumberLaws.{unsigned_reads, signed_reads}
 use Rattle.wasm_read.proofs.OperationSound.{number_reads, indices_reads, operation_sound}
@@ -175,8 +175,8 @@ operation_found MemoryCopy text rest h = prefixed_found 10 (0 ∷ 0 ∷ []) Memo
 operation_found MemoryFill text rest h = prefixed_found 11 (0 ∷ []) MemoryFill text rest h (fill_after rest)
 operation_found (I32Const value) text rest h = mapped_found (signed 32) (signed_at 32) I32Const 0x41 (signed_reads 32) value text rest h (λ bs. refl)
 operation_found (I64Const value) text rest h = mapped_found (signed 64) (signed_at 64) I64Const 0x42 (signed_reads 64) value text rest h (λ bs. refl)
-operation_found (F32Const bits) text rest h = mapped_found (little_endian w32) (number_at w32) F32Const 0x43 (number_reads w32) bits text rest h (λ bs. refl)
-operation_found (F64Const bits) text rest h = mapped_found (little_endian w64) (number_at w64) F64Const 0x44 (number_reads w64) bits text rest h (λ bs. refl)
+operation_found (F32Const bits) text rest h = mapped_found (little_endian w32) (little_endian_at w32) F32Const 0x43 (number_reads w32) bits text rest h (λ bs. refl)
+operation_found (F64Const bits) text rest h = mapped_found (little_endian w64) (little_endian_at w64) F64Const 0x44 (number_reads w64) bits text rest h (λ bs. refl)
 operation_found (FloatPlain code) text rest h = float_plain_found code text rest h.0 h.1
 operation_found (FloatCut code) text rest h = float_cut_found code text rest h.0 h.1
 operation_found op text rest h = byte_found _ op text rest h (λ bs. refl)

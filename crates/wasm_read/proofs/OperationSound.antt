@@ -1,4 +1,4 @@
--- An instruction that is read is spelled by the bytes that were taken.
+-- An instruction that is read is encoded by the bytes that were taken.
 use Rattle.std.proofs.Common.{◌≡◌, ℕ, ◌≤◌, Bool, true, false, ◌||◌, eqb, nat_le, ltb, if◌then◌else◌, ◌⊎◌, inl, inr, List, [], ◌∷◌, ◌++◌, length, take, drop, Option, Some, None, refl, ap, sym, ◌∙◌, subst, append_assoc, append-nil, arith}
 use Rattle.std.specs.Int.{Width, w32, w64, byte_len, from_le_bytes}
 use Rattle.std.proofs.lemmas.Bool.{eqb-true, leb-true}
@@ -10,19 +10,19 @@ use Rattle.w4_defs.specs.BinaryText.{Texts, ◌then◌}
 use Rattle.w4_defs.specs.BinaryNumber.{unsigned, signed, little_endian}
 use Rattle.w4_defs.specs.BinaryNumeric.{IsFloatCode}
 use Rattle.w4_defs.specs.BinaryInstruction.{operation}
-use Rattle.w4_defs.specs.Reading.{◌>>=◌, number_at}
+use Rattle.w4_defs.specs.Reading.{◌>>=◌, little_endian_at}
 use Rattle.w4_defs.proofs.ReadingLaws.{number_again}
 use Rattle.wasm_read.specs.Reader.{Reader, read_as, Takes, Reads, row_of}
 use Rattle.wasm_read.specs.ReadNumber.{unsigned_at, signed_at}
 use Rattle.wasm_read.specs.Combine.{mapped_at, headed_at}
-use Rattle.wasm_read.specs.Rows.{index_rows}
+use Rattle.wasm_read.specs.InstructionTable.{index_rows}
 use Rattle.wasm_read.specs.ReadOperation.{always_at, is_between, is_float_code, has_index, plain_of, access_of, indexed_at, indices_at, access_at, indirect_of, constant_at, prefixed_of, prefixed_at, special_after, operation_after, operation_at}
 use Rattle.wasm_read.proofs.Basics.{bind_some, split_if, if_some, same_read, moved, and_true, differs}
 use Rattle.wasm_read.proofs.NumberLaws.{unsigned_reads, signed_reads}
 use Rattle.wasm_read.proofs.CombineLaws.{both_reads}
-use Rattle.wasm_read.proofs.RowLaws.{headed, plain_spelled, indexed_spelled, access_spelled}
+use Rattle.wasm_read.proofs.InstructionTableLaws.{headed, plain_spelled, indexed_spelled, access_spelled}
 
-number_sound : (w : Width) (bytes : List ℕ) (n : ℕ) (rest : List ℕ) → number_at w bytes ≡ Some (n, rest) → Takes (little_endian w) bytes n rest
+number_sound : (w : Width) (bytes : List ℕ) (n : ℕ) (rest : List ℕ) → little_endian_at w bytes ≡ Some (n, rest) → Takes (little_endian w) bytes n rest
 number_sound w bytes n rest e =
     elim (split_if (ltb (length bytes) (byte_len w)) None (read_as (from_le_bytes w (take (byte_len w) bytes)) (drop (byte_len w) bytes)) (read_as n rest) e) [
       | inl h ↦ absurd cc
@@ -32,7 +32,7 @@ number_sound w bytes n rest e =
           (take (byte_len w) bytes, sym (take-append-drop (byte_len w) bytes), (length-take-le (byte_len w) bytes long, refl)) h.1
     ]
 
-pub number_reads : (w : Width) → Reads (little_endian w) (number_at w)
+pub number_reads : (w : Width) → Reads (little_endian w) (little_endian_at w)
 number_reads w = record { sound = number_sound w; complete = λ text rest n h. number_again w text rest n h.0 (sym h.1) }
 
 pub indices_reads : Reads (λ (n : ℕ × ℕ). unsigned 32 n.0 then unsigned 32 n.1) indices_at
@@ -179,15 +179,15 @@ last_constant code within a b c =
 
 constant_sound : (code : ℕ) (bs : List ℕ) (op : Op) (rest : List ℕ) → is_between 0x41 0x44 code ≡ true → constant_at code bs ≡ Some (op, rest) → Takes operation (code ∷ bs) op rest
 constant_sound code bs op rest within e =
-    let third : Option (Op × List ℕ) = if eqb code 0x43 then mapped_at F32Const (number_at w32) bs else mapped_at F64Const (number_at w64) bs in
+    let third : Option (Op × List ℕ) = if eqb code 0x43 then mapped_at F32Const (little_endian_at w32) bs else mapped_at F64Const (little_endian_at w64) bs in
     let second : Option (Op × List ℕ) = if eqb code 0x42 then mapped_at I64Const (signed_at 64) bs else third in
     elim (split_if (eqb code 0x41) (mapped_at I32Const (signed_at 32) bs) second (read_as op rest) e) [
       | inl h ↦ at_code 0x41 code bs op rest (eqb-true code 0x41 h.0) (mapped_sound (signed 32) (signed_at 32) I32Const 0x41 (signed_reads 32) (λ x text p. (0x41 ∷ [], text, refl, refl, p)) bs op rest h.1)
       | inr h ↦ elim (split_if (eqb code 0x42) (mapped_at I64Const (signed_at 64) bs) third (read_as op rest) h.1) [
         | inl k ↦ at_code 0x42 code bs op rest (eqb-true code 0x42 k.0) (mapped_sound (signed 64) (signed_at 64) I64Const 0x42 (signed_reads 64) (λ x text p. (0x42 ∷ [], text, refl, refl, p)) bs op rest k.1)
-        | inr k ↦ elim (split_if (eqb code 0x43) (mapped_at F32Const (number_at w32) bs) (mapped_at F64Const (number_at w64) bs) (read_as op rest) k.1) [
-          | inl m ↦ at_code 0x43 code bs op rest (eqb-true code 0x43 m.0) (mapped_sound (little_endian w32) (number_at w32) F32Const 0x43 (number_reads w32) (λ x text p. (0x43 ∷ [], text, refl, refl, p)) bs op rest m.1)
-          | inr m ↦ at_code 0x44 code bs op rest (last_constant code within h.0 k.0 m.0) (mapped_sound (little_endian w64) (number_at w64) F64Const 0x44 (number_reads w64) (λ x text p. (0x44 ∷ [], text, refl, refl, p)) bs op rest m.1)
+        | inr k ↦ elim (split_if (eqb code 0x43) (mapped_at F32Const (little_endian_at w32) bs) (mapped_at F64Const (little_endian_at w64) bs) (read_as op rest) k.1) [
+          | inl m ↦ at_code 0x43 code bs op rest (eqb-true code 0x43 m.0) (mapped_sound (little_endian w32) (little_endian_at w32) F32Const 0x43 (number_reads w32) (λ x text p. (0x43 ∷ [], text, refl, refl, p)) bs op rest m.1)
+          | inr m ↦ at_code 0x44 code bs op rest (last_constant code within h.0 k.0 m.0) (mapped_sound (little_endian w64) (little_endian_at w64) F64Const 0x44 (number_reads w64) (λ x text p. (0x44 ∷ [], text, refl, refl, p)) bs op rest m.1)
         ]
       ]
     ]

@@ -15,11 +15,11 @@ use Rattle.w4_defs.specs.BinaryText.{Texts, ◌then◌, byte}
 use Rattle.w4_defs.specs.BinaryNumber.{unsigned}
 use Rattle.w4_defs.specs.BinaryType.{vector, bytes, name, value_type, limits, table_type, global_type}
 use Rattle.w4_defs.specs.BinaryInstruction.{expression}
-use Rattle.w4_defs.specs.BinaryModule.{import_kind, imported, global, export_kind, exported, element, run, function, body, segment}
+use Rattle.w4_defs.specs.BinaryModule.{import_kind, imported, global, export_kind, exported, element, locals_run, function, body, segment}
 use Rattle.w4_defs.specs.Reading.{◌>>=◌}
 use Rattle.wasm_read.specs.Reader.{Reader, read_as, Takes, Reads, row_of}
 use Rattle.wasm_read.specs.ReadNumber.{unsigned_at}
-use Rattle.wasm_read.specs.Combine.{both_at, mapped_at, vector_at, whole_at, cut_at}
+use Rattle.wasm_read.specs.Combine.{both_at, mapped_at, vector_at, whole_at, sized_bytes_at}
 use Rattle.wasm_read.specs.ReadType.{name_at, value_type_at, limits_at, table_type_at, global_type_at}
 use Rattle.wasm_read.specs.ReadExpression.{expression_at}
 use Rattle.wasm_read.specs.ReadPart.{import_kind_at, imported_of, import_at, global_of, global_at, export_kinds, export_kind_at, exported_of, export_at, element_of, element_at, locals_of, run_at, function_of, function_at, body_at, segment_of, segment_at}
@@ -111,7 +111,7 @@ element_reads =
     let first = both_reads (unsigned 32) P (unsigned_at 32) (both_at expression_at (vector_at (unsigned_at 32))) (unsigned_reads 32) second in
     mapped_reads (λ (x : ℕ × (Expr × List ℕ)). unsigned 32 x.0 then P x.1) (both_at (unsigned_at 32) (both_at expression_at (vector_at (unsigned_at 32)))) element_of (λ s. (s.table, (s.offset, s.functions))) (λ a. refl) (λ b. refl) first
 
-run_reads : Reads run run_at
+run_reads : Reads locals_run run_at
 unfolding run_at
 run_reads =
     let pair = both_reads (unsigned 32) value_type (unsigned_at 32) value_type_at (unsigned_reads 32) value_type_reads in
@@ -120,10 +120,10 @@ run_reads =
 function_reads : Reads function function_at
 unfolding function_at
 function_reads =
-    let runs = vector_reads run run_at run_reads in
-    let pair = both_reads (vector run) expression (vector_at run_at) expression_at runs expression_reads in
-    let Q : Function → Texts = λ f. vector run f.runs then expression f.list in
-    let mapped = mapped_reads (λ (x : List Locals × Expr). vector run x.0 then expression x.1) (both_at (vector_at run_at) expression_at) function_of (λ f. (f.runs, f.list)) (λ a. refl) (λ b. refl) pair in
+    let runs = vector_reads locals_run run_at run_reads in
+    let pair = both_reads (vector locals_run) expression (vector_at run_at) expression_at runs expression_reads in
+    let Q : Function → Texts = λ f. vector locals_run f.runs then expression f.list in
+    let mapped = mapped_reads (λ (x : List Locals × Expr). vector locals_run x.0 then expression x.1) (both_at (vector_at run_at) expression_at) function_of (λ f. (f.runs, f.list)) (λ a. refl) (λ b. refl) pair in
     tested_reads Q (mapped_at function_of (both_at (vector_at run_at) expression_at)) (λ f. local_count f.runs < 2 ^ 32) (λ f. nat_lt (local_count f.runs) (2 ^ 32)) (λ f. (ltb-true (local_count f.runs) (2 ^ 32), lt-ltb (local_count f.runs) (2 ^ 32))) mapped
 
 pub body_reads : Reads body body_at
@@ -134,6 +134,6 @@ pub segment_reads : Reads segment segment_at
 unfolding segment_at
 segment_reads =
     let P : Expr × List ℕ → Texts = λ x. expression x.0 then bytes x.1 in
-    let second = both_reads expression bytes expression_at cut_at expression_reads cut_reads in
-    let first = both_reads (unsigned 32) P (unsigned_at 32) (both_at expression_at cut_at) (unsigned_reads 32) second in
-    mapped_reads (λ (x : ℕ × (Expr × List ℕ)). unsigned 32 x.0 then P x.1) (both_at (unsigned_at 32) (both_at expression_at cut_at)) segment_of (λ s. (s.memory, (s.offset, s.bytes))) (λ a. refl) (λ b. refl) first
+    let second = both_reads expression bytes expression_at sized_bytes_at expression_reads cut_reads in
+    let first = both_reads (unsigned 32) P (unsigned_at 32) (both_at expression_at sized_bytes_at) (unsigned_reads 32) second in
+    mapped_reads (λ (x : ℕ × (Expr × List ℕ)). unsigned 32 x.0 then P x.1) (both_at (unsigned_at 32) (both_at expression_at sized_bytes_at)) segment_of (λ s. (s.memory, (s.offset, s.bytes))) (λ a. refl) (λ b. refl) first

@@ -12,7 +12,7 @@ use Rattle.w4_defs.specs.Reading.{◌>>=◌}
 use Rattle.wasm_read.specs.declared.brackets.Close.{Close}
 use Rattle.wasm_read.specs.declared.brackets.Close.TheVariants.{Ends, Parts}
 use Rattle.wasm_read.specs.Reader.{Takes}
-use Rattle.wasm_read.specs.ReadExpression.{entry_at, depth_after, entries_at, placed, filled}
+use Rattle.wasm_read.specs.ReadExpression.{entry_at, depth_after, entries_at, entry_with_places, entries_with_places}
 use Rattle.wasm_read.proofs.Basics.{bind_some, split_if, moved, differs_tested}
 use Rattle.wasm_read.proofs.EntryLaws.{entry_of, entry, instruction_entry, instruction_leaf, entry_reads}
 
@@ -178,7 +178,7 @@ entries_found (suc turns) depth (m ∷ ms) text rest h (inr (open_left, w)) few 
     let others = entries_found turns (depth_after m.0 depth) ms h.1 rest h.4 w (omega arith) in
     ap (entries_at (suc turns) depth) (ap (λ t. t ++ rest) h.2 ∙ append_assoc h.0 h.1 rest) ∙ (rw (e, test, others) refl)
 
--- what the first pass reads is spelled
+-- what the first pass reads is encoded
 pub entries_sound : (turns depth : ℕ) (bytes : List ℕ) (ms : List Mark) (rest : List ℕ) → entries_at turns depth bytes ≡ Some (ms, rest) → Takes (items entry) bytes ms rest
 entries_sound zero depth bytes ms rest e = absurd cc
 entries_sound (suc turns) depth bytes ms rest e =
@@ -194,7 +194,7 @@ entries_sound (suc turns) depth bytes ms rest e =
     ]
 
 -- the second pass
-leaf_placed : (at : ℕ) (op : Op) (c : Close) (cs : List Close) → IsLeaf op → placed at op (c ∷ cs) ≡ Some (op, c ∷ cs)
+leaf_placed : (at : ℕ) (op : Op) (c : Close) (cs : List Close) → IsLeaf op → entry_with_places at op (c ∷ cs) ≡ Some (op, c ∷ cs)
 leaf_placed at (Block r end) c cs h = absurd h
 leaf_placed at (Loop r end) c cs h = absurd h
 leaf_placed at (If r other end) c cs h = absurd h
@@ -206,15 +206,15 @@ abbrev pub filled_as : List Mark → List Close → Option (List Mark × List Cl
 filled_as ms cs = Some (ms, cs)
 
 abbrev Closing : Op → (ℕ → Close) → Type 0
-Closing close closing = (at : ℕ) (cs : List Close) → placed at close cs ≡ Some (close, closing at ∷ cs)
+Closing close closing = (at : ℕ) (cs : List Close) → entry_with_places at close cs ≡ Some (close, closing at ∷ cs)
 
 pub filled_raw : (close : Op) (closing : ℕ → Close) → Closing close closing → (e : Expr) → IsProper e → (at n k : ℕ) → n ≡ at + span e + 1 → k ≡ at + span e
-    → (more : List Mark) (after : List Mark) (cs : List Close) → filled n more ≡ filled_as after cs
-    → filled at (raw close e ++ more) ≡ filled_as (flat_at close at e ++ after) (closing k ∷ cs)
+    → (more : List Mark) (after : List Mark) (cs : List Close) → entries_with_places n more ≡ filled_as after cs
+    → entries_with_places at (raw close e ++ more) ≡ filled_as (flat_at close at e ++ after) (closing k ∷ cs)
 filled_raw close closing c done h at n k en ek more after cs f =
     let same : at + 1 ≡ n = omega arith in
     let there : at ≡ k = omega arith in
-    let e : filled (at + 1) more ≡ filled_as after cs = ap (λ i. filled i more) same ∙ f in
+    let e : entries_with_places (at + 1) more ≡ filled_as after cs = ap (λ i. entries_with_places i more) same ∙ f in
     let p = c at cs in
     (rw (e, p) refl) ∙ ap (λ i. filled_as (mark close ∷ after) (closing i ∷ cs)) there
 filled_raw close closing c (plain m rest) h at n k en ek more after cs f =
@@ -227,7 +227,7 @@ filled_raw close closing c (block r inner rest) h at n k en ek more after cs f =
     let front : List Mark = flat_at End (at + 1) inner in
     let last = filled_raw close closing c rest h.1 (end + 1) n k (omega arith) (omega arith) more after cs f in
     let first = filled_raw End Ends (λ i ds. refl) inner h.0 (at + 1) (end + 1) end refl refl (raw close rest ++ more) (back ++ after) (closing k ∷ cs) last in
-    ap (λ ms. filled at (mark (Block r 0) ∷ ms)) (append_assoc (raw End inner) (raw close rest) more)
+    ap (λ ms. entries_with_places at (mark (Block r 0) ∷ ms)) (append_assoc (raw End inner) (raw close rest) more)
     ∙ (rw first refl)
     ∙ ap (λ ms. filled_as (mark (Block r end) ∷ ms) (closing k ∷ cs)) (sym (append_assoc front back after))
 filled_raw close closing c (loop r inner rest) h at n k en ek more after cs f =
@@ -236,7 +236,7 @@ filled_raw close closing c (loop r inner rest) h at n k en ek more after cs f =
     let front : List Mark = flat_at End (at + 1) inner in
     let last = filled_raw close closing c rest h.1 (end + 1) n k (omega arith) (omega arith) more after cs f in
     let first = filled_raw End Ends (λ i ds. refl) inner h.0 (at + 1) (end + 1) end refl refl (raw close rest ++ more) (back ++ after) (closing k ∷ cs) last in
-    ap (λ ms. filled at (mark (Loop r 0) ∷ ms)) (append_assoc (raw End inner) (raw close rest) more)
+    ap (λ ms. entries_with_places at (mark (Loop r 0) ∷ ms)) (append_assoc (raw End inner) (raw close rest) more)
     ∙ (rw first refl)
     ∙ ap (λ ms. filled_as (mark (Loop r end) ∷ ms) (closing k ∷ cs)) (sym (append_assoc front back after))
 filled_raw close closing c (if_then r inner rest) h at n k en ek more after cs f =
@@ -245,7 +245,7 @@ filled_raw close closing c (if_then r inner rest) h at n k en ek more after cs f
     let front : List Mark = flat_at End (at + 1) inner in
     let last = filled_raw close closing c rest h.1 (end + 1) n k (omega arith) (omega arith) more after cs f in
     let first = filled_raw End Ends (λ i ds. refl) inner h.0 (at + 1) (end + 1) end refl refl (raw close rest ++ more) (back ++ after) (closing k ∷ cs) last in
-    ap (λ ms. filled at (mark (If r None 0) ∷ ms)) (append_assoc (raw End inner) (raw close rest) more)
+    ap (λ ms. entries_with_places at (mark (If r None 0) ∷ ms)) (append_assoc (raw End inner) (raw close rest) more)
     ∙ (rw first refl)
     ∙ ap (λ ms. filled_as (mark (If r None end) ∷ ms) (closing k ∷ cs)) (sym (append_assoc front back after))
 filled_raw close closing c (if_else r taken other rest) h at n k en ek more after cs f =
@@ -257,7 +257,7 @@ filled_raw close closing c (if_else r taken other rest) h at n k en ek more afte
     let last = filled_raw close closing c rest h.2 (end + 1) n k (omega arith) (omega arith) more after cs f in
     let mid = filled_raw End Ends (λ i ds. refl) other h.1 (middle + 1) (end + 1) end refl refl (raw close rest ++ more) (back ++ after) (closing k ∷ cs) last in
     let first = filled_raw Else Parts (λ i ds. refl) taken h.0 (at + 1) (middle + 1) middle refl refl (raw End other ++ (raw close rest ++ more)) (second ++ (back ++ after)) (Ends end ∷ closing k ∷ cs) mid in
-    ap (λ ms. filled at (mark (If r None 0) ∷ ms)) (append_assoc (raw Else taken) (raw End other ++ raw close rest) more ∙ ap (λ ms. raw Else taken ++ ms) (append_assoc (raw End other) (raw close rest) more))
+    ap (λ ms. entries_with_places at (mark (If r None 0) ∷ ms)) (append_assoc (raw Else taken) (raw End other ++ raw close rest) more ∙ ap (λ ms. raw Else taken ++ ms) (append_assoc (raw End other) (raw close rest) more))
     ∙ (rw first refl)
     ∙ ap (λ ms. filled_as (mark (If r (Some middle) end) ∷ ms) (closing k ∷ cs))
     (ap (λ ms. front ++ ms) (sym (append_assoc second back after)) ∙ sym (append_assoc front (second ++ back) after) ∙ ap (λ ms. ms ++ after) (sym (append_assoc front second back)))

@@ -17,8 +17,8 @@ use Rattle.w4_defs.specs.BinaryText.{items}
 use Rattle.w4_defs.specs.BinaryInstruction.{list}
 use Rattle.w4_defs.specs.BinarySection.{Section, section, contents, Part}
 use Rattle.w4_defs.specs.BinaryModule.{preamble, body, SpellsModule}
-use Rattle.w4_defs.specs.Program.{Own, Callee, own, imported, absent, instructions, reserve_of, own_callee, own_callees, imported_callee, with_import, imported_callees, callees}
-use Rattle.w4_defs.specs.Profile.{param_count, has_many_locals, if_so, first_of, causes, profile_refusal}
+use Rattle.w4_defs.specs.Program.{Own, Callee, own_function, host_function, no_function, instructions, reserve_of, own_callee, own_callees, imported_callee, with_import, imported_callees, callees}
+use Rattle.w4_defs.specs.Profile.{param_count, has_many_locals, if_so, first_cause, causes, profile_refusal}
 use Rattle.w4_defs.specs.Cart.{IsCart}
 use Rattle.w4_defs.proofs.CauseLaws.{none_there, not_so}
 use Rattle.wasm_read.specs.Reserves.{ReservesAreSmall}
@@ -31,17 +31,60 @@ list_long k done text h = omega arith
 list_long k (plain m rest) text (a, b, e, first, others) =
     omega (arith, ap (λ t. length t) e, length-append a b, entry_long m.0 m.1 a (instruction_entry m.0 m.1 a first), list_long k rest b others)
 list_long k (block r inner rest) text (a, b, e, code, (c, d, f, type, (g, i, j, within, others))) =
-    omega (arith, ap (λ t. length t) e, length-append a b, ap (λ t. length t) code, ap (λ t. length t) f, length-append c d, ap (λ t. length t) j, length-append g i,
-    list_long 0x0b inner g within, list_long k rest i others)
+    omega (
+      arith,
+      ap (λ t. length t) e,
+      length-append a b,
+      ap (λ t. length t) code,
+      ap (λ t. length t) f,
+      length-append c d,
+      ap (λ t. length t) j,
+      length-append g i,
+      list_long 0x0b inner g within,
+      list_long k rest i others,
+    )
 list_long k (loop r inner rest) text (a, b, e, code, (c, d, f, type, (g, i, j, within, others))) =
-    omega (arith, ap (λ t. length t) e, length-append a b, ap (λ t. length t) code, ap (λ t. length t) f, length-append c d, ap (λ t. length t) j, length-append g i,
-    list_long 0x0b inner g within, list_long k rest i others)
+    omega (
+      arith,
+      ap (λ t. length t) e,
+      length-append a b,
+      ap (λ t. length t) code,
+      ap (λ t. length t) f,
+      length-append c d,
+      ap (λ t. length t) j,
+      length-append g i,
+      list_long 0x0b inner g within,
+      list_long k rest i others,
+    )
 list_long k (if_then r taken rest) text (a, b, e, code, (c, d, f, type, (g, i, j, within, others))) =
-    omega (arith, ap (λ t. length t) e, length-append a b, ap (λ t. length t) code, ap (λ t. length t) f, length-append c d, ap (λ t. length t) j, length-append g i,
-    list_long 0x0b taken g within, list_long k rest i others)
+    omega (
+      arith,
+      ap (λ t. length t) e,
+      length-append a b,
+      ap (λ t. length t) code,
+      ap (λ t. length t) f,
+      length-append c d,
+      ap (λ t. length t) j,
+      length-append g i,
+      list_long 0x0b taken g within,
+      list_long k rest i others,
+    )
 list_long k (if_else r taken other rest) text (a, b, e, code, (c, d, f, type, (g, i, j, within, (l, m, n, parted, others)))) =
-    omega (arith, ap (λ t. length t) e, length-append a b, ap (λ t. length t) code, ap (λ t. length t) f, length-append c d, ap (λ t. length t) j, length-append g i,
-    ap (λ t. length t) n, length-append l m, list_long 0x05 taken g within, list_long 0x0b other l parted, list_long k rest m others)
+    omega (
+      arith,
+      ap (λ t. length t) e,
+      length-append a b,
+      ap (λ t. length t) code,
+      ap (λ t. length t) f,
+      length-append c d,
+      ap (λ t. length t) j,
+      length-append g i,
+      ap (λ t. length t) n,
+      length-append l m,
+      list_long 0x05 taken g within,
+      list_long 0x0b other l parted,
+      list_long k rest m others,
+    )
 
 -- every body has at most so many instructions
 abbrev AreShort : ℕ → List Function → Type 0
@@ -91,9 +134,9 @@ few_locals m e = not_so _ TooManyLocals (none_there (causes m) 1 _ e refl)
 -- ---- so every own function's reserve is small
 
 abbrev IsSmall : Callee → Type 0
-IsSmall (own f) = reserve_of f ≤ 1048576
-IsSmall (imported s i) = Unit {0}
-IsSmall absent = Unit {0}
+IsSmall (own_function f) = reserve_of f ≤ 1048576
+IsSmall (host_function s i) = Unit {0}
+IsSmall no_function = Unit {0}
 
 abbrev AreSmall : List Callee → Type 0
 AreSmall [] = Unit {0}
@@ -136,7 +179,7 @@ both_small : (cs ds : List Callee) → AreSmall cs → AreSmall ds → AreSmall 
 both_small [] ds h k = k
 both_small (c ∷ cs) ds h k = (h.0, both_small cs ds h.1 k)
 
-found_small : (cs : List Callee) (index : ℕ) (f : Own) → AreSmall cs → slice_get cs index ≡ Some (own f) → reserve_of f ≤ 1048576
+found_small : (cs : List Callee) (index : ℕ) (f : Own) → AreSmall cs → slice_get cs index ≡ Some (own_function f) → reserve_of f ≤ 1048576
 found_small [] index f h e = absurd cc
 found_small (c ∷ cs) zero f h e = subst IsSmall (same_Some _ _ e) h.0
 found_small (c ∷ cs) (suc index) f h e = found_small cs index f h.1 e

@@ -9,10 +9,10 @@ use Rattle.std.proofs.lemmas.Bool.Decides.{nat_tests}
 use Rattle.std.proofs.lemmas.List.{length-append}
 use Rattle.w4_defs.specs.BinaryText.{◌then◌, byte, items}
 use Rattle.w4_defs.specs.BinaryType.{bytes}
-use Rattle.w4_defs.specs.BinarySection.{Section, section, BeginsWithName, rank, Rises, contents}
+use Rattle.w4_defs.specs.BinarySection.{Section, section, BeginsWithName, rank, RanksRise, contents}
 use Rattle.w4_defs.specs.Reading.{◌>>=◌}
 use Rattle.wasm_read.specs.Reader.{read_as, Takes, Reads}
-use Rattle.wasm_read.specs.Combine.{cut_at}
+use Rattle.wasm_read.specs.Combine.{sized_bytes_at}
 use Rattle.wasm_read.specs.ReadType.{name_at}
 use Rattle.wasm_read.specs.ReadSection.{any_at, section_at, rank_after, ordered_at, contents_at}
 use Rattle.wasm_read.proofs.Basics.{bind_some, split_if, if_some, moved, differs}
@@ -37,7 +37,7 @@ any_reads = record { sound = any_sound; complete = λ text rest b h. ap (λ t. a
 
 pub section_reads : Reads section section_at
 unfolding section_at
-section_reads = both_reads byte bytes any_at cut_at any_reads cut_reads
+section_reads = both_reads byte bytes any_at sized_bytes_at any_reads cut_reads
 
 section_long : (s : Section) (text : List ℕ) → section s text → 1 ≤ length text
 section_long s text h = omega (arith, ap (λ t. length t) h.2, length-append h.0 h.1, ap (λ t. length t) h.3)
@@ -81,15 +81,15 @@ rank_sound last s r e =
           inr (other, leb-true s.0 12 i.0, ltb-true last (rank s.0) j.0, same)
     ]
 
-rises_more : (last : ℕ) (s : Section) (r : ℕ) (ss : List Section) → Next last s r → Rises r ss → Rises last (s ∷ ss)
+rises_more : (last : ℕ) (s : Section) (r : ℕ) (ss : List Section) → Next last s r → RanksRise r ss → RanksRise last (s ∷ ss)
 rises_more last s r ss (inl (zero_id, named, same)) h =
-    let P : ℕ → Type 0 = λ k. Rises k ss in
+    let P : ℕ → Type 0 = λ k. RanksRise k ss in
     inl (zero_id, named, subst P same h)
 rises_more last s r ss (inr (other, low, above, same)) h =
-    let P : ℕ → Type 0 = λ k. Rises k ss in
+    let P : ℕ → Type 0 = λ k. RanksRise k ss in
     inr (other, low, above, subst P same h)
 
-pub ordered_sound : (turns last : ℕ) (bs : List ℕ) (r : ℕ) → ordered_at turns last bs ≡ Some r → (ss : List Section) × items section ss bs × Rises last ss
+pub ordered_sound : (turns last : ℕ) (bs : List ℕ) (r : ℕ) → ordered_at turns last bs ≡ Some r → (ss : List Section) × items section ss bs × RanksRise last ss
 ordered_sound turns last [] r e = ([], refl, tt)
 ordered_sound zero last (b ∷ bs) r e = absurd cc
 ordered_sound (suc turns) last (b ∷ bs) r e =
@@ -120,14 +120,14 @@ section_first s turns a b bs e h few =
     (ap section_at e ∙ section_reads.complete a b s h, omega (arith, ap (λ t. length t) e, length-append a b, section_long s a h))
 
 -- the rank after a section that may stand there
-rank_next : (last : ℕ) (s : Section) (ss : List Section) → Rises last (s ∷ ss) → (r : ℕ) × (rank_after last s ≡ Some r) × Rises r ss
+rank_next : (last : ℕ) (s : Section) (ss : List Section) → RanksRise last (s ∷ ss) → (r : ℕ) × (rank_after last s ≡ Some r) × RanksRise r ss
 rank_next last s ss (inl (zero_id, named, h)) = (last, rank_complete_custom last s zero_id named, h)
 rank_next last s ss (inr (other, low, above, h)) = (rank s.0, rank_complete last s other low above, h)
 
 no_sections : (s : Section) (ss : List Section) → items section (s ∷ ss) [] → ⊥
 no_sections s ss h = omega (arith, ap (λ t. length t) h.2, length-append h.0 h.1, section_long s h.0 h.3)
 
-pub ordered_complete : (ss : List Section) (turns last : ℕ) (bs : List ℕ) → items section ss bs → Rises last ss → length bs ≤ turns → (r : ℕ) × (ordered_at turns last bs ≡ Some r)
+pub ordered_complete : (ss : List Section) (turns last : ℕ) (bs : List ℕ) → items section ss bs → RanksRise last ss → length bs ≤ turns → (r : ℕ) × (ordered_at turns last bs ≡ Some r)
 ordered_complete [] zero last bs h rises few = (last, ap (λ t. ordered_at zero last t) h)
 ordered_complete [] (suc turns) last bs h rises few = (last, ap (λ t. ordered_at (suc turns) last t) h)
 ordered_complete (s ∷ ss) turns last [] h rises few = absurd (no_sections s ss h)

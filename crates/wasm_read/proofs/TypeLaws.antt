@@ -14,21 +14,21 @@ use Rattle.w4_defs.specs.BinaryType.{vector, utf8, name, value_type, func_type, 
 use Rattle.wasm_read.specs.Reader.{read_as, Takes, Reads, ReadsWhole, row_of, coded_at}
 use Rattle.wasm_read.specs.ReadNumber.{unsigned_at}
 use Rattle.wasm_read.specs.Combine.{both_at, mapped_at, headed_at, vector_at}
-use Rattle.wasm_read.specs.ReadType.{utf8_at, name_at, value_types, value_type_at, block_types, block_type_at, mutabilities, global_of, global_type_at, open_limits, closed_limits, limits_at, table_type_at, signature_of, func_type_at}
+use Rattle.wasm_read.specs.ReadType.{utf8_at, name_at, value_type_codes, value_type_at, block_type_codes, block_type_at, mutability_codes, global_type_of, global_type_at, open_limits, closed_limits, limits_at, table_type_at, func_type_of, func_type_at}
 use Rattle.wasm_read.proofs.Basics.{bind_some, split_if, if_some, moved}
 use Rattle.wasm_read.proofs.NumberLaws.{unsigned_reads}
 use Rattle.wasm_read.proofs.CombineLaws.{both_reads, mapped_reads, tested_reads, headed_reads, vector_reads, sized_reads, coded_reads}
 
-value_type_found : (t : ValType) (text : List ℕ) → value_type t text → (b : ℕ) × (text ≡ b ∷ []) × (row_of value_types b ≡ Some t)
+value_type_found : (t : ValType) (text : List ℕ) → value_type t text → (b : ℕ) × (text ≡ b ∷ []) × (row_of value_type_codes b ≡ Some t)
 value_type_found I32 text h = (0x7f, h, refl)
 value_type_found I64 text h = (0x7e, h, refl)
 value_type_found F32 text h = (0x7d, h, refl)
 value_type_found F64 text h = (0x7c, h, refl)
 
 pub value_type_reads : Reads value_type value_type_at
-value_type_reads = coded_reads value_type value_types (refl, (refl, (refl, (refl, tt)))) value_type_found
+value_type_reads = coded_reads value_type value_type_codes (refl, (refl, (refl, (refl, tt)))) value_type_found
 
-block_type_found : (r : Option ValType) (text : List ℕ) → block_type r text → (b : ℕ) × (text ≡ b ∷ []) × (row_of block_types b ≡ Some r)
+block_type_found : (r : Option ValType) (text : List ℕ) → block_type r text → (b : ℕ) × (text ≡ b ∷ []) × (row_of block_type_codes b ≡ Some r)
 block_type_found None text h = (0x40, h, refl)
 block_type_found (Some I32) text h = (0x7f, h, refl)
 block_type_found (Some I64) text h = (0x7e, h, refl)
@@ -36,19 +36,19 @@ block_type_found (Some F32) text h = (0x7d, h, refl)
 block_type_found (Some F64) text h = (0x7c, h, refl)
 
 pub block_type_reads : Reads block_type block_type_at
-block_type_reads = coded_reads block_type block_types (refl, (refl, (refl, (refl, (refl, tt))))) block_type_found
+block_type_reads = coded_reads block_type block_type_codes (refl, (refl, (refl, (refl, (refl, tt))))) block_type_found
 
-mutability_found : (m : Bool) (text : List ℕ) → mutability m text → (b : ℕ) × (text ≡ b ∷ []) × (row_of mutabilities b ≡ Some m)
+mutability_found : (m : Bool) (text : List ℕ) → mutability m text → (b : ℕ) × (text ≡ b ∷ []) × (row_of mutability_codes b ≡ Some m)
 mutability_found false text h = (0x00, h, refl)
 mutability_found true text h = (0x01, h, refl)
 
-mutability_reads : Reads mutability (coded_at mutabilities)
-mutability_reads = coded_reads mutability mutabilities (refl, (refl, tt)) mutability_found
+mutability_reads : Reads mutability (coded_at mutability_codes)
+mutability_reads = coded_reads mutability mutability_codes (refl, (refl, tt)) mutability_found
 
 pub global_type_reads : Reads global_type global_type_at
 global_type_reads =
-    let pair = both_reads value_type mutability value_type_at (coded_at mutabilities) value_type_reads mutability_reads in
-    mapped_reads (λ (g : ValType × Bool). value_type g.0 then mutability g.1) (both_at value_type_at (coded_at mutabilities)) global_of (λ g. (g.value, g.mutable)) (λ a. refl) (λ b. refl) pair
+    let pair = both_reads value_type mutability value_type_at (coded_at mutability_codes) value_type_reads mutability_reads in
+    mapped_reads (λ (g : ValType × Bool). value_type g.0 then mutability g.1) (both_at value_type_at (coded_at mutability_codes)) global_type_of (λ g. (g.value, g.mutable)) (λ a. refl) (λ b. refl) pair
 
 two_numbers : Reads (λ (x : ℕ × ℕ). unsigned 32 x.0 then unsigned 32 x.1) (both_at (unsigned_at 32) (unsigned_at 32))
 two_numbers = both_reads (unsigned 32) (unsigned 32) (unsigned_at 32) (unsigned_at 32) (unsigned_reads 32) (unsigned_reads 32)
@@ -102,8 +102,8 @@ func_type_reads =
     let both = both_reads (vector value_type) (vector value_type) (vector_at value_type_at) (vector_at value_type_at) types types in
     let headed = headed_reads P (both_at (vector_at value_type_at) (vector_at value_type_at)) 0x60 both in
     let Q : Signature → Texts = λ s. byte 0x60 then vector value_type s.params then vector value_type s.results in
-    let mapped = mapped_reads (λ s. byte 0x60 then P s) (headed_at 0x60 (both_at (vector_at value_type_at) (vector_at value_type_at))) signature_of (λ s. (s.params, s.results)) (λ a. refl) (λ b. refl) headed in
-    tested_reads Q (mapped_at signature_of (headed_at 0x60 (both_at (vector_at value_type_at) (vector_at value_type_at)))) (λ s. length s.results ≤ 1) (λ s. nat_le (length s.results) 1) (λ s. (leb-true (length s.results) 1, le-leb (length s.results) 1)) mapped
+    let mapped = mapped_reads (λ s. byte 0x60 then P s) (headed_at 0x60 (both_at (vector_at value_type_at) (vector_at value_type_at))) func_type_of (λ s. (s.params, s.results)) (λ a. refl) (λ b. refl) headed in
+    tested_reads Q (mapped_at func_type_of (headed_at 0x60 (both_at (vector_at value_type_at) (vector_at value_type_at)))) (λ s. length s.results ≤ 1) (λ s. nat_le (length s.results) 1) (λ s. (leb-true (length s.results) 1, le-leb (length s.results) 1)) mapped
 
 utf8_reads : ReadsWhole utf8 utf8_at
 utf8_reads = record {

@@ -34,12 +34,12 @@ abbrev pub whole_at : {A : Type 0} → Reader A → List ℕ → Option A
 whole_at read bytes = read bytes >>= λ x. if length x.1 == 0 then Some x.0 else None
 
 -- a size and exactly that many bytes
-unfoldable pub cut_at : Reader (List ℕ)
-cut_at bytes = unsigned_at 32 bytes >>= λ n. front_at n.0 n.1
+unfoldable pub sized_bytes_at : Reader (List ℕ)
+sized_bytes_at bytes = unsigned_at 32 bytes >>= λ n. front_at n.0 n.1
 
 -- which are a value's text
 unfoldable pub sized_at : {A : Type 0} → (List ℕ → Option A) → Reader A
-sized_at whole bytes = cut_at bytes >>= λ f. whole f.0 >>= λ x. Some (x, f.1)
+sized_at whole bytes = sized_bytes_at bytes >>= λ f. whole f.0 >>= λ x. Some (x, f.1)
 
 -- these items and those that are read after them
 abbrev pub after_items : {A : Type 0} → List A → Option (List A × List ℕ) → Option (List A × List ℕ)

@@ -1,9 +1,9 @@
--- What the bytes say, as functions on lists that answer a value and the bytes after it.
+-- What the bytes say, as functions on lists that give a value and the bytes after it.
 pub mod Reader
 pub mod ReadNumber
 pub mod Combine
 pub mod ReadType
-pub mod Rows
+pub mod InstructionTable
 pub mod ReadOperation
 pub mod ReadExpression
 pub mod ReadPart

@@ -82,21 +82,21 @@ parted_by (Parts place ∷ closes) = (Some place, closes)
 parted_by closes = (None, closes)
 
 -- an entry with its places, given the closing entries that stand after it and aren't matched yet
-abbrev pub placed : ℕ → Op → List Close → Option (Op × List Close)
-placed at End closes = Some (End, Ends at ∷ closes)
-placed at Else closes = Some (Else, Parts at ∷ closes)
-placed at (Block r end) closes = ended_by closes >>= λ c. Some (Block r c.0, c.1)
-placed at (Loop r end) closes = ended_by closes >>= λ c. Some (Loop r c.0, c.1)
-placed at (If r other end) closes =
+abbrev pub entry_with_places : ℕ → Op → List Close → Option (Op × List Close)
+entry_with_places at End closes = Some (End, Ends at ∷ closes)
+entry_with_places at Else closes = Some (Else, Parts at ∷ closes)
+entry_with_places at (Block r end) closes = ended_by closes >>= λ c. Some (Block r c.0, c.1)
+entry_with_places at (Loop r end) closes = ended_by closes >>= λ c. Some (Loop r c.0, c.1)
+entry_with_places at (If r other end) closes =
     let parted = parted_by closes in ended_by parted.1 >>= λ c. Some (If r parted.0 c.0, c.1)
-placed at op [] = None
-placed at op (c ∷ closes) = Some (op, c ∷ closes)
+entry_with_places at op [] = None
+entry_with_places at op (c ∷ closes) = Some (op, c ∷ closes)
 
 -- the entries from this place on with their places, and the closing ones that aren't matched
-abbrev pub filled : ℕ → List Mark → Option (List Mark × List Close)
-filled at [] = Some ([], [])
-filled at (m ∷ ms) =
-    filled (at + 1) ms >>= λ after. placed at m.0 after.1 >>= λ p. Some ((p.0, m.1) ∷ after.0, p.1)
+abbrev pub entries_with_places : ℕ → List Mark → Option (List Mark × List Close)
+entries_with_places at [] = Some ([], [])
+entries_with_places at (m ∷ ms) =
+    entries_with_places (at + 1) ms >>= λ after. entry_with_places at m.0 after.1 >>= λ p. Some ((p.0, m.1) ∷ after.0, p.1)
 
 abbrev pub is_one_end : List Close → Bool
 is_one_end (Ends place ∷ []) = true
@@ -104,7 +104,7 @@ is_one_end closes = false
 
 -- all lists are closed, the last entry's own apart
 abbrev pub matched : List Mark → Option (List Mark)
-matched ms = filled 0 ms >>= λ f. if is_one_end f.1 then Some f.0 else None
+matched ms = entries_with_places 0 ms >>= λ f. if is_one_end f.1 then Some f.0 else None
 
 abbrev pub flattening_at : Reader (List Mark)
 flattening_at bytes = entries_at (length bytes) 1 bytes >>= λ x. matched x.0 >>= λ ms. Some (ms, x.1)

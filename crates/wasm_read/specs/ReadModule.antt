@@ -24,24 +24,24 @@ Contents = ℕ → Option (List ℕ)
 abbrev pub Front : Type 0
 Front = List Signature × (List Imported × (List ℕ × List Limits))
 
-unfoldable pub front_of : Contents → Option Front
-front_of c =
+unfoldable pub front_sections : Contents → Option Front
+front_sections c =
     both_some (part_at func_type_at (c 1)) (both_some (part_at import_at (c 2)) (both_some (part_at (unsigned_at 32) (c 3)) (part_at table_type_at (c 4))))
 
 -- memories, globals, exports and the start function
 abbrev pub Middle : Type 0
 Middle = List Limits × (List Global × (List Exported × Option ℕ))
 
-unfoldable pub middle_of : Contents → Option Middle
-middle_of c =
+unfoldable pub middle_sections : Contents → Option Middle
+middle_sections c =
     both_some (part_at limits_at (c 5)) (both_some (part_at global_at (c 6)) (both_some (part_at export_at (c 7)) (alone_at (unsigned_at 32) (c 8))))
 
 -- elements, bodies and data segments
 abbrev pub Back : Type 0
 Back = List ElementSegment × (List Function × List DataSegment)
 
-unfoldable pub back_of : Contents → Option Back
-back_of c = both_some (part_at element_at (c 9)) (both_some (part_at body_at (c 10)) (part_at segment_at (c 11)))
+unfoldable pub back_sections : Contents → Option Back
+back_sections c = both_some (part_at element_at (c 9)) (both_some (part_at body_at (c 10)) (part_at segment_at (c 11)))
 
 abbrev pub module_of : Front → Middle → Back → WasmModule
 module_of f m b =
@@ -50,7 +50,7 @@ module_of f m b =
 -- the module that these contents make, where its counts agree
 unfoldable pub collected : Contents → Option WasmModule
 collected c =
-    front_of c >>= λ f. middle_of c >>= λ m. back_of c
+    front_sections c >>= λ f. middle_sections c >>= λ m. back_sections c
     >>= λ b. if (length f.1.1.0 == length b.1.0) && is_counted (c 12) (length b.1.1) then Some (module_of f m b) else None
 
 abbrev pub contents_in : List ℕ → Contents

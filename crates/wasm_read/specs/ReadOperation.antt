@@ -4,11 +4,11 @@ use Rattle.std.specs.Prelude.{ℕ, ◌==◌, ◌||◌, ◌&&◌, nat_le, Bool, i
 use Rattle.std.specs.Int.{w32, w64}
 use Rattle.w4_defs.specs.declared.operation.Op.{Op}
 use Rattle.w4_defs.specs.declared.operation.Op.TheVariants.{CallIndirect, I32Const, I64Const, F32Const, F64Const, FloatPlain, FloatCut, MemorySize, MemoryGrow, MemoryCopy, MemoryFill}
-use Rattle.w4_defs.specs.Reading.{◌>>=◌, number_at}
+use Rattle.w4_defs.specs.Reading.{◌>>=◌, little_endian_at}
 use Rattle.wasm_read.specs.Reader.{Reader, row_of}
 use Rattle.wasm_read.specs.ReadNumber.{unsigned_at, signed_at}
 use Rattle.wasm_read.specs.Combine.{both_at, mapped_at, headed_at}
-use Rattle.wasm_read.specs.Rows.{control_rows, compare32_rows, compare64_rows, arith32_rows, arith64_rows, convert_rows, index_rows, load_rows, store_rows}
+use Rattle.wasm_read.specs.InstructionTable.{control_rows, compare32_rows, compare64_rows, arith32_rows, arith64_rows, convert_rows, index_rows, load_rows, store_rows}
 
 -- this value, without any bytes
 abbrev pub always_at : {A : Type 0} → A → Reader A
@@ -52,7 +52,7 @@ abbrev pub constant_at : ℕ → Reader Op
 constant_at code bs =
     if code == 0x41 then mapped_at I32Const (signed_at 32) bs
     else (if code == 0x42 then mapped_at I64Const (signed_at 64) bs
-    else (if code == 0x43 then mapped_at F32Const (number_at w32) bs else mapped_at F64Const (number_at w64) bs))
+    else (if code == 0x43 then mapped_at F32Const (little_endian_at w32) bs else mapped_at F64Const (little_endian_at w64) bs))
 
 abbrev pub prefixed_of : ℕ → Reader Op
 prefixed_of n bs =

@@ -12,7 +12,7 @@ use Rattle.w4_defs.specs.Module.{Imported, Exported, Global, ElementSegment, Dat
 use Rattle.w4_defs.specs.Tree.{Expr}
 use Rattle.wasm_read.specs.Reader.{Reader, coded_at}
 use Rattle.wasm_read.specs.ReadNumber.{unsigned_at}
-use Rattle.wasm_read.specs.Combine.{both_at, mapped_at, tested_at, vector_at, whole_at, cut_at, sized_at}
+use Rattle.wasm_read.specs.Combine.{both_at, mapped_at, tested_at, vector_at, whole_at, sized_bytes_at, sized_at}
 use Rattle.wasm_read.specs.ReadType.{name_at, value_type_at, limits_at, table_type_at, global_type_at}
 use Rattle.wasm_read.specs.ReadExpression.{expression_at}
 
@@ -77,4 +77,4 @@ abbrev pub segment_of : ℕ × (Expr × List ℕ) → DataSegment
 segment_of x = record { memory = x.0; offset = x.1.0; bytes = x.1.1 }
 
 unfoldable pub segment_at : Reader DataSegment
-segment_at = mapped_at segment_of (both_at (unsigned_at 32) (both_at expression_at cut_at))
+segment_at = mapped_at segment_of (both_at (unsigned_at 32) (both_at expression_at sized_bytes_at))

@@ -5,7 +5,7 @@ use Rattle.w4_defs.specs.BinarySection.{Section, rank}
 use Rattle.w4_defs.specs.Reading.{◌>>=◌}
 use Rattle.wasm_read.specs.Reader.{Reader}
 use Rattle.wasm_read.specs.ReadNumber.{unsigned_at}
-use Rattle.wasm_read.specs.Combine.{both_at, vector_at, whole_at, cut_at}
+use Rattle.wasm_read.specs.Combine.{both_at, vector_at, whole_at, sized_bytes_at}
 use Rattle.wasm_read.specs.ReadType.{name_at}
 
 abbrev pub any_at : Reader ℕ
@@ -13,7 +13,7 @@ any_at [] = None
 any_at (b ∷ bs) = Some (b, bs)
 
 unfoldable pub section_at : Reader Section
-section_at = both_at any_at cut_at
+section_at = both_at any_at sized_bytes_at
 
 -- the rank of the last section but custom ones, after one more section
 unfoldable pub rank_after : ℕ → Section → Option ℕ

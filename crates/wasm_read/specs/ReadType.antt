@@ -16,26 +16,26 @@ utf8_at codes = if is_utf8 codes then Some codes else None
 abbrev pub name_at : Reader (List ℕ)
 name_at = sized_at utf8_at
 
-abbrev pub value_types : List (ℕ × ValType)
-value_types = (0x7f, I32) ∷ (0x7e, I64) ∷ (0x7d, F32) ∷ (0x7c, F64) ∷ []
+abbrev pub value_type_codes : List (ℕ × ValType)
+value_type_codes = (0x7f, I32) ∷ (0x7e, I64) ∷ (0x7d, F32) ∷ (0x7c, F64) ∷ []
 
 abbrev pub value_type_at : Reader ValType
-value_type_at = coded_at value_types
+value_type_at = coded_at value_type_codes
 
-abbrev pub block_types : List (ℕ × Option ValType)
-block_types = (0x40, None) ∷ (0x7f, Some I32) ∷ (0x7e, Some I64) ∷ (0x7d, Some F32) ∷ (0x7c, Some F64) ∷ []
+abbrev pub block_type_codes : List (ℕ × Option ValType)
+block_type_codes = (0x40, None) ∷ (0x7f, Some I32) ∷ (0x7e, Some I64) ∷ (0x7d, Some F32) ∷ (0x7c, Some F64) ∷ []
 
 abbrev pub block_type_at : Reader (Option ValType)
-block_type_at = coded_at block_types
+block_type_at = coded_at block_type_codes
 
-abbrev pub mutabilities : List (ℕ × Bool)
-mutabilities = (0x00, false) ∷ (0x01, true) ∷ []
+abbrev pub mutability_codes : List (ℕ × Bool)
+mutability_codes = (0x00, false) ∷ (0x01, true) ∷ []
 
-abbrev pub global_of : ValType × Bool → GlobalType
-global_of g = record { value = g.0; mutable = g.1 }
+abbrev pub global_type_of : ValType × Bool → GlobalType
+global_type_of g = record { value = g.0; mutable = g.1 }
 
 abbrev pub global_type_at : Reader GlobalType
-global_type_at = mapped_at global_of (both_at value_type_at (coded_at mutabilities))
+global_type_at = mapped_at global_type_of (both_at value_type_at (coded_at mutability_codes))
 
 abbrev pub open_limits : ℕ → Limits
 open_limits least = record { least = least; greatest = None }
@@ -52,9 +52,9 @@ limits_at (b ∷ bs) =
 abbrev pub table_type_at : Reader Limits
 table_type_at = headed_at 0x70 limits_at
 
-abbrev pub signature_of : List ValType × List ValType → Signature
-signature_of s = record { params = s.0; results = s.1 }
+abbrev pub func_type_of : List ValType × List ValType → Signature
+func_type_of s = record { params = s.0; results = s.1 }
 
 abbrev pub func_type_at : Reader Signature
 func_type_at =
-    tested_at (λ s. nat_le (length s.results) 1) (mapped_at signature_of (headed_at 0x60 (both_at (vector_at value_type_at) (vector_at value_type_at))))
+    tested_at (λ s. nat_le (length s.results) 1) (mapped_at func_type_of (headed_at 0x60 (both_at (vector_at value_type_at) (vector_at value_type_at))))

@@ -1,5 +1,5 @@
--- Reading from the front of bytes: a reader answers a value and the bytes after it, or None. It is
--- exact where it answers a value just where the bytes begin with a text of that value.
+-- Reading from the front of bytes: a reader gives a value and the bytes after it, or None. An exact
+-- reader gives a value if and only if the bytes begin with a text of that value.
 use Rattle.std.specs.Prelude.{◌≡◌, ℕ, ◌==◌, if◌then◌else◌, List, [], ◌∷◌, ◌++◌, Option, Some, None, Result, Ok, Err}
 use Rattle.w4_defs.specs.BinaryText.{Texts}
 use Rattle.w4_defs.specs.Reading.{◌>>=◌}
@@ -21,20 +21,20 @@ pub record Reads {A : Type 0} (spelled : A → Texts) (read : Reader A) : Type 0
   pub sound : (bytes : List ℕ) (x : A) (rest : List ℕ) → read bytes ≡ Some (x, rest) → Takes spelled bytes x rest
   pub complete : (text rest : List ℕ) (x : A) → spelled x text → read (text ++ rest) ≡ Some (x, rest)
 
--- the same for a reader of whole texts
+-- a reader of whole texts is exact
 pub record ReadsWhole {A : Type 0} (spelled : A → Texts) (read : List ℕ → Option A) : Type 0 where
   pub sound : (bytes : List ℕ) (x : A) → read bytes ≡ Some x → spelled x bytes
   pub complete : (bytes : List ℕ) (x : A) → spelled x bytes → read bytes ≡ Some x
 
--- what is said where there was no value; want of memory says nothing
-abbrev pub Refused : Type 0 → ReadRefusal → Type 0
-Refused Missing Malformed = Missing
-Refused Missing OutOfMemory = Unit {0}
+-- what is said where there was no value; running out of memory says nothing
+abbrev pub IsUnread : Type 0 → ReadRefusal → Type 0
+IsUnread Missing Malformed = Missing
+IsUnread Missing OutOfMemory = Unit {0}
 
 -- what is said of a value that was read, and what is said where there was none
 abbrev pub Answers : {A : Type 0} → (A → Type 0) → Type 0 → Result A ReadRefusal → Type 0
 Answers Given Missing (Ok x) = Given x
-Answers Given Missing (Err e) = Refused Missing e
+Answers Given Missing (Err e) = IsUnread Missing e
 
 -- the value of the first row with this code
 abbrev pub row_of : {A : Type 0} → List (ℕ × A) → ℕ → Option A

@@ -1,4 +1,4 @@
--- Bytes spell at most one module.
+-- Bytes encode at most one module.
 use Rattle.std.specs.Prelude.{◌≡◌, ℕ, List}
 use Rattle.w4_defs.specs.Module.{WasmModule}
 use Rattle.w4_defs.specs.BinaryModule.{SpellsModule}

@@ -2,7 +2,7 @@
 //! from the last entry to the first, so that each is final when it is written.
 
 ghost use Rattle.std.specs.Prelude.{None, Some, reverse, ◌≡◌};
-ghost use Rattle.wasm_read.specs.ReadExpression.{ended_by, is_one_end, matched, parted_by, placed};
+ghost use Rattle.wasm_read.specs.ReadExpression.{ended_by, entry_with_places, is_one_end, matched, parted_by};
 ghost use Rattle.wasm_read.specs.Reader.{Answers};
 
 use crate::refusal::ReadRefusal;
@@ -35,7 +35,7 @@ fn ended_by(closes: &mut Vec<Close>) -> Result<usize, ReadRefusal>
 /// The entry with its places; `closes` has the closing entries after it that aren't matched, the next
 /// one last.
 fn placed(closes: &mut Vec<Close>, at: usize, op: Op) -> Result<Op, ReadRefusal>
-    ensures { Answers (λ p. placed at op (reverse closes.old.items) ≡ Some (p, reverse closes.new.items)) (placed at op (reverse closes.old.items) ≡ None) result }
+    ensures { Answers (λ p. entry_with_places at op (reverse closes.old.items) ≡ Some (p, reverse closes.new.items)) (entry_with_places at op (reverse closes.old.items) ≡ None) result }
 {
     match op {
         Op::End => {

@@ -1,9 +1,10 @@
-//! The binary reader (Core Specification, chapter 5): the module that bytes spell, or the answer that
-//! they spell none. Each reader answers exactly what its definition in w4_defs reads.
+//! The binary reader (Core Specification, chapter 5): the module that bytes encode, or the answer that
+//! they encode none. Each reader returns exactly what its definition in w4_defs reads.
 #![tactic(auto)]
 
 pub mod brackets;
 pub mod expression;
+pub mod instruction_table;
 pub mod item;
 pub mod laws;
 pub mod module;
@@ -12,7 +13,6 @@ pub mod operation;
 pub mod part;
 pub mod refusal;
 pub mod section;
-pub mod table;
 #[cfg(test)]
 mod tests;
 pub mod value_type;

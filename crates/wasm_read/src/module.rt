@@ -1,9 +1,9 @@
-//! The module that bytes spell (Core Specification, section 5.5).
+//! The module that bytes encode (Core Specification, section 5.5).
 
 ghost use Rattle.std.specs.Prelude.{None, Some, length, option_map, ◌≡◌};
 ghost use Rattle.w4_defs.specs.BinaryModule.{SpellsModule};
 ghost use Rattle.w4_defs.specs.Module.{WasmModule};
-ghost use Rattle.wasm_read.specs.ReadModule.{after_these, back_of, collected, contents_in, front_of, middle_of, module_at, sections_at};
+ghost use Rattle.wasm_read.specs.ReadModule.{after_these, back_sections, collected, contents_in, front_sections, middle_sections, module_at, sections_at};
 ghost use Rattle.wasm_read.specs.ReadNumber.{unsigned_at};
 ghost use Rattle.wasm_read.specs.ReadSection.{alone_at, is_counted, part_at};
 ghost use Rattle.wasm_read.specs.Reader.{Answers};
@@ -94,9 +94,9 @@ struct Front {
     tables: Vec<Limits>,
 }
 
-#[tactic(auto, unfolding(crate::specs::ReadModule::front_of))]
+#[tactic(auto, unfolding(crate::specs::ReadModule::front_sections))]
 fn front_of(alloc: Global, bytes: &[u8]) -> Result<Front, ReadRefusal>
-    ensures { Answers (λ x. front_of (contents_in bytes.now) ≡ Some (x.types.items, (x.imports.items, (x.functions.items, x.tables.items)))) (front_of (contents_in bytes.now) ≡ None) result }
+    ensures { Answers (λ x. front_sections (contents_in bytes.now) ≡ Some (x.types.items, (x.imports.items, (x.functions.items, x.tables.items)))) (front_sections (contents_in bytes.now) ≡ None) result }
 {
     let types = part_of(alloc, contents_of(bytes, 1))?;
     let imports = part_of(alloc, contents_of(bytes, 2))?;
@@ -120,9 +120,9 @@ struct Middle {
     start: Option<u32>,
 }
 
-#[tactic(auto, unfolding(crate::specs::ReadModule::middle_of))]
+#[tactic(auto, unfolding(crate::specs::ReadModule::middle_sections))]
 fn middle_of(alloc: Global, bytes: &[u8]) -> Result<Middle, ReadRefusal>
-    ensures { Answers (λ x. middle_of (contents_in bytes.now) ≡ Some (x.memories.items, (x.globals.items, (x.exports.items, x.start)))) (middle_of (contents_in bytes.now) ≡ None) result }
+    ensures { Answers (λ x. middle_sections (contents_in bytes.now) ≡ Some (x.memories.items, (x.globals.items, (x.exports.items, x.start)))) (middle_sections (contents_in bytes.now) ≡ None) result }
 {
     let memories = part_of(alloc, contents_of(bytes, 5))?;
     let globals = part_of(alloc, contents_of(bytes, 6))?;
@@ -144,9 +144,9 @@ struct Back {
     segments: Vec<FlatSegment>,
 }
 
-#[tactic(auto, unfolding(crate::specs::ReadModule::back_of))]
+#[tactic(auto, unfolding(crate::specs::ReadModule::back_sections))]
 fn back_of(alloc: Global, bytes: &[u8]) -> Result<Back, ReadRefusal>
-    ensures { Answers (λ x. back_of (contents_in bytes.now) ≡ Some (x.elements.items, (x.bodies, x.segments.items))) (back_of (contents_in bytes.now) ≡ None) result }
+    ensures { Answers (λ x. back_sections (contents_in bytes.now) ≡ Some (x.elements.items, (x.bodies, x.segments.items))) (back_sections (contents_in bytes.now) ≡ None) result }
 {
     let elements = part_of(alloc, contents_of(bytes, 9))?;
     let bodies = part_of(alloc, contents_of(bytes, 10))?;
@@ -207,15 +207,15 @@ fn module_at(alloc: Global, bytes: &[u8]) -> Result<Code, ReadRefusal>
     collected(alloc, sections)
 }
 
-/// The module that the whole of the bytes spells. It takes memory for what stands in the bytes and never
-/// by a count that it has read. Errors: Malformed exactly where the bytes spell no module, OutOfMemory.
+/// The module that the whole of the bytes encodes. It takes memory for what stands in the bytes and never
+/// by a count that it has read. Errors: Malformed if and only if the bytes encode no module, OutOfMemory.
 pub fn read_module(alloc: Global, bytes: &[u8]) -> Result<Code, ReadRefusal>
     ensures { Answers (λ c. SpellsModule bytes.now c) ((m : WasmModule) → SpellsModule bytes.now m → ⊥) result }
 {
     module_at(alloc, bytes)
 }
 
-/// Given bytes spell at most one module.
+/// Given bytes encode at most one module.
 pub fn at_most_one()
     ensures { AtMostOneModule }
 {}

@@ -2,7 +2,7 @@
 
 ghost use Rattle.std.specs.Prelude.{IfSome, None, Some, if◌then◌else◌, nat_le, nat_lt, option_map, ◌*◌, ◌+◌, ◌-◌, ◌<◌, ◌^◌, ◌≡◌, ◌≤◌};
 ghost use Rattle.std.specs.Int.{w32, w64};
-ghost use Rattle.w4_defs.specs.Reading.{number_at};
+ghost use Rattle.w4_defs.specs.Reading.{little_endian_at};
 ghost use Rattle.wasm_read.specs.ReadNumber.{last_signed, last_unsigned, leb_at, signed_at, unsigned_at};
 
 fn is_below_power(value: u64, width: u32) -> bool
@@ -130,7 +130,7 @@ pub fn long_word_at(bytes: &[u8]) -> Option<(u64, &[u8])>
 
 /// Four bytes, the lowest first, and the bytes after them.
 pub fn bits32_at(bytes: &[u8]) -> Option<(u32, &[u8])>
-    ensures { option_map (λ x. (x.0, x.1.now)) result ≡ number_at w32 bytes.now }
+    ensures { option_map (λ x. (x.0, x.1.now)) result ≡ little_endian_at w32 bytes.now }
 {
     let [a, b, c, d, rest @ ..] = bytes else {
         return None;
@@ -140,7 +140,7 @@ pub fn bits32_at(bytes: &[u8]) -> Option<(u32, &[u8])>
 
 /// Eight bytes, the lowest first, and the bytes after them.
 pub fn bits64_at(bytes: &[u8]) -> Option<(u64, &[u8])>
-    ensures { option_map (λ x. (x.0, x.1.now)) result ≡ number_at w64 bytes.now }
+    ensures { option_map (λ x. (x.0, x.1.now)) result ≡ little_endian_at w64 bytes.now }
 {
     let [a, b, c, d, e, f, g, h, rest @ ..] = bytes else {
         return None;

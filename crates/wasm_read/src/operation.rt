@@ -1,16 +1,16 @@
 //! Instructions that hold no list and have no labels (Core Specification, section 5.4).
 
 ghost use Rattle.std.specs.Prelude.{option_map, ◌≡◌};
-ghost use Rattle.w4_defs.specs.Reading.{number_at};
+ghost use Rattle.w4_defs.specs.Reading.{little_endian_at};
 ghost use Rattle.std.specs.Int.{w32, w64};
 ghost use Rattle.wasm_read.specs.ReadNumber.{signed_at, unsigned_at};
 ghost use Rattle.wasm_read.specs.Combine.{headed_at};
 ghost use Rattle.wasm_read.specs.ReadOperation.{always_at, access_at, access_of, constant_at, has_index, indexed_at, indices_at, is_between, is_float_code, operation_after, operation_at, plain_of, prefixed_at, prefixed_of, special_after};
 
-use crate::number::{bits32_at, bits64_at, index_at, long_word_at, word_at};
-use crate::table::{
+use crate::instruction_table::{
     arith32, arith64, compare32, compare64, control, convert, indexed, load, store,
 };
+use crate::number::{bits32_at, bits64_at, index_at, long_word_at, word_at};
 use w4_defs::Op;
 
 fn is_between(low: u8, high: u8, code: u8) -> bool

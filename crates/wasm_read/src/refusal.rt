@@ -9,7 +9,7 @@ use w4_defs::OutOfMemory as NoMemory;
 /// Why there is no module.
 #[derive(Clone, Copy, PartialEq, Eq, Debug, Error)]
 pub enum ReadRefusal {
-    /// The bytes spell no module.
+    /// The bytes encode no module.
     #[error("malformed")]
     Malformed,
     /// Memory was refused.

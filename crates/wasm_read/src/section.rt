@@ -3,7 +3,7 @@
 ghost use Rattle.std.specs.Prelude.{None, Some, length, option_map, ◌<◌, ◌≡◌};
 ghost use Rattle.std.specs.Str.{is_utf8};
 ghost use Rattle.w4_defs.specs.BinarySection.{rank};
-ghost use Rattle.wasm_read.specs.Combine.{cut_at};
+ghost use Rattle.wasm_read.specs.Combine.{sized_bytes_at};
 ghost use Rattle.wasm_read.specs.ReadSection.{contents_at, ordered_at, rank_after, section_at};
 ghost use Rattle.wasm_read.specs.ReadType.{name_at};
 
@@ -11,9 +11,9 @@ use crate::number::index_at;
 use std::str;
 
 /// A size and exactly that many bytes; those, and the bytes after them.
-#[tactic(auto, unfolding(crate::specs::Combine::cut_at))]
+#[tactic(auto, unfolding(crate::specs::Combine::sized_bytes_at))]
 pub fn cut_at(bytes: &[u8]) -> Option<(&[u8], &[u8])>
-    ensures { option_map (λ x. (x.0.now, x.1.now)) result ≡ cut_at bytes.now }
+    ensures { option_map (λ x. (x.0.now, x.1.now)) result ≡ sized_bytes_at bytes.now }
 {
     let (size, rest) = index_at(bytes)?;
     let size = size as usize;

@@ -1,4 +1,4 @@
-//! What no clause says: that a module is had of bytes that spell one, and which module the clauses mean.
+//! What no clause says: that a module is had of bytes that encode one, and which module the clauses mean.
 
 use crate::{ReadRefusal, read_module};
 use std::test::Fail;

@@ -2,7 +2,7 @@
 
 ghost use Rattle.std.specs.Prelude.{None, Some, option_map, ◌≡◌};
 ghost use Rattle.wasm_read.specs.ReadNumber.{unsigned_at};
-ghost use Rattle.wasm_read.specs.ReadType.{block_type_at, block_types, func_type_at, global_type_at, limits_at, mutabilities, table_type_at, value_type_at, value_types};
+ghost use Rattle.wasm_read.specs.ReadType.{block_type_at, block_type_codes, func_type_at, global_type_at, limits_at, mutability_codes, table_type_at, value_type_at, value_type_codes};
 ghost use Rattle.wasm_read.specs.Reader.{Answers, coded_at, row_of};
 
 use crate::item::{Item, vector_at};
@@ -12,7 +12,7 @@ use std::alloc::Global;
 use w4_defs::{FuncType, GlobalType, Limits, ValType};
 
 fn value_type_of(code: u8) -> Option<ValType>
-    ensures { result ≡ row_of value_types code }
+    ensures { result ≡ row_of value_type_codes code }
 {
     match code {
         0x7f => Some(ValType::I32),
@@ -33,7 +33,7 @@ pub fn value_type_at(bytes: &[u8]) -> Option<(ValType, &[u8])>
 }
 
 fn block_type_of(code: u8) -> Option<Option<ValType>>
-    ensures { result ≡ row_of block_types code }
+    ensures { result ≡ row_of block_type_codes code }
 {
     match code {
         0x40 => Some(None),
@@ -56,7 +56,7 @@ pub fn block_type_at(bytes: &[u8]) -> Option<(Option<ValType>, &[u8])>
 }
 
 fn mutability_at(bytes: &[u8]) -> Option<(bool, &[u8])>
-    ensures { option_map (λ x. (x.0, x.1.now)) result ≡ coded_at mutabilities bytes.now }
+    ensures { option_map (λ x. (x.0, x.1.now)) result ≡ coded_at mutability_codes bytes.now }
 {
     match bytes {
         [0, rest @ ..] => Some((false, rest)),

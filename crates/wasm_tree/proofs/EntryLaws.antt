@@ -10,7 +10,7 @@ use Rattle.w4_defs.specs.declared.operation.Op.TheVariants.{End}
 use Rattle.w4_defs.specs.Tree.{Mark, span, flat_at, flat}
 use Rattle.w4_defs.specs.Flattening.{IsProper}
 use Rattle.w4_defs.specs.Module.{Function}
-use Rattle.wasm_tree.specs.Shifting.{op_after, op_within, after}
+use Rattle.wasm_tree.specs.Shifting.{op_after, op_within, shifted_entry}
 use Rattle.wasm_tree.specs.Pool.{operations_of}
 use Rattle.wasm_tree.specs.Layout.{StandsAt, IsBody, entry_of, size_with}
 use Rattle.wasm_tree.proofs.ShiftLaws.{flattening_shifted, op_back, length_flat}
@@ -40,7 +40,7 @@ got_all P (x ∷ xs) (suc k) h = got_all P xs k (All-tail P x xs h)
 pub record Stands (ms : List Mark) (start place : ℕ) (entry : Option Mark) : Type 0 where
   pub itself : Mark
   pub is : entry ≡ Some itself
-  pub among : slice_get ms (start + place) ≡ Some (after start itself)
+  pub among : slice_get ms (start + place) ≡ Some (shifted_entry start itself)
   pub within : start + place < length ms
 
 stands : (ms : List Mark) (start place : ℕ) (f : Option Function) → StandsAt ms start f → IfSome f (λ g. IsProper g.list) → place < size_with f
@@ -48,18 +48,18 @@ stands : (ms : List Mark) (start place : ℕ) (f : Option Function) → StandsAt
 stands ms start place None h p small = absurd h
 stands ms start place (Some f) h p small =
     let m = got_within (flat f.list) place small in
-    let there : drop start ms ≡ map (after start) (flat f.list) ++ h.0 = h.1 ∙ ap (λ xs. xs ++ h.0) (flattening_shifted start f.list p) in
-    let long : length (map (after start) (flat f.list)) ≡ length (flat f.list) = length-map (flat f.list) (after start) in
+    let there : drop start ms ≡ map (shifted_entry start) (flat f.list) ++ h.0 = h.1 ∙ ap (λ xs. xs ++ h.0) (flattening_shifted start f.list p) in
+    let long : length (map (shifted_entry start) (flat f.list)) ≡ length (flat f.list) = length-map (flat f.list) (shifted_entry start) in
     record {
       itself = m.0;
       is = m.1;
       among = sym (got_after start place (start + place) ms refl) ∙ ap (λ xs. slice_get xs place) there
-          ∙ got_first (map (after start) (flat f.list)) h.0 place (omega (arith, small, long))
-          ∙ slice_get-map (after start) (flat f.list) place ∙ ap (option_map (after start)) m.1;
-      within = omega (arith, small, long, ap length there, length-append (map (after start) (flat f.list)) h.0, length-drop start ms);
+          ∙ got_first (map (shifted_entry start) (flat f.list)) h.0 place (omega (arith, small, long))
+          ∙ slice_get-map (shifted_entry start) (flat f.list) place ∙ ap (option_map (shifted_entry start)) m.1;
+      within = omega (arith, small, long, ap length there, length-append (map (shifted_entry start) (flat f.list)) h.0, length-drop start ms);
     }
 
--- the same of the body with this index
+-- the entry of the body with this index
 pub stands_in : (ms : List Mark) (fs : List Function) (func start place : ℕ) → StandsAt ms start (slice_get fs func) → All (λ f. IsProper f.list) fs → place < size_with (slice_get fs func)
     → Stands ms start place (entry_of (slice_get fs func) place)
 stands_in ms fs func start place h p small = stands ms start place (slice_get fs func) h (got_all (λ f. IsProper f.list) fs func p) small

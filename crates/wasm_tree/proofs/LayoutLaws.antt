@@ -8,8 +8,8 @@ use Rattle.w4_defs.specs.Tree.{Mark, Expr, flat_at, flat}
 use Rattle.w4_defs.specs.Flattening.{IsProper, read_flat}
 use Rattle.w4_defs.specs.Module.{Function}
 use Rattle.w4_defs.proofs.ReadBack.{flattening_read_back}
-use Rattle.wasm_tree.specs.Shifting.{after, within}
-use Rattle.wasm_tree.specs.Layout.{Placed, size_of, laid_from, placed_from, starts_from, function_at, functions_of, AreProper, AreLaid, StandsAt}
+use Rattle.wasm_tree.specs.Shifting.{shifted_entry, within}
+use Rattle.wasm_tree.specs.Layout.{Placed, entry_count, laid_from, placed_from, starts_from, placed_function, functions_of, AreProper, AreLaid, StandsAt}
 use Rattle.wasm_tree.proofs.ShiftLaws.{flattening_shifted, all_back, length_flat}
 
 -- where one list stands between two others
@@ -25,23 +25,23 @@ read_within start e p =
     ∙ ap (λ ms. read_flat ms) (all_back start (flat e))
     ∙ flattening_read_back e p
 
-size_right : (at : ℕ) (f : Function) → size_of f ≡ length (flat_at End at f.list)
+size_right : (at : ℕ) (f : Function) → entry_count f ≡ length (flat_at End at f.list)
 size_right at f = sym (length_flat End at f.list)
 
 one_back : (front back : List Mark) (at : ℕ) → at ≡ length front → (f : Function) → IsProper f.list
-    → function_at (front ++ (flat_at End at f.list ++ back)) (record { start = at; count = size_of f; runs = f.runs }) ≡ f
+    → placed_function (front ++ (flat_at End at f.list ++ back)) (record { start = at; count = entry_count f; runs = f.runs }) ≡ f
 one_back front back at e f p =
-    ap (λ ms. record { runs = f.runs; list = read_flat (map (within at) ms) }) (part front (flat_at End at f.list) back at (size_of f) e (size_right at f))
+    ap (λ ms. record { runs = f.runs; list = read_flat (map (within at) ms) }) (part front (flat_at End at f.list) back at (entry_count f) e (size_right at f))
     ∙ ap (λ x. record { runs = f.runs; list = x }) (read_within at f.list p)
 
 back_from : (front : List Mark) (at : ℕ) → at ≡ length front → (fs : List Function) → AreProper fs → functions_of (front ++ laid_from at fs) (placed_from at fs) ≡ fs
 back_from front at e [] p = refl
 back_from front at e (f ∷ fs) p =
     let here : List Mark = flat_at End at f.list in
-    let back : List Mark = laid_from (at + size_of f) fs in
-    let next : at + size_of f ≡ length (front ++ here) = omega (arith, length-append front here, size_right at f) in
-    ap (λ g. g ∷ functions_of (front ++ (here ++ back)) (placed_from (at + size_of f) fs)) (one_back front back at e f (p 0 f (omega arith)))
-    ∙ ap (λ gs. f ∷ gs) (ap (λ ms. functions_of ms (placed_from (at + size_of f) fs)) (sym (append_assoc front here back)) ∙ back_from (front ++ here) (at + size_of f) next fs (All-tail (λ g. IsProper g.list) f fs p))
+    let back : List Mark = laid_from (at + entry_count f) fs in
+    let next : at + entry_count f ≡ length (front ++ here) = omega (arith, length-append front here, size_right at f) in
+    ap (λ g. g ∷ functions_of (front ++ (here ++ back)) (placed_from (at + entry_count f) fs)) (one_back front back at e f (p 0 f (omega arith)))
+    ∙ ap (λ gs. f ∷ gs) (ap (λ ms. functions_of ms (placed_from (at + entry_count f) fs)) (sym (append_assoc front here back)) ∙ back_from (front ++ here) (at + entry_count f) next fs (All-tail (λ g. IsProper g.list) f fs p))
 
 pub laid : (ms : List Mark) (ps : List Placed) (h : AreLaid ms ps) → functions_of ms ps ≡ h.0
 laid ms ps h = ap (λ xs. functions_of xs ps) h.2 ∙ ap (λ xs. functions_of (laid_from 0 h.0) xs) h.3 ∙ back_from [] 0 refl h.0 h.1
@@ -62,27 +62,27 @@ laid_more : (at : ℕ) (fs : List Function) (f : Function) (start : ℕ) → sta
 laid_more at [] f start e =
     append-nil (flat_at End at f.list) ∙ ap (λ n. flat_at End n f.list) (omega (arith, e))
 laid_more at (g ∷ fs) f start e =
-    ap (λ ms. flat_at End at g.list ++ ms) (laid_more (at + size_of g) fs f start (omega (arith, e, length-append (flat_at End at g.list) (laid_from (at + size_of g) fs), size_right at g)))
-    ∙ sym (append_assoc (flat_at End at g.list) (laid_from (at + size_of g) fs) (flat_at End start f.list))
+    ap (λ ms. flat_at End at g.list ++ ms) (laid_more (at + entry_count g) fs f start (omega (arith, e, length-append (flat_at End at g.list) (laid_from (at + entry_count g) fs), size_right at g)))
+    ∙ sym (append_assoc (flat_at End at g.list) (laid_from (at + entry_count g) fs) (flat_at End start f.list))
 
 placed_more : (at : ℕ) (fs : List Function) (f : Function) (start : ℕ) → start ≡ at + length (laid_from at fs)
-    → placed_from at (fs ++ f ∷ []) ≡ placed_from at fs ++ record { start = start; count = size_of f; runs = f.runs } ∷ []
-placed_more at [] f start e = ap (λ n. record { start = n; count = size_of f; runs = f.runs } ∷ []) (omega (arith, e))
+    → placed_from at (fs ++ f ∷ []) ≡ placed_from at fs ++ record { start = start; count = entry_count f; runs = f.runs } ∷ []
+placed_more at [] f start e = ap (λ n. record { start = n; count = entry_count f; runs = f.runs } ∷ []) (omega (arith, e))
 placed_more at (g ∷ fs) f start e =
-    ap (λ ps. record { start = at; count = size_of g; runs = g.runs } ∷ ps)
-    (placed_more (at + size_of g) fs f start (omega (arith, e, length-append (flat_at End at g.list) (laid_from (at + size_of g) fs), size_right at g)))
+    ap (λ ps. record { start = at; count = entry_count g; runs = g.runs } ∷ ps)
+    (placed_more (at + entry_count g) fs f start (omega (arith, e, length-append (flat_at End at g.list) (laid_from (at + entry_count g) fs), size_right at g)))
 
 pub more : (ms ms' : List Mark) (ps ps' : List Placed) (fs : List Function) (f : Function) (start count : ℕ)
     → AreProper fs × (ms ≡ laid_from 0 fs) × (ps ≡ placed_from 0 fs) → IsProper f.list
-    → start ≡ length ms → count ≡ length (flat f.list) → ms' ≡ ms ++ map (after (length ms)) (flat f.list)
+    → start ≡ length ms → count ≡ length (flat f.list) → ms' ≡ ms ++ map (shifted_entry (length ms)) (flat f.list)
     → ps' ≡ ps ++ record { start = start; count = count; runs = f.runs } ∷ []
     → AreProper (fs ++ f ∷ []) × (ms' ≡ laid_from 0 (fs ++ f ∷ [])) × (ps' ≡ placed_from 0 (fs ++ f ∷ []))
 more ms ms' ps ps' fs f start count h p es ec em ep =
     let here : start ≡ 0 + length (laid_from 0 fs) = omega (arith, es, ap length h.1) in
-    let size : count ≡ size_of f = ec ∙ sym (size_right 0 f) in (
+    let size : count ≡ entry_count f = ec ∙ sym (size_right 0 f) in (
       All-push (λ g. IsProper g.list) fs f h.0 p,
-      em ∙ ap (λ n. ms ++ map (after n) (flat f.list)) (sym es) ∙ ap (λ xs. ms ++ xs) (sym (flattening_shifted start f.list p)) ∙ ap (λ xs. xs ++ flat_at End start f.list) h.1 ∙ sym (laid_more 0 fs f start here),
-      ep ∙ ap (λ n. ps ++ record { start = start; count = n; runs = f.runs } ∷ []) size ∙ ap (λ xs. xs ++ record { start = start; count = size_of f; runs = f.runs } ∷ []) h.2 ∙ sym (placed_more 0 fs f start here),
+      em ∙ ap (λ n. ms ++ map (shifted_entry n) (flat f.list)) (sym es) ∙ ap (λ xs. ms ++ xs) (sym (flattening_shifted start f.list p)) ∙ ap (λ xs. xs ++ flat_at End start f.list) h.1 ∙ sym (laid_more 0 fs f start here),
+      ep ∙ ap (λ n. ps ++ record { start = start; count = n; runs = f.runs } ∷ []) size ∙ ap (λ xs. xs ++ record { start = start; count = entry_count f; runs = f.runs } ∷ []) h.2 ∙ sym (placed_more 0 fs f start here),
     )
 
 -- what the place of one body says of it
@@ -97,17 +97,17 @@ facts_from : (front : List Mark) (at : ℕ) → at ≡ length front → (fs : Li
 facts_from front at e [] func d h = absurd (omega arith)
 facts_from front at e (f ∷ fs) zero d h = record {
   start = refl;
-  stands = (laid_from (at + size_of f) fs, ap (λ k. drop k (front ++ (flat_at End at f.list ++ laid_from (at + size_of f) fs))) e ∙ drop-append_seam front (flat_at End at f.list ++ laid_from (at + size_of f) fs));
+  stands = (laid_from (at + entry_count f) fs, ap (λ k. drop k (front ++ (flat_at End at f.list ++ laid_from (at + entry_count f) fs))) e ∙ drop-append_seam front (flat_at End at f.list ++ laid_from (at + entry_count f) fs));
   count = ap Some (sym (size_right 0 f));
   runs = refl;
 }
 facts_from front at e (f ∷ fs) (suc func) d h =
     let here : List Mark = flat_at End at f.list in
-    let back : List Mark = laid_from (at + size_of f) fs in
-    let next : at + size_of f ≡ length (front ++ here) = omega (arith, length-append front here, size_right at f) in
-    let p : Placed = get_or (placed_from (at + size_of f) fs) func d in
-    let s : FactsFrom (front ++ (here ++ back)) (at + size_of f) fs func p =
-    subst (λ (ms : List Mark). FactsFrom ms (at + size_of f) fs func p) (append_assoc front here back) (facts_from (front ++ here) (at + size_of f) next fs func d (omega arith)) in
+    let back : List Mark = laid_from (at + entry_count f) fs in
+    let next : at + entry_count f ≡ length (front ++ here) = omega (arith, length-append front here, size_right at f) in
+    let p : Placed = get_or (placed_from (at + entry_count f) fs) func d in
+    let s : FactsFrom (front ++ (here ++ back)) (at + entry_count f) fs func p =
+    subst (λ (ms : List Mark). FactsFrom ms (at + entry_count f) fs func p) (append_assoc front here back) (facts_from (front ++ here) (at + entry_count f) next fs func d (omega arith)) in
     record { start = s.start; stands = s.stands; count = s.count; runs = s.runs }
 
 pub facts : (fs : List Function) (func : ℕ) (d : Placed) → func < length fs → FactsFrom (laid_from 0 fs) 0 fs func (get_or (placed_from 0 fs) func d)
@@ -115,4 +115,4 @@ facts fs func d h = facts_from [] 0 refl fs func d h
 
 pub placed_length : (at : ℕ) (fs : List Function) → length (placed_from at fs) ≡ length fs
 placed_length at [] = refl
-placed_length at (f ∷ fs) = ap suc (placed_length (at + size_of f) fs)
+placed_length at (f ∷ fs) = ap suc (placed_length (at + entry_count f) fs)

@@ -7,7 +7,7 @@ use Rattle.w4_defs.specs.declared.operation.Op.{Op}
 use Rattle.w4_defs.specs.declared.operation.Op.TheVariants.{Block, Loop, If, Else, End}
 use Rattle.w4_defs.specs.Tree.{Mark, mark, Expr, done, plain, block, loop, if_then, if_else, span, flat_at}
 use Rattle.w4_defs.specs.Flattening.{IsLeaf, IsProper}
-use Rattle.wasm_tree.specs.Shifting.{op_after, op_within, after, within, FlatteningIsShifted}
+use Rattle.wasm_tree.specs.Shifting.{op_after, op_within, shifted_entry, within, FlatteningIsShifted}
 
 leaf_after : (start : ℕ) (op : Op) → IsLeaf op → op ≡ op_after start op
 leaf_after start (Block r m) h = absurd h
@@ -18,22 +18,22 @@ leaf_after start End h = absurd h
 leaf_after start op h = refl
 
 -- a list that opens with an entry, and what follows it
-opened : (start : ℕ) (x y : Mark) (xs ys us vs : List Mark) → x ≡ after start y → xs ≡ map (after start) ys → us ≡ map (after start) vs
-    → (x ∷ xs) ++ us ≡ map (after start) ((y ∷ ys) ++ vs)
+opened : (start : ℕ) (x y : Mark) (xs ys us vs : List Mark) → x ≡ shifted_entry start y → xs ≡ map (shifted_entry start) ys → us ≡ map (shifted_entry start) vs
+    → (x ∷ xs) ++ us ≡ map (shifted_entry start) ((y ∷ ys) ++ vs)
 opened start x y xs ys us vs ex exs eus =
-    ap (λ z. (z ∷ xs) ++ us) ex ∙ ap (λ zs. (after start y ∷ zs) ++ us) exs ∙ ap (λ zs. (after start y ∷ map (after start) ys) ++ zs) eus
-    ∙ sym (map-append (after start) (y ∷ ys) vs)
+    ap (λ z. (z ∷ xs) ++ us) ex ∙ ap (λ zs. (shifted_entry start y ∷ zs) ++ us) exs ∙ ap (λ zs. (shifted_entry start y ∷ map (shifted_entry start) ys) ++ zs) eus
+    ∙ sym (map-append (shifted_entry start) (y ∷ ys) vs)
 
-parted : (start : ℕ) (xs ys us vs : List Mark) → xs ≡ map (after start) ys → us ≡ map (after start) vs → xs ++ us ≡ map (after start) (ys ++ vs)
+parted : (start : ℕ) (xs ys us vs : List Mark) → xs ≡ map (shifted_entry start) ys → us ≡ map (shifted_entry start) vs → xs ++ us ≡ map (shifted_entry start) (ys ++ vs)
 parted start xs ys us vs exs eus =
-    ap (λ zs. zs ++ us) exs ∙ ap (λ zs. map (after start) ys ++ zs) eus ∙ sym (map-append (after start) ys vs)
+    ap (λ zs. zs ++ us) exs ∙ ap (λ zs. map (shifted_entry start) ys ++ zs) eus ∙ sym (map-append (shifted_entry start) ys vs)
 
 -- the place of the first entry is given by an equation, so that each case is one of numbers
-shifted_from : (close : Op) → ((start : ℕ) → mark close ≡ after start (mark close)) → (start at to : ℕ) → to ≡ at + start → (e : Expr) → IsProper e → flat_at close to e ≡ map (after start) (flat_at close at e)
+shifted_from : (close : Op) → ((start : ℕ) → mark close ≡ shifted_entry start (mark close)) → (start at to : ℕ) → to ≡ at + start → (e : Expr) → IsProper e → flat_at close to e ≡ map (shifted_entry start) (flat_at close at e)
 shifted_from close c start at to h done p = ap (λ m. m ∷ []) (c start)
 shifted_from close c start at to h (plain m rest) p =
     ap (λ op. (op, m.1) ∷ flat_at close (to + 1) rest) (leaf_after start m.0 p.0)
-    ∙ ap (λ ms. after start m ∷ ms) (shifted_from close c start (at + 1) (to + 1) (omega arith) rest p.1)
+    ∙ ap (λ ms. shifted_entry start m ∷ ms) (shifted_from close c start (at + 1) (to + 1) (omega arith) rest p.1)
 shifted_from close c start at to h (block r inner rest) p =
     let end : to + 1 + span inner ≡ at + 1 + span inner + start = omega arith in
     opened start _ (mark (Block r (at + 1 + span inner))) _ (flat_at End (at + 1) inner) _ (flat_at close (at + 1 + span inner + 1) rest) (ap (λ n. mark (Block r n)) end)
@@ -75,9 +75,9 @@ op_back start (Loop r end) = ap (λ n. Loop r n) (add_sub end start)
 op_back start (If r other end) = ap (λ o. If r o (end + start - start)) (option_back start other) ∙ ap (λ n. If r other n) (add_sub end start)
 op_back start op = refl
 
-pub all_back : (start : ℕ) (ms : List Mark) → map (within start) (map (after start) ms) ≡ ms
+pub all_back : (start : ℕ) (ms : List Mark) → map (within start) (map (shifted_entry start) ms) ≡ ms
 all_back start [] = refl
-all_back start (m ∷ ms) = ap (λ op. (op, m.1) ∷ map (within start) (map (after start) ms)) (op_back start m.0) ∙ ap (λ xs. m ∷ xs) (all_back start ms)
+all_back start (m ∷ ms) = ap (λ op. (op, m.1) ∷ map (within start) (map (shifted_entry start) ms)) (op_back start m.0) ∙ ap (λ xs. m ∷ xs) (all_back start ms)
 
 opened_length : (x : Mark) (xs ys : List Mark) (a b : ℕ) → length xs ≡ a → length ys ≡ b → length ((x ∷ xs) ++ ys) ≡ 1 + a + b
 opened_length x xs ys a b ha hb = omega (arith, length-append (x ∷ xs) ys, ha, hb)
@@ -109,12 +109,12 @@ taken_next (m ∷ ms) (suc place) op labels ho hl = ap (λ xs. m ∷ xs) (taken_
 
 pub one_more : (start place next : ℕ) (ms front marks marks' : List Mark) (op op' : Op) (labels : List ℕ) → next ≡ place + 1
     → option_map (λ m. m.0) (slice_get ms place) ≡ Some op → option_map (λ m. m.1) (slice_get ms place) ≡ Some labels
-    → op' ≡ op_after start op → marks ≡ front ++ map (after start) (take place ms) → marks' ≡ marks ++ (op', labels) ∷ []
-    → marks' ≡ front ++ map (after start) (take next ms)
+    → op' ≡ op_after start op → marks ≡ front ++ map (shifted_entry start) (take place ms) → marks' ≡ marks ++ (op', labels) ∷ []
+    → marks' ≡ front ++ map (shifted_entry start) (take next ms)
 one_more start place next ms front marks marks' op op' labels en ho hl eo em em' =
-    let xs : List Mark = map (after start) (take place ms) in
+    let xs : List Mark = map (shifted_entry start) (take place ms) in
     em' ∙ ap (λ ys. ys ++ (op', labels) ∷ []) em ∙ append_assoc front xs ((op', labels) ∷ [])
     ∙ ap (λ x. front ++ (xs ++ (x, labels) ∷ [])) eo
-    ∙ ap (λ ys. front ++ ys) (sym (map-append (after start) (take place ms) ((op, labels) ∷ [])))
-    ∙ ap (λ ys. front ++ map (after start) ys) (sym (taken_next ms place op labels ho hl))
-    ∙ ap (λ n. front ++ map (after start) (take n ms)) {x = suc place} (omega (arith, en))
+    ∙ ap (λ ys. front ++ ys) (sym (map-append (shifted_entry start) (take place ms) ((op, labels) ∷ [])))
+    ∙ ap (λ ys. front ++ map (shifted_entry start) ys) (sym (taken_next ms place op labels ho hl))
+    ∙ ap (λ n. front ++ map (shifted_entry start) (take n ms)) {x = suc place} (omega (arith, en))

@@ -4,7 +4,7 @@ ghost use Rattle.std.specs.Prelude.{◌+◌, ◌++◌, ◌<◌, ◌≡◌, ◌�
 ghost use Rattle.w4_defs.specs.Flattening.{IsProper};
 ghost use Rattle.w4_defs.specs.Tree.{flat};
 ghost use Rattle.wasm_tree.specs.Layout.{IsBody, StandsAt, entry_of, laid_from, size_with, starts_from};
-ghost use Rattle.wasm_tree.specs.Shifting.{after};
+ghost use Rattle.wasm_tree.specs.Shifting.{shifted_entry};
 
 use crate::marks::Marks;
 use crate::parts::FlatBody;
@@ -153,7 +153,7 @@ impl Bodies {
 
 /// The entries with those of a body after them.
 fn appended(marks: Marks, body: &Marks) -> Result<Marks, OutOfMemory>
-    ensures { IfOk result (λ m. m ≡ marks ++ map (after (length marks)) body.now) }
+    ensures { IfOk result (λ m. m ≡ marks ++ map (shifted_entry (length marks)) body.now) }
 {
     let start = marks.len();
     let mut marks = marks;

@@ -95,7 +95,7 @@ impl Code {
         &self.exports
     }
 
-    /// The start function, which counts imports first; None exactly where there is none.
+    /// The start function, which counts imports first; None if and only if there is none.
     pub fn start(&self) -> Option<u32>
         ensures { result ≡ self.now.start }
     {

@@ -30,6 +30,6 @@ pub trait Host {
         ensures answer { result ≡ (effect self.old name args.now page.old).answer }
         ensures answers { IsSome result ↔ (length (import_type name).results ≡ 1) };
 
-    /// An import answers exactly where its type has a result, whatever the arguments and the page.
+    /// An import returns a number if and only if its type has a result, whatever the arguments and the page.
     ghost answers_by_type: { (host : Self) (name : Import) (args page : List ℕ) → IsSome (effect host name args page).answer ↔ (length (import_type name).results ≡ 1) };
 }

@@ -1,4 +1,4 @@
--- The shape decides the typing of the bodies of a module without floats.
+-- The abstract stack decides the typing of the bodies of a module without floats.
 use Rattle.std.proofs.Common.{◌≡◌, ℕ, zero, suc, false, ◌||◌, List, [], ◌∷◌, replicate, Some, sym, ◌∙◌, subst}
 use Rattle.std.specs.Prelude.{slice_get}
 use Rattle.std.specs.List.{list_any}
@@ -11,10 +11,10 @@ use Rattle.w4_defs.specs.Module.{Signature, Function, WasmModule}
 use Rattle.w4_defs.specs.Lookup.{global_types, local_types}
 use Rattle.w4_defs.specs.Floats.{is_float, has_float, signature_has_float, function_has_float, module_has_float}
 use Rattle.w4_defs.specs.Typing.{IsInt, AreInt, HasType, body_context}
-use Rattle.wasm_valid.specs.ShapeLaw.{HasNoFloat, ShapeDecidesBodies}
+use Rattle.wasm_valid.specs.AbstractStackLaw.{HasNoFloat, StackDecidesBodies}
 use Rattle.wasm_valid.proofs.IntLaws.{joined_int}
 use Rattle.wasm_valid.proofs.NoneLaws.{none_at, none_all}
-use Rattle.wasm_valid.proofs.ShapeLaws.{shape_decides}
+use Rattle.wasm_valid.proofs.AbstractStackLaws.{stack_decides}
 
 int_type : (t : ValType) → is_float t ≡ false → IsInt t
 int_type I32 h = tt
@@ -89,10 +89,10 @@ body_free m index k s f w e g =
       ints.1,
     )
 
-pub shape_decides_bodies : ShapeDecidesBodies
-shape_decides_bodies m index k s f h e g =
+pub stack_decides_bodies : StackDecidesBodies
+stack_decides_bodies m index k s f h e g =
     let p = body_free m index k s f (free m h) e g in
-    let law = shape_decides (body_context m s f) f.list s.results p.0 p.1 p.2 in (
+    let law = stack_decides (body_context m s f) f.list s.results p.0 p.1 p.2 in (
       (λ t. let same : t.0 ≡ s = cc (sym t.1 ∙ e) in
           law.0 (subst (λ x. HasType (body_context m x f) f.list [] x.results) same t.2)),
       (λ b. (s, e, law.1 b)),

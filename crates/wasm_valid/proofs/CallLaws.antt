@@ -16,7 +16,7 @@ use Rattle.w4_defs.specs.ImportNames.{import_named}
 use Rattle.w4_defs.specs.Lookup.{local_count, imported_function}
 use Rattle.w4_defs.specs.Module.{Signature, Function, Imported, WasmModule}
 use Rattle.w4_defs.specs.Profile.{profile_refusal, has_many_locals, param_count, is_right}
-use Rattle.w4_defs.specs.Program.{instructions, Callee, own, imported, own_callee, own_callees, imported_callee, imported_callees, with_import}
+use Rattle.w4_defs.specs.Program.{instructions, Callee, own_function, host_function, own_callee, own_callees, imported_callee, imported_callees, with_import}
 use Rattle.wasm_tree.specs.Layout.{entries, IsBody, StandsAt}
 use Rattle.wasm_tree.proofs.EntryLaws.{got_all}
 use Rattle.wasm_valid.specs.declared.call.Call.{Call}
@@ -109,10 +109,10 @@ import_right m i x none e =
 -- the one callee of a function import
 pub import_callee : (m : WasmModule) (x : Imported) (index : ℕ) (name : Import) (call : Call)
     → x.kind ≡ Func index → import_named x.module_name x.name ≡ Some name
-    → slice_get m.types index ≡ Some (import_type name) → IsCall m (imported (import_type name) name) call
+    → slice_get m.types index ≡ Some (import_type name) → IsCall m (host_function (import_type name) name) call
     → AreCalls m (imported_callees m.types (x ∷ [])) (call ∷ [])
 import_callee m x index name call ek en et h =
-    let list : imported (import_type name) name ∷ [] ≡ imported_callees m.types (x ∷ []) =
+    let list : host_function (import_type name) name ∷ [] ≡ imported_callees m.types (x ∷ []) =
     sym (ap (λ o. imported_callee o (Some name) ∷ []) et)
     ∙ sym (ap (λ o. imported_callee (slice_get m.types index) o ∷ []) en)
     ∙ sym (ap (λ k. with_import m.types k (import_named x.module_name x.name) []) ek) in
@@ -136,7 +136,7 @@ pub own_more : (m : WasmModule) (front : List Callee) (i : ℕ) (call : Call) (c
     → AreCalls m (front ++ own_callees m.types (take i m.functions) (take i m.bodies)) calls
     → AreCalls m (front ++ own_callees m.types (take (i + 1) m.functions) (take (i + 1) m.bodies)) next
 own_more m front i call calls next at e so_far =
-    let c : Callee = own (record { signature = at.signature; function = at.function }) in
+    let c : Callee = own_function (record { signature = at.signature; function = at.function }) in
     let before : List Callee = own_callees m.types (take i m.functions) (take i m.bodies) in
     let list : (front ++ before) ++ c ∷ []
     ≡ front ++ own_callees m.types (take (i + 1) m.functions) (take (i + 1) m.bodies) =

@@ -7,18 +7,18 @@ use Rattle.w4_defs.specs.declared.operation.Op.{Op}
 use Rattle.w4_defs.specs.declared.operation.Op.TheVariants.{I32Const, I64Const}
 use Rattle.w4_defs.specs.declared.value.ValType.TheVariants.{I32}
 use Rattle.w4_defs.specs.Lookup.{signature_of}
-use Rattle.w4_defs.specs.Module.{DataSegment, WasmModule}
+use Rattle.w4_defs.specs.Module.{DataSegment, WasmModule, nothing_to_nothing}
 use Rattle.w4_defs.specs.Profile as profile
-use Rattle.w4_defs.specs.Profile.{passes, single_constant, is_entry_name, profile_refusal}
-use Rattle.w4_defs.specs.Program.{callees, constant, constant_of}
+use Rattle.w4_defs.specs.Profile.{exceeds_size, single_constant, is_entry_name, profile_refusal}
+use Rattle.w4_defs.specs.Program.{callees, constant_number, constant_of}
 use Rattle.w4_defs.specs.Tree.{Expr, done, plain, block, loop, if_then, if_else, flat}
 use Rattle.w4_defs.specs.Validity.{IsConstant, IsStart, IsDataSegment, IsValid, constant_type}
 use Rattle.wasm_tree.specs.Pool.{operations_of}
 use Rattle.wasm_valid.specs.declared.call.Call.{Call}
-use Rattle.wasm_valid.specs.declared.entry.Entry.{Entry}
-use Rattle.wasm_valid.specs.declared.entry.Entry.TheVariants.{Update, CrtStart, Initialize, Start}
+use Rattle.wasm_valid.specs.declared.entry_point.Entry.{Entry}
+use Rattle.wasm_valid.specs.declared.entry_point.Entry.TheVariants.{Update, CrtStart, Initialize, Start}
 use Rattle.wasm_valid.specs.Calls.{AreCalls}
-use Rattle.wasm_valid.specs.Carts.{entry_name, nothing}
+use Rattle.wasm_valid.specs.Carts.{entry_name}
 use Rattle.wasm_valid.proofs.NoneLaws.{none_at, all_at}
 use Rattle.wasm_valid.proofs.ProfileFacts.{no_cause, data_passes}
 use Rattle.wasm_valid.specs.Constants.{number32, first_number32}
@@ -37,12 +37,12 @@ entry_is_named Start = refl
 
 -- the start function, if there is one
 pub start_type : (m : WasmModule) (start : Option ℕ) → IsStart m start
-    → IfSome start (λ f. signature_of m f ≡ Some nothing)
+    → IfSome start (λ f. signature_of m f ≡ Some nothing_to_nothing)
 start_type m None h = tt
 start_type m (Some f) h = h
 
 -- an operation that is a constant of type i32
-number_is : (op : Op) → constant_type op ≡ Some I32 → number32 op ≡ constant op
+number_is : (op : Op) → constant_type op ≡ Some I32 → number32 op ≡ constant_number op
 number_is (I32Const n) e = refl
 number_is (I64Const n) e = absurd cc
 number_is op e = refl
@@ -63,14 +63,14 @@ offset_number (if_then r taken rest) ops h is = absurd h
 offset_number (if_else r taken other rest) ops h is = absurd h
 
 constant_fits : (op : Op) (count size : ℕ) → constant_type op ≡ Some I32
-    → passes (profile.constant op) count size ≡ false → constant op + count ≤ size
+    → exceeds_size (profile.i32_constant op) count size ≡ false → constant_number op + count ≤ size
 constant_fits (I32Const n) count size e h = grind (arith, nat_tests)
 constant_fits (I64Const n) count size e h = absurd cc
 constant_fits op count size e h = absurd cc
 
 -- a constant offset of a segment that doesn't pass the end
 pub offset_fits : (e : Expr) (count size : ℕ) → IsConstant I32 e
-    → passes (single_constant e) count size ≡ false → constant_of e + count ≤ size
+    → exceeds_size (single_constant e) count size ≡ false → constant_of e + count ≤ size
 offset_fits done count size h p = absurd h
 offset_fits (plain m done) count size h p = constant_fits m.0 count size h p
 offset_fits (plain m (plain n rest)) count size h p = absurd h

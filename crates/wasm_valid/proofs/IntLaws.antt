@@ -1,4 +1,4 @@
--- No float comes to a shape from a context without floats.
+-- No float comes to an abstract stack from a context without floats.
 use Rattle.std.proofs.Common.{◌≡◌, Bool, true, false, ◌&&◌, cond, nat_le, nat_lt, ℕ, zero, suc, ◌^◌, length, List, [], ◌∷◌, ◌++◌, map, reverse, Option, Some, None, option_and_then, refl, sym, subst}
 use Rattle.std.specs.Prelude.{All, IfSome, slice_get}
 use Rattle.std.proofs.lemmas.Bool.{and_from, and_parts}
@@ -13,17 +13,17 @@ use Rattle.w4_defs.specs.declared.operation.Op.TheVariants as op
 use Rattle.w4_defs.specs.declared.instruction_table.IntegerType.{IntegerType}
 use Rattle.w4_defs.specs.declared.instruction_table.IntegerType.TheVariants as integer
 use Rattle.w4_defs.specs.declared.instruction_table.Row.{Row}
-use Rattle.w4_defs.specs.declared.instruction_table.Row.TheVariants as shape
-use Rattle.w4_defs.specs.InstructionTable.{value_type, row}
-use Rattle.w4_defs.specs.Kinds.{same_type}
+use Rattle.w4_defs.specs.declared.instruction_table.Row.TheVariants as stack
+use Rattle.w4_defs.specs.InstructionTable.{value_type_of, row}
+use Rattle.w4_defs.specs.ValueTypes.{same_type}
 use Rattle.w4_defs.specs.Module.{WasmModule}
 use Rattle.w4_defs.specs.Lookup.{signature_of, global_types, tables_of, memories_of, function_indices}
 use Rattle.w4_defs.specs.Floats.{is_float_result}
-use Rattle.w4_defs.specs.OperandTypes.{Arrow, arrow_if, row_type, gives, unary}
+use Rattle.w4_defs.specs.OperandTypes.{Arrow, arrow_if, row_type, gives, unary_type}
 use Rattle.w4_defs.specs.Typing.{Context, with_label, result_types, IsInt, AreInt, only_type, consumes, sets, branches, calls, calls_indirectly}
-use Rattle.w4_defs.specs.Shape.{Kind, agrees, agree, below, below_all, topmost, common_kind}
-use Rattle.wasm_valid.specs.ShapeLaw.{HasNoFloat, IsIntKind, AreIntKinds}
-use Rattle.wasm_valid.proofs.KindLaws.{then_some, if_some}
+use Rattle.w4_defs.specs.AbstractStack.{OperandType, agrees, agree, below, below_all, topmost, common_type}
+use Rattle.wasm_valid.specs.AbstractStackLaw.{HasNoFloat, IsIntOperand, AreIntOperands}
+use Rattle.wasm_valid.proofs.OperandTypeLaws.{then_some, if_some}
 
 -- ---- lists of types
 
@@ -57,61 +57,61 @@ got_int [] k h = tt
 got_int (t ∷ ts) zero h = h.0
 got_int (t ∷ ts) (suc k) h = got_int ts k h.1
 
--- ---- lists of kinds
+-- ---- lists of operand types
 
-pub joined_kinds : (a b : List Kind) → AreIntKinds a → AreIntKinds b → AreIntKinds (a ++ b)
+pub joined_kinds : (a b : List OperandType) → AreIntOperands a → AreIntOperands b → AreIntOperands (a ++ b)
 joined_kinds [] b h g = g
 joined_kinds (k ∷ a) b h g = (h.0, joined_kinds a b h.1 g)
 
-pub known_int : (ts : List ValType) → AreInt ts → AreIntKinds (map Some ts)
+pub known_int : (ts : List ValType) → AreInt ts → AreIntOperands (map Some ts)
 known_int [] h = tt
 known_int (t ∷ ts) h = (h.0, known_int ts h.1)
 
-pub below_int : (t : ValType) (marked : Bool) (ks rest : List Kind) → AreIntKinds ks
-    → below t marked ks ≡ Some rest → AreIntKinds rest
-below_int t true [] rest i h = let e : [] ≡ rest = cc h in subst AreIntKinds e tt
+pub below_int : (t : ValType) (unreachable : Bool) (ks rest : List OperandType) → AreIntOperands ks
+    → below t unreachable ks ≡ Some rest → AreIntOperands rest
+below_int t true [] rest i h = let e : [] ≡ rest = cc h in subst AreIntOperands e tt
 below_int t false [] rest i h = absurd (cc h)
-below_int t true (k ∷ ks) rest i h = subst AreIntKinds (if_some (agrees k t) ks rest h).1 i.1
-below_int t false (k ∷ ks) rest i h = subst AreIntKinds (if_some (agrees k t) ks rest h).1 i.1
+below_int t true (k ∷ ks) rest i h = subst AreIntOperands (if_some (agrees k t) ks rest h).1 i.1
+below_int t false (k ∷ ks) rest i h = subst AreIntOperands (if_some (agrees k t) ks rest h).1 i.1
 
-pub all_below_int : (us : List ValType) (marked : Bool) (ks rest : List Kind) → AreIntKinds ks
-    → below_all us marked ks ≡ Some rest → AreIntKinds rest
-all_below_int [] marked ks rest i h = let e : ks ≡ rest = cc h in subst AreIntKinds e i
-all_below_int (u ∷ us) marked ks rest i h =
-    let p = then_some (below_all us marked) (below u marked ks) rest h in
-    all_below_int us marked p.0 rest (below_int u marked ks p.0 i p.1) p.2
+pub all_below_int : (us : List ValType) (unreachable : Bool) (ks rest : List OperandType) → AreIntOperands ks
+    → below_all us unreachable ks ≡ Some rest → AreIntOperands rest
+all_below_int [] unreachable ks rest i h = let e : ks ≡ rest = cc h in subst AreIntOperands e i
+all_below_int (u ∷ us) unreachable ks rest i h =
+    let p = then_some (below_all us unreachable) (below u unreachable ks) rest h in
+    all_below_int us unreachable p.0 rest (below_int u unreachable ks p.0 i p.1) p.2
 
-pub top_int : (marked : Bool) (ks : List Kind) (top : Kind × List Kind) → AreIntKinds ks
-    → topmost marked ks ≡ Some top → IsIntKind top.0 × AreIntKinds top.1
+pub top_int : (unreachable : Bool) (ks : List OperandType) (top : OperandType × List OperandType) → AreIntOperands ks
+    → topmost unreachable ks ≡ Some top → IsIntOperand top.0 × AreIntOperands top.1
 top_int true [] top i h =
-    let e : (None, []) ≡ top = cc h in subst (λ x. IsIntKind x.0 × AreIntKinds x.1) e (tt, tt)
+    let e : (None, []) ≡ top = cc h in subst (λ x. IsIntOperand x.0 × AreIntOperands x.1) e (tt, tt)
 top_int false [] top i h = absurd (cc h)
 top_int true (k ∷ ks) top i h =
-    let e : (k, ks) ≡ top = cc h in subst (λ x. IsIntKind x.0 × AreIntKinds x.1) e i
+    let e : (k, ks) ≡ top = cc h in subst (λ x. IsIntOperand x.0 × AreIntOperands x.1) e i
 top_int false (k ∷ ks) top i h =
-    let e : (k, ks) ≡ top = cc h in subst (λ x. IsIntKind x.0 × AreIntKinds x.1) e i
+    let e : (k, ks) ≡ top = cc h in subst (λ x. IsIntOperand x.0 × AreIntOperands x.1) e i
 
-pub common_int : (j k both : Kind) → IsIntKind j → IsIntKind k → common_kind j k ≡ Some both → IsIntKind both
-common_int None k both i l h = let e : k ≡ both = cc h in subst IsIntKind e l
-common_int (Some u) None both i l h = let e : Some u ≡ both = cc h in subst IsIntKind e i
-common_int (Some u) (Some v) both i l h = subst IsIntKind (if_some (same_type u v) (Some u) both h).1 i
+pub common_int : (j k both : OperandType) → IsIntOperand j → IsIntOperand k → common_type j k ≡ Some both → IsIntOperand both
+common_int None k both i l h = let e : k ≡ both = cc h in subst IsIntOperand e l
+common_int (Some u) None both i l h = let e : Some u ≡ both = cc h in subst IsIntOperand e i
+common_int (Some u) (Some v) both i l h = subst IsIntOperand (if_some (same_type u v) (Some u) both h).1 i
 
--- an int type for a kind
-pub some_type : (k : Kind) → IsIntKind k → (t : ValType) × IsInt t × (agrees k t ≡ true)
+-- an int type for an operand type
+pub some_type : (k : OperandType) → IsIntOperand k → (t : ValType) × IsInt t × (agrees k t ≡ true)
 some_type None i = (I32, tt, refl)
 some_type (Some I32) i = (I32, tt, refl)
 some_type (Some I64) i = (I64, tt, refl)
 some_type (Some F32) i = absurd i
 some_type (Some F64) i = absurd i
 
--- some int types for which kinds stand
-pub some_types : (ks : List Kind) (marked : Bool) → AreIntKinds ks
-    → (ts : List ValType) × AreInt ts × (agree ks marked ts ≡ true)
-some_types [] marked i = ([], tt, refl)
-some_types (k ∷ ks) marked i =
+-- some int types for which operand types stand
+pub some_types : (ks : List OperandType) (unreachable : Bool) → AreIntOperands ks
+    → (ts : List ValType) × AreInt ts × (agree ks unreachable ts ≡ true)
+some_types [] unreachable i = ([], tt, refl)
+some_types (k ∷ ks) unreachable i =
     let p = some_type k i.0 in
-    let q = some_types ks marked i.1 in
-    (p.0 ∷ q.0, (p.1, q.1), and_from (agrees k p.0) (agree ks marked q.0) p.2 q.2)
+    let q = some_types ks unreachable i.1 in
+    (p.0 ∷ q.0, (p.1, q.1), and_from (agrees k p.0) (agree ks unreachable q.0) p.2 q.2)
 
 -- ---- the arrows of operations
 
@@ -124,29 +124,29 @@ int_if : (b : Bool) (taken given : List ValType) → AreInt taken → AreInt giv
 int_if true taken given h g = (h, g)
 int_if false taken given h g = tt
 
-is_int : (t : IntegerType) → IsInt (value_type t)
+is_int : (t : IntegerType) → IsInt (value_type_of t)
 is_int integer.I32 = tt
 is_int integer.I64 = tt
 
 row_int : (has : Bool) (r : Row) → IsIntArrow (row_type has r)
-row_int has (shape.Const t n) = (tt, (is_int t, tt))
-row_int has (shape.Test t) = ((is_int t, tt), (tt, tt))
-row_int has (shape.Compare t o) = ((is_int t, (is_int t, tt)), (tt, tt))
-row_int has (shape.Unary t o) = ((is_int t, tt), (is_int t, tt))
-row_int has (shape.Binary t o) = ((is_int t, (is_int t, tt)), (is_int t, tt))
-row_int has shape.Wrap = ((tt, tt), (tt, tt))
-row_int has (shape.Extend sign) = ((tt, tt), (tt, tt))
-row_int has (shape.ExtendWithin t bits) = ((is_int t, tt), (is_int t, tt))
-row_int has (shape.Load t bytes sign align offset) =
-    int_if (has && nat_le (2 ^ align) bytes) (I32 ∷ []) (value_type t ∷ []) (tt, tt) (is_int t, tt)
-row_int has (shape.Store t bytes align offset) =
-    int_if (has && nat_le (2 ^ align) bytes) (I32 ∷ value_type t ∷ []) [] (tt, (is_int t, tt)) tt
-row_int has shape.MemorySize = int_if has [] (I32 ∷ []) tt (tt, tt)
-row_int has shape.MemoryGrow = int_if has (I32 ∷ []) (I32 ∷ []) (tt, tt) (tt, tt)
-row_int has shape.MemoryCopy = int_if has (I32 ∷ I32 ∷ I32 ∷ []) [] (tt, (tt, (tt, tt))) tt
-row_int has shape.MemoryFill = int_if has (I32 ∷ I32 ∷ I32 ∷ []) [] (tt, (tt, (tt, tt))) tt
-row_int has shape.Float = tt
-row_int has shape.Missing = tt
+row_int has (stack.Const t n) = (tt, (is_int t, tt))
+row_int has (stack.Test t) = ((is_int t, tt), (tt, tt))
+row_int has (stack.Compare t o) = ((is_int t, (is_int t, tt)), (tt, tt))
+row_int has (stack.Unary t o) = ((is_int t, tt), (is_int t, tt))
+row_int has (stack.Binary t o) = ((is_int t, (is_int t, tt)), (is_int t, tt))
+row_int has stack.Wrap = ((tt, tt), (tt, tt))
+row_int has (stack.Extend sign) = ((tt, tt), (tt, tt))
+row_int has (stack.ExtendWithin t bits) = ((is_int t, tt), (is_int t, tt))
+row_int has (stack.Load t bytes sign align offset) =
+    int_if (has && nat_le (2 ^ align) bytes) (I32 ∷ []) (value_type_of t ∷ []) (tt, tt) (is_int t, tt)
+row_int has (stack.Store t bytes align offset) =
+    int_if (has && nat_le (2 ^ align) bytes) (I32 ∷ value_type_of t ∷ []) [] (tt, (is_int t, tt)) tt
+row_int has stack.MemorySize = int_if has [] (I32 ∷ []) tt (tt, tt)
+row_int has stack.MemoryGrow = int_if has (I32 ∷ []) (I32 ∷ []) (tt, tt) (tt, tt)
+row_int has stack.MemoryCopy = int_if has (I32 ∷ I32 ∷ I32 ∷ []) [] (tt, (tt, (tt, tt))) tt
+row_int has stack.MemoryFill = int_if has (I32 ∷ I32 ∷ I32 ∷ []) [] (tt, (tt, (tt, tt))) tt
+row_int has stack.Float = tt
+row_int has stack.Missing = tt
 
 -- an arrow of what an index names
 named_int : {A : Type 0} (P : A → Type 0) (f : A → Option Arrow) (o : Option A) → IfSome o P
@@ -188,7 +188,7 @@ arrow_int c (op.LocalSet index) n =
     named_int IsInt consumes (slice_get c.locals index) (got_int c.locals index n.locals)
     (λ t h. ((h, tt), tt))
 arrow_int c (op.LocalTee index) n =
-    named_int IsInt unary (slice_get c.locals index) (got_int c.locals index n.locals)
+    named_int IsInt unary_type (slice_get c.locals index) (got_int c.locals index n.locals)
     (λ t h. ((h, tt), (h, tt)))
 arrow_int c (op.GlobalGet index) n =
     named_int (λ g. IsInt g.value) (λ g. gives g.value) (slice_get (global_types c.within) index)

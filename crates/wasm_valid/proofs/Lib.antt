@@ -1,9 +1,9 @@
 -- Lemmas of the validator.
-mod KindLaws
+mod OperandTypeLaws
 mod IntLaws
 mod TakenLaws
 mod StepLaws
-mod ShapeLaws
+mod AbstractStackLaws
 mod BodyLaws
 mod PassLaws
 mod TypedValues
@@ -27,9 +27,9 @@ mod TableLaws
 mod TypeLaws
 mod InstructionLaws
 mod CallLaws
-pub mod FrameLaws
+pub mod ControlStackLaws
 pub mod OperandLaws
 pub mod ProfileLaws
 pub mod BlockLaws
-pub mod TurnLaws
-pub mod EntryLaws
+pub mod PassSteps
+pub mod BodyEntryLaws

@@ -4,20 +4,19 @@ use Rattle.w4_defs.specs.declared.value.ValType.{ValType}
 use Rattle.w4_defs.specs.declared.value.Cause.TheVariants.{Stack}
 use Rattle.w4_defs.specs.declared.console.Import.{Import}
 use Rattle.w4_defs.specs.declared.console.Import.TheVariants.{Blit}
-use Rattle.w4_defs.specs.Module.{Signature, Function, Global, WasmModule}
+use Rattle.w4_defs.specs.Module.{Signature, Function, Global, WasmModule, nothing_to_nothing}
 use Rattle.w4_defs.specs.Lookup.{signature_of, global_types, local_types}
-use Rattle.w4_defs.specs.Kinds.{same_signature}
+use Rattle.w4_defs.specs.ValueTypes.{same_signature}
 use Rattle.w4_defs.specs.Imports.{import_type}
 use Rattle.w4_defs.specs.Profile.{profile_refusal}
 use Rattle.w4_defs.specs.Typing.{Context, body_context}
 use Rattle.w4_defs.specs.Validity.{IsValid}
-use Rattle.w4_defs.specs.Outcome.{Store, Outside, Outcome, Falls, Branch, Returns, Trap, Spent, Stuck, Ended, Finished, Faulted, Exhausted, Undefined}
-use Rattle.w4_defs.specs.Program.{Callee, own, imported, absent, zeros, reserve_of, Prog, program}
+use Rattle.w4_defs.specs.Outcome.{Store, HostFunctions, Outcome, Falls, Branch, Returns, Trap, Spent, Stuck, Ended, Finished, Faulted, Exhausted, Undefined}
+use Rattle.w4_defs.specs.Program.{Callee, own_function, host_function, no_function, zeros, reserve_of, Prog, program}
 use Rattle.w4_defs.specs.Control.{leave}
 use Rattle.w4_defs.specs.Evaluation.{body_env, eval, run_own, ended, enter_own, enter, run_entry}
 use Rattle.w4_defs.specs.RunLaws.{types_of}
-use Rattle.wasm_valid.specs.TypedRuns.{AnswersByType, HasTypes, NeverStuck, KeepsGlobalTypes, value_types}
-use Rattle.wasm_valid.specs.Carts.{nothing}
+use Rattle.wasm_valid.specs.TypeSoundness.{AnswersByType, HasTypes, NeverStuck, KeepsGlobalTypes, own_global_types}
 use Rattle.wasm_valid.proofs.ProfileLaws.{own_globals}
 use Rattle.wasm_valid.proofs.TypedValues.{are_of_typed}
 use Rattle.wasm_valid.proofs.TypedLists.{Fits}
@@ -62,10 +61,10 @@ import_takes Blit h = absurd (cc h)
 import_takes _ h = absurd (cc h)
 
 enter_ends : {H : Type 0} (m : WasmModule) (prog : Prog H) → Linked m prog
-    → (callee : Callee) (st : Store H) (b : ℕ) → IsReady m callee → HasSignature nothing callee
+    → (callee : Callee) (st : Store H) (b : ℕ) → IsReady m callee → HasSignature nothing_to_nothing callee
     → types_of st.globals ≡ map (λ g. g.value) (global_types m)
     → Ends (map (λ g. g.value) (global_types m)) (enter prog (Some callee) st b)
-enter_ends {H} m prog l (own f) st b ready named k =
+enter_ends {H} m prog l (own_function f) st b ready named k =
     let types : List ValType = map (λ g. g.value) (global_types m) in
     let into : Context = body_context m f.signature f.function in
     let same : Matches into (body_env f 1 (reserve_of f)) = record { labels = refl; results = refl } in
@@ -78,54 +77,54 @@ enter_ends {H} m prog l (own f) st b ready named k =
     (zeros f.function.runs) st b
     (omega arith) refl same ready.0 refl locals k in
     subst (λ t. Ends types (cond t (enter_own prog f st b) Undefined))
-    (ap (λ s. same_signature s nothing) (sym named))
+    (ap (λ s. same_signature s nothing_to_nothing) (sym named))
     (cond_ends types (nat_le (reserve_of f) 1048576) (ended (run_own prog f st b)) (Faulted Stack st)
     (left_ends m f.signature f.function o fits) k)
-enter_ends m prog l (imported s i) st b ready named k =
+enter_ends m prog l (host_function s i) st b ready named k =
     absurd (import_takes i (ap (λ s. s.params) (sym ready ∙ named)))
-enter_ends m prog l absent st b ready named k = absurd ready
+enter_ends m prog l no_function st b ready named k = absurd ready
 
 values_of : (gs : List Global) → map (λ g. g.value) (map (λ g. g.global) gs) ≡ map (λ g. g.global.value) gs
 values_of [] = refl
 values_of (g ∷ gs) = ap (λ ts. g.global.value ∷ ts) (values_of gs)
 
 -- only own globals are there
-own_values : (m : WasmModule) → profile_refusal m ≡ None → map (λ g. g.value) (global_types m) ≡ value_types m
+own_values : (m : WasmModule) → profile_refusal m ≡ None → map (λ g. g.value) (global_types m) ≡ own_global_types m
 own_values m h = ap (map (λ g. g.value)) (own_globals m h) ∙ values_of m.globals
 
-run_ends : {H : Type 0} (m : WasmModule) (out : Outside H) → profile_refusal m ≡ None → IsValid m
+run_ends : {H : Type 0} (m : WasmModule) (out : HostFunctions H) → profile_refusal m ≡ None → IsValid m
     → length m.functions ≡ length m.bodies → AnswersByType out
-    → (func : ℕ) (st : Store H) (b : ℕ) → signature_of m func ≡ Some nothing
-    → types_of st.globals ≡ value_types m → Ends (value_types m) (run_entry m out func st b)
+    → (func : ℕ) (st : Store H) (b : ℕ) → signature_of m func ≡ Some nothing_to_nothing
+    → types_of st.globals ≡ own_global_types m → Ends (own_global_types m) (run_entry m out func st b)
 run_ends m out profile valid even answers func st b entry globals =
     let prog = program m out in
     let l = linked m out profile valid even answers in
-    let p = l.functions func nothing entry in
+    let p = l.functions func nothing_to_nothing entry in
     let same = own_values m profile in
     subst (λ types. Ends types (run_entry m out func st b)) same
     (subst (λ callee. Ends (map (λ g. g.value) (global_types m)) (enter prog callee st b)) (sym p.named.found)
     (enter_ends m prog l p.named.callee st b p.named.ready p.signature (globals ∙ sym same)))
 
-pub never_stuck : {H : Type 0} (m : WasmModule) (out : Outside H)
+pub never_stuck : {H : Type 0} (m : WasmModule) (out : HostFunctions H)
     → profile_refusal m ≡ None → IsValid m → length m.functions ≡ length m.bodies → AnswersByType out
-    → (func : ℕ) (st : Store H) (b : ℕ) → signature_of m func ≡ Some nothing
-    → types_of st.globals ≡ value_types m
+    → (func : ℕ) (st : Store H) (b : ℕ) → signature_of m func ≡ Some nothing_to_nothing
+    → types_of st.globals ≡ own_global_types m
     → run_entry m out func st b ≢ Undefined
 never_stuck m out profile valid even answers func st b entry globals h =
-    subst (Ends (value_types m)) h (run_ends m out profile valid even answers func st b entry globals)
+    subst (Ends (own_global_types m)) h (run_ends m out profile valid even answers func st b entry globals)
 
-pub globals_keep_types : {H : Type 0} (m : WasmModule) (out : Outside H)
+pub globals_keep_types : {H : Type 0} (m : WasmModule) (out : HostFunctions H)
     → profile_refusal m ≡ None → IsValid m → length m.functions ≡ length m.bodies → AnswersByType out
-    → (func : ℕ) (st : Store H) (b : ℕ) → signature_of m func ≡ Some nothing
-    → types_of st.globals ≡ value_types m
-    → HasTypes (value_types m) (run_entry m out func st b)
+    → (func : ℕ) (st : Store H) (b : ℕ) → signature_of m func ≡ Some nothing_to_nothing
+    → types_of st.globals ≡ own_global_types m
+    → HasTypes (own_global_types m) (run_entry m out func st b)
 globals_keep_types m out profile valid even answers func st b entry globals =
-    ends_typed (value_types m) (run_entry m out func st b)
+    ends_typed (own_global_types m) (run_entry m out func st b)
     (run_ends m out profile valid even answers func st b entry globals)
 
--- the same, said of an outside
-pub never_stuck_with : {H : Type 0} (out : Outside H) → AnswersByType out → NeverStuck out
+-- the law, said of host functions
+pub never_stuck_with : {H : Type 0} (out : HostFunctions H) → AnswersByType out → NeverStuck out
 never_stuck_with out answers m profile valid even = never_stuck m out profile valid even answers
 
-pub globals_keep_types_with : {H : Type 0} (out : Outside H) → AnswersByType out → KeepsGlobalTypes out
+pub globals_keep_types_with : {H : Type 0} (out : HostFunctions H) → AnswersByType out → KeepsGlobalTypes out
 globals_keep_types_with out answers m profile valid even = globals_keep_types m out profile valid even answers

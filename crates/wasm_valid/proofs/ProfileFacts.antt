@@ -10,22 +10,21 @@ use Rattle.w4_defs.specs.declared.module.ExportKind.{ExportKind}
 use Rattle.w4_defs.specs.declared.module.ExportKind.TheVariants as exports
 use Rattle.w4_defs.specs.declared.refusal.ProfileRefusal.{ProfileRefusal}
 use Rattle.w4_defs.specs.declared.refusal.ProfileRefusal.TheVariants.{Floats, TooManyLocals, UnknownImport, WrongImport, NoMemory, NoUpdate, WrongEntry, SegmentOutside}
-use Rattle.w4_defs.specs.Entries.{if_function, exported_in}
+use Rattle.w4_defs.specs.EntryPoints.{if_function, exported_function_in}
 use Rattle.w4_defs.specs.Floats.{module_has_float}
 use Rattle.w4_defs.specs.Lookup.{signature_of}
-use Rattle.w4_defs.specs.Module.{Signature, Imported, Exported, ElementSegment, DataSegment, WasmModule}
-use Rattle.w4_defs.specs.Profile.{if_so, causes, first_of, profile_refusal, has_many_locals, first_wrong_import, is_known_entry, is_memory, is_update, is_entry_name, is_wrong_entry, is_entry_function, takes_nothing, outside, is_right, passes, single_constant, table_size}
+use Rattle.w4_defs.specs.Module.{Signature, Imported, Exported, ElementSegment, DataSegment, WasmModule, nothing_to_nothing}
+use Rattle.w4_defs.specs.Profile.{if_so, causes, first_cause, profile_refusal, has_many_locals, first_wrong_import, is_known_entry, is_memory, is_update, is_entry_name, is_wrong_entry, is_entry_function, takes_nothing, segments_outside, is_right, exceeds_size, single_constant, table_size}
 use Rattle.w4_defs.proofs.CauseLaws.{none_there, not_so}
-use Rattle.wasm_valid.specs.Carts.{nothing}
 use Rattle.wasm_valid.proofs.NoneLaws.{none_by_position, any_mapped}
 use Rattle.wasm_valid.proofs.TypeLaws.{same_signature_is}
 
 abbrev pub element_passes : WasmModule → ElementSegment → Bool
 element_passes m s =
-    passes (single_constant s.offset) (length s.functions) (table_size (slice_get m.tables 0))
+    exceeds_size (single_constant s.offset) (length s.functions) (table_size (slice_get m.tables 0))
 
 abbrev pub data_passes : DataSegment → Bool
-data_passes s = passes (single_constant s.offset) (length s.bytes) 65536
+data_passes s = exceeds_size (single_constant s.offset) (length s.bytes) 65536
 
 -- whether an import is none that a cart may have
 abbrev pub is_wrong : WasmModule → Imported → Bool
@@ -57,14 +56,14 @@ no_wrong known (Some k) e f =
     (not-false (known k) (not_so (not (known k)) (UnknownImport k) e)))
 
 -- no segment is outside: the element segments, and the data segments
-none_outside : (m : WasmModule) → position (λ b. b) (outside m) ≡ None
+none_outside : (m : WasmModule) → position (λ b. b) (segments_outside m) ≡ None
     → (list_any (element_passes m) m.elements ≡ false) × (list_any data_passes m.segments ≡ false)
 none_outside m e =
     let elements = map (element_passes m) m.elements in
     let segments = map data_passes m.segments in
     let h =
     or_parts (list_any (λ b. b) elements) (list_any (λ b. b) segments)
-    (sym (list_any-append (λ b. b) elements segments) ∙ none_by_position (λ b. b) (outside m) e) in
+    (sym (list_any-append (λ b. b) elements segments) ∙ none_by_position (λ b. b) (segments_outside m) e) in
     (sym (any_mapped (element_passes m) m.elements) ∙ h.0, sym (any_mapped data_passes m.segments) ∙ h.1)
 
 pub no_cause : (m : WasmModule) → profile_refusal m ≡ None → NoCause m
@@ -90,13 +89,13 @@ no_cause m e =
 
 -- ---- the entry functions
 
-takes_none : (o : Option Signature) → takes_nothing o ≡ true → o ≡ Some nothing
+takes_none : (o : Option Signature) → takes_nothing o ≡ true → o ≡ Some nothing_to_nothing
 takes_none None e = absurd cc
-takes_none (Some s) e = ap Some (same_signature_is s nothing e)
+takes_none (Some s) e = ap Some (same_signature_is s nothing_to_nothing e)
 
 -- an exported function that the console calls
 entry_of_kind : (m : WasmModule) (e : Exported) (kind : ExportKind) → is_entry_function m kind e.index ≡ true
-    → (if_function e kind ≡ Some e.index) × (signature_of m e.index ≡ Some nothing)
+    → (if_function e kind ≡ Some e.index) × (signature_of m e.index ≡ Some nothing_to_nothing)
 entry_of_kind m e exports.Func h = (refl, takes_none _ h)
 entry_of_kind m e exports.Table h = absurd cc
 entry_of_kind m e exports.Memory h = absurd cc
@@ -108,9 +107,9 @@ right_entry false right h e = absurd cc
 
 -- what is found under an entry's name
 abbrev pub Found : WasmModule → Option ℕ → Type 0
-Found m o = IfSome o (λ f. signature_of m f ≡ Some nothing)
+Found m o = IfSome o (λ f. signature_of m f ≡ Some nothing_to_nothing)
 
-found_here : (m : WasmModule) (f : ℕ) (o : Option ℕ) → (o ≡ Some f) × (signature_of m f ≡ Some nothing)
+found_here : (m : WasmModule) (f : ℕ) (o : Option ℕ) → (o ≡ Some f) × (signature_of m f ≡ Some nothing_to_nothing)
     → Found m o
 found_here m f o h = subst (Found m) (sym h.0) h.1
 
@@ -123,11 +122,11 @@ found_from m e rest name true eb entry right h =
 found_from m e rest name false eb entry right h = h
 
 pub found : (m : WasmModule) (es : List Exported) (name : List ℕ) → is_entry_name name ≡ true
-    → list_any (is_wrong_entry m) es ≡ false → Found m (exported_in es name)
+    → list_any (is_wrong_entry m) es ≡ false → Found m (exported_function_in es name)
 found m [] name entry h = tt
 found m (e ∷ es) name entry h =
     let p = or_parts _ _ h in
-    found_from m e (exported_in es name) name _ refl entry p.0 (found m es name entry p.1)
+    found_from m e (exported_function_in es name) name _ refl entry p.0 (found m es name entry p.1)
 
 there_from : (m : WasmModule) (e : Exported) (rest : Option ℕ) (later : Bool) (b : Bool)
     → b ≡ bytes_eq e.name (codes "update") → is_wrong_entry m e ≡ false
@@ -140,23 +139,23 @@ there_from m e rest later false eb right some h = h some
 
 -- what is found in a list of exports by the name of an entry
 pub entry_found : (m : WasmModule) (es : List Exported) (name : List ℕ) (o : Option ℕ)
-    → profile_refusal m ≡ None → es ≡ m.exports → is_entry_name name ≡ true → o ≡ exported_in es name
+    → profile_refusal m ≡ None → es ≡ m.exports → is_entry_name name ≡ true → o ≡ exported_function_in es name
     → Found m o
 entry_found m es name o none ee entry e =
-    subst (Found m) (sym (e ∙ ap (λ xs. exported_in xs name) ee))
+    subst (Found m) (sym (e ∙ ap (λ xs. exported_function_in xs name) ee))
     (found m m.exports name entry (no_cause m none).entries)
 
 pub update_there : (m : WasmModule) (es : List Exported) → list_any is_update es ≡ true
-    → list_any (is_wrong_entry m) es ≡ false → IsSome (exported_in es (codes "update"))
+    → list_any (is_wrong_entry m) es ≡ false → IsSome (exported_function_in es (codes "update"))
 update_there m [] some h = absurd cc
 update_there m (e ∷ es) some h =
     let p = or_parts _ _ h in
-    there_from m e (exported_in es (codes "update")) (list_any is_update es) _ refl p.0 some
+    there_from m e (exported_function_in es (codes "update")) (list_any is_update es) _ refl p.0 some
     (λ s. update_there m es s p.1)
 
 pub update_found : (m : WasmModule) (es : List Exported) (o : Option ℕ) → profile_refusal m ≡ None
-    → es ≡ m.exports → o ≡ exported_in es (codes "update") → IsSome o
+    → es ≡ m.exports → o ≡ exported_function_in es (codes "update") → IsSome o
 update_found m es o none ee e =
     let n = no_cause m none in
-    subst (λ (x : Option ℕ). IsSome x) (sym (e ∙ ap (λ xs. exported_in xs (codes "update")) ee))
+    subst (λ (x : Option ℕ). IsSome x) (sym (e ∙ ap (λ xs. exported_function_in xs (codes "update")) ee))
     (update_there m m.exports n.update n.entries)

@@ -1,4 +1,4 @@
--- One instruction: what its step of the shape says of its typing.
+-- One instruction: what its step of the abstract stack says of its typing.
 use Rattle.std.proofs.Common.{◌≡◌, ℕ, ◌<◌, Bool, true, cond, length, List, [], ◌∷◌, ◌++◌, reverse, Option, Some, None, option_map, option_and_then, refl, sym, ap, ◌∙◌, subst, arith}
 use Rattle.std.specs.Prelude.{slice_get}
 use Rattle.std.specs.List.{list_all}
@@ -10,28 +10,28 @@ use Rattle.w4_defs.specs.declared.operation.Op.{Op}
 use Rattle.w4_defs.specs.declared.operation.Op.TheVariants as op
 use Rattle.w4_defs.specs.OperandTypes.{Arrow}
 use Rattle.w4_defs.specs.Typing.{Context, IsInt, AreInt, AreLabels, Leads, only_type}
-use Rattle.w4_defs.specs.Shape.{Kind, Shape, agrees, agree, anything, stands, with_kinds, taken, given, passed, topmost, common_kind, dropped, chosen, selected, ends, is_label, common_label, step}
-use Rattle.wasm_valid.specs.ShapeLaw.{HasNoFloat, AreIntKinds}
-use Rattle.wasm_valid.proofs.KindLaws.{then_some, some_then, map_some, some_map, if_some, some_if, same_types_are, same_types_self, anything_agrees, top_agrees, agrees_top, common_agrees, agrees_common}
+use Rattle.w4_defs.specs.AbstractStack.{OperandType, AbstractStack, agrees, agree, anything, stands, with_operands, taken, given, passed, topmost, common_type, dropped, select_with, selected, after_branch, is_label, common_label, step}
+use Rattle.wasm_valid.specs.AbstractStackLaw.{HasNoFloat, AreIntOperands}
+use Rattle.wasm_valid.proofs.OperandTypeLaws.{then_some, some_then, map_some, some_map, if_some, some_if, same_types_are, same_types_self, anything_agrees, top_agrees, agrees_top, common_agrees, agrees_common}
 use Rattle.wasm_valid.proofs.IntLaws.{joined_int, left_int, right_int, top_int, common_int, some_type, arrow_int, arrow_ints}
 use Rattle.wasm_valid.proofs.NoneLaws.{all_at}
 use Rattle.wasm_valid.proofs.TakenLaws.{taken_stands, stands_taken, given_stands, stands_given, taken_int, given_int, some_ints, uncut}
 
 -- from some int types for which s stands the operation leads to outs
-abbrev pub Begins : Context → Op → List ℕ → Shape → List ValType → Type 0
+abbrev pub Begins : Context → Op → List ℕ → AbstractStack → List ValType → Type 0
 Begins c o labels s outs =
     (ins : List ValType) × AreInt ins × (stands s ins ≡ true) × Leads c (o, labels) ins outs
 
--- a shape follows, and stands for outs
-abbrev pub Follows : Option Shape → List ValType → Type 0
-Follows o outs = (t : Shape) × (o ≡ Some t) × (stands t outs ≡ true)
+-- an abstract stack follows, and stands for outs
+abbrev pub Follows : Option AbstractStack → List ValType → Type 0
+Follows o outs = (t : AbstractStack) × (o ≡ Some t) × (stands t outs ≡ true)
 
 anything_stands : (ts : List ValType) → stands anything ts ≡ true
 anything_stands ts = anything_agrees (reverse ts)
 
 -- ---- an operation with an arrow
 
-arrow_begins : (s t : Shape) (arrow : Arrow) (outs : List ValType) → AreInt arrow.0 → AreInt outs
+arrow_begins : (s t : AbstractStack) (arrow : Arrow) (outs : List ValType) → AreInt arrow.0 → AreInt outs
     → passed s arrow ≡ Some t → stands t outs ≡ true
     → (ts : List ValType) × (outs ≡ ts ++ arrow.1) × AreInt (ts ++ arrow.0)
     × (stands s (ts ++ arrow.0) ≡ true)
@@ -41,7 +41,7 @@ arrow_begins s t arrow outs i j h g =
     let under : AreInt q.0 = left_int q.0 arrow.1 (subst AreInt q.1 j) in
     (q.0, q.1, joined_int q.0 arrow.0 under i, taken_stands arrow.0 s p.0 q.0 p.1 q.2)
 
-plain_begins : (c : Context) (o : Op) (s t : Shape) (outs : List ValType) → HasNoFloat c → AreInt outs
+plain_begins : (c : Context) (o : Op) (s t : AbstractStack) (outs : List ValType) → HasNoFloat c → AreInt outs
     → option_and_then (passed s) (only_type c o) ≡ Some t → stands t outs ≡ true
     → (ins : List ValType) × AreInt ins × (stands s ins ≡ true)
     × ((ts a b : List ValType) × (ins ≡ ts ++ a) × (only_type c o ≡ Some (a, b)) × (outs ≡ ts ++ b))
@@ -51,15 +51,15 @@ plain_begins c o s t outs n j h g =
     let q = arrow_begins s t p.0 outs i.0 j p.2 g in
     (q.0 ++ p.0.0, q.2, q.3, (q.0, p.0.0, p.0.1, refl, p.1, q.1))
 
-plain_int : (c : Context) (o : Op) (s t : Shape) → HasNoFloat c → AreIntKinds s.kinds
-    → option_and_then (passed s) (only_type c o) ≡ Some t → AreIntKinds t.kinds
+plain_int : (c : Context) (o : Op) (s t : AbstractStack) → HasNoFloat c → AreIntOperands s.operands
+    → option_and_then (passed s) (only_type c o) ≡ Some t → AreIntOperands t.operands
 plain_int c o s t n k h =
     let p = then_some (passed s) (only_type c o) t h in
     let i = arrow_ints (only_type c o) p.0 (arrow_int c o n) p.1 in
     let q = map_some (given p.0.1) (taken p.0.0 s) t p.2 in
-    subst (λ x. AreIntKinds x.kinds) q.2 (given_int p.0.1 q.0 i.1 (taken_int p.0.0 s q.0 k q.1))
+    subst (λ x. AreIntOperands x.operands) q.2 (given_int p.0.1 q.0 i.1 (taken_int p.0.0 s q.0 k q.1))
 
-plain_follows : (c : Context) (o : Op) (s : Shape) (ins outs ts a b : List ValType) → stands s ins ≡ true
+plain_follows : (c : Context) (o : Op) (s : AbstractStack) (ins outs ts a b : List ValType) → stands s ins ≡ true
     → ins ≡ ts ++ a → only_type c o ≡ Some (a, b) → outs ≡ ts ++ b
     → Follows (option_and_then (passed s) (only_type c o)) outs
 plain_follows c o s ins outs ts a b h e k f =
@@ -71,25 +71,25 @@ plain_follows c o s ins outs ts a b h e k f =
 
 -- ---- branches: they take a label's types, and anything may stand behind them
 
-ends_anything : (s t : Shape) (label : Option (List ValType)) → ends s label ≡ Some t
-    → (ts : List ValType) × (below : Shape) × (label ≡ Some ts) × (taken ts s ≡ Some below) × (anything ≡ t)
+ends_anything : (s t : AbstractStack) (label : Option (List ValType)) → after_branch s label ≡ Some t
+    → (ts : List ValType) × (below : AbstractStack) × (label ≡ Some ts) × (taken ts s ≡ Some below) × (anything ≡ t)
 ends_anything s t None h = absurd (cc h)
 ends_anything s t (Some label) h =
     let p = map_some (λ below. anything) (taken label s) t h in (label, p.0, refl, p.1, p.2)
 
-ends_here : (s below : Shape) (label : List ValType) (o : Option (List ValType)) → o ≡ Some label
-    → taken label s ≡ Some below → ends s o ≡ Some anything
-ends_here s below label o h g = ap (ends s) h ∙ some_map (λ x. anything) (taken label s) below g
+ends_here : (s below : AbstractStack) (label : List ValType) (o : Option (List ValType)) → o ≡ Some label
+    → taken label s ≡ Some below → after_branch s o ≡ Some anything
+ends_here s below label o h g = ap (after_branch s) h ∙ some_map (λ x. anything) (taken label s) below g
 
--- some int types below a label's, for which the shape stands
-branch_begins : (s below : Shape) (label : List ValType) → AreIntKinds s.kinds → taken label s ≡ Some below
+-- some int types below a label's, for which the abstract stack stands
+branch_begins : (s below : AbstractStack) (label : List ValType) → AreIntOperands s.operands → taken label s ≡ Some below
     → (ts : List ValType) × AreInt ts × (stands s (ts ++ label) ≡ true)
 branch_begins s below label k h =
     let p = some_ints below (taken_int label s below k h) in (p.0, p.1, taken_stands label s below p.0 h p.2)
 
-branch_follows : (s : Shape) (ts a under label outs : List ValType) (o : Option (List ValType))
+branch_follows : (s : AbstractStack) (ts a under label outs : List ValType) (o : Option (List ValType))
     → stands s (ts ++ a) ≡ true
-    → a ≡ under ++ label → o ≡ Some label → Follows (ends s o) outs
+    → a ≡ under ++ label → o ≡ Some label → Follows (after_branch s o) outs
 branch_follows s ts a under label outs o h e k =
     let p =
     stands_taken label s (ts ++ under)
@@ -143,106 +143,106 @@ are_common c label (l ∷ labels) some h =
 
 -- ---- drop
 
-dropped_begins : (s t : Shape) (outs : List ValType) → AreIntKinds s.kinds → dropped s ≡ Some t
+dropped_begins : (s t : AbstractStack) (outs : List ValType) → AreIntOperands s.operands → dropped s ≡ Some t
     → stands t outs ≡ true
     → (u : ValType) × IsInt u × (stands s (outs ++ u ∷ []) ≡ true)
 dropped_begins s t outs k h g =
-    let p = map_some (λ top. with_kinds s top.1) (topmost s.marked s.kinds) t h in
-    let u = some_type p.0.0 (top_int s.marked s.kinds p.0 k p.1).0 in (
+    let p = map_some (λ top. with_operands s top.1) (topmost s.unreachable s.operands) t h in
+    let u = some_type p.0.0 (top_int s.unreachable s.operands p.0 k p.1).0 in (
       u.0,
       u.1,
-      subst (λ xs. agree s.kinds s.marked xs ≡ true) (sym (reverse-append outs (u.0 ∷ [])))
-          (top_agrees s.marked s.kinds p.0 u.0 (reverse outs) p.1 u.2
+      subst (λ xs. agree s.operands s.unreachable xs ≡ true) (sym (reverse-append outs (u.0 ∷ [])))
+          (top_agrees s.unreachable s.operands p.0 u.0 (reverse outs) p.1 u.2
           (subst (λ x. stands x outs ≡ true) (sym p.2) g)),
     )
 
-dropped_int : (s t : Shape) → AreIntKinds s.kinds → dropped s ≡ Some t → AreIntKinds t.kinds
+dropped_int : (s t : AbstractStack) → AreIntOperands s.operands → dropped s ≡ Some t → AreIntOperands t.operands
 dropped_int s t k h =
-    let p = map_some (λ top. with_kinds s top.1) (topmost s.marked s.kinds) t h in
-    subst (λ x. AreIntKinds x.kinds) p.2 (top_int s.marked s.kinds p.0 k p.1).1
+    let p = map_some (λ top. with_operands s top.1) (topmost s.unreachable s.operands) t h in
+    subst (λ x. AreIntOperands x.operands) p.2 (top_int s.unreachable s.operands p.0 k p.1).1
 
-dropped_follows : (s : Shape) (ts : List ValType) (u : ValType) → stands s (ts ++ u ∷ []) ≡ true
+dropped_follows : (s : AbstractStack) (ts : List ValType) (u : ValType) → stands s (ts ++ u ∷ []) ≡ true
     → Follows (dropped s) ts
 dropped_follows s ts u h =
     let p =
-    agrees_top s.marked s.kinds u (reverse ts)
-    (subst (λ xs. agree s.kinds s.marked xs ≡ true) (reverse-append ts (u ∷ [])) h) in
-    (with_kinds s p.1, some_map (λ top. with_kinds s top.1) (topmost s.marked s.kinds) (p.0, p.1) p.2, p.4)
+    agrees_top s.unreachable s.operands u (reverse ts)
+    (subst (λ xs. agree s.operands s.unreachable xs ≡ true) (reverse-append ts (u ∷ [])) h) in
+    (with_operands s p.1, some_map (λ top. with_operands s top.1) (topmost s.unreachable s.operands) (p.0, p.1) p.2, p.4)
 
 -- ---- select
 
-first_agrees : (k : Kind) (ks : List Kind) (marked : Bool) (ts : List ValType)
-    → agree (k ∷ ks) marked ts ≡ true
+first_agrees : (k : OperandType) (ks : List OperandType) (unreachable : Bool) (ts : List ValType)
+    → agree (k ∷ ks) unreachable ts ≡ true
     → (u : ValType) × (rest : List ValType) × (ts ≡ u ∷ rest) × (agrees k u ≡ true)
-    × (agree ks marked rest ≡ true)
-first_agrees k ks marked [] h = absurd (cc h)
-first_agrees k ks marked (t ∷ ts) h =
-    let p = and_parts (agrees k t) (agree ks marked ts) h in (t, ts, refl, p.0, p.1)
+    × (agree ks unreachable rest ≡ true)
+first_agrees k ks unreachable [] h = absurd (cc h)
+first_agrees k ks unreachable (t ∷ ts) h =
+    let p = and_parts (agrees k t) (agree ks unreachable ts) h in (t, ts, refl, p.0, p.1)
 
-record Two (s t : Shape) : Type 0 where
-  pub upper : Kind × List Kind
-  pub lower : Kind × List Kind
-  pub both : Kind
-  pub there : topmost s.marked s.kinds ≡ Some upper
-  pub under : topmost s.marked upper.1 ≡ Some lower
-  pub common : common_kind upper.0 lower.0 ≡ Some both
-  pub made : with_kinds s (both ∷ lower.1) ≡ t
+record Two (s t : AbstractStack) : Type 0 where
+  pub upper : OperandType × List OperandType
+  pub lower : OperandType × List OperandType
+  pub both : OperandType
+  pub there : topmost s.unreachable s.operands ≡ Some upper
+  pub under : topmost s.unreachable upper.1 ≡ Some lower
+  pub common : common_type upper.0 lower.0 ≡ Some both
+  pub made : with_operands s (both ∷ lower.1) ≡ t
 
-two : (s t : Shape) → selected s ≡ Some t → Two s t
+two : (s t : AbstractStack) → selected s ≡ Some t → Two s t
 two s t h =
-    let p = then_some (λ top. chosen s top.0 top.1) (topmost s.marked s.kinds) t h in
+    let p = then_some (λ top. select_with s top.0 top.1) (topmost s.unreachable s.operands) t h in
     let q =
-    then_some (λ top. option_map (λ kind. with_kinds s (kind ∷ top.1)) (common_kind p.0.0 top.0))
-    (topmost s.marked p.0.1) t p.2 in
-    let r = map_some (λ kind. with_kinds s (kind ∷ q.0.1)) (common_kind p.0.0 q.0.0) t q.2 in
+    then_some (λ top. option_map (λ kind. with_operands s (kind ∷ top.1)) (common_type p.0.0 top.0))
+    (topmost s.unreachable p.0.1) t p.2 in
+    let r = map_some (λ kind. with_operands s (kind ∷ q.0.1)) (common_type p.0.0 q.0.0) t q.2 in
     record { upper = p.0; lower = q.0; both = r.0; there = p.1; under = q.1; common = r.1; made = r.2 }
 
-selected_begins : (s t : Shape) (outs : List ValType) → AreInt outs → selected s ≡ Some t
+selected_begins : (s t : AbstractStack) (outs : List ValType) → AreInt outs → selected s ≡ Some t
     → stands t outs ≡ true
     → (ts : List ValType) × (u : ValType) × (outs ≡ ts ++ u ∷ []) × IsInt u × AreInt ts
     × (stands s (ts ++ u ∷ u ∷ []) ≡ true)
 selected_begins s t outs i h g =
     let w = two s t h in
     let p =
-    first_agrees w.both w.lower.1 s.marked (reverse outs)
+    first_agrees w.both w.lower.1 s.unreachable (reverse outs)
     (subst (λ x. stands x outs ≡ true) (sym w.made) g) in
     let a = common_agrees w.upper.0 w.lower.0 w.both p.0 w.common p.3 in
     let e = uncut outs (p.0 ∷ []) p.1 p.2 in
     let j = subst AreInt e i in
-    let low = top_agrees s.marked w.upper.1 w.lower p.0 p.1 w.under a.1 p.4 in
-    let high = top_agrees s.marked s.kinds w.upper p.0 (p.0 ∷ p.1) w.there a.0 low in (
+    let low = top_agrees s.unreachable w.upper.1 w.lower p.0 p.1 w.under a.1 p.4 in
+    let high = top_agrees s.unreachable s.operands w.upper p.0 (p.0 ∷ p.1) w.there a.0 low in (
       reverse p.1,
       p.0,
       e,
       (right_int (reverse p.1) (p.0 ∷ []) j).0,
       left_int (reverse p.1) (p.0 ∷ []) j,
-      subst (λ xs. agree s.kinds s.marked xs ≡ true) (sym (reverse-append (reverse p.1) (p.0 ∷ p.0 ∷ [])))
-          (subst (λ xs. agree s.kinds s.marked (p.0 ∷ p.0 ∷ xs) ≡ true) (sym (reverse-reverse p.1)) high),
+      subst (λ xs. agree s.operands s.unreachable xs ≡ true) (sym (reverse-append (reverse p.1) (p.0 ∷ p.0 ∷ [])))
+          (subst (λ xs. agree s.operands s.unreachable (p.0 ∷ p.0 ∷ xs) ≡ true) (sym (reverse-reverse p.1)) high),
     )
 
-selected_int : (s t : Shape) → AreIntKinds s.kinds → selected s ≡ Some t → AreIntKinds t.kinds
+selected_int : (s t : AbstractStack) → AreIntOperands s.operands → selected s ≡ Some t → AreIntOperands t.operands
 selected_int s t k h =
     let w = two s t h in
-    let a = top_int s.marked s.kinds w.upper k w.there in
-    let b = top_int s.marked w.upper.1 w.lower a.1 w.under in
-    subst (λ x. AreIntKinds x.kinds) w.made (common_int w.upper.0 w.lower.0 w.both a.0 b.0 w.common, b.1)
+    let a = top_int s.unreachable s.operands w.upper k w.there in
+    let b = top_int s.unreachable w.upper.1 w.lower a.1 w.under in
+    subst (λ x. AreIntOperands x.operands) w.made (common_int w.upper.0 w.lower.0 w.both a.0 b.0 w.common, b.1)
 
-selected_follows : (s : Shape) (ts : List ValType) (u : ValType) → stands s (ts ++ u ∷ u ∷ []) ≡ true
+selected_follows : (s : AbstractStack) (ts : List ValType) (u : ValType) → stands s (ts ++ u ∷ u ∷ []) ≡ true
     → Follows (selected s) (ts ++ u ∷ [])
 selected_follows s ts u h =
     let p =
-    agrees_top s.marked s.kinds u (u ∷ reverse ts)
-    (subst (λ xs. agree s.kinds s.marked xs ≡ true) (reverse-append ts (u ∷ u ∷ [])) h) in
-    let q = agrees_top s.marked p.1 u (reverse ts) p.4 in
+    agrees_top s.unreachable s.operands u (u ∷ reverse ts)
+    (subst (λ xs. agree s.operands s.unreachable xs ≡ true) (reverse-append ts (u ∷ u ∷ [])) h) in
+    let q = agrees_top s.unreachable p.1 u (reverse ts) p.4 in
     let r = agrees_common p.0 q.0 u p.3 q.3 in
-    let t = with_kinds s (r.0 ∷ q.1) in (
+    let t = with_operands s (r.0 ∷ q.1) in (
       t,
-      some_then (λ top. chosen s top.0 top.1) (topmost s.marked s.kinds) (p.0, p.1) t p.2
-          (some_then (λ top. option_map (λ kind. with_kinds s (kind ∷ top.1)) (common_kind p.0 top.0))
-          (topmost s.marked p.1) (q.0, q.1) t q.2
-          (some_map (λ kind. with_kinds s (kind ∷ q.1)) (common_kind p.0 q.0) r.0 r.1)),
-      subst (λ xs. agree (r.0 ∷ q.1) s.marked xs ≡ true) (sym (reverse-append ts (u ∷ [])))
-          (and_from (agrees r.0 u) (agree q.1 s.marked (reverse ts)) r.2 q.4),
+      some_then (λ top. select_with s top.0 top.1) (topmost s.unreachable s.operands) (p.0, p.1) t p.2
+          (some_then (λ top. option_map (λ kind. with_operands s (kind ∷ top.1)) (common_type p.0 top.0))
+          (topmost s.unreachable p.1) (q.0, q.1) t q.2
+          (some_map (λ kind. with_operands s (kind ∷ q.1)) (common_type p.0 q.0) r.0 r.1)),
+      subst (λ xs. agree (r.0 ∷ q.1) s.unreachable xs ≡ true) (sym (reverse-append ts (u ∷ [])))
+          (and_from (agrees r.0 u) (agree q.1 s.unreachable (reverse ts)) r.2 q.4),
     )
 
 -- ---- each operation
@@ -258,8 +258,8 @@ labels_int c [] label n some h = absurd (omega arith)
 labels_int c (l ∷ labels) label n some h = label_int c l label n h.0
 
 -- from some int types for which s stands the step leads to outs
-pub step_begins : (c : Context) (o : Op) (labels : List ℕ) (s t : Shape) (outs : List ValType) → HasNoFloat c
-    → AreIntKinds s.kinds → AreInt outs
+pub step_begins : (c : Context) (o : Op) (labels : List ℕ) (s t : AbstractStack) (outs : List ValType) → HasNoFloat c
+    → AreIntOperands s.operands → AreInt outs
     → step c o labels s ≡ Some t → stands t outs ≡ true → Begins c o labels s outs
 step_begins c op.Unreachable labels s t outs n k i h g =
     let p = some_ints s k in (p.0, p.1, p.2, ([], p.0, outs, refl, (p.1, i), refl))
@@ -272,7 +272,7 @@ step_begins c (op.Br l) labels s t outs n k i h g =
       ([], q.0 ++ p.0, outs, refl, (q.0, p.0, p.2, refl, q.1, i), refl),
     )
 step_begins c op.BrTable labels s t outs n k i h g =
-    let m = then_some (λ below. ends below (common_label c labels)) (taken (I32 ∷ []) s) t h in
+    let m = then_some (λ below. after_branch below (common_label c labels)) (taken (I32 ∷ []) s) t h in
     let p = ends_anything m.0 t (common_label c labels) m.2 in
     let q = branch_begins m.0 p.1 p.0 (taken_int (I32 ∷ []) s m.0 k m.1) p.3 in
     let r = common_are c p.0 labels p.2 in
@@ -310,18 +310,18 @@ step_begins c op.Select labels s t outs n k i h g =
     )
 step_begins c o labels s t outs n k i h g = plain_begins c o s t outs n i h g
 
--- no float comes to a shape by a step
-pub step_int : (c : Context) (o : Op) (labels : List ℕ) (s t : Shape) → HasNoFloat c → AreIntKinds s.kinds
-    → step c o labels s ≡ Some t → AreIntKinds t.kinds
+-- no float comes to an abstract stack by a step
+pub step_int : (c : Context) (o : Op) (labels : List ℕ) (s t : AbstractStack) → HasNoFloat c → AreIntOperands s.operands
+    → step c o labels s ≡ Some t → AreIntOperands t.operands
 step_int c op.Unreachable labels s t n k h =
-    let e : anything ≡ t = cc h in subst (λ x. AreIntKinds x.kinds) e tt
+    let e : anything ≡ t = cc h in subst (λ x. AreIntOperands x.operands) e tt
 step_int c (op.Br l) labels s t n k h =
-    subst (λ x. AreIntKinds x.kinds) (ends_anything s t (slice_get c.labels l) h).4 tt
+    subst (λ x. AreIntOperands x.operands) (ends_anything s t (slice_get c.labels l) h).4 tt
 step_int c op.BrTable labels s t n k h =
-    let m = then_some (λ below. ends below (common_label c labels)) (taken (I32 ∷ []) s) t h in
-    subst (λ x. AreIntKinds x.kinds) (ends_anything m.0 t (common_label c labels) m.2).4 tt
+    let m = then_some (λ below. after_branch below (common_label c labels)) (taken (I32 ∷ []) s) t h in
+    subst (λ x. AreIntOperands x.operands) (ends_anything m.0 t (common_label c labels) m.2).4 tt
 step_int c op.Return labels s t n k h =
-    subst (λ x. AreIntKinds x.kinds) (ends_anything s t (Some c.results) h).4 tt
+    subst (λ x. AreIntOperands x.operands) (ends_anything s t (Some c.results) h).4 tt
 step_int c op.Drop labels s t n k h = dropped_int s t k h
 step_int c op.Select labels s t n k h =
     let m = then_some selected (taken (I32 ∷ []) s) t h in
@@ -329,7 +329,7 @@ step_int c op.Select labels s t n k h =
 step_int c o labels s t n k h = plain_int c o s t n k h
 
 -- where the operation leads from types for which s stands, the step is there and stands for where it leads
-pub step_follows : (c : Context) (o : Op) (labels : List ℕ) (s : Shape) (ins outs : List ValType)
+pub step_follows : (c : Context) (o : Op) (labels : List ℕ) (s : AbstractStack) (ins outs : List ValType)
     → stands s ins ≡ true → Leads c (o, labels) ins outs → Follows (step c o labels s) outs
 step_follows c op.Unreachable labels s ins outs h l = (anything, refl, anything_stands outs)
 step_follows c (op.Br label) labels s ins outs h (ts, a, b, e, (under, types, there, parts, i, j), f) =
@@ -342,7 +342,7 @@ step_follows c op.BrTable labels s ins outs h (ts, a, b, e, (under, types, some,
     let p =
     branch_follows m.0 ts (under ++ types) under types outs (common_label c labels) m.2 refl
     (are_common c types labels some there) in
-    (p.0, some_then (λ below. ends below (common_label c labels)) (taken (I32 ∷ []) s) m.0 p.0 m.1 p.1, p.2)
+    (p.0, some_then (λ below. after_branch below (common_label c labels)) (taken (I32 ∷ []) s) m.0 p.0 m.1 p.1, p.2)
 step_follows c op.Return labels s ins outs h (ts, a, b, e, (under, parts, i, j), f) =
     branch_follows s ts a under c.results outs (Some c.results) (subst (λ x. stands s x ≡ true) e h)
     parts refl

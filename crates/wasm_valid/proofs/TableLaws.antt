@@ -7,7 +7,7 @@ use Rattle.w4_defs.specs.declared.operation.Op.{Op}
 use Rattle.w4_defs.specs.declared.value.Limits.{Limits}
 use Rattle.w4_defs.specs.declared.value.ValType.TheVariants.{I32}
 use Rattle.w4_defs.specs.Module.{ElementSegment, WasmModule}
-use Rattle.w4_defs.specs.Profile.{profile_refusal, passes, single_constant, table_size}
+use Rattle.w4_defs.specs.Profile.{profile_refusal, exceeds_size, single_constant, table_size}
 use Rattle.w4_defs.specs.Program.{constant_of, put_functions, fill_table, empty_table}
 use Rattle.w4_defs.specs.Tree.{flat}
 use Rattle.w4_defs.specs.Validity.{IsConstant, IsElementSegment, KeepsModuleRules}
@@ -46,7 +46,7 @@ fill_step table (x ∷ es) (suc i) s e = fill_step table es i s e
 
 element_read : (o : Option ElementSegment) (ops : List Op) (functions : List ℕ) (offset size : ℕ)
     → ((s : ElementSegment) → o ≡ Some s
-    → IsConstant I32 s.offset × (passes (single_constant s.offset) (length s.functions) size ≡ false))
+    → IsConstant I32 s.offset × (exceeds_size (single_constant s.offset) (length s.functions) size ≡ false))
     → option_map (λ s. operations_of (flat s.offset)) o ≡ Some ops
     → option_map (λ s. s.functions) o ≡ Some functions → offset ≡ first_number32 ops
     → IsElementRead o offset functions size
@@ -76,7 +76,7 @@ element_is_read m i ops functions offset none rules e f n =
     element_read (slice_get m.elements i) ops functions offset (length (empty_table m.tables))
     (λ s is. (
       (all_at (IsElementSegment m) m.elements i s rules.elements is).2,
-      subst (λ (n : ℕ). passes (single_constant s.offset) (length s.functions) n ≡ false)
+      subst (λ (n : ℕ). exceeds_size (single_constant s.offset) (length s.functions) n ≡ false)
           (sym (empty_size m.tables))
           (none_at (element_passes m) m.elements i s (no_cause m none).elements is),
     ))

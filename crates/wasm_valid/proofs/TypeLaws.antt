@@ -2,10 +2,10 @@
 use Rattle.std.proofs.Common.{◌≡◌, suc, List, [], ◌∷◌, length, Bool, true, false, refl, ◌∙◌, ap}
 use Rattle.std.specs.Prelude.{◌&&◌}
 use Rattle.w4_defs.specs.declared.value.ValType.{ValType}
-use Rattle.w4_defs.specs.Kinds.{same_type, same_types, same_signature}
+use Rattle.w4_defs.specs.ValueTypes.{same_type, same_types, same_signature}
 use Rattle.w4_defs.specs.Module.{Signature}
 use Rattle.std.proofs.lemmas.Bool.{and_parts}
-use Rattle.wasm_valid.proofs.KindLaws.{same_types_are}
+use Rattle.wasm_valid.proofs.OperandTypeLaws.{same_types_are}
 
 both_false : (b c : Bool) → false ≡ c → false ≡ (b && c)
 both_false true c e = e

@@ -10,31 +10,31 @@ use Rattle.w4_defs.specs.declared.console.Import.TheVariants.{Diskr, Diskw}
 use Rattle.w4_defs.specs.Tree.{Expr}
 use Rattle.w4_defs.specs.Module.{Signature, WasmModule}
 use Rattle.w4_defs.specs.Lookup.{signature_of, tables_of, local_types}
-use Rattle.w4_defs.specs.Kinds.{same_signature, numbers_of}
+use Rattle.w4_defs.specs.ValueTypes.{same_signature, integers_of}
 use Rattle.w4_defs.specs.Typing.{Context, HasType, body_context}
 use Rattle.w4_defs.specs.Imports.{import_type}
-use Rattle.w4_defs.specs.Program.{Own, Callee, own, imported, absent, zeros, Prog}
-use Rattle.w4_defs.specs.Outcome.{Store, Called, Outside, Outcome, Spent, Stuck, Trap}
+use Rattle.w4_defs.specs.Program.{Own, Callee, own_function, host_function, no_function, zeros, Prog}
+use Rattle.w4_defs.specs.Outcome.{Store, Called, HostFunctions, Outcome, Spent, Stuck, Trap}
 use Rattle.w4_defs.specs.Control.{where_some, with_arguments, leave}
-use Rattle.w4_defs.specs.Evaluation.{Env, Evaluator, allowed, called_env, after_import, answered, call_import, call_own, call, call_typed, call_entry, call_indirect}
+use Rattle.w4_defs.specs.Evaluation.{Env, Evaluator, allowed, called_env, after_import, with_result, call_import, call_own, call, call_typed, call_entry, call_indirect}
 use Rattle.w4_defs.specs.RunLaws.{types_of}
-use Rattle.wasm_valid.specs.TypedRuns.{AnswersByType}
+use Rattle.wasm_valid.specs.TypeSoundness.{AnswersByType}
 use Rattle.wasm_valid.proofs.TypeLaws.{same_signature_is}
 use Rattle.wasm_valid.proofs.TypedValues.{types_joined}
 use Rattle.wasm_valid.proofs.TypedLists.{Fits, global_values, on_i32_fits, where_some_fits, cond_fits, with_arguments_fits, leave_fits}
 
 -- a callee of a valid module: a typed body, whose locals begin with their types, or an import of its type
 abbrev pub IsReady : WasmModule → Callee → Type 0
-IsReady m (own f) =
+IsReady m (own_function f) =
     HasType (body_context m f.signature f.function) f.function.list [] f.signature.results
     × (types_of (zeros f.function.runs) ≡ local_types f.function.runs)
-IsReady m (imported s i) = s ≡ import_type i
-IsReady m absent = ⊥
+IsReady m (host_function s i) = s ≡ import_type i
+IsReady m no_function = ⊥
 
 abbrev pub HasSignature : Signature → Callee → Type 0
-HasSignature s (own f) = f.signature ≡ s
-HasSignature s (imported t i) = t ≡ s
-HasSignature s absent = ⊥
+HasSignature s (own_function f) = f.signature ≡ s
+HasSignature s (host_function t i) = t ≡ s
+HasSignature s no_function = ⊥
 
 -- a function index names such a callee
 pub record Named (m : WasmModule) (functions : List Callee) (func : ℕ) : Type 0 where
@@ -51,7 +51,7 @@ pub record Linked {H : Type 0} (m : WasmModule) (prog : Prog H) : Type 0 where
   pub types : prog.types ≡ m.types
   pub functions : (func : ℕ) (s : Signature) → signature_of m func ≡ Some s → NamedAs m prog.functions func s
   pub entries : (i func : ℕ) → slice_get prog.table i ≡ Some (Some func) → Named m prog.functions func
-  pub answers : AnswersByType prog.outside
+  pub answers : AnswersByType prog.host_functions
   pub one_table : length (tables_of m) ≤ 1
 
 -- the environment has the labels and the results of the context, by number
@@ -78,7 +78,7 @@ module _ {H : Type 0} (c : Context) (outs tops : List ValType) where
   answered_fits : (results : List ValType) (n : Option ℕ) (ops ls : List Val) (st : Store H) (b : ℕ)
       → (results ≡ []) ⊎ (results ≡ I32 ∷ []) → IsSome n ↔ (length results ≡ 1)
       → types_of ops ≡ tops → reverse outs ≡ reverse results ++ tops → types_of ls ≡ c.locals
-      → types_of st.globals ≡ global_values c → Fits c outs (answered results n ops ls st b)
+      → types_of st.globals ≡ global_values c → Fits c outs (with_result results n ops ls st b)
   answered_fits [] None ops ls st b k a h g l s = (h ∙ sym g, l, s)
   answered_fits [] (Some n) ops ls st b k a h g l s = absurd (let e : 0 ≡ 1 = a.0 refl in cc e)
   answered_fits (I32 ∷ []) (Some n) ops ls st b k a h g l s = (ap (λ ts. I32 ∷ ts) h ∙ sym g, l, s)
@@ -86,26 +86,26 @@ module _ {H : Type 0} (c : Context) (outs tops : List ValType) where
   answered_fits (t ∷ ts) n ops ls st b (inl e) a h g l s = absurd (cc e)
   answered_fits (t ∷ ts) n ops ls st b (inr e) a h g l s = absurd (cc e)
 
-  pub call_import_fits : (out : Outside H) (s : Signature) (i : Import) (ops ls : List Val) (st : Store H)
+  pub call_import_fits : (out : HostFunctions H) (s : Signature) (i : Import) (ops ls : List Val) (st : Store H)
       (b : ℕ) → AnswersByType out → s ≡ import_type i
       → types_of ops ≡ reverse s.params ++ tops → reverse outs ≡ reverse s.results ++ tops
       → types_of ls ≡ c.locals → types_of st.globals ≡ global_values c
       → Fits c outs (call_import out s i ops ls st b)
   call_import_fits out s i ops ls st b answers e h g l k =
       with_arguments_fits c outs s.params tops ops _ h (λ args ops typed below.
-      let weight : ℕ = out.weight st.host i (numbers_of args) st.page in
-      let done : Called H = out.effect st.host i (numbers_of args) st.page in
+      let weight : ℕ = out.weight st.host i (integers_of args) st.page in
+      let done : Called H = out.effect st.host i (integers_of args) st.page in
       cond_fits c outs (nat_lt b weight) (Spent st)
-      (answered s.results done.answer ops ls (after_import done st) (b - weight)) (λ t. k)
+      (with_result s.results done.answer ops ls (after_import done st) (b - weight)) (λ t. k)
       (λ t. answered_fits s.results done.answer ops ls (after_import done st) (b - weight)
       (subst (λ x. (x.results ≡ []) ⊎ (x.results ≡ I32 ∷ [])) (sym e) (import_results i))
       (subst (λ x. IsSome done.answer ↔ (length x.results ≡ 1)) (sym e)
-      (answers st.host i (numbers_of args) st.page)) below g l k))
+      (answers st.host i (integers_of args) st.page)) below g l k))
 
   module _ (prog : Prog H) (e : Evaluator H) (n : ℕ) (fits : Evaluates c.within n e)
       (linked : Linked c.within prog) where
     pub call_own_fits : (f : Own) (env : Env) (ops ls : List Val) (st : Store H) (b : ℕ) → b < n
-        → IsReady c.within (own f)
+        → IsReady c.within (own_function f)
         → types_of ops ≡ reverse f.signature.params ++ tops
         → reverse outs ≡ reverse f.signature.results ++ tops
         → types_of ls ≡ c.locals → types_of st.globals ≡ global_values c
@@ -133,15 +133,15 @@ module _ {H : Type 0} (c : Context) (outs tops : List ValType) where
         → types_of ops ≡ reverse s.params ++ tops → reverse outs ≡ reverse s.results ++ tops
         → types_of ls ≡ c.locals → types_of st.globals ≡ global_values c
         → Fits c outs (call prog e callee env ops ls st b)
-    call_fits s (own f) env ops ls st b less ready named h g l k =
+    call_fits s (own_function f) env ops ls st b less ready named h g l k =
         call_own_fits f env ops ls st b less ready
         (subst (λ x. types_of ops ≡ reverse x.params ++ tops) (sym named) h)
         (subst (λ x. reverse outs ≡ reverse x.results ++ tops) (sym named) g) l k
-    call_fits s (imported t i) env ops ls st b less ready named h g l k =
-        call_import_fits prog.outside t i ops ls st b linked.answers ready
+    call_fits s (host_function t i) env ops ls st b less ready named h g l k =
+        call_import_fits prog.host_functions t i ops ls st b linked.answers ready
         (subst (λ x. types_of ops ≡ reverse x.params ++ tops) (sym named) h)
         (subst (λ x. reverse outs ≡ reverse x.results ++ tops) (sym named) g) l k
-    call_fits s absent env ops ls st b less ready named h g l k = absurd ready
+    call_fits s no_function env ops ls st b less ready named h g l k = absurd ready
 
     -- a callee of another type traps
     call_typed_fits : (s : Signature) (callee : Callee) (env : Env) (ops ls : List Val) (st : Store H) (b : ℕ)
@@ -149,15 +149,15 @@ module _ {H : Type 0} (c : Context) (outs tops : List ValType) where
         → types_of ops ≡ reverse s.params ++ tops → reverse outs ≡ reverse s.results ++ tops
         → types_of ls ≡ c.locals → types_of st.globals ≡ global_values c
         → Fits c outs (call_typed prog e s callee env ops ls st b)
-    call_typed_fits s (own f) env ops ls st b less ready h g l k =
+    call_typed_fits s (own_function f) env ops ls st b less ready h g l k =
         cond_fits c outs (same_signature f.signature s) (call_own e f env ops ls st b) (Trap cause.Type_ st)
-        (λ t. call_fits s (own f) env ops ls st b less ready (same_signature_is f.signature s t) h g l k)
+        (λ t. call_fits s (own_function f) env ops ls st b less ready (same_signature_is f.signature s t) h g l k)
         (λ t. k)
-    call_typed_fits s (imported t i) env ops ls st b less ready h g l k =
-        cond_fits c outs (same_signature t s) (call_import prog.outside t i ops ls st b) (Trap cause.Type_ st)
-        (λ same. call_fits s (imported t i) env ops ls st b less ready (same_signature_is t s same) h g l k)
+    call_typed_fits s (host_function t i) env ops ls st b less ready h g l k =
+        cond_fits c outs (same_signature t s) (call_import prog.host_functions t i ops ls st b) (Trap cause.Type_ st)
+        (λ same. call_fits s (host_function t i) env ops ls st b less ready (same_signature_is t s same) h g l k)
         (λ t. k)
-    call_typed_fits s absent env ops ls st b less ready h g l k = absurd ready
+    call_typed_fits s no_function env ops ls st b less ready h g l k = absurd ready
 
     call_entry_fits : (s : Signature) (i : ℕ) (entry : Option ℕ) (env : Env) (ops ls : List Val)
         (st : Store H) (b : ℕ) → b < n → slice_get prog.table i ≡ Some entry

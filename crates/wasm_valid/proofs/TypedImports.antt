@@ -11,7 +11,7 @@ use Rattle.w4_defs.specs.Lookup.{imported_function}
 use Rattle.w4_defs.specs.ImportNames.{import_named}
 use Rattle.w4_defs.specs.Imports.{import_type}
 use Rattle.w4_defs.specs.Profile.{is_right}
-use Rattle.w4_defs.specs.Program.{Callee, imported, imported_callee, with_import, imported_callees}
+use Rattle.w4_defs.specs.Program.{Callee, host_function, imported_callee, with_import, imported_callees}
 use Rattle.wasm_valid.proofs.ProfileFacts.{is_wrong}
 use Rattle.wasm_valid.proofs.ProfileLaws.{Takes, IsRight, right_import}
 use Rattle.wasm_valid.proofs.TypedCalls.{Named, NamedAs}
@@ -38,11 +38,11 @@ function_named m index name functions indices t rest zero s e =
     let same : t.index ≡ index = cc t.function in
     let typed : slice_get m.types index ≡ Some (import_type t.import) =
     subst (λ k. slice_get m.types k ≡ Some (import_type t.import)) same t.typed in
-    let callee : imported_callee (slice_get m.types index) name ≡ imported (import_type t.import) t.import =
+    let callee : imported_callee (slice_get m.types index) name ≡ host_function (import_type t.import) t.import =
     ap (λ o. imported_callee o name) typed ∙ ap (imported_callee (Some (import_type t.import))) t.named in
     record {
       named = record {
-        callee = imported (import_type t.import) t.import;
+        callee = host_function (import_type t.import) t.import;
         found = ap Some callee;
         ready = refl;
       };

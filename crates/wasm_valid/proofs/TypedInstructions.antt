@@ -10,13 +10,13 @@ use Rattle.w4_defs.specs.declared.value.ValType.TheVariants.{I32}
 use Rattle.w4_defs.specs.declared.value.GlobalType.{GlobalType}
 use Rattle.w4_defs.specs.declared.operation.Op.TheVariants as op
 use Rattle.w4_defs.specs.Lookup.{global_types}
-use Rattle.w4_defs.specs.Kinds.{type_of, same_kind}
+use Rattle.w4_defs.specs.ValueTypes.{type_of, same_value_type}
 use Rattle.w4_defs.specs.Typing.{Context, AreLabels}
 use Rattle.w4_defs.specs.Outcome.{Store, Falls, Branch, Returns, Stuck}
 use Rattle.w4_defs.specs.Control.{on_i32, on_value, where_some, with_top}
 use Rattle.w4_defs.specs.Effects.{Effect, Does, Lacks, local_get, local_set, local_tee, select, effect}
 use Rattle.w4_defs.specs.Evaluation.{Env, with_globals, branch, branch_if, branch_table, return, get_global, set_global}
-use Rattle.w4_defs.specs.Soundness.{Suits}
+use Rattle.w4_defs.specs.InstructionSoundness.{Suits}
 use Rattle.w4_defs.specs.RunLaws.{types_of}
 use Rattle.wasm_valid.proofs.TypedValues.{typed_at, types_set, same_kinds}
 use Rattle.wasm_valid.proofs.TypedLists.{Fits, global_values, on_i32_fits, where_some_fits, cond_fits, holds_fits, with_top_fits}
@@ -67,9 +67,9 @@ local_set_suits i t tops ops ls page e h =
     let p = typed_at ls i t e in
     some_suits tops (types_of ls) (slice_get ls i) p.value
     (λ old. on_value Lacks ops
-    (λ v ops. if same_kind old v then Does ops (slice_set ls i v) page else Lacks)) p.found
+    (λ v ops. if same_value_type old v then Does ops (slice_set ls i v) page else Lacks)) p.found
     (on_value_suits tops (types_of ls) t tops ops _ h (λ v ops typed below.
-    holds_suits tops (types_of ls) (same_kind p.value v) (Does ops (slice_set ls i v) page) Lacks
+    holds_suits tops (types_of ls) (same_value_type p.value v) (Does ops (slice_set ls i v) page) Lacks
     (same_kinds p.value v (p.typed ∙ sym typed))
     (below, types_set ls i t v e typed)))
 
@@ -80,9 +80,9 @@ local_tee_suits i t tops ops ls page e h =
     let p = typed_at ls i t e in
     some_suits (t ∷ tops) (types_of ls) (slice_get ls i) p.value
     (λ old. on_value Lacks ops
-    (λ v ops. if same_kind old v then Does (v ∷ ops) (slice_set ls i v) page else Lacks)) p.found
+    (λ v ops. if same_value_type old v then Does (v ∷ ops) (slice_set ls i v) page else Lacks)) p.found
     (on_value_suits (t ∷ tops) (types_of ls) t tops ops _ h (λ v ops typed below.
-    holds_suits (t ∷ tops) (types_of ls) (same_kind p.value v) (Does (v ∷ ops) (slice_set ls i v) page) Lacks
+    holds_suits (t ∷ tops) (types_of ls) (same_value_type p.value v) (Does (v ∷ ops) (slice_set ls i v) page) Lacks
     (same_kinds p.value v (p.typed ∙ sym typed))
     (pushed t tops v ops typed below, types_set ls i t v e typed)))
 
@@ -98,7 +98,7 @@ select_suits t tops locals ops ls page h l =
     on_i32_suits (t ∷ tops) locals (t ∷ t ∷ tops) ops _ h (λ n ops h.
     on_value_suits (t ∷ tops) locals t (t ∷ tops) ops _ h (λ second ops s h.
     on_value_suits (t ∷ tops) locals t tops ops _ h (λ first ops f h.
-    holds_suits (t ∷ tops) locals (same_kind first second)
+    holds_suits (t ∷ tops) locals (same_value_type first second)
     (Does ((if nat_eq n 0 then second else first) ∷ ops) ls page) Lacks
     (same_kinds first second (f ∙ sym s)) (
       pushed t tops (if nat_eq n 0 then second else first) ops
@@ -198,9 +198,9 @@ module _ {H : Type 0} (c : Context) (outs : List ValType) where
       let below : types_of ops ≡ tops = cc h in
       where_some_fits c outs Stuck (slice_get st.globals i) p.value
       (λ old. on_value Stuck (v ∷ ops)
-      (λ v ops. if same_kind old v then Falls ops ls
+      (λ v ops. if same_value_type old v then Falls ops ls
       (with_globals (slice_set st.globals i v) st) b else Stuck)) p.found
-      (holds_fits c outs (same_kind p.value v)
+      (holds_fits c outs (same_value_type p.value v)
       (Falls ops ls (with_globals (slice_set st.globals i v) st) b) Stuck
       (same_kinds p.value v (p.typed ∙ sym typed))
       (below ∙ sym o, k, types_set st.globals i g.value v there typed ∙ s))

@@ -8,13 +8,13 @@ use Rattle.w4_defs.specs.declared.value.ValType.{ValType}
 use Rattle.w4_defs.specs.declared.value.ValType.TheVariants.{I32}
 use Rattle.w4_defs.specs.Module.{Signature, Function}
 use Rattle.w4_defs.specs.Lookup.{global_types}
-use Rattle.w4_defs.specs.Kinds.{are_of}
+use Rattle.w4_defs.specs.ValueTypes.{have_types}
 use Rattle.w4_defs.specs.Typing.{Context, with_label, result_types, body_context}
 use Rattle.w4_defs.specs.Outcome.{Store, Outcome, Falls, Branch, Returns, Trap, Spent, Stuck}
-use Rattle.w4_defs.specs.Control.{Next, on_i32, where_some, with_top, with_arguments, and_then, close, turn, leave}
+use Rattle.w4_defs.specs.Control.{Next, on_i32, where_some, with_top, with_arguments, and_then, close, close_loop, leave}
 use Rattle.w4_defs.specs.Effects.{Effect, Does, Traps, Lacks}
 use Rattle.w4_defs.specs.Evaluation.{with_page, settle, settle_after}
-use Rattle.w4_defs.specs.Soundness.{Suits}
+use Rattle.w4_defs.specs.InstructionSoundness.{Suits}
 use Rattle.w4_defs.specs.RunLaws.{types_of, Within}
 use Rattle.w4_defs.proofs.Budgets.{AtMost}
 use Rattle.wasm_valid.proofs.TypedValues.{types_joined, types_reversed, split, are_of_typed}
@@ -42,9 +42,9 @@ Goes {H} c outs b tops go = (ops ls : List Val) (st : Store H) (r : ℕ) → r �
     → types_of ops ≡ tops → types_of ls ≡ c.locals → types_of st.globals ≡ global_values c
     → Fits c outs (go ops ls st r)
 
--- a list of results, closed by number and kind
+-- a block's results, closed by number and type
 result_held : (r : Option ValType) (vs : List Val) → types_of vs ≡ reverse (result_types r)
-    → are_of (option_to_list r) vs ≡ true
+    → have_types (option_to_list r) vs ≡ true
 result_held None vs h = are_of_typed [] vs h
 result_held (Some t) vs h = are_of_typed (t ∷ []) vs h
 
@@ -95,7 +95,7 @@ module _ {H : Type 0} (c : Context) (outs : List ValType) where
       let args : List Val = reverse (take n ops) in
       let typed : types_of args ≡ params =
       types_reversed (take n ops) ∙ ap reverse s.top ∙ reverse-reverse params in
-      holds_fits (are_of params args) (go args (drop n ops)) Stuck (are_of_typed params args typed)
+      holds_fits (have_types params args) (go args (drop n ops)) Stuck (are_of_typed params args typed)
       (k args (drop n ops) typed s.rest)
 
   pub and_then_fits : (mid : List ValType) (b : ℕ) (o : Outcome H) (go : Next H) → AtMost b o → Fits c mid o
@@ -113,7 +113,7 @@ module _ {H : Type 0} (c : Context) (outs : List ValType) where
       → Goes c outs b (reverse (result_types result) ++ tops) go
       → Fits c outs (close (option_to_list result) ops go o)
   close_fits result tops b ops go (Falls vs ls st r) e a h k =
-      holds_fits (are_of (option_to_list result) vs) (go (vs ++ ops) ls st r) Stuck
+      holds_fits (have_types (option_to_list result) vs) (go (vs ++ ops) ls st r) Stuck
       (result_held result vs h.0)
       (k (vs ++ ops) ls st r a (onto (reverse (result_types result)) tops vs ops h.0 e) h.1 h.2)
   close_fits result tops b ops go (Branch zero vs ls st r) e a h k =
@@ -126,24 +126,24 @@ module _ {H : Type 0} (c : Context) (outs : List ValType) where
   close_fits result tops b ops go (Spent st) e a h k = h
   close_fits result tops b ops go Stuck e a h k = h
 
-  -- a branch to a loop begins its next turn with less
-  pub turn_fits : (result : Option ValType) (tops : List ValType) (b : ℕ) (ops : List Val) (go : Next H)
+  -- a branch to a loop begins its next iteration with less
+  pub step_fits : (result : Option ValType) (tops : List ValType) (b : ℕ) (ops : List Val) (go : Next H)
       (again : List Val → Store H → ℕ → Outcome H) (o : Outcome H)
       → types_of ops ≡ tops → Within b o → Fits (with_label [] c) (result_types result) o
       → Goes c outs b (reverse (result_types result) ++ tops) go
       → ((ls : List Val) (st : Store H) (r : ℕ) → r < b → types_of ls ≡ c.locals
       → types_of st.globals ≡ global_values c → Fits c outs (again ls st r))
-      → Fits c outs (turn (option_to_list result) ops go again o)
-  turn_fits result tops b ops go again (Falls vs ls st r) e a h k t =
-      holds_fits (are_of (option_to_list result) vs) (go (vs ++ ops) ls st r) Stuck
+      → Fits c outs (close_loop (option_to_list result) ops go again o)
+  step_fits result tops b ops go again (Falls vs ls st r) e a h k t =
+      holds_fits (have_types (option_to_list result) vs) (go (vs ++ ops) ls st r) Stuck
       (result_held result vs h.0)
       (k (vs ++ ops) ls st r a (onto (reverse (result_types result)) tops vs ops h.0 e) h.1 h.2)
-  turn_fits result tops b ops go again (Branch zero vs ls st r) e a h k t = t ls st r a h.3 h.4
-  turn_fits result tops b ops go again (Branch (suc l) vs ls st r) e a h k t = h
-  turn_fits result tops b ops go again (Returns vs st r) e a h k t = h
-  turn_fits result tops b ops go again (Trap cause st) e a h k t = h
-  turn_fits result tops b ops go again (Spent st) e a h k t = h
-  turn_fits result tops b ops go again Stuck e a h k t = h
+  step_fits result tops b ops go again (Branch zero vs ls st r) e a h k t = t ls st r a h.3 h.4
+  step_fits result tops b ops go again (Branch (suc l) vs ls st r) e a h k t = h
+  step_fits result tops b ops go again (Returns vs st r) e a h k t = h
+  step_fits result tops b ops go again (Trap cause st) e a h k t = h
+  step_fits result tops b ops go again (Spent st) e a h k t = h
+  step_fits result tops b ops go again Stuck e a h k t = h
 
   -- the end of a called function: its results go onto the caller's operands
   pub leave_fits : (s : Signature) (f : Function) (tops : List ValType) (ops locals : List Val)
@@ -152,7 +152,7 @@ module _ {H : Type 0} (c : Context) (outs : List ValType) where
       → reverse outs ≡ reverse s.results ++ tops → Fits (body_context c.within s f) s.results o
       → Fits c outs (leave s.results ops locals o)
   leave_fits s f tops ops locals (Falls vs ls st r) e l g h =
-      holds_fits (are_of (reverse s.results) vs) (Falls (vs ++ ops) locals st r) Stuck
+      holds_fits (have_types (reverse s.results) vs) (Falls (vs ++ ops) locals st r) Stuck
       (are_of_typed (reverse s.results) vs h.0)
       (onto (reverse s.results) tops vs ops h.0 e ∙ sym g, l, h.2)
   leave_fits s f tops ops locals (Branch zero vs ls st r) e l g h =

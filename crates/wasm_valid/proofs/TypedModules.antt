@@ -6,18 +6,17 @@ use Rattle.std.proofs.lemmas.Bool.{or_parts}
 use Rattle.std.proofs.lemmas.List.Elements.{All-head, All-tail}
 use Rattle.std.proofs.lemmas.Option.{slice_get-get_or, slice_get_within}
 use Rattle.w4_defs.specs.declared.value.Limits.{Limits}
-use Rattle.w4_defs.specs.Module.{Signature, Function, ElementSegment, WasmModule}
+use Rattle.w4_defs.specs.Module.{Signature, Function, ElementSegment, WasmModule, nothing_to_nothing}
 use Rattle.w4_defs.specs.Lookup.{function_indices, signature_of, local_types}
 use Rattle.w4_defs.specs.Floats.{is_float, has_float, function_has_float}
 use Rattle.w4_defs.specs.Profile.{profile_refusal}
 use Rattle.w4_defs.specs.Typing.{HasType, body_context}
 use Rattle.w4_defs.specs.Validity.{IsElementSegment, IsValid}
-use Rattle.w4_defs.specs.Program.{own, own_callee, own_callees, callees, zeros, constant_of, put_functions, fill_table, empty_table, program}
-use Rattle.w4_defs.specs.Outcome.{Outside}
+use Rattle.w4_defs.specs.Program.{own_function, own_callee, own_callees, callees, zeros, constant_of, put_functions, fill_table, empty_table, program}
+use Rattle.w4_defs.specs.Outcome.{HostFunctions}
 use Rattle.w4_defs.specs.RunLaws.{types_of}
-use Rattle.wasm_valid.specs.TypedRuns.{AnswersByType}
-use Rattle.wasm_valid.proofs.KindLaws.{then_some, some_then}
-use Rattle.wasm_valid.specs.Carts.{nothing}
+use Rattle.wasm_valid.specs.TypeSoundness.{AnswersByType}
+use Rattle.wasm_valid.proofs.OperandTypeLaws.{then_some, some_then}
 use Rattle.wasm_valid.proofs.BodyLaws.{free}
 use Rattle.wasm_valid.proofs.NoneLaws.{none_at}
 use Rattle.wasm_valid.proofs.ProfileFacts.{no_cause}
@@ -31,7 +30,7 @@ use Rattle.wasm_valid.proofs.TypedImports.{AllNamed, imports_named}
 own_found : (types : List Signature) (fs : List ℕ) (bs : List Function) (k index : ℕ) (s : Signature)
     → length fs ≡ length bs → slice_get fs k ≡ Some index → slice_get types index ≡ Some s
     → (f : Function) × (slice_get bs k ≡ Some f)
-    × (slice_get (own_callees types fs bs) k ≡ Some (own (record { signature = s; function = f })))
+    × (slice_get (own_callees types fs bs) k ≡ Some (own_function (record { signature = s; function = f })))
 own_found types [] bs k index s even h t = absurd (cc h)
 own_found types (x ∷ fs) [] k index s even h t = absurd (omega (arith, even))
 own_found types (x ∷ fs) (f ∷ bs) zero index s even h t =
@@ -67,7 +66,7 @@ owns_named m profile valid even k s h =
     let q = own_found m.types m.functions m.bodies k p.0 s even p.1 p.2 in
     record {
       named = record {
-        callee = own (record { signature = s; function = q.0 });
+        callee = own_function (record { signature = s; function = q.0 });
         found = q.2;
         ready = (body_typed m k p.0 s q.0 valid p.1 p.2 q.1, body_zeros m k q.0 profile q.1);
       };
@@ -127,16 +126,16 @@ has_signature : (m : WasmModule) (func : ℕ) → IsValid m → func < length (f
     → (s : Signature) × (signature_of m func ≡ Some s)
 has_signature m func valid less =
     let index : ℕ = get_or (function_indices m) func 0 in
-    let s : Signature = get_or m.types index nothing in (
+    let s : Signature = get_or m.types index nothing_to_nothing in (
       s,
       some_then (λ index. slice_get m.types index) (slice_get (function_indices m) func) index s
           (slice_get-get_or (function_indices m) func 0 less)
-          (slice_get-get_or m.types index nothing (valid.0.functions func 0 less)),
+          (slice_get-get_or m.types index nothing_to_nothing (valid.0.functions func 0 less)),
     )
 
 -- ---- the program
 
-pub linked : {H : Type 0} (m : WasmModule) (out : Outside H) → profile_refusal m ≡ None → IsValid m
+pub linked : {H : Type 0} (m : WasmModule) (out : HostFunctions H) → profile_refusal m ≡ None → IsValid m
     → length m.functions ≡ length m.bodies → AnswersByType out → Linked m (program m out)
 linked m out profile valid even answers = record {
   types = refl;

@@ -12,8 +12,8 @@ use Rattle.w4_defs.specs.declared.operation.Op.TheVariants as op
 use Rattle.w4_defs.specs.Tree.{Expr, done, plain, block, loop, if_then, if_else}
 use Rattle.w4_defs.specs.Module.{WasmModule}
 use Rattle.w4_defs.specs.Lookup.{signature_of, global_types, tables_of, memories_of}
-use Rattle.w4_defs.specs.Kinds.{size_of}
-use Rattle.w4_defs.specs.OperandTypes.{arrow_if, gives, unary, memory_type}
+use Rattle.w4_defs.specs.ValueTypes.{result_arity}
+use Rattle.w4_defs.specs.OperandTypes.{arrow_if, gives, unary_type, memory_type}
 use Rattle.w4_defs.specs.Typing.{Context, with_label, result_types, HasType, OperationHasType, branches, calls, calls_indirectly, consumes, sets}
 use Rattle.w4_defs.specs.Outcome.{Store, Stuck}
 use Rattle.w4_defs.specs.Program.{Prog}
@@ -24,8 +24,8 @@ use Rattle.w4_defs.specs.RunLaws.{types_of}
 use Rattle.w4_defs.proofs.PlainSound.{plain_sound}
 use Rattle.w4_defs.proofs.Budgets.{Keeps, simple_most, body_most, eval_keeps}
 use Rattle.w4_defs.proofs.Unfolding.{eval_unfolds}
-use Rattle.wasm_valid.proofs.KindLaws.{then_some}
-use Rattle.wasm_valid.proofs.TypedLists.{Fits, global_values, on_i32_fits, where_some_fits, and_then_fits, close_fits, turn_fits, settle_fits, settle_after_fits}
+use Rattle.wasm_valid.proofs.OperandTypeLaws.{then_some}
+use Rattle.wasm_valid.proofs.TypedLists.{Fits, global_values, on_i32_fits, where_some_fits, and_then_fits, close_fits, step_fits, settle_fits, settle_after_fits}
 use Rattle.wasm_valid.proofs.TypedCalls.{Linked, Matches, Evaluates, call_fits, call_indirect_fits}
 use Rattle.wasm_valid.proofs.TypedInstructions.{topmost_part, local_get_suits, local_set_suits, local_tee_suits, select_suits, drop_suits, branch_fits, branch_if_fits, branch_table_fits, return_fits, get_global_fits, set_global_fits}
 
@@ -38,12 +38,12 @@ arrow_parts : (b : Bool) (x y a g : List ValType) → arrow_if b x y ≡ Some (a
 arrow_parts true x y a g h = some_pair_parts x a y g h
 arrow_parts false x y a g h = absurd (cc h)
 
--- the same operands, the types on top written otherwise
+-- operands whose topmost types are written otherwise
 retyped : (ts a b tops : List ValType) → ts ≡ reverse a ++ tops → b ≡ a → ts ≡ reverse b ++ tops
 retyped ts a b tops h e = h ∙ ap (λ x. reverse x ++ tops) (sym e)
 
 inside_matches : (c : Context) (env : Env) (r : Option ValType) → Matches c env
-    → Matches (with_label (result_types r) c) (inside (size_of r) env)
+    → Matches (with_label (result_types r) c) (inside (result_arity r) env)
 inside_matches c env None m = record { labels = ap (λ ns. 0 ∷ ns) m.labels; results = m.results }
 inside_matches c env (Some t) m = record { labels = ap (λ ns. 1 ∷ ns) m.labels; results = m.results }
 
@@ -139,7 +139,7 @@ module _ {H : Type 0} (c : Context) (prog : Prog H) (e : Evaluator H) (n : ℕ) 
       (local_set_suits index p.0 tops ops ls st.page (ap (λ ts. slice_get ts index) l ∙ p.1)
       (retyped (types_of ops) a (p.0 ∷ []) tops h q.0)) (retyped (reverse outs) given [] tops g q.1) l k
   simple_fits (op.LocalTee index) labels env a given tops outs ops ls st b less m t h g l k =
-      let p = then_some unary (slice_get c.locals index) (a, given) t in
+      let p = then_some unary_type (slice_get c.locals index) (a, given) t in
       let q = some_pair_parts (p.0 ∷ []) a (p.0 ∷ []) given p.2 in
       settle_fits c outs (p.0 ∷ tops) (types_of ls) (local_tee index ops ls st.page) st b
       (local_tee_suits index p.0 tops ops ls st.page (ap (λ ts. slice_get ts index) l ∙ p.1)
@@ -176,11 +176,11 @@ module _ {H : Type 0} (c : Context) (prog : Prog H) (e : Evaluator H) (n : ℕ) 
         → HasType c rest (ins ++ result_types r) outs
         → types_of ops ≡ reverse ins → types_of ls ≡ c.locals → types_of st.globals ≡ global_values c
         → Fits c outs (close (option_to_list r) ops (e rest env)
-        (e inner (inside (size_of r) env) [] ls st b))
+        (e inner (inside (result_arity r) env) [] ls st b))
     closed_fits r inner rest env ins outs ops ls st b less m t u h l k =
-        close_fits c outs r (reverse ins) b ops (e rest env) (e inner (inside (size_of r) env) [] ls st b) h
-        (body_most e n b keeps less inner (inside (size_of r) env) [] ls st)
-        (fits (with_label (result_types r) c) inner (inside (size_of r) env) []
+        close_fits c outs r (reverse ins) b ops (e rest env) (e inner (inside (result_arity r) env) [] ls st b) h
+        (body_most e n b keeps less inner (inside (result_arity r) env) [] ls st)
+        (fits (with_label (result_types r) c) inner (inside (result_arity r) env) []
         (result_types r) [] ls st b less refl (inside_matches c env r m) t refl l k)
         (λ ops ls st r' small h l k. fits c rest env (ins ++ result_types r) outs ops ls st r'
         (omega arith) refl m u (h ∙ sym (reverse-append ins (result_types r))) l k)
@@ -205,7 +205,7 @@ module _ {H : Type 0} (c : Context) (prog : Prog H) (e : Evaluator H) (n : ℕ) 
     act_fits (loop r inner rest) env ins outs ops ls st zero less m t h l k = k
     act_fits (loop r inner rest) env ins outs ops ls st (suc b) less m t h l k =
         let small : b < n = omega arith in
-        turn_fits c outs r (reverse ins) b ops (e rest env)
+        step_fits c outs r (reverse ins) b ops (e rest env)
         (λ ls st b. e (loop r inner rest) env ops ls st (suc b)) (e inner (inside 0 env) [] ls st b) h
         (keeps inner (inside 0 env) [] ls st b small)
         (fits (with_label [] c) inner (inside 0 env) [] (result_types r) [] ls st b small refl

@@ -8,12 +8,12 @@ use Rattle.w4_defs.specs.declared.value.Val.{Val}
 use Rattle.w4_defs.specs.declared.value.ValType.{ValType}
 use Rattle.w4_defs.specs.declared.value.ValType.TheVariants.{I32, I64, F32, F64}
 use Rattle.w4_defs.specs.declared.module.Locals.{Locals}
-use Rattle.w4_defs.specs.Kinds.{type_of, same_type, same_kind, are_of}
+use Rattle.w4_defs.specs.ValueTypes.{type_of, same_type, same_value_type, have_types}
 use Rattle.w4_defs.specs.Lookup.{local_types}
 use Rattle.w4_defs.specs.Floats.{is_float}
 use Rattle.w4_defs.specs.Program.{value_of, zeros}
 use Rattle.w4_defs.specs.RunLaws.{types_of}
-use Rattle.wasm_valid.proofs.KindLaws.{same_type_self}
+use Rattle.wasm_valid.proofs.OperandTypeLaws.{same_type_self}
 
 pub types_joined : (vs ws : List Val) → types_of (vs ++ ws) ≡ types_of vs ++ types_of ws
 types_joined [] ws = refl
@@ -66,16 +66,16 @@ split ts below ops h =
 
 -- ---- values of a list of types
 
-pub are_of_own : (vs : List Val) → are_of (types_of vs) vs ≡ true
+pub are_of_own : (vs : List Val) → have_types (types_of vs) vs ≡ true
 are_of_own [] = refl
 are_of_own (v ∷ vs) =
-    and_from (same_type (type_of v) (type_of v)) (are_of (types_of vs) vs) (same_type_self (type_of v))
+    and_from (same_type (type_of v) (type_of v)) (have_types (types_of vs) vs) (same_type_self (type_of v))
     (are_of_own vs)
 
-pub are_of_typed : (ts : List ValType) (vs : List Val) → types_of vs ≡ ts → are_of ts vs ≡ true
-are_of_typed ts vs h = subst (λ ts. are_of ts vs ≡ true) h (are_of_own vs)
+pub are_of_typed : (ts : List ValType) (vs : List Val) → types_of vs ≡ ts → have_types ts vs ≡ true
+are_of_typed ts vs h = subst (λ ts. have_types ts vs ≡ true) h (are_of_own vs)
 
-pub same_kinds : (v w : Val) → type_of v ≡ type_of w → same_kind v w ≡ true
+pub same_kinds : (v w : Val) → type_of v ≡ type_of w → same_value_type v w ≡ true
 same_kinds v w h = subst (λ t. same_type (type_of v) t ≡ true) h (same_type_self (type_of v))
 
 -- ---- one value by its place

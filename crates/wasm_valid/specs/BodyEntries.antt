@@ -1,4 +1,4 @@
--- The entries of an own function's body (own rule): its flattening, or none where there is no such function.
+-- The entries of an own function's body: its flattening, or none where there is no such function.
 use Rattle.std.specs.Prelude.{ℕ, List, [], slice_get, Option, Some, None}
 use Rattle.w4_defs.specs.Tree.{Mark, flat}
 use Rattle.w4_defs.specs.Module.{Function, WasmModule}

@@ -1,4 +1,4 @@
--- Constants by the operations of a flattening (own rule): a single constant is one operation before the end.
+-- Constants by the operations of a flattening: a single constant is one operation before the end.
 use Rattle.std.specs.Prelude.{ℕ, List, [], ◌∷◌, Option, None}
 use Rattle.w4_defs.specs.declared.operation.Op.{Op}
 use Rattle.w4_defs.specs.declared.operation.Op.TheVariants.{I32Const, I64Const}
@@ -28,6 +28,6 @@ constant_value (I64Const value) = val.I64 value
 constant_value _ = val.I32 0
 
 -- the value of a first operation that is a constant
-abbrev pub first_value : List Op → Val
-first_value [] = val.I32 0
-first_value (op ∷ ops) = constant_value op
+abbrev pub first_constant : List Op → Val
+first_constant [] = val.I32 0
+first_constant (op ∷ ops) = constant_value op

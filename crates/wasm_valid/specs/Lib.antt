@@ -1,7 +1,7 @@
 -- What the contracts of this crate cite besides the definition of typing.
-pub mod ShapeLaw
+pub mod AbstractStackLaw
 pub mod Pass
-pub mod TypedRuns
+pub mod TypeSoundness
 pub mod Calls
 pub mod Carts
 pub mod Constants
@@ -9,7 +9,7 @@ pub mod Counting
 pub mod Segments
 pub mod Instructions
 pub mod Ready
-pub mod OpenLists
+pub mod ControlStack
 pub mod ArrowTypes
 pub mod BodyEntries
 pub mod Untyped

@@ -1,6 +1,6 @@
--- The pass over the entries of a flattening: one shape for each list that is open, the innermost first.
--- An entry that opens a list opens a shape, and one that closes it asks whether the shape stands for the
--- list's results.
+-- The pass over the entries of a flattening: one abstract stack for each open block, the innermost first. An
+-- entry that opens a block begins an abstract stack, and one that closes it asks whether the abstract stack
+-- stands for the block's results.
 use Rattle.std.specs.Prelude.{◌≡◌, ℕ, cond, List, [], ◌∷◌, Option, Some, None, option_map, option_and_then}
 use Rattle.w4_defs.specs.declared.value.ValType.{ValType}
 use Rattle.w4_defs.specs.declared.value.ValType.TheVariants.{I32}
@@ -10,61 +10,61 @@ use Rattle.w4_defs.specs.Tree.{Mark, flat}
 use Rattle.w4_defs.specs.Flattening.{IsProper}
 use Rattle.w4_defs.specs.Module.{Signature, Function, WasmModule}
 use Rattle.w4_defs.specs.Typing.{Context, result_types, body_context}
-use Rattle.w4_defs.specs.Shape.{Shape, empty, stands, taken, given, step}
-use Rattle.wasm_valid.specs.ShapeLaw.{body_stands}
+use Rattle.w4_defs.specs.AbstractStack.{AbstractStack, empty, stands, taken, given, step}
+use Rattle.wasm_valid.specs.AbstractStackLaw.{body_stands}
 
--- a list that is open: the types of its label and of its results, and its shape so far
-pub record Open : Type 0 where
+-- an open block: the types of its label and of its results, and its abstract stack so far
+pub record OpenBlock : Type 0 where
   pub label : List ValType
   pub result : List ValType
-  pub shape : Shape
+  pub stack : AbstractStack
 
-abbrev pub opened : List ValType → List ValType → Open
-opened label result = record { label = label; result = result; shape = empty }
+abbrev pub opened : List ValType → List ValType → OpenBlock
+opened label result = record { label = label; result = result; stack = empty }
 
-abbrev pub with_shape : Open → Shape → Open
-with_shape o s = record o { shape = s }
+abbrev pub with_stack : OpenBlock → AbstractStack → OpenBlock
+with_stack o s = record o { stack = s }
 
-abbrev pub labels_of : List Open → List (List ValType)
-labels_of [] = []
-labels_of (o ∷ os) = o.label ∷ labels_of os
+abbrev pub label_types : List OpenBlock → List (List ValType)
+label_types [] = []
+label_types (o ∷ os) = o.label ∷ label_types os
 
-abbrev pub context : Context → List Open → Context
-context c os = record c { labels = labels_of os }
+abbrev pub context : Context → List OpenBlock → Context
+context c os = record c { labels = label_types os }
 
 -- the innermost list is closed, and its results go to the next
-abbrev pub closed : Open → List Open → Option (List Open)
-closed o [] = cond (stands o.shape o.result) (Some []) None
-closed o (p ∷ os) = cond (stands o.shape o.result) (Some (with_shape p (given o.result p.shape) ∷ os)) None
+abbrev pub closed : OpenBlock → List OpenBlock → Option (List OpenBlock)
+closed o [] = cond (stands o.stack o.result) (Some []) None
+closed o (p ∷ os) = cond (stands o.stack o.result) (Some (with_stack p (given o.result p.stack) ∷ os)) None
 
 -- a condition is taken, and a list is opened
-abbrev pub chosen_list : List ValType → Open → List Open → Option (List Open)
+abbrev pub chosen_list : List ValType → OpenBlock → List OpenBlock → Option (List OpenBlock)
 chosen_list result o os =
-    option_map (λ s. opened result result ∷ with_shape o s ∷ os) (taken (I32 ∷ []) o.shape)
+    option_map (λ s. opened result result ∷ with_stack o s ∷ os) (taken (I32 ∷ []) o.stack)
 
-abbrev pub opened_if : Option ValType → Open → List Open → Option (List Open)
+abbrev pub opened_if : Option ValType → OpenBlock → List OpenBlock → Option (List OpenBlock)
 opened_if None o os = chosen_list [] o os
 opened_if (Some t) o os = None
 
 -- the open lists after an entry
-abbrev pub turn : Context → Op → List ℕ → Open → List Open → Option (List Open)
-turn c (Block r end) labels o os = Some (opened (result_types r) (result_types r) ∷ o ∷ os)
-turn c (Loop r end) labels o os = Some (opened [] (result_types r) ∷ o ∷ os)
-turn c (If r None end) labels o os = opened_if r o os
-turn c (If r (Some other) end) labels o os = chosen_list (result_types r) o os
-turn c Else labels o os = cond (stands o.shape o.result) (Some (opened o.label o.result ∷ os)) None
-turn c End labels o os = closed o os
-turn c op labels o os = option_map (λ s. with_shape o s ∷ os) (step (context c (o ∷ os)) op labels o.shape)
+abbrev pub blocks_after_entry : Context → Op → List ℕ → OpenBlock → List OpenBlock → Option (List OpenBlock)
+blocks_after_entry c (Block r end) labels o os = Some (opened (result_types r) (result_types r) ∷ o ∷ os)
+blocks_after_entry c (Loop r end) labels o os = Some (opened [] (result_types r) ∷ o ∷ os)
+blocks_after_entry c (If r None end) labels o os = opened_if r o os
+blocks_after_entry c (If r (Some other) end) labels o os = chosen_list (result_types r) o os
+blocks_after_entry c Else labels o os = cond (stands o.stack o.result) (Some (opened o.label o.result ∷ os)) None
+blocks_after_entry c End labels o os = closed o os
+blocks_after_entry c op labels o os = option_map (λ s. with_stack o s ∷ os) (step (context c (o ∷ os)) op labels o.stack)
 
-abbrev pub run : Context → List Mark → List Open → Option (List Open)
-run c [] os = Some os
-run c (m ∷ ms) [] = None
-run c (m ∷ ms) (o ∷ os) = option_and_then (run c ms) (turn c m.0 m.1 o os)
+abbrev pub blocks_after : Context → List Mark → List OpenBlock → Option (List OpenBlock)
+blocks_after c [] os = Some os
+blocks_after c (m ∷ ms) [] = None
+blocks_after c (m ∷ ms) (o ∷ os) = option_and_then (blocks_after c ms) (blocks_after_entry c m.0 m.1 o os)
 
--- the pass over a body comes to its end, with no list open, exactly where the body's shape stands for the
--- function's results; else it stops
+-- the pass over a body comes to its end, with no list open, if and only if the body's abstract stack stands
+-- for the function's results; else it stops
 abbrev pub PassDecidesBodies : Type 0
 PassDecidesBodies =
     (m : WasmModule) (s : Signature) (f : Function) → IsProper f.list
-    → run (body_context m s f) (flat f.list) (opened s.results s.results ∷ [])
+    → blocks_after (body_context m s f) (flat f.list) (opened s.results s.results ∷ [])
     ≡ cond (body_stands m s f) (Some []) None

@@ -1,4 +1,4 @@
--- When the calls of a module are made (own rule): the profile lets it through, the module rules hold, and
+-- When the calls of a module are made: the profile lets it through, the module rules hold, and
 -- its types can be numbered.
 use Rattle.std.specs.Prelude.{◌≡◌, ◌^◌, ◌<◌, length, None}
 use Rattle.w4_defs.specs.Module.{WasmModule}

@@ -2,8 +2,8 @@
 //! 3.3.5), by the rows of their table.
 
 ghost use Rattle.std.specs.Prelude.{◌^◌, ◌≡◌, ◌∷◌, Some, [], nat_le, true};
-ghost use Rattle.w4_defs.specs.InstructionTable.{value_type};
-ghost use Rattle.w4_defs.specs.OperandTypes.{load, memory_type, row_type, store};
+ghost use Rattle.w4_defs.specs.InstructionTable.{value_type_of};
+ghost use Rattle.w4_defs.specs.OperandTypes.{load_type, memory_type, row_type, store_type};
 ghost use Rattle.w4_defs.specs.Typing.{result_types};
 ghost use Rattle.w4_defs.specs.declared.value.ValType.TheVariants.{I32};
 ghost use Rattle.wasm_valid.specs.ArrowTypes.{shown};
@@ -42,7 +42,7 @@ pub fn one(kind: ValType) -> &'static [ValType]
 
 /// The value type of an integer type.
 fn value_type(number: IntegerType) -> ValType
-    ensures { result ≡ value_type number }
+    ensures { result ≡ value_type_of number }
 {
     match number {
         IntegerType::I32 => ValType::I32,
@@ -51,7 +51,7 @@ fn value_type(number: IntegerType) -> ValType
 }
 
 fn gives(number: IntegerType) -> Arrow<'static>
-    ensures { shown (Some result) ≡ Some ([], value_type number ∷ []) }
+    ensures { shown (Some result) ≡ Some ([], value_type_of number ∷ []) }
 {
     Arrow {
         takes: &[],
@@ -60,7 +60,7 @@ fn gives(number: IntegerType) -> Arrow<'static>
 }
 
 fn converts(from: IntegerType, to: IntegerType) -> Arrow<'static>
-    ensures { shown (Some result) ≡ Some (value_type from ∷ [], value_type to ∷ []) }
+    ensures { shown (Some result) ≡ Some (value_type_of from ∷ [], value_type_of to ∷ []) }
 {
     Arrow {
         takes: one(value_type(from)),
@@ -69,7 +69,7 @@ fn converts(from: IntegerType, to: IntegerType) -> Arrow<'static>
 }
 
 fn joins(number: IntegerType, to: IntegerType) -> Arrow<'static>
-    ensures { shown (Some result) ≡ Some (value_type number ∷ value_type number ∷ [], value_type to ∷ []) }
+    ensures { shown (Some result) ≡ Some (value_type_of number ∷ value_type_of number ∷ [], value_type_of to ∷ []) }
 {
     let takes: &[ValType] = match number {
         IntegerType::I32 => &[ValType::I32, ValType::I32],
@@ -82,7 +82,7 @@ fn joins(number: IntegerType, to: IntegerType) -> Arrow<'static>
 }
 
 fn stores(number: IntegerType) -> Arrow<'static>
-    ensures { shown (Some result) ≡ Some (I32 ∷ value_type number ∷ [], []) }
+    ensures { shown (Some result) ≡ Some (I32 ∷ value_type_of number ∷ [], []) }
 {
     let takes: &[ValType] = match number {
         IntegerType::I32 => &[ValType::I32, ValType::I32],
@@ -111,7 +111,7 @@ fn is_aligned(align: u32, bytes: u32) -> bool
 }
 
 fn load(align: u32, bytes: u32, number: IntegerType) -> Option<Arrow<'static>>
-    ensures { shown result ≡ load true align bytes (value_type number) }
+    ensures { shown result ≡ load_type true align bytes (value_type_of number) }
 {
     if is_aligned(align, bytes) {
         Some(converts(IntegerType::I32, number))
@@ -121,7 +121,7 @@ fn load(align: u32, bytes: u32, number: IntegerType) -> Option<Arrow<'static>>
 }
 
 fn store(align: u32, bytes: u32, number: IntegerType) -> Option<Arrow<'static>>
-    ensures { shown result ≡ store true align bytes (value_type number) }
+    ensures { shown result ≡ store_type true align bytes (value_type_of number) }
 {
     if is_aligned(align, bytes) {
         Some(stores(number))

@@ -1,21 +1,21 @@
-//! Turns of the pass that open, part and close lists.
+//! Steps of the pass that open a block, go on to its `else`, and close it.
 
 ghost use Rattle.std.specs.Prelude.{◌≡◌, IfOk, true};
-ghost use Rattle.wasm_valid.specs.OpenLists.{Becomes, bare, begun, chosen_on, closed_on, finishes, on_top, parted};
+ghost use Rattle.wasm_valid.specs.ControlStack.{Becomes, chosen_on, closed_on, else_begun, finishes, on_top, with_block_begun, without_operands};
 
 use crate::arrows::one;
-use crate::frames::Frames;
+use crate::control_stack::ControlStack;
 use w4_defs::{OutOfMemory, ValType};
 
-/// An answer says whether the lists allow the turn; where they don't, they are of no further use.
-impl<'a> Frames<'a> {
+/// The result says whether the control stack allows the step; where it doesn't, it is of no further use.
+impl<'a> ControlStack<'a> {
     /// A block or loop: its list is opened.
     pub fn begin(
         &mut self,
         label: &'a [ValType],
         results: &'a [ValType],
     ) -> Result<bool, OutOfMemory>
-        ensures { IfOk result (λ went. Becomes went self.new (begun label.now results.now self.old)) }
+        ensures { IfOk result (λ went. Becomes went self.new (with_block_begun label.now results.now self.old)) }
     {
         if !self.is_open() {
             return Ok(false);
@@ -35,25 +35,25 @@ impl<'a> Frames<'a> {
         Ok(true)
     }
 
-    /// Whether the innermost list has just what its results are; all its kinds are taken then.
+    /// Whether the innermost list has just what its results are; all its operands are taken then.
     fn finish(&mut self) -> bool
         ensures value { result ≡ finishes self.old }
-        ensures taken { result ≡ true → self.new ≡ on_top (λ s. bare s.marked s) self.old }
+        ensures taken { result ≡ true → self.new ≡ on_top (λ s. without_operands s.unreachable s) self.old }
     {
         match self.results() {
-            Some(results) => self.take_all(results) && self.is_bare(),
+            Some(results) => self.take_all(results) && self.has_no_operands(),
             None => false,
         }
     }
 
     /// An `else`: the first list of an `if` is closed, and the second is opened.
-    pub fn part(&mut self) -> bool
-        ensures { Becomes result self.new (parted self.old) }
+    pub fn begin_else(&mut self) -> bool
+        ensures { Becomes result self.new (else_begun self.old) }
     {
         if !self.finish() {
             return false;
         }
-        self.restart(false);
+        self.clear_operands(false);
         true
     }
 

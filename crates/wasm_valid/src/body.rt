@@ -5,11 +5,11 @@ ghost use Rattle.w4_defs.specs.Flattening.{IsProper};
 ghost use Rattle.w4_defs.specs.Lookup.{function_indices};
 ghost use Rattle.w4_defs.specs.Profile.{profile_refusal};
 ghost use Rattle.w4_defs.specs.Validity.{IsTypedAt};
+ghost use Rattle.wasm_valid.specs.AbstractStackLaw.{body_stands};
 ghost use Rattle.wasm_valid.specs.BodyEntries.{body_entries};
-ghost use Rattle.wasm_valid.specs.Pass.{run};
-ghost use Rattle.wasm_valid.specs.ShapeLaw.{body_stands};
+ghost use Rattle.wasm_valid.specs.Pass.{blocks_after};
 
-use crate::frames::Frames;
+use crate::control_stack::ControlStack;
 use crate::scope::{Scope, type_at};
 use std::alloc::Global;
 use w4_defs::{FuncType, OutOfMemory};
@@ -49,8 +49,8 @@ fn has_type(
         option_map (body_stands code.now signature.now) (slice_get code.now.bodies func) ≡ Some r) }
 {
     let scope = Scope::new(alloc, code, functions, signature, code.runs(func))?;
-    let lists = Frames::new(alloc, &signature.results);
-    goes_through(&scope, code, func, lists)
+    let control = ControlStack::new(alloc, &signature.results);
+    goes_through(&scope, code, func, control)
 }
 
 /// Whether the pass comes to the end of the body, and no list is open then.
@@ -58,19 +58,19 @@ fn goes_through<'a>(
     scope: &Scope<'a>,
     code: &Code,
     func: usize,
-    lists: Frames<'a>,
+    control: ControlStack<'a>,
 ) -> Result<bool, OutOfMemory>
     requires { func < length code.now.bodies }
     ensures value { IfOk result (λ r.
-        IsTrue r ↔ (run scope.now (body_entries code.now func) lists.entry ≡ Some [])) }
+        IsTrue r ↔ (blocks_after scope.now (body_entries code.now func) control.entry ≡ Some [])) }
     ensures proper { IfSome (slice_get code.now.bodies func) (λ f. IsProper f.list) }
 {
     let operations = code.body(func);
-    let mut lists = lists;
+    let mut control = control;
     for place in 0..operations.len() {
-        if !scope.turn(operations[place], code.labels(func, place), &mut lists)? {
+        if !scope.check_entry(operations[place], code.labels(func, place), &mut control)? {
             return Ok(false);
         }
     }
-    Ok(!lists.is_open())
+    Ok(!control.is_open())
 }

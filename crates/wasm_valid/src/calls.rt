@@ -71,7 +71,7 @@ fn import_call(code: &Code, import: &ImportEntry, index: u32) -> Call
         unreachable!();
     };
     Call::Import {
-        kind: number_of_type(code.types(), signature),
+        type_number: number_of_type(code.types(), signature),
         name,
         params: signature.params.len(),
         answers: !signature.results.is_empty(),
@@ -90,7 +90,7 @@ fn own_call(code: &Code, func: usize) -> Call
     let zeros = local_count(code.runs(func));
     let instructions = instruction_count(code.body(func));
     Call::Own {
-        kind: number_of_type(code.types(), signature),
+        type_number: number_of_type(code.types(), signature),
         start: code.body_start(func),
         params,
         zeros,

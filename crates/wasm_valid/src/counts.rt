@@ -51,7 +51,7 @@ fn with_globals(imports: &[ImportEntry], imported: usize, own: &[FlatGlobal]) ->
 
 /// How many imports of each kind there are.
 fn imported(imports: &[ImportEntry]) -> Counts
-    ensures kinds { CountKinds result imports.now }
+    ensures operands { CountKinds result imports.now }
     ensures fit { FitKinds result (length imports.now) }
 {
     let mut counts = Counts {

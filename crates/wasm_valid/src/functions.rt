@@ -3,8 +3,8 @@
 ghost use Rattle.std.specs.Bool.{Decides};
 ghost use Rattle.std.specs.Prelude.{◌<◌, ◌≡◌, All, Some, length, option_map};
 ghost use Rattle.w4_defs.specs.Lookup.{function_indices};
+ghost use Rattle.w4_defs.specs.Module.{nothing_to_nothing};
 ghost use Rattle.w4_defs.specs.Validity.{IsConstant, IsStart};
-ghost use Rattle.wasm_valid.specs.Carts.{nothing};
 
 use crate::constant::is_constant;
 use crate::rule::{Rule, all};
@@ -29,7 +29,7 @@ pub fn have_first_values(code: &Code) -> bool
     all(&HasFirstValue, code.globals())
 }
 
-/// Whether the start function, where there is one, takes and answers nothing.
+/// Whether the start function, where there is one, takes and returns nothing.
 pub fn has_right_start(code: &Code) -> bool
     ensures { Decides result (IsStart code.now code.now.start) }
 {
@@ -40,7 +40,7 @@ pub fn has_right_start(code: &Code) -> bool
 }
 
 fn is_nothing(signature: Option<&FuncType>) -> bool
-    ensures { Decides result (option_map (λ s. s.now) signature.entry ≡ Some nothing) }
+    ensures { Decides result (option_map (λ s. s.now) signature.entry ≡ Some nothing_to_nothing) }
 {
     match signature {
         Some(signature) => signature.params.is_empty() && signature.results.is_empty(),

@@ -1,9 +1,9 @@
 //! The first values of the globals.
 
 ghost use Rattle.std.specs.Prelude.{◌≡◌, All, IfOk};
-ghost use Rattle.w4_defs.specs.Entries.{first_globals};
+ghost use Rattle.w4_defs.specs.EntryPoints.{first_globals};
 ghost use Rattle.w4_defs.specs.Validity.{IsConstant};
-ghost use Rattle.wasm_valid.specs.Constants.{constant_value, first_value};
+ghost use Rattle.wasm_valid.specs.Constants.{constant_value, first_constant};
 
 use std::alloc::Global;
 use w4_defs::{Op, OutOfMemory, Val};
@@ -23,7 +23,7 @@ pub fn first_globals(alloc: Global, code: &Code) -> Result<Vec<Val>, OutOfMemory
 
 /// The value of a first operation that is a constant.
 fn first_value(ops: &[Op]) -> Val
-    ensures { result ≡ first_value ops.now }
+    ensures { result ≡ first_constant ops.now }
 {
     match ops.get(0) {
         Some(op) => constant_value(*op),

@@ -3,7 +3,7 @@
 
 ghost use Rattle.std.specs.Prelude.{◌≡◌};
 ghost use Rattle.w4_defs.specs.InstructionTable.{row};
-ghost use Rattle.w4_defs.specs.declared.instruction_table.Row.TheVariants as shape;
+ghost use Rattle.w4_defs.specs.declared.instruction_table.Row.TheVariants as stack;
 
 use w4_defs::IntegerType::{self, I32, I64};
 use w4_defs::Signedness::{self, Signed, Unsigned};
@@ -135,7 +135,7 @@ pub fn row(op: Op) -> Row
 }
 
 fn load(number: IntegerType, bytes: u32, sign: Signedness, align: u32, offset: u32) -> Row
-    ensures { result ≡ shape.Load number bytes sign align offset }
+    ensures { result ≡ stack.Load number bytes sign align offset }
 {
     Row::Load {
         number,
@@ -147,7 +147,7 @@ fn load(number: IntegerType, bytes: u32, sign: Signedness, align: u32, offset: u
 }
 
 fn store(number: IntegerType, bytes: u32, align: u32, offset: u32) -> Row
-    ensures { result ≡ shape.Store number bytes align offset }
+    ensures { result ≡ stack.Store number bytes align offset }
 {
     Row::Store {
         number,

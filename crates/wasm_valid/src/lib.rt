@@ -10,10 +10,10 @@ mod call;
 mod calls;
 mod cart;
 mod constant;
+mod control_stack;
 mod counts;
-mod entry;
+mod entry_point;
 mod exports;
-mod frames;
 mod functions;
 mod globals;
 mod instruction_table;
@@ -28,15 +28,15 @@ mod scope;
 mod segments;
 mod signature;
 mod soundness;
+mod steps;
 mod table;
-mod turns;
 mod validation;
 
 pub use call::Call;
 pub use cart::Cart;
-pub use entry::Entry;
+pub use entry_point::Entry;
 pub use laws::{
-    instructions_are_counted, pass_decides_bodies, shape_decides, shape_decides_bodies,
+    instructions_are_counted, pass_decides_bodies, stack_decides, stack_decides_bodies,
 };
 pub use refusal::ValidRefusal;
 pub use soundness::{hosted_runs_are_sound, runs_are_sound};

@@ -1,30 +1,31 @@
-//! What instructions do to the kinds of the innermost list: types are taken from the top and given.
+//! What instructions do to the operands of the innermost block: types are taken from the top and given.
 
 ghost use Rattle.std.specs.Prelude.{◌≡◌, ◌∷◌, IfOk, Some, []};
-ghost use Rattle.w4_defs.specs.Kinds.{same_type};
-ghost use Rattle.w4_defs.specs.Shape.{agrees, common_kind, dropped, ends, given, passed, selected, taken};
-ghost use Rattle.wasm_valid.specs.OpenLists.{Becomes, at_top, on_top};
+ghost use Rattle.w4_defs.specs.AbstractStack.{after_branch, agrees, common_type, dropped, given, passed, selected, taken};
+ghost use Rattle.w4_defs.specs.ValueTypes.{same_type};
+ghost use Rattle.wasm_valid.specs.ControlStack.{Becomes, at_top, on_top};
 
-use crate::frames::Frames;
+use crate::control_stack::ControlStack;
 use w4_defs::{OutOfMemory, ValType};
 
-/// An answer says whether the kinds were there; where they weren't, the lists are of no further use.
-impl<'a> Frames<'a> {
-    fn take(&mut self, kind: ValType) -> bool
-        ensures { Becomes result self.new (at_top (taken (kind ∷ [])) self.old) }
+/// The result says whether the operands were there; where they weren't, the control stack is of no further
+/// use.
+impl<'a> ControlStack<'a> {
+    fn take(&mut self, operand: ValType) -> bool
+        ensures { Becomes result self.new (at_top (taken (operand ∷ [])) self.old) }
     {
         match self.pop() {
-            Some(found) => agrees(found, kind),
+            Some(found) => agrees(found, operand),
             None => false,
         }
     }
 
     /// Takes these types, the last of which is topmost.
-    pub fn take_all(&mut self, kinds: &[ValType]) -> bool
-        ensures { Becomes result self.new (at_top (taken kinds.now) self.old) }
+    pub fn take_all(&mut self, operands: &[ValType]) -> bool
+        ensures { Becomes result self.new (at_top (taken operands.now) self.old) }
     {
-        for i in 0..kinds.len() {
-            if !self.take(kinds[kinds.len() - 1 - i]) {
+        for i in 0..operands.len() {
+            if !self.take(operands[operands.len() - 1 - i]) {
                 return false;
             }
         }
@@ -32,11 +33,11 @@ impl<'a> Frames<'a> {
     }
 
     /// Gives these types, the last of which comes topmost.
-    pub fn give_all(&mut self, kinds: &[ValType]) -> Result<(), OutOfMemory>
-        ensures { IfOk result (λ _. self.new ≡ on_top (given kinds.now) self.old) }
+    pub fn give_all(&mut self, operands: &[ValType]) -> Result<(), OutOfMemory>
+        ensures { IfOk result (λ _. self.new ≡ on_top (given operands.now) self.old) }
     {
-        for i in 0..kinds.len() {
-            self.push(Some(kinds[i]))?;
+        for i in 0..operands.len() {
+            self.push(Some(operands[i]))?;
         }
         Ok(())
     }
@@ -55,23 +56,23 @@ impl<'a> Frames<'a> {
 
     /// Takes the types of a label; what follows is never reached.
     pub fn branch(&mut self, label: &[ValType]) -> bool
-        ensures { Becomes result self.new (at_top (λ s. ends s (Some label.now)) self.old) }
+        ensures { Becomes result self.new (at_top (λ s. after_branch s (Some label.now)) self.old) }
     {
         if !self.take_all(label) {
             return false;
         }
-        self.restart(true);
+        self.clear_operands(true);
         true
     }
 
-    /// Takes one kind, whichever it is.
+    /// Takes one operand, whichever it is.
     pub fn drop_top(&mut self) -> bool
         ensures { Becomes result self.new (at_top dropped self.old) }
     {
         self.pop().is_some()
     }
 
-    /// Takes two kinds that one type agrees with, and gives what they have in common.
+    /// Takes two operands that one type agrees with, and gives what they have in common.
     pub fn select(&mut self) -> Result<bool, OutOfMemory>
         ensures { IfOk result (λ went. Becomes went self.new (at_top selected self.old)) }
     {
@@ -81,9 +82,9 @@ impl<'a> Frames<'a> {
         let Some(lower) = self.pop() else {
             return Ok(false);
         };
-        match common_kind(upper, lower) {
-            Some(kind) => {
-                self.push(kind)?;
+        match common_operand(upper, lower) {
+            Some(operand) => {
+                self.push(operand)?;
                 Ok(true)
             }
             None => Ok(false),
@@ -91,17 +92,17 @@ impl<'a> Frames<'a> {
     }
 }
 
-fn agrees(found: Option<ValType>, kind: ValType) -> bool
-    ensures { result ≡ agrees found kind }
+fn agrees(found: Option<ValType>, operand: ValType) -> bool
+    ensures { result ≡ agrees found operand }
 {
     match found {
-        Some(found) => same_type(found, kind),
+        Some(found) => same_type(found, operand),
         None => true,
     }
 }
 
-fn common_kind(upper: Option<ValType>, lower: Option<ValType>) -> Option<Option<ValType>>
-    ensures { result ≡ common_kind upper lower }
+fn common_operand(upper: Option<ValType>, lower: Option<ValType>) -> Option<Option<ValType>>
+    ensures { result ≡ common_type upper lower }
 {
     match (upper, lower) {
         (None, _) => Some(lower),

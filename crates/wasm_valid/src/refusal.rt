@@ -12,7 +12,7 @@ pub enum ValidRefusal {
     /// A module rule fails (None), or this own function, counted from 0, is the first without a typing.
     #[error("invalid {}", Part(*.0))]
     Invalid(Option<usize>),
-    /// Memory was refused. So answers code too that no reader makes: with 2^32 operations or types.
+    /// Memory was refused. So is refused code that no reader makes: with 2^32 operations or types.
     #[error("out of memory")]
     OutOfMemory,
 }

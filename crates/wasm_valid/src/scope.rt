@@ -142,20 +142,20 @@ impl<'a> Scope<'a> {
 
 /// The types of the locals that the runs name, one by one; at most 1,024 within the profile.
 fn local_types(alloc: Global, runs: &[Locals]) -> Result<Vec<ValType>, OutOfMemory>
-    ensures { IfOk result (λ kinds. kinds.items ≡ local_types runs.now) }
+    ensures { IfOk result (λ operands. operands.items ≡ local_types runs.now) }
 {
-    let mut kinds = Vec::new(alloc);
+    let mut operands = Vec::new(alloc);
     for i in 0..runs.len() {
-        append(&mut kinds, runs[i])?;
+        append(&mut operands, runs[i])?;
     }
-    Ok(kinds)
+    Ok(operands)
 }
 
-fn append(kinds: &mut Vec<ValType>, run: Locals) -> Result<(), OutOfMemory>
-    ensures { IfOk result (λ _. kinds.new.items ≡ kinds.old.items ++ replicate run.count run.kind) }
+fn append(operands: &mut Vec<ValType>, run: Locals) -> Result<(), OutOfMemory>
+    ensures { IfOk result (λ _. operands.new.items ≡ operands.old.items ++ replicate run.count run.kind) }
 {
     for _ in 0..run.count {
-        kinds.push(run.kind)?;
+        operands.push(run.kind)?;
     }
     Ok(())
 }

@@ -1,7 +1,7 @@
 //! Function types: whether two are equal, and their numbers.
 
 ghost use Rattle.std.specs.Prelude.{◌<◌, ◌≡◌, ◌≤◌, ◌^◌, IfOk, length, map};
-ghost use Rattle.w4_defs.specs.Kinds.{same_signature, same_types};
+ghost use Rattle.w4_defs.specs.ValueTypes.{same_signature, same_types};
 ghost use Rattle.wasm_valid.specs.Calls.{number_of_type};
 
 use crate::operands::same_type;

@@ -17,8 +17,8 @@ use wasm_tree::Code;
 
 /// The cart of a module that the profile lets through.
 ///
-/// There is a cart only where the module is valid. The refusal is Invalid(None) exactly where a module rule
-/// fails, and Invalid(Some(f)) exactly where all hold and f is the first own function, counted from 0, whose
+/// There is a cart only where the module is valid. The refusal is Invalid(None) if and only if a module rule
+/// fails, and Invalid(Some(f)) if and only if all hold and f is the first own function, counted from 0, whose
 /// body has no typing. The code is dropped on a refusal.
 pub fn validate(alloc: Global, code: Code) -> Result<Cart, ValidRefusal>
     requires { profile_refusal code ≡ None }

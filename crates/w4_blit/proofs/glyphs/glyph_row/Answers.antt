@@ -1,7 +1,7 @@
 use Rattle.std.proofs.Common.{◌+◌, arith}
 use Rattle.w4_defs.proofs.PaintLaws.{paint_off, paint_step}
-use Rattle.w4_pixels.proofs.BoxLaws.{boxed_none, cell_more}
-use Rattle.w4_blit.specs.Unboxed.{bits_painter}
+use Rattle.w4_pixels.proofs.ClippingLaws.{boxed_none, cell_more}
+use Rattle.w4_blit.specs.Unclipped.{bits_painter}
 use Rattle.w4_blit.proofs.glyphs.glyph_row.Goals as goal
 
 pub loop-u-init : goal.loop-u-init
@@ -14,7 +14,7 @@ pub loop-u-preserved : goal.loop-u-preserved
 loop-u-preserved c =
     let g = c.args.glyph in
     let f = bits_painter c.args.font.now g.colors g.code g.x g.y in (
-      rw (c.cell.ensures, c.bit_entry-entry.ensures.value, c.loop-u.invariant.0)
+      rw (c.cell.ensures, c.bit_index-index.ensures.value, c.loop-u.invariant.0)
           (paint_step c.args.page.now _ _ _ c.told-page (λ a b ha hb. cell_more f c.args.left c.loop-u.u c.args.v a b c.loop-u.auto.u)),
       omega arith,
     )

@@ -2,8 +2,8 @@ use Rattle.std.proofs.Common.{◌∙◌, ◌≡◌, ap, w64, to_z, of_z, pos, ar
 use Rattle.std.proofs.lemmas.Int.{ints}
 use Rattle.std.specs.Prelude.{◌+ℤ◌, int_le}
 use Rattle.w4_defs.proofs.PaintLaws.{paint_off, paint_step, paint_ext}
-use Rattle.w4_pixels.proofs.BoxLaws.{boxed_no_row, row_more, boxed_down, boxed_all}
-use Rattle.w4_blit.specs.Unboxed.{bits_painter}
+use Rattle.w4_pixels.proofs.ClippingLaws.{boxed_no_row, row_more, boxed_down, boxed_all}
+use Rattle.w4_blit.specs.Unclipped.{bits_painter}
 use Rattle.w4_blit.proofs.glyphs.glyph_rows.Goals as goal
 
 pub loop-v-init : goal.loop-v-init

@@ -4,8 +4,8 @@ use Rattle.std.proofs.lemmas.List.{drop_more, drop_all}
 use Rattle.w4_defs.specs.Framebuffer.{Painter, over, paint}
 use Rattle.w4_defs.specs.Text.{codes_painter, glyph_painter, text_codes}
 use Rattle.w4_defs.proofs.PaintLaws.{paint_off, paint-paint, paint_step, length-paint}
-use Rattle.w4_blit.specs.Seen.{with_seen}
-use Rattle.w4_blit.proofs.SeenLaws.{with_seen-paint}
+use Rattle.w4_blit.specs.Snapshot.{with_snapshot}
+use Rattle.w4_blit.proofs.SnapshotLaws.{with_snapshot-paint}
 use Rattle.w4_blit.proofs.TextLaws.{code_first, either_below}
 use Rattle.w4_blit.proofs.texts.put_codes.Goals as goal
 
@@ -21,16 +21,16 @@ loop-k-init c =
 
 pub code_at-code-requires : goal.code_at-code-requires
 code_at-code-requires c =
-    let seen = c.args.seen.now in
+    let snapshot = c.args.snapshot.now in
     let f : Painter = c.loop-k.invariant.painted.0 in
     let painted : c.loop-k.page ≡ paint c.args.page.now f = c.loop-k.invariant.painted.1 in
-    let same : with_seen c.loop-k.page seen ≡ with_seen c.args.page.now seen = ap (λ (p : List ℕ). with_seen p seen) painted ∙ with_seen-paint c.args.page.now seen f in
+    let same : with_snapshot c.loop-k.page snapshot ≡ with_snapshot c.args.page.now snapshot = ap (λ (p : List ℕ). with_snapshot p snapshot) painted ∙ with_snapshot-paint c.args.page.now snapshot f in
     rw same (omega (arith, c.code_count-count.ensures.value))
 
 pub loop-k-preserved : goal.loop-k-preserved
 loop-k-preserved c =
-    let seen = c.args.seen.now in
-    let page = with_seen c.args.page.now seen in
+    let snapshot = c.args.snapshot.now in
+    let page = with_snapshot c.args.page.now snapshot in
     let codes = text_codes page c.args.source in
     let font = c.args.font.now in
     let k = c.loop-k.k in
@@ -38,7 +38,7 @@ loop-k-preserved c =
     let left = to_z w64 (of_z w64 c.args.x) in
     let f : Painter = c.loop-k.invariant.painted.0 in
     let painted : c.loop-k.page ≡ paint c.args.page.now f = c.loop-k.invariant.painted.1 in
-    let same : with_seen c.loop-k.page seen ≡ page = ap (λ (p : List ℕ). with_seen p seen) painted ∙ with_seen-paint c.args.page.now seen f in
+    let same : with_snapshot c.loop-k.page snapshot ≡ page = ap (λ (p : List ℕ). with_snapshot p snapshot) painted ∙ with_snapshot-paint c.args.page.now snapshot f in
     let count : c.code_count-count.result ≡ length codes = c.code_count-count.ensures.value in
     let code : c.code_at-code.result ≡ get_or codes k 0 = c.code_at-code.ensures ∙ ap (λ (p : List ℕ). get_or (text_codes p c.args.source) k 0) same in
     let below : k < length codes = omega arith in
@@ -60,7 +60,7 @@ loop-k-preserved c =
 
 pub returns : goal.returns
 returns c =
-    let page = with_seen c.args.page.now c.args.seen.now in
+    let page = with_snapshot c.args.page.now c.args.snapshot.now in
     let codes = text_codes page c.args.source in
     let none : drop c.loop-k.k codes ≡ [] = drop_all c.loop-k.k codes (omega (arith, c.code_count-count.ensures.value)) in
     let pen = c.loop-k.pen in

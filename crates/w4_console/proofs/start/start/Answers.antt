@@ -1,6 +1,6 @@
 use Rattle.std.proofs.Common.{◌≡◌, Some, subst}
 use Rattle.w4_defs.specs.Board.{console_setup}
-use Rattle.w4_defs.specs.Entries.{entries}
+use Rattle.w4_defs.specs.EntryPoints.{start_functions}
 use Rattle.w4_defs.specs.Reset.{call_all, fresh, start}
 use Rattle.w4_defs.specs.State.{Underway}
 use Rattle.w4_console.specs.UnderWay.{so_far}
@@ -12,7 +12,7 @@ unfolding start
 returns-clause-start c =
     subst
     (λ (now : Underway).
-    call_all (console_setup c.args.cart.now c.args.font.now c.args.budget) (entries c.args.cart.now)
+    call_all (console_setup c.args.cart.now c.args.font.now c.args.budget) (start_functions c.args.cart.now)
     now c.args.budget
     ≡ Some (so_far c.call_all.new.state c.call_all.new.made))
     (begins c.put_fresh.new.state (fresh c.args.cart.now c.args.state.now.disk) c.new.result

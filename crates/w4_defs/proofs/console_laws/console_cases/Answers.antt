@@ -6,7 +6,7 @@ use Rattle.w4_defs.specs.Traces.{trace-case, tracef-case, place-cases}
 use Rattle.w4_defs.specs.FrameTexts.{text-cases}
 use Rattle.w4_defs.specs.Reset.{first-registers}
 use Rattle.w4_defs.specs.Board.{board-cases}
-use Rattle.w4_defs.specs.FrameCases.{budget-cases, entry-cases, page-cases, line-cases, mouse-case, start-case}
+use Rattle.w4_defs.specs.FrameCases.{budget-cases, start-cases, page-cases, trace-line-cases, mouse-case, start-case}
 use Rattle.w4_defs.proofs.console_laws.console_cases.Goals as goal
 
 pub returns-clause-words : goal.returns-clause-words
@@ -46,13 +46,13 @@ pub returns-clause-budgets : goal.returns-clause-budgets
 returns-clause-budgets c = budget-cases
 
 pub returns-clause-entries : goal.returns-clause-entries
-returns-clause-entries c = entry-cases
+returns-clause-entries c = start-cases
 
 pub returns-clause-pages : goal.returns-clause-pages
 returns-clause-pages c = page-cases
 
 pub returns-clause-lines : goal.returns-clause-lines
-returns-clause-lines c = line-cases
+returns-clause-lines c = trace-line-cases
 
 pub returns-clause-decay : goal.returns-clause-decay
 returns-clause-decay c = decay-case

@@ -3,8 +3,8 @@ use Rattle.w4_defs.proofs.Faults.{faults_change_nothing, spent_imports_change_no
 use Rattle.w4_defs.proofs.RefusedCalls.{forbidden_call_leaves_store, refused_calls_leave_store}
 use Rattle.w4_defs.proofs.Budgets.{eval_keeps}
 use Rattle.w4_defs.proofs.Unfolding.{eval_unfolds}
-use Rattle.w4_defs.proofs.Entries.{run_is_resumed, large_entry_traps}
-use Rattle.w4_defs.proofs.Turns.{unfolds}
+use Rattle.w4_defs.proofs.EntryPoints.{run_is_resumed, large_entry_traps}
+use Rattle.w4_defs.proofs.ResumedSteps.{unfolds}
 use Rattle.w4_defs.proofs.evaluation_laws.run_laws.Goals as goal
 
 pub returns-clause-budget : goal.returns-clause-budget

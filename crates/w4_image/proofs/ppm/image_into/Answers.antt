@@ -1,12 +1,12 @@
 use Rattle.std.proofs.Common.{◌++◌, take, ap, arith, ◌∙◌}
-use Rattle.w4_defs.specs.Image.{shown_from}
+use Rattle.w4_defs.specs.Image.{pixel_colours}
 use Rattle.w4_image.proofs.PpmLaws.{starts, more, done}
 use Rattle.w4_image.proofs.ppm.image_into.Goals as goal
 
 pub loop-n-init : goal.loop-n-init
 loop-n-init c = record {
   whole = c.put_header.array_long;
-  so_far = ap (λ o. take 15 o ++ shown_from c.args.page.now 0 25600) c.put_header.ensures ∙ starts c.args.page.now c.args.out.now;
+  so_far = ap (λ o. take 15 o ++ pixel_colours c.args.page.now 0 25600) c.put_header.ensures ∙ starts c.args.page.now c.args.out.now;
 }
 
 pub loop-n-preserved : goal.loop-n-preserved

@@ -16,4 +16,4 @@ returns-clause-out g c =
           c.args.p c.if-inputs-place.false,
       c.run_to.ensures.0,
     )
-    c.tell_place.ensures.out
+    c.write_place.ensures.out

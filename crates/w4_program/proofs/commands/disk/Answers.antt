@@ -1,33 +1,33 @@
 use Rattle.std.proofs.Common.{◌≡◌, ◌+◌, ◌-◌, subst, arith}
 use Rattle.w4_program.specs.Refusals.{manner_of}
-use Rattle.w4_program.specs.Output.{played_to, printed, told_from, disk_of}
-use Rattle.w4_program.specs.declared.telling.Telling.TheVariants as telling
+use Rattle.w4_program.specs.Output.{run_files_to, only_printed, place_texts_from, disk_output}
+use Rattle.w4_program.specs.declared.place_text.PlaceText.TheVariants as wanted
 use Rattle.w4_program.specs.Causes.{Prints}
 use Rattle.w4_program.specs.Views.{run_view, played_view}
-use Rattle.w4_program.proofs.EndLaws.{ends_untold, ends_told}
+use Rattle.w4_program.proofs.EndLaws.{ends_untold, ends_texts}
 use Rattle.w4_program.proofs.commands.disk.Goals as goal
 
 pub returns-in-Err-clause-ends : goal.returns-in-Err-clause-ends
-unfolding disk_of
+unfolding disk_output
 returns-in-Err-clause-ends g c =
     ends_untold (g.H.House.world c.args.house.now) (g.H.House.world c.load_run_to.new.house)
-    (manner_of c.in-Err.status) (λ files. played_to (run_view c.args.names) c.args.place files)
-    (λ files p. printed (told_from telling.DiskBytes c.args.cart.now p c.args.place 1) files)
+    (manner_of c.in-Err.status) (λ files. run_files_to (run_view c.args.names) c.args.place files)
+    (λ files p. only_printed (place_texts_from wanted.DiskBytes c.args.cart.now p c.args.place 1) files)
     c.in-Err.ensures.rest c.in-Err.ensures.gives
 
 pub returns-in-Ok-clause-ends : goal.returns-in-Ok-clause-ends
-unfolding disk_of
+unfolding disk_output
 returns-in-Ok-clause-ends g c =
     let one : c.args.place + 1 - c.args.place ≡ 1 = omega arith in
-    ends_told (g.H.House.world c.args.house.now) (g.H.House.world c.load_run_to.new.house)
-    (g.H.House.world c.tell_run.new.house) (manner_of c.tell_run.result)
-    (λ files. played_to (run_view c.args.names) c.args.place files) (played_view c.in-Ok.run')
-    (λ p. told_from telling.DiskBytes c.args.cart.now p c.args.place 1) c.in-Ok.ensures.rest
-    c.tell_run.ensures.rest c.in-Ok.ensures.gives
+    ends_texts (g.H.House.world c.args.house.now) (g.H.House.world c.load_run_to.new.house)
+    (g.H.House.world c.write_run.new.house) (manner_of c.write_run.result)
+    (λ files. run_files_to (run_view c.args.names) c.args.place files) (played_view c.in-Ok.run')
+    (λ p. place_texts_from wanted.DiskBytes c.args.cart.now p c.args.place 1) c.in-Ok.ensures.rest
+    c.write_run.ensures.rest c.in-Ok.ensures.gives
     (subst
     (λ count.
-    Prints (g.H.House.world c.load_run_to.new.house) (g.H.House.world c.tell_run.new.house)
-    (manner_of c.tell_run.result)
-    (told_from telling.DiskBytes c.args.cart.now (played_view c.in-Ok.run') c.args.place
+    Prints (g.H.House.world c.load_run_to.new.house) (g.H.House.world c.write_run.new.house)
+    (manner_of c.write_run.result)
+    (place_texts_from wanted.DiskBytes c.args.cart.now (played_view c.in-Ok.run') c.args.place
     count))
-    one c.tell_run.ensures.prints)
+    one c.write_run.ensures.prints)

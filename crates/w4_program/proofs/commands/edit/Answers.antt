@@ -1,15 +1,15 @@
 use Rattle.w4_program.specs.Refusals.{manner_of}
-use Rattle.w4_program.specs.Output.{loaded, saved, edited}
+use Rattle.w4_program.specs.Output.{edit_files, edit_result, edit_output}
 use Rattle.w4_program.specs.Views.{edit_view, loaded_view}
 use Rattle.w4_program.proofs.EndLaws.{ends_untold, ends_carried}
 use Rattle.w4_program.proofs.commands.edit.Goals as goal
 
 pub returns-in-Err-clause-ends : goal.returns-in-Err-clause-ends
-unfolding edited
+unfolding edit_output
 returns-in-Err-clause-ends g c =
     ends_untold (g.H.House.world c.args.house.now) (g.H.House.world c.load_edit.new.house)
-    (manner_of c.in-Err.status) (λ files. loaded (edit_view c.args.names) files)
-    (λ files l. saved c.args.cart.now l c.args.names.out.now files) c.in-Err.ensures.rest
+    (manner_of c.in-Err.status) (λ files. edit_files (edit_view c.args.names) files)
+    (λ files l. edit_result c.args.cart.now l c.args.names.out.now files) c.in-Err.ensures.rest
     c.in-Err.ensures.gives
 
 pub returns-in-Ok-clause-ends : goal.returns-in-Ok-clause-ends

@@ -1,33 +1,33 @@
 use Rattle.std.proofs.Common.{◌≡◌, ◌+◌, ◌-◌, length, subst, arith}
 use Rattle.w4_program.specs.Refusals.{manner_of}
-use Rattle.w4_program.specs.Output.{played, printed, told_from, texts_of}
+use Rattle.w4_program.specs.Output.{run_files, only_printed, place_texts_from, texts_output}
 use Rattle.w4_program.specs.Causes.{Prints}
 use Rattle.w4_program.specs.Views.{run_view, played_view}
-use Rattle.w4_program.proofs.EndLaws.{ends_untold, ends_told}
+use Rattle.w4_program.proofs.EndLaws.{ends_untold, ends_texts}
 use Rattle.w4_program.proofs.commands.texts.Goals as goal
 
 pub returns-in-Err-clause-ends : goal.returns-in-Err-clause-ends
-unfolding texts_of
+unfolding texts_output
 returns-in-Err-clause-ends g c =
     ends_untold (g.H.House.world c.args.house.now) (g.H.House.world c.load_run.new.house)
-    (manner_of c.in-Err.status) (λ files. played (run_view c.args.names) files)
+    (manner_of c.in-Err.status) (λ files. run_files (run_view c.args.names) files)
     (λ files p.
-    printed (told_from c.args.telling c.args.cart.now p 0 (length p.recording.inputs + 1)) files)
+    only_printed (place_texts_from c.args.wanted c.args.cart.now p 0 (length p.recording.inputs + 1)) files)
     c.in-Err.ensures.rest c.in-Err.ensures.gives
 
 pub returns-in-Ok-clause-ends : goal.returns-in-Ok-clause-ends
-unfolding texts_of
+unfolding texts_output
 returns-in-Ok-clause-ends g c =
     let all : c.len-n.result + 1 - 0 ≡ length c.in-Ok.run'.recording.inputs.items + 1 =
     omega (arith, c.len-n.ensures) in
-    ends_told (g.H.House.world c.args.house.now) (g.H.House.world c.load_run.new.house)
-    (g.H.House.world c.tell_run.new.house) (manner_of c.tell_run.result)
-    (λ files. played (run_view c.args.names) files) (played_view c.in-Ok.run')
-    (λ p. told_from c.args.telling c.args.cart.now p 0 (length p.recording.inputs + 1))
-    c.in-Ok.ensures.rest c.tell_run.ensures.rest c.in-Ok.ensures.gives
+    ends_texts (g.H.House.world c.args.house.now) (g.H.House.world c.load_run.new.house)
+    (g.H.House.world c.write_run.new.house) (manner_of c.write_run.result)
+    (λ files. run_files (run_view c.args.names) files) (played_view c.in-Ok.run')
+    (λ p. place_texts_from c.args.wanted c.args.cart.now p 0 (length p.recording.inputs + 1))
+    c.in-Ok.ensures.rest c.write_run.ensures.rest c.in-Ok.ensures.gives
     (subst
     (λ count.
-    Prints (g.H.House.world c.load_run.new.house) (g.H.House.world c.tell_run.new.house)
-    (manner_of c.tell_run.result)
-    (told_from c.args.telling c.args.cart.now (played_view c.in-Ok.run') 0 count))
-    all c.tell_run.ensures.prints)
+    Prints (g.H.House.world c.load_run.new.house) (g.H.House.world c.write_run.new.house)
+    (manner_of c.write_run.result)
+    (place_texts_from c.args.wanted c.args.cart.now (played_view c.in-Ok.run') 0 count))
+    all c.write_run.ensures.prints)

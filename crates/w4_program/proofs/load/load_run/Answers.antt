@@ -3,12 +3,12 @@ use Rattle.std.proofs.Common.{Ok}
 use Rattle.std.proofs.lemmas.Result.{err_from_is_err_and}
 use Rattle.w4_program.specs.Recorded.{recording_view}
 use Rattle.w4_program.specs.Refusals.{manner_of}
-use Rattle.w4_program.specs.Output.{◌>>=◌, recording_in, font_in, played}
+use Rattle.w4_program.specs.Output.{◌>>=◌, recording_in, font_in, run_files}
 use Rattle.w4_program.proofs.StepLaws.{stops_first, stops_later}
 use Rattle.w4_program.proofs.load.load_run.Goals as goal
 
 pub returns-in_err-recording-clause-gives : goal.returns-in_err-recording-clause-gives
-unfolding played
+unfolding run_files
 returns-in_err-recording-clause-gives g c =
     let p = err_from_is_err_and c.from_residual.result c.from_residual.ensures.1 in
     rw (p.1, p.2)
@@ -19,7 +19,7 @@ returns-in_err-recording-clause-gives g c =
     c.in_err-recording.ensures.gives)
 
 pub returns-in_err-font-clause-gives : goal.returns-in_err-font-clause-gives
-unfolding played
+unfolding run_files
 returns-in_err-font-clause-gives g c =
     let p = err_from_is_err_and c.from_residual-in_err-font.result c.from_residual-in_err-font.ensures.1 in
     let recording = recording_view c.in_ok-recording.recording in

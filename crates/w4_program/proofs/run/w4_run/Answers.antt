@@ -2,9 +2,9 @@
 use Rattle.std.proofs.Common.{map, ◌∙◌, Result, string_bytes}
 use Rattle.w4_house.specs.World.{Files}
 use Rattle.w4_program.specs.declared.status.Status.TheVariants as status
-use Rattle.w4_program.specs.Lines.{line_of}
+use Rattle.w4_program.specs.Lines.{status_line}
 use Rattle.w4_program.specs.Refusals.{Refusal}
-use Rattle.w4_program.specs.Output.{Made, Outputs}
+use Rattle.w4_program.specs.Output.{Output, Outputs}
 use Rattle.w4_program.proofs.EndLaws.{ends_reported}
 use Rattle.w4_program.proofs.StatusLaws as laws
 use Rattle.w4_program.proofs.run.w4_run.Goals as goal
@@ -15,7 +15,7 @@ returns g c =
     let mid = g.H.House.world c.obey-status.new.house in
     let new = g.H.House.world c.report.new.house in
     let result = c.report.result in
-    let step : Files → Result Made Refusal → Type 0 =
+    let step : Files → Result Output Refusal → Type 0 =
     λ files made. Outputs (map string_bytes c.args.words.now) files made in
     let ends =
     ends_reported old mid new c.obey-status.result result step c.report.ensures.rest
@@ -27,10 +27,10 @@ returns g c =
       usage =
           λ e.
           c.obey-status.ensures.usage
-          (laws.usage_told c.obey-status.result result c.report.ensures.status e);
+          (laws.usage_texts c.obey-status.result result c.report.ensures.status e);
       no_form =
           λ none.
-          laws.told_or_memory c.obey-status.result status.Usage result
+          laws.texts_or_memory c.obey-status.result status.Usage result
           (c.obey-status.ensures.no_form none) c.report.ensures.status;
       cart_refused = laws.cart_refused old new result step ends;
       font_refused = laws.font_refused old new result step ends;
@@ -43,7 +43,7 @@ returns g c =
       refused_files = λ r. (laws.refused old new result step ends r).1;
       line =
           λ r.
-          laws.line_reported old mid new (line_of result) c.obey-status.ensures.err
+          laws.line_reported old mid new (status_line result) c.obey-status.ensures.err
           (c.report.ensures.line r);
       exact = laws.exact old new result step ends;
     }

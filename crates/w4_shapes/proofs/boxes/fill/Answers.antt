@@ -11,7 +11,7 @@ returns-in-Some c =
     let a = c.args in
     let painted = simp (to_z-of_z w64 a.left c.ranges.left, to_z-of_z w64 a.right c.ranges.right) at c.fill_rows.ensures in
     painted ∙ rw c.in-Some.is (paint_ext a.page.now _ _ c.told-page (λ u v hu hv.
-    rows_all a.left a.right a.top a.bottom c.on_screen.result c.on_screen-in-Some.result u v (Some c.in-Some.entry)
+    rows_all a.left a.right a.top a.bottom c.on_screen.result c.on_screen-in-Some.result u v (Some c.in-Some.index)
     (c.on_screen.ensures.same v hv ∙ ap (λ z. int_le z (pos v)) (to_z-of_z w64 a.top c.ranges.top))
     (c.on_screen-in-Some.ensures.same v hv ∙ ap (λ z. int_le z (pos v)) (to_z-of_z w64 a.bottom c.ranges.bottom))))
 

@@ -12,7 +12,7 @@ pub loop-row-preserved : goal.loop-row-preserved
 loop-row-preserved c =
     let row : to_z w64 c.loop-row.row ≡ pos c.loop-row.row = omega (arith, ints) in (
       rw (c.span.ensures, c.loop-row.invariant.0, row)
-          (paint_step c.args.page.now _ _ _ c.told-page (λ u v hu hv. rows_more _ _ c.args.top c.loop-row.row u v (Some c.args.entry) c.loop-row.auto.row)),
+          (paint_step c.args.page.now _ _ _ c.told-page (λ u v hu hv. rows_more _ _ c.args.top c.loop-row.row u v (Some c.args.index) c.loop-row.auto.row)),
       omega arith,
     )
 

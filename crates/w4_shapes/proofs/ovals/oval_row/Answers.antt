@@ -1,6 +1,6 @@
 use Rattle.std.proofs.Common.{◌+◌, ◌∙◌, arith}
 use Rattle.w4_defs.proofs.PaintLaws.{paint_off, paint_step, paint_ext}
-use Rattle.w4_pixels.proofs.BoxLaws.{boxed_none, cell_more, boxed_past}
+use Rattle.w4_pixels.proofs.ClippingLaws.{boxed_none, cell_more, boxed_past}
 use Rattle.w4_shapes.specs.OvalCells.{painter_of}
 use Rattle.w4_shapes.proofs.ovals.oval_row.Goals as goal
 
@@ -12,7 +12,7 @@ loop-u-init c =
 pub loop-u-preserved : goal.loop-u-preserved
 loop-u-preserved c =
     let a = c.args in (
-      rw (c.cell.ensures, c.entry_at.ensures.value, c.loop-u.invariant.0)
+      rw (c.cell.ensures, c.index_at.ensures.value, c.loop-u.invariant.0)
           (paint_step a.page.now _ _ _ c.told-page (λ u v hu hv. cell_more (painter_of a.cells) a.left c.loop-u.u a.v u v c.loop-u.auto.u)),
       omega arith,
     )

@@ -1,9 +1,9 @@
 use Rattle.std.proofs.Common.{◌≡◌, ◌∙◌, ap, w32, to_z, of_z, pos, arith}
 use Rattle.std.specs.Prelude.{◌+ℤ◌, ◌-ℤ◌, int_le}
 use Rattle.std.proofs.lemmas.Int.{ints}
-use Rattle.w4_defs.specs.Shapes.{is_inside, oval_entry}
+use Rattle.w4_defs.specs.Shapes.{is_inside, oval_index}
 use Rattle.w4_defs.proofs.PaintLaws.{paint_off, paint_step, paint_ext}
-use Rattle.w4_pixels.proofs.BoxLaws.{boxed_no_row, row_more, boxed_down, boxed_all}
+use Rattle.w4_pixels.proofs.ClippingLaws.{boxed_no_row, row_more, boxed_down, boxed_all}
 use Rattle.w4_shapes.specs.OvalCells.{painter_of}
 use Rattle.w4_shapes.proofs.CellTests.{kept_once}
 use Rattle.w4_shapes.proofs.ovals.oval_rows.Goals as goal
@@ -38,4 +38,4 @@ returns c =
     ∙ boxed_all (painter_of cells) cells.x (cells.x +ℤ pos cells.w) cells.y (cells.y +ℤ pos cells.h) columns.0 columns.1 rows.0 rows.1 u v
     (c.screen_part-left.ensures.first u hu ∙ ap (λ z. int_le z (pos u)) x) (c.screen_part-left.ensures.end u hu ∙ ap (λ z. int_le (z +ℤ pos cells.w) (pos u)) x)
     (c.screen_part-top.ensures.first v hv ∙ ap (λ z. int_le z (pos v)) y) (c.screen_part-top.ensures.end v hv ∙ ap (λ z. int_le (z +ℤ pos cells.h) (pos v)) y)
-    ∙ kept_once (is_inside cells.x (cells.x +ℤ pos cells.w) cells.y (cells.y +ℤ pos cells.h) u v) (oval_entry cells.colors cells.w cells.h (pos u -ℤ cells.x) (pos v -ℤ cells.y)))
+    ∙ kept_once (is_inside cells.x (cells.x +ℤ pos cells.w) cells.y (cells.y +ℤ pos cells.h) u v) (oval_index cells.colors cells.w cells.h (pos u -ℤ cells.x) (pos v -ℤ cells.y)))

@@ -1,5 +1,5 @@
 use Rattle.std.proofs.Common.{arith, ◌∙◌, sym, length-drop}
-use Rattle.wasm_machine.proofs.LabelLaws.{one_list_left, lists_left, found_list}
+use Rattle.wasm_machine.proofs.LabelStackLaws.{one_list_left, lists_left, found_list}
 use Rattle.wasm_machine.proofs.branch.leave_lists.Goals as goal
 
 pub leave-requires : goal.leave-requires

@@ -44,7 +44,7 @@ returns-else-not-is_allowed-clause-calls g c = record {
     by = λ whole meant reach.
         own_enters whole _ _ _ _ _ _ _ _ meant cart refl callee _ _ _ _ _ _
         (subst (λ (x : Call). IsCall cart callee x) c.in-Own.is named)
-        (sym c.if-not-is_allowed.ensures) reach _ _ _ c.enter.ensures.frame c.enter.ensures.labels
+        (sym c.if-not-is_allowed.ensures) reach _ _ _ c.enter.ensures.activation c.enter.ensures.labels
         c.enter.ensures.slots;
   };
 }

@@ -4,47 +4,47 @@ use Rattle.wasm_tree.specs.Layout.{entries}
 use Rattle.wasm_machine.proofs.RunLaws.{starts, place_found, read_at, as_long, operations_are, goes_on, ends}
 use Rattle.wasm_machine.proofs.run.run.Goals as goal
 
-pub turns-init : goal.turns-init
-turns-init g c = starts _ _ _ _ _ _ _ _ c.requires.going
+pub steps-init : goal.steps-init
+steps-init g c = starts _ _ _ _ _ _ _ _ c.requires.going
 
 pub offset_bounds-operations-place : goal.offset_bounds-operations-place
 offset_bounds-operations-place g c = omega (
   arith,
-  place_found _ _ _ _ _ _ _ _ c.turns.invariant.going,
+  place_found _ _ _ _ _ _ _ _ c.steps.invariant.going,
   c.code.ensures.bound,
 )
 
 pub bounds-operations-place : goal.bounds-operations-place
 bounds-operations-place g c =
-    as_long (entries c.args.cart.now) c.operations-operations.result.now c.turns.place
+    as_long (entries c.args.cart.now) c.operations-operations.result.now c.steps.place
     (operations_are c.args.cart.now c.code.result.now c.operations-operations.result.now c.code.ensures.value
     c.operations-operations.ensures.value)
-    (place_found _ _ _ _ _ _ _ _ c.turns.invariant.going)
+    (place_found _ _ _ _ _ _ _ _ c.steps.invariant.going)
 
 pub step-requires : goal.step-requires
 step-requires g c = record {
-  going = c.turns.invariant.going;
-  op = read_at (entries c.args.cart.now) c.operations-operations.result.now c.turns.place _ Unreachable
+  going = c.steps.invariant.going;
+  op = read_at (entries c.args.cart.now) c.operations-operations.result.now c.steps.place _ Unreachable
       (operations_are c.args.cart.now c.code.result.now c.operations-operations.result.now
       c.code.ensures.value c.operations-operations.ensures.value)
-      (place_found _ _ _ _ _ _ _ _ c.turns.invariant.going) refl;
+      (place_found _ _ _ _ _ _ _ _ c.steps.invariant.going) refl;
   bound = omega (arith, c.code.ensures.bound);
 }
 
-pub turns-preserved : goal.turns-preserved
-turns-preserved g c = goes_on _ _ _ _ _ _ _ _ _ _ _ _ _ _ _ _ _ _ _ _ c.turns.invariant c.in-Go.ensures.goes
+pub steps-preserved : goal.steps-preserved
+steps-preserved g c = goes_on _ _ _ _ _ _ _ _ _ _ _ _ _ _ _ _ _ _ _ _ c.steps.invariant c.in-Go.ensures.goes
 
-pub turns-smaller : goal.turns-smaller
-turns-smaller g c = omega (arith, c.in-Go.ensures.progress)
+pub steps-smaller : goal.steps-smaller
+steps-smaller g c = omega (arith, c.in-Go.ensures.progress)
 
 pub returns-in-Done : goal.returns-in-Done
-returns-in-Done g c = ends _ _ _ _ _ _ _ _ _ _ _ _ _ _ _ _ _ _ _ _ refl c.turns.invariant
+returns-in-Done g c = ends _ _ _ _ _ _ _ _ _ _ _ _ _ _ _ _ _ _ _ _ refl c.steps.invariant
     c.in-Done.ensures.goes
 
 pub returns-in-Trap : goal.returns-in-Trap
-returns-in-Trap g c = ends _ _ _ _ _ _ _ _ _ _ _ _ _ _ _ _ _ _ _ _ refl c.turns.invariant
+returns-in-Trap g c = ends _ _ _ _ _ _ _ _ _ _ _ _ _ _ _ _ _ _ _ _ refl c.steps.invariant
     c.in-Trap.ensures.goes
 
 pub returns-in-Spent : goal.returns-in-Spent
-returns-in-Spent g c = ends _ _ _ _ _ _ _ _ _ _ _ _ _ _ _ _ _ _ _ _ refl c.turns.invariant
+returns-in-Spent g c = ends _ _ _ _ _ _ _ _ _ _ _ _ _ _ _ _ _ _ _ _ refl c.steps.invariant
     c.in-Spent.ensures.goes

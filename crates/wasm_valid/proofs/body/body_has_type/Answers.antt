@@ -2,10 +2,10 @@ use Rattle.std.proofs.Common.{◌≡◌, ◌∙◌, Bool, Some, ap, sym, option_
 use Rattle.std.specs.Prelude.{◌↔◌, slice_get, IsTrue}
 use Rattle.std.proofs.lemmas.Option.{slice_get-get_or}
 use Rattle.w4_defs.specs.Validity.{IsTypedAt}
-use Rattle.wasm_valid.specs.ShapeLaw.{body_stands}
+use Rattle.wasm_valid.specs.AbstractStackLaw.{body_stands}
 use Rattle.wasm_valid.proofs.ProfileFacts.{no_cause}
 use Rattle.std.proofs.lemmas.Result.{IfOk-weaker}
-use Rattle.wasm_valid.proofs.EntryLaws.{typed, untyped}
+use Rattle.wasm_valid.proofs.BodyEntryLaws.{typed, untyped}
 use Rattle.wasm_valid.proofs.body.body_has_type.Goals as goal
 
 pub returns-in-Some : goal.returns-in-Some

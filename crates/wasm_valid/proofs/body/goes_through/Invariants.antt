@@ -1,9 +1,9 @@
 use Rattle.std.proofs.Common.{◌≡◌, drop}
-use Rattle.wasm_valid.specs.Pass.{run}
+use Rattle.wasm_valid.specs.Pass.{blocks_after}
 use Rattle.wasm_valid.specs.BodyEntries.{body_entries}
 use Rattle.wasm_valid.proofs.body.goes_through.Given as goal
 
 abbrev pub invariant-loop-place : goal.invariant-loop-place
 invariant-loop-place l =
-    run l.scope (drop l.place (body_entries l.code l.func)) l.lists
-    ≡ run l.scope (body_entries l.code l.func) l.initial.lists
+    blocks_after l.scope (drop l.place (body_entries l.code l.func)) l.control
+    ≡ blocks_after l.scope (body_entries l.code l.func) l.initial.control

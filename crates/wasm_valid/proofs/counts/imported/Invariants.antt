@@ -4,6 +4,6 @@ use Rattle.wasm_valid.proofs.counts.imported.Given as goal
 
 abbrev pub invariant-loop-i : goal.invariant-loop-i
 invariant-loop-i l = record {
-  kinds : CountKinds l.counts (take l.i l.imports);
+  operands : CountKinds l.counts (take l.i l.imports);
   fit : FitKinds l.counts l.i;
 }

@@ -1,4 +1,4 @@
-use Rattle.w4_defs.specs.Entries.{first_value}
+use Rattle.w4_defs.specs.EntryPoints.{first_value}
 use Rattle.wasm_valid.proofs.GlobalLaws.{global_given}
 use Rattle.wasm_valid.proofs.ListMaps.{map_more}
 use Rattle.wasm_valid.proofs.globals.first_globals.Goals as goal

@@ -1,5 +1,5 @@
 use Rattle.std.proofs.Common.{◌≡◌, map, take}
-use Rattle.w4_defs.specs.Entries.{first_value}
+use Rattle.w4_defs.specs.EntryPoints.{first_value}
 use Rattle.wasm_valid.proofs.globals.first_globals.Given as goal
 
 abbrev pub invariant-loop-i : goal.invariant-loop-i

@@ -1,5 +1,5 @@
 use Rattle.std.proofs.Common.{◌≡◌, drop, length}
-use Rattle.w4_defs.specs.Kinds.{same_types}
+use Rattle.w4_defs.specs.ValueTypes.{same_types}
 use Rattle.wasm_valid.proofs.signature.same_types.Given as goal
 
 abbrev pub invariant-loop-i : goal.invariant-loop-i

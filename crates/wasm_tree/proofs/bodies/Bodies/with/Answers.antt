@@ -1,7 +1,7 @@
 use Rattle.std.proofs.Common.{◌++◌, ◌∷◌, [], ◌∙◌, ap, length, map, subst}
 use Rattle.w4_defs.specs.Tree.{flat}
 use Rattle.w4_defs.specs.Flattening.{IsProper}
-use Rattle.wasm_tree.specs.Shifting.{after}
+use Rattle.wasm_tree.specs.Shifting.{shifted_entry}
 use Rattle.wasm_tree.proofs.LayoutLaws.{shown, lays, more}
 use Rattle.wasm_tree.proofs.bodies.Bodies.with.Goals as goal
 
@@ -11,7 +11,7 @@ invariant_of-result c =
     let entries = c.marks-entries.ensures.entries ∙ ap (λ f. flat f.list) c.body.view_is in
     let h = more ms c.in_ok-marks.marks _ c.push.new.self.items c.args.self c.args.body c.len-start.result c.len-count.result (shown _ _ c.args.self c.self.invariant c.self.view_is)
     (subst IsProper (ap (λ f. f.list) c.body.view_is) c.marks-entries.ensures.proper)
-    c.len-start.ensures (c.len-count.ensures ∙ ap length entries) (c.in_ok-marks.ensures ∙ ap (λ xs. ms ++ map (after (length ms)) xs) entries)
+    c.len-start.ensures (c.len-count.ensures ∙ ap length entries) (c.in_ok-marks.ensures ∙ ap (λ xs. ms ++ map (shifted_entry (length ms)) xs) entries)
     (c.in_ok-push.ensures.items ∙ ap (λ f. c.self.inside.places.items ++ record { start = c.len-start.result; count = c.len-count.result; runs = f.runs } ∷ []) c.body.view_is) in
     (c.args.self ++ c.args.body ∷ [], h.0, h.1, h.2)
 
@@ -21,6 +21,6 @@ returns c =
     let entries = c.marks-entries.ensures.entries ∙ ap (λ f. flat f.list) c.body.view_is in
     let h = more ms c.in_ok-marks.marks _ c.push.new.self.items c.args.self c.args.body c.len-start.result c.len-count.result (shown _ _ c.args.self c.self.invariant c.self.view_is)
     (subst IsProper (ap (λ f. f.list) c.body.view_is) c.marks-entries.ensures.proper)
-    c.len-start.ensures (c.len-count.ensures ∙ ap length entries) (c.in_ok-marks.ensures ∙ ap (λ xs. ms ++ map (after (length ms)) xs) entries)
+    c.len-start.ensures (c.len-count.ensures ∙ ap length entries) (c.in_ok-marks.ensures ∙ ap (λ xs. ms ++ map (shifted_entry (length ms)) xs) entries)
     (c.in_ok-push.ensures.items ∙ ap (λ f. c.self.inside.places.items ++ record { start = c.len-start.result; count = c.len-count.result; runs = f.runs } ∷ []) c.body.view_is) in
     lays _ _ (c.args.self ++ c.args.body ∷ []) h.0 h.1 h.2

@@ -1,5 +1,5 @@
 use Rattle.std.proofs.Common.{◌≡◌, ◌∙◌, false, rules}
-use Rattle.wasm_valid.proofs.TurnLaws.{names, unnamed}
+use Rattle.wasm_valid.proofs.PassSteps.{names, unnamed}
 use Rattle.wasm_valid.proofs.scope.Scope.arrow.Goals as goal
 
 pub returns-in_default : goal.returns-in_default

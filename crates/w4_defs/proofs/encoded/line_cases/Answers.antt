@@ -1,8 +1,0 @@
-use Rattle.w4_defs.specs.Lines.{line-cases, number-cases}
-use Rattle.w4_defs.proofs.encoded.line_cases.Goals as goal
-
-pub returns-clause-lines : goal.returns-clause-lines
-returns-clause-lines c = line-cases
-
-pub returns-clause-numbers : goal.returns-clause-numbers
-returns-clause-numbers c = number-cases

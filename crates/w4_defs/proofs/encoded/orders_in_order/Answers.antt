@@ -1,8 +1,0 @@
-use Rattle.w4_defs.proofs.ScriptLaws.{orders_in_parts, first_bad_line}
-use Rattle.w4_defs.proofs.encoded.orders_in_order.Goals as goal
-
-pub returns-clause-parts : goal.returns-clause-parts
-returns-clause-parts g c = orders_in_parts
-
-pub returns-clause-bad : goal.returns-clause-bad
-returns-clause-bad g c = first_bad_line

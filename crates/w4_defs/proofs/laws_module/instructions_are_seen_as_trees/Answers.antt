@@ -1,5 +1,0 @@
-use Rattle.w4_defs.specs.View.{view-case}
-use Rattle.w4_defs.proofs.laws_module.instructions_are_seen_as_trees.Goals as goal
-
-pub returns : goal.returns
-returns c = view-case

@@ -1,5 +1,0 @@
-use Rattle.w4_defs.proofs.LongNumbers.{too_long_number}
-use Rattle.w4_defs.proofs.laws_module.unused_bits_are_zero.Goals as goal
-
-pub returns : goal.returns
-returns c = too_long_number
