@@ -7,19 +7,12 @@ use Rattle.w4_program.specs.declared.status.Status.{Status}
 use Rattle.w4_program.specs.declared.status.Status.TheVariants as status
 use Rattle.w4_program.specs.Refusals.{Refusal, Usage, NoFile, CartRefused, FontRefused, FrameRefused, NotBuilt, manner_of}
 use Rattle.w4_program.specs.Output.{Output}
-use Rattle.w4_program.specs.Causes.{ReadFails, Refuses, LeavesOutputs, Ends, IsExact, IsRefusal, Reports, LeavesErr}
+use Rattle.w4_program.specs.Causes.{ReadFails, Refuses, LeavesOutputs, Ends, IsExact, IsRefusal, Reports, Writes, LeavesErr}
 
-pub done_out : (old new : World) (result : Status) (step : Files → Result Output Refusal → Type 0)
+pub done : (old new : World) (result : Status) (step : Files → Result Output Refusal → Type 0)
     → Ends old new (manner_of result) step → result ≡ status.Done
-    → ForSome old.files (λ files. (made : Output) × step files (Ok made) × Appends old.out new.out made.out)
-done_out old new result step h e = λ files texts.
-    let made = subst (λ s. Ends old new (manner_of s) step) e h files texts in (made.0, made.1, made.2.0)
-
-pub done_files : (old new : World) (result : Status) (step : Files → Result Output Refusal → Type 0)
-    → Ends old new (manner_of result) step → result ≡ status.Done
-    → ForSome old.files (λ files. (made : Output) × step files (Ok made) × (new.files ≡ Some made.files))
-done_files old new result step h e = λ files texts.
-    let made = subst (λ s. Ends old new (manner_of s) step) e h files texts in (made.0, made.1, made.2.1)
+    → ForSome old.files (λ files. (made : Output) × step files (Ok made) × Writes old new made)
+done old new result step h e = subst (λ s. Ends old new (manner_of s) step) e h
 
 pub write_fault : (old new : World) (result : Status) (step : Files → Result Output Refusal → Type 0)
     → Ends old new (manner_of result) step → result ≡ status.WriteFault

@@ -9,6 +9,7 @@ pub mod Recorded
 pub mod Texts
 pub mod Answering
 pub mod Output
+pub mod RunsMean
 pub mod OneOutput
 pub mod Causes
 pub mod Scenes

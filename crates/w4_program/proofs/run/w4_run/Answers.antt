@@ -5,6 +5,7 @@ use Rattle.w4_program.specs.declared.status.Status.TheVariants as status
 use Rattle.w4_program.specs.Lines.{status_line}
 use Rattle.w4_program.specs.Refusals.{Refusal}
 use Rattle.w4_program.specs.Output.{Output, Outputs}
+use Rattle.w4_program.proofs.MeaningLaws.{all_runs}
 use Rattle.w4_program.proofs.EndLaws.{ends_reported}
 use Rattle.w4_program.proofs.StatusLaws as laws
 use Rattle.w4_program.proofs.run.w4_run.Goals as goal
@@ -21,8 +22,14 @@ returns g c =
     ends_reported old mid new c.obey-status.result result step c.report.ensures.rest
     c.report.ensures.status c.obey-status.ensures.ends in
     record {
-      done_out = laws.done_out old new result step ends;
-      done_files = laws.done_files old new result step ends;
+      done =
+          λ e files told.
+          let made = laws.done old new result step ends e files told in (
+            made.0,
+            made.1,
+            made.2,
+            all_runs c.accepted_runs_have_meaning.ensures (map string_bytes c.args.words.now) files,
+          );
       done_err = λ e. c.report.ensures.done e ∙ c.obey-status.ensures.err.0;
       usage =
           λ e.
