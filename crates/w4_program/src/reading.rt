@@ -23,7 +23,7 @@ struct Fields<'a> {
 }
 
 /// The bytes cut into fields, or None where they encode no recording.
-#[tactic(auto, unfolding(w4_defs::specs::Recording::fields_of))]
+#[tactic(auto, unfolding(crate::specs::FirstRecording::fields_of))]
 fn split_fields(bytes: &[u8]) -> Option<Fields<'_>>
     ensures fields { option_map fields_view result ≡ fields_of bytes.now }
     ensures digest { IfSome result (λ fields. length fields.digest.now ≡ 32) }
@@ -87,7 +87,7 @@ fn inputs_at(alloc: Global, count: u32, frames: &[u8]) -> Result<Vec<Input>, Out
 }
 
 /// The recording that the bytes encode.
-#[tactic(auto, unfolding(w4_defs::specs::Recording::recording_of))]
+#[tactic(auto, unfolding(crate::specs::FirstRecording::recording_of))]
 pub fn read_recording(alloc: Global, bytes: &[u8]) -> Result<Recording, Status>
     ensures { GivesValue NotBuilt recording_view result (recording_of bytes.now) }
 {

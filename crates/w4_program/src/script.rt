@@ -41,7 +41,7 @@ fn value_of(digits: &[u8]) -> Option<u32>
 }
 
 /// A number of 1 to 10 digits.
-#[tactic(auto, unfolding(w4_defs::specs::Script::number_of))]
+#[tactic(auto, unfolding(crate::specs::FirstScript::number_of))]
 pub fn number(word: &[u8]) -> Option<u32>
     ensures { result ≡ number_of word.now }
 {
@@ -52,7 +52,7 @@ pub fn number(word: &[u8]) -> Option<u32>
 }
 
 /// A number from 0 to 255.
-#[tactic(auto, unfolding(w4_defs::specs::Script::byte_of))]
+#[tactic(auto, unfolding(crate::specs::FirstScript::byte_of))]
 fn byte(word: &[u8]) -> Option<u8>
     ensures { result ≡ byte_of word.now }
 {
@@ -65,7 +65,7 @@ fn byte(word: &[u8]) -> Option<u8>
 }
 
 /// A number from -32768 to 32767, a `-` directly before its digits.
-#[tactic(auto, unfolding(w4_defs::specs::Script::coordinate_of))]
+#[tactic(auto, unfolding(crate::specs::FirstScript::coordinate_of))]
 fn coordinate(word: &[u8]) -> Option<i16>
     ensures { result ≡ coordinate_of word.now }
 {
@@ -91,7 +91,7 @@ fn coordinate(word: &[u8]) -> Option<i16>
 }
 
 /// `K P1 P2 P3 P4 X Y B`.
-#[tactic(auto, unfolding(w4_defs::specs::Script::set_of))]
+#[tactic(auto, unfolding(crate::specs::FirstScript::set_of))]
 fn set(words: &[u8]) -> Option<Order>
     ensures { result ≡ set_of words.now }
 {
@@ -124,7 +124,7 @@ fn set(words: &[u8]) -> Option<Order>
 }
 
 /// `P`.
-#[tactic(auto, unfolding(w4_defs::specs::Script::show_of))]
+#[tactic(auto, unfolding(crate::specs::FirstScript::show_of))]
 fn show(words: &[u8]) -> Option<Order>
     ensures { result ≡ show_of words.now }
 {
@@ -133,7 +133,7 @@ fn show(words: &[u8]) -> Option<Order>
 }
 
 /// `P`.
-#[tactic(auto, unfolding(w4_defs::specs::Script::state_of))]
+#[tactic(auto, unfolding(crate::specs::FirstScript::state_of))]
 fn state(words: &[u8]) -> Option<Order>
     ensures { result ≡ state_of words.now }
 {
@@ -142,7 +142,7 @@ fn state(words: &[u8]) -> Option<Order>
 }
 
 /// The order of a line.
-#[tactic(auto, unfolding(w4_defs::specs::Script::order_of))]
+#[tactic(auto, unfolding(crate::specs::FirstScript::order_of))]
 fn order(line: &[u8]) -> Option<Order>
     ensures { result ≡ order_of line.now }
 {
@@ -173,7 +173,7 @@ fn is_short(bytes: &[u8]) -> bool
 }
 
 /// The order of the first line, and the bytes after it.
-#[tactic(auto, unfolding(w4_defs::specs::Script::first_of))]
+#[tactic(auto, unfolding(crate::specs::FirstScript::first_of))]
 fn first_order(bytes: &[u8]) -> Result<(Order, &[u8]), Status>
     ensures { GivesValue NotBuilt (λ p. (p.0, p.1.now)) result (first_of bytes.now) }
 {
@@ -205,7 +205,7 @@ fn orders(alloc: Global, count: usize, bytes: &[u8]) -> Result<Vec<Order>, Statu
 }
 
 /// The orders of a script.
-#[tactic(auto, unfolding(w4_defs::specs::Script::orders_of))]
+#[tactic(auto, unfolding(crate::specs::FirstScript::orders_of))]
 pub fn read_script(alloc: Global, bytes: &[u8]) -> Result<Vec<Order>, Status>
     ensures { GivesValue NotBuilt (λ orders. orders.items) result (orders_of bytes.now) }
 {

@@ -31,7 +31,7 @@ fn push_inputs(bytes: &mut Vec<u8>, inputs: &[Input]) -> Result<(), OutOfMemory>
 }
 
 /// The one encoding of a recording.
-#[tactic(auto, unfolding(w4_defs::specs::Recording::spelling))]
+#[tactic(auto, unfolding(crate::specs::FirstRecording::spelling))]
 pub fn write_recording(alloc: Global, recording: &Recording) -> Result<Vec<u8>, OutOfMemory>
     ensures { IfOk result (λ bytes. bytes.items ≡ spelling (recording_view recording.now)) }
 {
