@@ -4,6 +4,9 @@
 #![tactic(auto)]
 
 pub mod digest;
+mod fields;
+mod frames;
+mod ranges;
 pub mod reading;
 pub mod recording;
 pub mod refusal;

@@ -2,6 +2,7 @@
 
 ghost use Rattle.std.specs.Prelude.{◌≡◌, ◌≤◌, vec_len};
 
+use crate::ranges::{bytes_are_in_range, inputs_are_in_range};
 use std::marker::Model;
 use w4_defs::Input;
 
@@ -36,6 +37,9 @@ impl Recording {
         requires frames { vec_len frames ≤ 36000 }
         ensures { result ≡ record { digest = digest; budget = budget; disk = disk.items; frames = frames.items } }
     {
+        bytes_are_in_range(digest.as_slice());
+        bytes_are_in_range(disk.as_slice());
+        inputs_are_in_range(frames.as_slice());
         Recording {
             digest,
             budget,
