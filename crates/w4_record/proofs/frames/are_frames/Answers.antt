@@ -1,4 +1,4 @@
-use Rattle.std.proofs.Common.{◌≡◌, sym, ◌∙◌}
+use Rattle.std.proofs.Common.{sym, ◌∙◌}
 use Rattle.w4_record.specs.Frames.{version_number}
 use Rattle.w4_record.proofs.FrameLaws.{are_frames-step, are_frames-none, are_frames-end}
 use Rattle.w4_record.proofs.frames.are_frames.Goals as goal
