@@ -1,8 +1,7 @@
 //! Reading of recordings.
 
-ghost use Rattle.std.specs.Prelude.{◌≡◌, ◌≤◌, Some, None, length, is_some, option_and_then, IfOk, IfSome, IsErrOf, IsSome};
-ghost use Rattle.w4_defs.specs.Recording.{IsRecording, frames_of, recording_of};
-ghost use Rattle.w4_record.specs.Frames.{version_number};
+ghost use Rattle.std.specs.Prelude.{◌≡◌, Some, None, length, IfOk, IfSome, IsErrOf};
+ghost use Rattle.w4_defs.specs.Recording.{IsRecording, recording_of};
 ghost use Rattle.w4_record.specs.Parts.{recording_from};
 
 use crate::fields::{front, u16_at, u32_at};

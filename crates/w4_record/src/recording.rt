@@ -24,9 +24,19 @@ impl Model for Recording {
 
     ghost Value = { defs.Recording };
 
-    ghost view = { λ r. record { digest = r.digest; budget = r.budget; disk = r.disk.items; frames = r.frames.items } };
+    ghost view = { λ r. record {
+      digest = r.digest;
+      budget = r.budget;
+      disk = r.disk.items;
+      frames = r.frames.items;
+    } };
 
-    ghost invariant = { λ r. defs.IsRecording (record { digest = r.digest; budget = r.budget; disk = r.disk.items; frames = r.frames.items }) };
+    ghost invariant = { λ r. defs.IsRecording (record {
+      digest = r.digest;
+      budget = r.budget;
+      disk = r.disk.items;
+      frames = r.frames.items;
+    }) };
 }
 
 impl Recording {
@@ -35,7 +45,12 @@ impl Recording {
         requires budget { 1 ≤ budget }
         requires disk { vec_len disk ≤ 1024 }
         requires frames { vec_len frames ≤ 36000 }
-        ensures { result ≡ record { digest = digest; budget = budget; disk = disk.items; frames = frames.items } }
+        ensures { result ≡ record {
+          digest = digest;
+          budget = budget;
+          disk = disk.items;
+          frames = frames.items;
+        } }
     {
         bytes_are_in_range(digest.as_slice());
         bytes_are_in_range(disk.as_slice());

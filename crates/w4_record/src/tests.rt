@@ -8,9 +8,12 @@ use w4_defs::Input;
 /// left button down.
 const VERSION_1: &[u8] = b"W4RC\x010123456789abcdef0123456789abcdef\x00\x01\0\0\x01\0\x09\x01\0\0\0\
     \x02\0\0\0\xff\xff\x02\0\x01";
+
 const VERSION_2: &[u8] = b"W4RC\x020123456789abcdef0123456789abcdef\x00\x01\0\0\x01\0\x09\x01\0\0\0\
     \x02\0\0\0\xff\xff\x02\0\x01\0";
-const WITH_RESET: &[u8] = b"W4RC\x020123456789abcdef0123456789abcdef\x00\x01\0\0\x01\0\x09\x01\0\0\0\
+
+const WITH_RESET: &[u8] =
+    b"W4RC\x020123456789abcdef0123456789abcdef\x00\x01\0\0\x01\0\x09\x01\0\0\0\
     \x02\0\0\0\xff\xff\x02\0\x01\x01";
 
 #[test]
@@ -28,7 +31,10 @@ fn both_versions_are_read_and_version_2_is_written(rt: HostRuntime) -> Result<()
             buttons: 1,
             reset,
         };
-        assert_eq!(rt; recording.digest.as_slice(), b"0123456789abcdef0123456789abcdef".as_slice());
+        assert_eq!(rt;
+            recording.digest.as_slice(),
+            b"0123456789abcdef0123456789abcdef".as_slice()
+        );
         assert_eq!(rt; recording.budget, 256);
         assert_eq!(rt; recording.disk.as_slice(), [9].as_slice());
         assert_eq!(rt; recording.frames.as_slice(), [input].as_slice());
@@ -59,8 +65,9 @@ fn recording_without_frames_has_47_bytes(rt: HostRuntime) -> Result<(), Fail> {
 #[test]
 fn digest_of_abc(rt: HostRuntime) {
     let digest = [
-        0xba, 0x78, 0x16, 0xbf, 0x8f, 0x01, 0xcf, 0xea, 0x41, 0x41, 0x40, 0xde, 0x5d, 0xae, 0x22, 0x23,
-        0xb0, 0x03, 0x61, 0xa3, 0x96, 0x17, 0x7a, 0x9c, 0xb4, 0x10, 0xff, 0x61, 0xf2, 0x00, 0x15, 0xad,
+        0xba, 0x78, 0x16, 0xbf, 0x8f, 0x01, 0xcf, 0xea, 0x41, 0x41, 0x40, 0xde, 0x5d, 0xae, 0x22,
+        0x23, 0xb0, 0x03, 0x61, 0xa3, 0x96, 0x17, 0x7a, 0x9c, 0xb4, 0x10, 0xff, 0x61, 0xf2, 0x00,
+        0x15, 0xad,
     ];
     assert_eq!(rt; digest_of(b"abc").as_slice(), digest.as_slice());
 }
