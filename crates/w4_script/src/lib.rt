@@ -1,0 +1,15 @@
+//! Texts of lines (project rule): edit scripts, and the lines, words and numbers that lists, logs and queries
+//! share with them. The layers above rely on this: what is read is what the definitions in w4_defs say of
+//! the bytes, and a refusal names the first bad line.
+#![tactic(auto)]
+
+mod lines;
+mod number;
+mod refusal;
+mod script;
+
+pub use lines::{Line, script_lines};
+pub use number::number_of;
+pub use refusal::ScriptRefusal;
+pub use script::read_script;
+pub use w4_defs::Order;
