@@ -5,6 +5,7 @@
 
 mod lines;
 mod number;
+mod pieces;
 mod refusal;
 mod script;
 
