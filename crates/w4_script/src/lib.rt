@@ -8,6 +8,7 @@ mod number;
 mod pieces;
 mod refusal;
 mod script;
+mod words;
 
 pub use lines::{Line, script_lines};
 pub use number::number_of;
