@@ -1,2 +1,3 @@
-pub mod DigitLaws
-pub mod PieceLaws
+mod DigitLaws
+mod PieceLaws
+mod LineLaws

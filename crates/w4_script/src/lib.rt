@@ -6,6 +6,7 @@
 mod lines;
 mod number;
 mod pieces;
+mod reading;
 mod refusal;
 mod script;
 mod words;
