@@ -5,6 +5,7 @@
 
 mod lines;
 mod number;
+mod order_words;
 mod pieces;
 mod reading;
 mod refusal;
