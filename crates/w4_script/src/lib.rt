@@ -3,6 +3,7 @@
 //! the bytes, and a refusal names the first bad line.
 #![tactic(auto)]
 
+mod frame;
 mod lines;
 mod number;
 mod order_words;
