@@ -6,6 +6,7 @@
 mod frame;
 mod lines;
 mod number;
+mod order;
 mod order_words;
 mod pieces;
 mod reading;
