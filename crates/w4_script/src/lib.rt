@@ -7,6 +7,7 @@ mod frame;
 mod lines;
 mod number;
 mod order;
+mod order_file;
 mod order_words;
 mod pieces;
 mod reading;
