@@ -5,18 +5,24 @@
 
 mod frame;
 mod lines;
-mod number;
+pub mod number;
 mod order;
 mod order_file;
-mod order_words;
+pub mod order_words;
 mod pieces;
 mod reading;
 mod refusal;
 mod script;
+mod script_words;
 mod words;
 
 pub use lines::{Line, script_lines};
 pub use number::number_of;
+pub use order_file::{LineOrder, read_orders};
 pub use refusal::ScriptRefusal;
 pub use script::read_script;
 pub use w4_defs::Order;
+pub use words::Words;
+
+#[cfg(test)]
+mod tests;

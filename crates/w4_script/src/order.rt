@@ -5,7 +5,8 @@ ghost use Rattle.w4_defs.specs.Script.{order_named, order_of};
 ghost use Rattle.w4_script.specs.Left.{words_left};
 
 use crate::frame::frame;
-use crate::order_words::{film, no_word, number_between, one_number, range};
+use crate::order_words::{no_word, one_number};
+use crate::script_words::{film, number_between, range};
 use crate::words::Words;
 use w4_defs::Order;
 
@@ -15,47 +16,35 @@ fn order_named(name: &[u8], words: Words<'_>) -> Option<Order>
     ensures { result ≡ order_named name.now (words_left words.entry) }
 {
     if name == b"set".as_slice() {
-        let (k, input) = frame(words)?;
-        Some(Order::Set { k, input })
+        frame(words).map(|(k, input)| Order::Set { k, input })
     } else if name == b"insert".as_slice() {
-        let (k, input) = frame(words)?;
-        Some(Order::Insert { k, input })
+        frame(words).map(|(k, input)| Order::Insert { k, input })
     } else if name == b"delete".as_slice() {
-        let k = one_number(words)?;
-        Some(Order::Delete { k })
+        one_number(words).map(|k| Order::Delete { k })
     } else if name == b"undo".as_slice() {
         no_word(Order::Undo, words)
     } else if name == b"redo".as_slice() {
         no_word(Order::Redo, words)
     } else if name == b"keep".as_slice() {
-        let p = one_number(words)?;
-        Some(Order::Keep { p })
+        one_number(words).map(|p| Order::Keep { p })
     } else if name == b"keep-every".as_slice() {
-        let every = number_between(words, 1, u32::MAX)?;
-        Some(Order::KeepEvery { every })
+        number_between(words, 1, u32::MAX).map(|every| Order::KeepEvery { every })
     } else if name == b"drop".as_slice() {
-        let p = one_number(words)?;
-        Some(Order::DropKept { p })
+        one_number(words).map(|p| Order::DropKept { p })
     } else if name == b"settle".as_slice() {
-        let workers = number_between(words, 1, 16)?;
-        Some(Order::Settle { workers })
+        number_between(words, 1, 16).map(|workers| Order::Settle { workers })
     } else if name == b"show".as_slice() {
-        let p = one_number(words)?;
-        Some(Order::Show { p })
+        one_number(words).map(|p| Order::Show { p })
     } else if name == b"film".as_slice() {
         film(words)
     } else if name == b"tones".as_slice() {
-        let (a, b) = range(words)?;
-        Some(Order::Tones { a, b })
+        range(words).map(|(a, b)| Order::Tones { a, b })
     } else if name == b"traces".as_slice() {
-        let (a, b) = range(words)?;
-        Some(Order::Traces { a, b })
+        range(words).map(|(a, b)| Order::Traces { a, b })
     } else if name == b"disk".as_slice() {
-        let p = one_number(words)?;
-        Some(Order::DiskAt { p })
+        one_number(words).map(|p| Order::DiskAt { p })
     } else if name == b"state".as_slice() {
-        let p = one_number(words)?;
-        Some(Order::StateAt { p })
+        one_number(words).map(|p| Order::StateAt { p })
     } else {
         None
     }
