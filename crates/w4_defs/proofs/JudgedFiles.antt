@@ -1,4 +1,5 @@
--- Every list of bytes is judged: whoever shows that it is no cart and that no cause holds contradicts himself.
+-- Every list of bytes is judged: whoever shows that it is no cart and that no cause holds contradicts
+-- himself.
 use Rattle.std.specs.Prelude.{◌≡◌, refl, ℕ, zero, suc, ◌<◌, ◌≤◌, ◌⊎◌, List, length, Option, Some, None}
 use Rattle.std.proofs.Common.{arith, subst, sym, inl, inr}
 use Rattle.w4_defs.specs.declared.refusal.CartKind.{CartKind}

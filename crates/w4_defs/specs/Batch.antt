@@ -25,7 +25,7 @@ run_row sha256 cart font r =
     let frames = length r.frames in
     option_map (ran_row sha256 frames) (run_state (console_setup cart font r.budget) r.disk r.frames frames)
 
--- of a recording that was decoded, or wasn't: it is run where it is of the cart with this digest
+-- the row of a recording, or of bytes that encode none: it is run if and only if its digest is the cart's
 abbrev pub batch_row : (List ℕ → List ℕ) → WasmModule → List ℕ → List ℕ → Option Recording → Option BatchRow
 batch_row sha256 cart font digest None = Some Bad
 batch_row sha256 cart font digest (Some r) =

@@ -1,6 +1,6 @@
 -- Control, parametric and variable instructions, and expressions (Core Specification, section 5.4,
--- with the table index of call_indirect of Core 2.0). Rows stand in the order of their codes; what
--- isn't here is looked up among the memory instructions.
+-- with the table index of call_indirect of Core 2.0). Rows stand in the order of their codes; br_table
+-- stands with its labels below, and what isn't here is looked up among the memory instructions.
 use Rattle.std.specs.Prelude.{◌≡◌, ℕ, List, [], ◌∷◌, ◌++◌}
 use Rattle.w4_defs.specs.declared.operation.Op.{Op}
 use Rattle.w4_defs.specs.declared.operation.Op.TheVariants.{Unreachable, Nop, Br, BrIf, BrTable, Return, Call, CallIndirect, Drop, Select, LocalGet, LocalSet, LocalTee, GlobalGet, GlobalSet}

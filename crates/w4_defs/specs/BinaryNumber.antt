@@ -39,6 +39,6 @@ NumberCases =
     signed 32 160 (0xa0 ∷ 0x01 ∷ []) × signed 32 0xffffffff (0x7f ∷ []) × signed 64 0xffffffffffffffff (0x7f ∷ [])
     × unsigned 32 4 (0x84 ∷ 0x80 ∷ 0x80 ∷ 0x80 ∷ 0x00 ∷ [])
 
--- a bit past the 32nd has no text
+-- bytes with a bit past the 32nd encode no number
 abbrev pub TooLongNumber : Type 0
 TooLongNumber = (n : ℕ) → unsigned 32 n (0x84 ∷ 0x80 ∷ 0x80 ∷ 0x80 ∷ 0x10 ∷ []) → ⊥

@@ -87,7 +87,7 @@ blit_sub_picture args page = record {
   flags = argument args 8;
 }
 
--- what is painted at (x, y), two arguments from this one on, of a text
+-- what a text paints; its x and y are arguments k and k + 1
 abbrev pub text_drawn : Board → List ℕ → List ℕ → TextSource → ℕ → Painter
 text_drawn board args page source k =
     text_painter board.font (draw_colors page) (text_codes page source) (signed_argument args k) (signed_argument args (k + 1))

@@ -1,4 +1,4 @@
--- What a cart is, and why bytes are none (project rules): the causes in their order, of which the first
+-- What a cart is, and why bytes aren't a cart (project rules): the causes in their order, of which the first
 -- that holds is the answer.
 use Rattle.std.specs.Prelude.{◌≡◌, ℕ, ◌<◌, ◌≤◌, List, length, Option, Some, None}
 use Rattle.w4_defs.specs.declared.refusal.CartKind.{CartKind}

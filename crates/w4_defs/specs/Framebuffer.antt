@@ -45,7 +45,7 @@ painted_byte page f i =
 unfoldable pub paint : List ℕ → Painter → List ℕ
 paint page f = map (painted_byte page f) (range_with_len 0 (length page))
 
--- the second painter over the first
+-- g over f: f paints first
 abbrev pub over : Painter → Painter → Painter
 over g f x y = option_or (g x y) (f x y)
 

@@ -1,8 +1,8 @@
 -- The generator (project rule): from a number, a made cart and its inputs, as a large valid case that anyone
--- can make again. A linear congruential generator (Numerical Recipes, section 7.1) gives the draws: the next
--- number is 1664525 times the last and 1013904223 more, modulo 2^32, and a draw is its upper 16 bits. The
--- made cart has 64 small functions of three draws each; its `update` calls each of them on a word of the page
--- and on gamepad 1, and then draws a rectangle. Each frame's gamepad 1 is one more draw.
+-- can make again. A linear congruential generator (Numerical Recipes in C, second edition, section 7.1) gives
+-- the draws: the next number is 1664525 times the last and 1013904223 more, modulo 2^32, and a draw is its
+-- upper 16 bits. The made cart has 64 small functions of three draws each; its `update` calls each of them on
+-- a word of the page and on gamepad 1, and then draws a rectangle. Each frame's gamepad 1 is one more draw.
 use Rattle.std.specs.Prelude.{◌≡◌, ℕ, zero, suc, ◌+◌, ◌*◌, ◌/◌, ◌%◌, ◌^◌, List, [], ◌∷◌, ◌++◌, map, flat_map, replicate, slice_index_or, codes, pos, Some, None, false, refl}
 use Rattle.std.specs.List.{range_with_len}
 use Rattle.w4_defs.specs.declared.console.Input.{Input}
@@ -48,8 +48,7 @@ small_function number g = record {
       ∷ chosen (draw number (3 * g + 2)) ∷ []);
 }
 
--- word g of the page after the framebuffer becomes what small function g, which is function g + 1, makes of
--- it and of gamepad 1
+-- word g behind the framebuffer becomes function g + 1 of itself and of gamepad 1
 abbrev pub step_of : ℕ → List Op
 step_of g =
     I32Const (6560 + 4 * g)

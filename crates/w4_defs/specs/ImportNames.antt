@@ -28,6 +28,6 @@ abbrev pub named_in : List (List ℕ × Import) → List ℕ → Option Import
 named_in [] name = None
 named_in (row ∷ rows) name = if bytes_eq row.0 name then Some row.1 else named_in rows name
 
--- the import that is written with this module's name and this name
+-- the import of this module name and this name
 abbrev pub import_named : List ℕ → List ℕ → Option Import
 import_named module_name name = if bytes_eq module_name (codes "env") then named_in import_names name else None

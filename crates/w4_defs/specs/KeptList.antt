@@ -47,7 +47,7 @@ linked_at kept i = (kept_entry_at kept i).linked
 abbrev pub places_of : List Entry → List ℕ
 places_of kept = map (λ x. x.place) kept
 
--- the entry at which the first place above P stands, or how many there are
+-- the number of the first entry above place P, or how many entries there are
 abbrev pub first_above : ℕ → List Entry → ℕ
 first_above p kept = position_or_len (λ x. nat_lt p x.place) kept
 
@@ -68,7 +68,7 @@ computed setup inputs kept i = fold setup (state_at kept i) (kept_segment inputs
 abbrev pub HasCartGlobals : WasmModule → State → Type 0
 HasCartGlobals cart state = types_of state.globals ≡ map (λ g. g.global.value) cart.globals
 
--- every entry of a kept list is true of the inputs
+-- the kept list of these inputs: places rise from 0, entry 0 has the reset's state, and every link is true
 pub record IsConsistent (setup : Setup) (disk : List ℕ) (inputs : List Input)
     (kept : List Entry) : Type 0 where
   pub some : 0 < length kept
@@ -87,7 +87,7 @@ pub record IsDraft (setup : Setup) (disk : List ℕ) (draft : Draft Entry) : Typ
   pub few : length draft.inputs ≤ 36000
   pub kept : IsConsistent setup disk draft.inputs draft.kept
 
--- a session whose drafts, undone and redone ones too, all are
+-- a session all of whose drafts are within their limits and consistent, those in the history too
 pub record IsSession (setup : Setup) (disk : List ℕ) (session : Session Entry) : Type 0 where
   pub current : IsDraft setup disk session.current
   pub older : All (IsDraft setup disk) session.older
@@ -137,7 +137,7 @@ pub record SamePlaces (old new : List Entry) : Type 0 where
 abbrev pub is_sure : List Entry → List Entry → ℕ → Bool
 is_sure old new i = linked_at old (i + 1) && same_state (state_at old i) (state_at new i)
 
--- the summed lengths of the others, which are doubtful, among the first n
+-- the summed lengths of the doubtful segments among the first n: those that aren't sure
 unfoldable pub doubtful : List Entry → List Entry → ℕ → ℕ
 doubtful old new zero = 0
 doubtful old new (suc n) =

@@ -1,4 +1,4 @@
--- The types of memory and numeric instructions (Core Specification, sections 3.3.1 and 3.3.5 of 1.0,
+-- The types of memory and numeric instructions (Core Specification, sections 3.3.1 and 3.3.4 of 1.0,
 -- with the integer additions of Core 2.0): what each takes and what it gives, from the bottom of the
 -- operands to their top. The float instructions have no type here.
 use Rattle.std.specs.Prelude.{ℕ, ◌^◌, Bool, true, false, ◌&&◌, nat_le, List, [], ◌∷◌, Option, Some, None}

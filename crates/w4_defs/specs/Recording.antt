@@ -185,8 +185,8 @@ RecordingCases =
     × (recording_of (case_front 2 ++ case_frame ++ 0 ∷ []) ≡ Some plain)
     × (recording_of (case_front 2 ++ case_frame ++ 1 ∷ []) ≡ Some reset)
 
--- another version, a flag of 2, a byte too many or too few, a budget of 0, a disk of 1,025 bytes, 36,001
--- frames
+-- no bytes, another version, a flag of 2, a byte too many or too few, a good one of no frames, a budget of 0,
+-- a disk of 1,025 bytes, 36,001 frames
 abbrev front_with : List ℕ → List ℕ → List ℕ → List ℕ → List ℕ
 front_with budget size disk count = heading 1 ++ replicate 32 7 ++ budget ++ size ++ disk ++ count
 

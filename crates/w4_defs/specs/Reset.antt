@@ -113,7 +113,7 @@ call_all setup (Some function ∷ functions) now rest =
 unfoldable pub start : Setup → List ℕ → Option Underway
 start setup disk = call_all setup (start_functions setup.cart) (underway (fresh setup.cart disk)) setup.budget
 
--- the record has the logs and the four sounds at tick 0; then the channels age
+-- the state with these channels
 abbrev pub with_channels : State → Channels → State
 with_channels state channels = record {
   page = state.page;
@@ -123,6 +123,7 @@ with_channels state channels = record {
   halt = state.halt;
 }
 
+-- the record has the logs and the four sounds at tick 0; then the channels age
 abbrev pub recorded : Underway → Moment
 recorded now = record {
   state = with_channels now.state (all_aged now.state.channels);

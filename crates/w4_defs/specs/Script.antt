@@ -106,7 +106,7 @@ script_of bytes = file_of order_of bytes
 
 -- ---- worked cases
 
--- the order of a line's words
+-- the order of a line
 abbrev read : List ℕ → Option Order
 read line = order_of (words_of line)
 

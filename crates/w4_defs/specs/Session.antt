@@ -20,7 +20,7 @@ pub record Kind (A : Type 0) : Type 0 where
   pub at : ℕ → A → A
   -- the same thing without its link
   pub unlinked : A → A
-  -- the second thing, after the first, which stood before it, is dropped
+  -- what stands for the second thing once the first, just before it, is dropped
   pub after_drop : A → A → A
 
 -- places alone, without links
@@ -220,7 +220,7 @@ abbrev pub drop_kept : {A : Type 0} → Kind A → ℕ → Session A → Result 
 drop_kept kind p session =
     unless (drop_refusal kind p session.current) (with_list session (without kind p session.current.kept))
 
--- each multiple of `every` is kept that isn't; none where more than 1,024 places would be
+-- each multiple of `every` that isn't kept yet is kept; none where more than 1,024 places would be kept
 abbrev pub multiples : ℕ → ℕ → List ℕ
 multiples every last = filter (λ p. p % every == 0) (range_with_len 0 (last + 1))
 

@@ -18,7 +18,7 @@ only_if test index = if test then index else None
 abbrev pub is_at : ℤ → ℕ → Bool
 is_at z u = int_le z (pos u) && int_le (pos u) z
 
--- the pixel is in the box of the columns x0 up to x1 and the rows y0 up to y1, both ends left out
+-- the pixel is in the box of the columns from x0 to below x1 and the rows from y0 to below y1
 abbrev pub is_inside : ℤ → ℤ → ℤ → ℤ → ℕ → ℕ → Bool
 is_inside x0 x1 y0 y1 u v = (int_le x0 (pos u) && int_lt (pos u) x1) && (int_le y0 (pos v) && int_lt (pos v) y1)
 
@@ -31,11 +31,11 @@ natural (negsuc n) = 0
 abbrev pub point_painter : ℤ → ℤ → Option ℕ → Painter
 point_painter x y index u v = only_if (is_at x u && is_at y v) index
 
--- the pixels of row y from column x0 up to x1
+-- the pixels of row y from column x0 to below x1
 abbrev pub span_painter : ℤ → ℤ → ℤ → Option ℕ → Painter
 span_painter x0 x1 y index u v = only_if (int_le x0 (pos u) && int_lt (pos u) x1 && is_at y v) index
 
--- the pixels of column x from row y0 up to y1
+-- the pixels of column x from row y0 to below y1
 abbrev pub column_painter : ℤ → ℤ → ℤ → Option ℕ → Painter
 column_painter x y0 y1 index u v = only_if (is_at x u && int_le y0 (pos v) && int_lt (pos v) y1) index
 

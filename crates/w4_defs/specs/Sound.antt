@@ -20,7 +20,7 @@ abbrev pub ticks_a_frame : ℕ
 ticks_a_frame = 735
 
 -- what goes on from tick to tick: the channels, the phase of each channel's oscillator, which rises by the
--- frequency modulo 44,100, and the noise register of 15 bits
+-- frequency modulo 44,100, and the noise register
 pub record Wave : Type 0 where
   pub channels : Channels
   pub phases : List ℕ
@@ -175,7 +175,7 @@ wav_header places =
     ++ to_le_bytes w16 4 ++ to_le_bytes w16 16
     ++ codes "data" ++ to_le_bytes w32 (samples_length places)
 
--- what goes on in a wave's ranges: four channels as they play, and four phases below 44,100
+-- a wave within its ranges: four channels as they play, and four phases below 44,100
 pub record IsWave (wave : Wave) : Type 0 where
   pub four_channels : length wave.channels ≡ 4
   pub channels : All IsPlaying wave.channels

@@ -1,5 +1,5 @@
 -- The state of a console between two frames, and the record that a reset or a frame leaves behind.
--- A state has no number of its frame (project rule), so that equal states go on alike.
+-- A state has no frame number (project rule), so that equal states go on alike.
 use Rattle.std.specs.Prelude.{ℕ, List, [], replicate, Option, None}
 use Rattle.w4_defs.specs.declared.value.Val.{Val}
 use Rattle.w4_defs.specs.declared.console.Halt.{Halt}

@@ -1,5 +1,6 @@
--- Trace lines (WASM-4 reference: `trace`, `traceUtf8`, `traceUtf16`, `tracef`). Project rule: a line is cut
--- after 128 bytes, and the places of tracef's format are those below.
+-- Trace lines (WASM-4 reference: `trace`, `traceUtf8`, `traceUtf16`, `tracef`). Project rules: a line is cut
+-- after 128 bytes, a UTF-16 unit above 255 is a question mark, and the conversions of tracef's format are
+-- those below.
 use Rattle.std.specs.Prelude.{◌≡◌, ℕ, ◌+◌, ◌%◌, ◌==◌, nat_le, ◌||◌, if◌then◌else◌, List, [], ◌∷◌, ◌++◌, map, take, take_while, not, drop, codes, false, length, replicate, refl}
 use Rattle.std.specs.Fmt.{digits, signed_decimal}
 use Rattle.w4_defs.specs.declared.console.TextSource.{TextSource}

@@ -1,4 +1,5 @@
--- Values by their types: which type a value has, and whether values are of the types of a list.
+-- Values by their types (Core Specification, sections 2.3.1 and 4.2.1): which type a value has, and whether
+-- values are of the types of a list.
 use Rattle.std.specs.Prelude.{ℕ, List, [], ◌∷◌, Bool, true, false, ◌&&◌, Option, Some, None}
 use Rattle.w4_defs.specs.declared.value.Val.{Val}
 use Rattle.w4_defs.specs.declared.value.Val.TheVariants as val

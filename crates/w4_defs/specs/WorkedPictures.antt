@@ -1,5 +1,6 @@
--- Worked pictures, each worked out from the rule in words: an oval that isn't square, lines that are steep or go
--- to the left, blits that are flipped, rotated or cut from a larger picture, and a glyph with ink on one side.
+-- Worked pictures, each worked out from the rule in words: an oval that isn't square, lines that are steep or
+-- go to the left, blits that are flipped, rotated or cut from a larger picture, and a glyph with ink on one
+-- side.
 use Rattle.std.specs.Prelude.{◌≡◌, ℕ, List, [], ◌∷◌, Option, Some, None, pos, refl}
 use Rattle.w4_defs.specs.declared.picture.Picture.{Picture}
 use Rattle.w4_defs.specs.Framebuffer.{Painter}
@@ -40,7 +41,8 @@ SteepAndLeftLines = let steep : Painter = line_painter 2 (pos 0) (pos 0) (pos 2)
 pub steep-and-left-lines : SteepAndLeftLines
 steep-and-left-lines = (refl, refl, refl, refl, refl, refl, refl, refl, refl)
 
--- 3 by 2 pixels of two bits, 1 2 3 over 0 0 1, each value in its own entry: flip x, flip y, rotated, and all three
+-- 3 by 2 pixels of two bits, 1 2 3 over 0 0 1, each value in its own entry: flip x, flip y, rotated, and all
+-- three
 abbrev pub picture : ℕ → Picture
 picture flags = record { colors = 17185; ptr = 0; w = 3; h = 2; src_x = 0; src_y = 0; stride = 3; flags = flags }
 

@@ -89,7 +89,7 @@ RefusalCases =
 pub refusal-cases : RefusalCases
 refusal-cases = (refl, refl, refl, refl, refl, refl, refl, refl, refl, refl, refl, refl, refl)
 
--- each multiple is kept that isn't, among what is
+-- each multiple of `every` that isn't kept yet is kept
 abbrev pub KeepEveryCases : Type 0
 KeepEveryCases =
     (multiples 3 6 ≡ 0 ∷ 3 ∷ 6 ∷ [])
@@ -124,7 +124,7 @@ HistoryCase =
 pub history-case : HistoryCase
 history-case = (refl, refl, refl, refl, refl)
 
--- ---- entries: states are rest_after apart by their disks
+-- ---- entries: states are told apart by their disks
 
 abbrev state : ℕ → State
 state n = record { page = []; globals = []; channels = silent; disk = n ∷ []; halt = Running }

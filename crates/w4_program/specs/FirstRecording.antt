@@ -1,8 +1,8 @@
 -- A recording, version 1, which is what the program reads and writes until it is given both versions (project
--- rule): `W4RC`, a byte 1, the cart's SHA-256, the budget of a frame, the disk's length and bytes, how many
--- frames, then nine bytes for each: pads 1 to 4, mouse x and y, mouse buttons. Numbers are little-endian, the
--- lengths and the budget of 2, 4 and 4 bytes. Nothing follows. The budget is at least 1, the disk has at most
--- 1,024 bytes, and there are at most 36,000 frames. No frame has a reset.
+-- rule): `W4RC`, a byte 1, the cart's SHA-256, the budget of the reset and of each frame, the disk's length
+-- and bytes, how many frames, then nine bytes for each: pads 1 to 4, mouse x and y, mouse buttons. Numbers
+-- are little-endian, the lengths and the budget of 2, 4 and 4 bytes. Nothing follows. The budget is at least
+-- 1, the disk has at most 1,024 bytes, and there are at most 36,000 frames. No frame has a reset.
 use Rattle.std.specs.Prelude.{ℕ, zero, suc, ◌*◌, ◌==◌, ◌&&◌, List, [], ◌∷◌, ◌++◌, length, take, drop, slice_index, Option, Some, None, false, nat_le, if◌then◌else◌}
 use Rattle.std.specs.Str.{bytes_eq}
 use Rattle.std.specs.List.{flat_map}

@@ -115,7 +115,7 @@ edit_answers m l = answers (setup_of m l.run) l.run.recording.disk l.run.recordi
 abbrev pub edited_recording : WasmModule → Loaded → Recording
 edited_recording m l = record l.run.recording { inputs = (edit_answers m l).inputs }
 
--- bytes on standard output, and no file
+-- bytes on standard output, and no file changed
 abbrev pub only_printed : List ℕ → Files → Output
 only_printed out files = record { out = out; files = files }
 

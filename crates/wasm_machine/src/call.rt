@@ -1,4 +1,4 @@
-//! Calls (Core Specification, section 4.4.10).
+//! Calls (Core Specification, sections 4.4.5 and 4.4.7).
 
 ghost use Rattle.std.specs.Prelude.{◌≡◌, ◌+◌, ◌<◌, ◌≤◌, ℕ, List, Some, length, slice_get};
 ghost use Rattle.w4_defs.specs.declared.operation.Op.TheVariants as op;

@@ -24,8 +24,6 @@ mod memory;
 mod operands;
 mod plain;
 mod run;
-#[cfg(test)]
-mod tests;
 mod value_stack;
 mod variables;
 

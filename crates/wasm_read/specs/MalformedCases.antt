@@ -1,5 +1,6 @@
--- Worked cases of bytes that encode no module: the smallest cart with a section's size in too many bytes, the same with
--- a size whose last byte has an unused bit, and a section that is said to be longer than all bytes are.
+-- Worked cases of bytes that encode no module: the smallest cart with a section's size in too many bytes, the
+-- same with a size whose last byte has an unused bit, and a section that is said to be longer than all bytes
+-- are.
 use Rattle.std.specs.Prelude.{ℕ, List, [], ◌∷◌, ◌++◌}
 use Rattle.w4_defs.specs.declared.refusal.CartKind.TheVariants.{Malformed}
 use Rattle.w4_defs.specs.BinaryModule.{preamble}

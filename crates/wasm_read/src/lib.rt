@@ -13,8 +13,6 @@ pub mod operation;
 pub mod part;
 pub mod refusal;
 pub mod section;
-#[cfg(test)]
-mod tests;
 pub mod value_type;
 
 pub use module::{at_most_one, read_module};

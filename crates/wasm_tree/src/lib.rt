@@ -17,6 +17,3 @@ pub use host::Host;
 pub use marks::Marks;
 pub use parts::{FlatBody, FlatElement, FlatGlobal, FlatSegment};
 pub use w4_defs::{Export, FuncType, ImportEntry, Op};
-
-#[cfg(test)]
-mod tests;

@@ -1,5 +1,5 @@
 //! What memory and numeric instructions take and what they give (Core Specification, sections 3.3.1 and
-//! 3.3.5), by the rows of their table.
+//! 3.3.4), by the rows of their table.
 
 ghost use Rattle.std.specs.Prelude.{◌^◌, ◌≡◌, ◌∷◌, Some, [], nat_le, true};
 ghost use Rattle.w4_defs.specs.InstructionTable.{value_type_of};

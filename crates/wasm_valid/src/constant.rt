@@ -1,4 +1,4 @@
-//! Expressions that are a single constant (Core Specification, section 3.3.10).
+//! Expressions that are a single constant (Core Specification, section 3.3.7).
 
 ghost use Rattle.std.specs.Bool.{Decides};
 ghost use Rattle.std.specs.Prelude.{◌≡◌, None, Option, Some};

@@ -1,0 +1,2 @@
+-- The words of the clauses on snapshots.
+pub mod Chunks
