@@ -4,9 +4,14 @@
 #![tactic(auto)]
 
 pub mod digest;
+mod fields;
+mod frames;
+mod ranges;
 pub mod reading;
 pub mod recording;
 pub mod refusal;
+#[cfg(test)]
+mod tests;
 pub mod writing;
 
 pub use digest::digest_of;

@@ -2,6 +2,7 @@
 
 ghost use Rattle.std.specs.Prelude.{◌≡◌, ◌≤◌, vec_len};
 
+use crate::ranges::{bytes_are_in_range, inputs_are_in_range};
 use std::marker::Model;
 use w4_defs::Input;
 
@@ -23,9 +24,19 @@ impl Model for Recording {
 
     ghost Value = { defs.Recording };
 
-    ghost view = { λ r. record { digest = r.digest; budget = r.budget; disk = r.disk.items; frames = r.frames.items } };
+    ghost view = { λ r. record {
+      digest = r.digest;
+      budget = r.budget;
+      disk = r.disk.items;
+      frames = r.frames.items;
+    } };
 
-    ghost invariant = { λ r. defs.IsRecording (record { digest = r.digest; budget = r.budget; disk = r.disk.items; frames = r.frames.items }) };
+    ghost invariant = { λ r. defs.IsRecording (record {
+      digest = r.digest;
+      budget = r.budget;
+      disk = r.disk.items;
+      frames = r.frames.items;
+    }) };
 }
 
 impl Recording {
@@ -34,8 +45,16 @@ impl Recording {
         requires budget { 1 ≤ budget }
         requires disk { vec_len disk ≤ 1024 }
         requires frames { vec_len frames ≤ 36000 }
-        ensures { result ≡ record { digest = digest; budget = budget; disk = disk.items; frames = frames.items } }
+        ensures { result ≡ record {
+          digest = digest;
+          budget = budget;
+          disk = disk.items;
+          frames = frames.items;
+        } }
     {
+        bytes_are_in_range(digest.as_slice());
+        bytes_are_in_range(disk.as_slice());
+        inputs_are_in_range(frames.as_slice());
         Recording {
             digest,
             budget,

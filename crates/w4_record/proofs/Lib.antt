@@ -1,0 +1,2 @@
+mod FrameLaws
+mod PartLaws
