@@ -1,0 +1,4 @@
+mod DigitLaws
+mod PieceLaws
+mod LineLaws
+mod OrderLaws

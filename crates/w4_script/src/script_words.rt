@@ -1,0 +1,58 @@
+//! The words that follow the names of a script's orders on places: a number within bounds, two places, a film.
+
+ghost use Rattle.std.specs.Prelude.{◌≡◌, ℕ, option_map};
+ghost use Rattle.w4_defs.specs.Script.{film_order, number_order, range_order};
+ghost use Rattle.w4_defs.specs.declared.order.Order.{Order};
+ghost use Rattle.w4_script.specs.Left.{words_left};
+
+use crate::number::number_of;
+use crate::order_words::one_number;
+use crate::words::Words;
+use w4_defs::Order;
+
+/// The one number that is left, from `least` to `most`.
+pub fn number_between(words: Words<'_>, least: u32, most: u32) -> Option<u32>
+    ensures { (make : ℕ → Order) → option_map make result ≡ number_order make least most (words_left words.entry) }
+{
+    let number = one_number(words)?;
+    if least <= number && number <= most {
+        Some(number)
+    } else {
+        None
+    }
+}
+
+/// The two numbers that are left, the first at most the second.
+pub fn range(mut words: Words<'_>) -> Option<(u32, u32)>
+    ensures { (make : ℕ → ℕ → Order) →
+        option_map (λ p. make p.0 p.1) result ≡ range_order make (words_left words.entry) }
+{
+    let first = words.next()?;
+    let last = words.next()?;
+    if words.next().is_some() {
+        return None;
+    }
+    let a = number_of(first)?;
+    let b = number_of(last)?;
+    if a <= b { Some((a, b)) } else { None }
+}
+
+/// The places of a film, the first at most the second, and 1 to 16 workers.
+pub fn film(mut words: Words<'_>) -> Option<Order>
+    ensures { result ≡ film_order (words_left words.entry) }
+{
+    let first = words.next()?;
+    let last = words.next()?;
+    let count = words.next()?;
+    if words.next().is_some() {
+        return None;
+    }
+    let a = number_of(first)?;
+    let b = number_of(last)?;
+    let workers = number_of(count)?;
+    if a <= b && 1 <= workers && workers <= 16 {
+        Some(Order::Film { a, b, workers })
+    } else {
+        None
+    }
+}

@@ -1,0 +1,118 @@
+//! What no clause says: that the clauses mean the rule on lines, words, numbers and orders, and that each call
+//! that takes memory gives its answer where there is ample memory.
+
+use crate::{Line, Order, ScriptRefusal, number_of, read_script, script_lines};
+use std::test::Fail;
+use std::vec::Vec;
+use w4_defs::Input;
+
+/// Whether a line has this number and these words.
+fn says(line: &Line, number: u32, words: &[&[u8]]) -> bool {
+    let mut same = line.number == number && line.words.len() == words.len();
+    for (word, want) in line.words.iter().zip(words) {
+        same = same && word.as_slice() == *want;
+    }
+    same
+}
+
+#[test]
+fn lines_have_numbers_and_words(rt: HostRuntime) -> Result<(), Fail> {
+    let lines = script_lines(rt.alloc(), b"show 0\nfilm 3 2 1\n")?;
+    assert_eq!(rt; lines.len(), 2);
+    assert!(rt; says(&lines[0], 1, &[b"show", b"0"]), "line 1");
+    assert!(rt; says(&lines[1], 2, &[b"film", b"3", b"2", b"1"]), "line 2");
+    let lines = script_lines(rt.alloc(), b"\n# undo\r\n  redo   01 \r\n\r\n #")?;
+    assert_eq!(rt; lines.len(), 1);
+    assert!(rt; says(&lines[0], 3, &[b"redo", b"01"]), "line 3");
+    Ok(())
+}
+
+#[test]
+fn numbers_have_up_to_ten_digits(rt: HostRuntime) {
+    assert_eq!(rt; number_of(b"4294967295"), Some(4_294_967_295));
+    assert_eq!(rt; number_of(b"4294967296"), None);
+    assert_eq!(rt; number_of(b"0000000012"), Some(12));
+    assert_eq!(rt; number_of(b"00000000012"), None);
+    assert_eq!(rt; number_of(b""), None);
+    assert_eq!(rt; number_of(b"-1"), None);
+}
+
+/// The input of the lines that set one.
+const INPUT: Input = Input {
+    pads: [27, 0, 0, 255],
+    mouse_x: -5,
+    mouse_y: 0,
+    buttons: 4,
+    reset: false,
+};
+
+#[test]
+fn orders_are_read(rt: HostRuntime) -> Result<(), Fail> {
+    let edits =
+        b"set 0 27 0 0 255 -5 -0 4\n# again\ninsert 7 27 0 0 255 -5 0 4 reset\r\ndelete 3\nundo\nredo";
+    let orders = read_script(rt.alloc(), edits)?;
+    assert!(rt;
+        orders.as_slice()
+            == [
+                Order::Set { k: 0, input: INPUT },
+                Order::Insert {
+                    k: 7,
+                    input: Input {
+                        reset: true,
+                        ..INPUT
+                    }
+                },
+                Order::Delete { k: 3 },
+                Order::Undo,
+                Order::Redo,
+            ]
+            .as_slice(),
+        "edits"
+    );
+    let others =
+        b"keep 9\nkeep-every 60\ndrop 0\nsettle 16\nshow 1\nfilm 2 2 1\ntones 0 9\ntraces 9 9\ndisk 5\nstate 6\n";
+    let orders = read_script(rt.alloc(), others)?;
+    assert!(rt;
+        orders.as_slice()
+            == [
+                Order::Keep { p: 9 },
+                Order::KeepEvery { every: 60 },
+                Order::DropKept { p: 0 },
+                Order::Settle { workers: 16 },
+                Order::Show { p: 1 },
+                Order::Film {
+                    a: 2,
+                    b: 2,
+                    workers: 1
+                },
+                Order::Tones { a: 0, b: 9 },
+                Order::Traces { a: 9, b: 9 },
+                Order::DiskAt { p: 5 },
+                Order::StateAt { p: 6 },
+            ]
+            .as_slice(),
+        "orders on places"
+    );
+    Ok(())
+}
+
+#[test]
+fn first_bad_line_is_named(rt: HostRuntime) {
+    let refusal = read_script(rt.alloc(), b"show 0\nfilm 3 2 1\n").err();
+    assert_eq!(rt; refusal, Some(ScriptRefusal::BadLine(2)));
+    let refusal = read_script(rt.alloc(), b"#\n\nundo\n\r\nredo 1\nbad").err();
+    assert_eq!(rt; refusal, Some(ScriptRefusal::BadLine(5)));
+}
+
+#[test]
+fn longest_script_is_read(rt: HostRuntime) -> Result<(), Fail> {
+    let mut spaces = Vec::new(rt.alloc());
+    spaces.resize(1_048_576, b' ')?;
+    assert_eq!(rt; read_script(rt.alloc(), &spaces)?.len(), 0);
+    spaces.push(b' ')?;
+    assert_eq!(rt;
+        read_script(rt.alloc(), &spaces).err(),
+        Some(ScriptRefusal::TooLong)
+    );
+    Ok(())
+}
