@@ -364,11 +364,23 @@ def named(body):
     return body.replace(" ", "-") or "nothing"
 
 
+def recording_front(version, cart, budget, disk, count):
+    """The bytes of a recording before its frames."""
+    digest = hashlib.sha256(CARTS[cart]).digest()
+    return (b"W4RC" + bytes([version]) + digest + struct.pack("<IH", budget, len(disk)) + disk
+            + struct.pack("<I", count))
+
+
 def recording(cart, budget, pads, disk=b""):
     """A recording of version 1, with this first pad in each frame."""
-    digest = hashlib.sha256(CARTS[cart]).digest()
-    front = b"W4RC\x01" + digest + struct.pack("<IH", budget, len(disk)) + disk
-    return front + struct.pack("<I", len(pads)) + b"".join(bytes([pad]) + bytes(8) for pad in pads)
+    frames = b"".join(bytes([pad]) + bytes(8) for pad in pads)
+    return recording_front(1, cart, budget, disk, len(pads)) + frames
+
+
+def recording_2(cart, budget, pads, flags, disk=b""):
+    """A recording of version 2, with this first pad in each frame, and this flag: 1 for a reset, else 0."""
+    frames = b"".join(bytes([pad]) + bytes(8) + bytes([flag]) for pad, flag in zip(pads, flags, strict=True))
+    return recording_front(2, cart, budget, disk, len(pads)) + frames
 
 
 RECORDINGS = {
@@ -376,8 +388,21 @@ RECORDINGS = {
     "first": recording("first", 100_000, [0, 0]),
     "first-27": recording("first", 100_000, [27, 0]),
     "first-0-1-2": recording("first", 100_000, [0, 1, 2]),
+    "first-version-2": recording_2("first", 100_000, [0, 0], [0, 0]),
+    "first-0-1-2-version-2": recording_2("first", 100_000, [0, 1, 2], [0, 0, 0]),
+    # a budget of 0; a byte less and a byte more; a disk of 1,025 bytes
     "first-without-budget": recording("first", 0, [0, 0]),
     "first-cut": recording("first", 100_000, [0, 0])[:-1],
+    "first-and-a-byte": recording("first", 100_000, [0, 0]) + b"\x00",
+    "first-version-2-cut": recording_2("first", 100_000, [0, 0], [0, 0])[:-1],
+    "first-version-2-and-a-byte": recording_2("first", 100_000, [0, 0], [0, 0]) + b"\x00",
+    "first-with-a-long-disk": recording("first", 100_000, [0, 0], bytes(1_025)),
+    # another version; frames of the other version; a flag of 2
+    "first-version-3": b"W4RC\x03" + recording_2("first", 100_000, [0, 0], [0, 0])[5:],
+    "first-version-1-in-tens": b"W4RC\x01" + recording_2("first", 100_000, [0, 0], [0, 0])[5:],
+    "first-version-2-in-nines": b"W4RC\x02" + recording("first", 100_000, [0, 0])[5:],
+    "first-with-a-flag-of-2": recording_2("first", 100_000, [0, 0], [0, 2]),
+    "smallest-and-a-byte": recording("smallest", 100_000, [0]) + b"\x00",
     "three-nops-of-3": recording("three-nops", 3, [0]),
     "three-nops-of-2": recording("three-nops", 2, [0]),
     "endless-loop": recording("endless-loop", 1_000, [0]),
@@ -389,6 +414,9 @@ RECORDINGS = {
     "divides-by-zero": recording("divides-by-zero", 100_000, [0]),
     "loads-by-pad": recording("loads-by-pad", 100_000, [0, 1, 0]),
     "loads-by-pad-0": recording("loads-by-pad", 100_000, [0, 0, 0]),
+    # pad 1 is 1, 0 and 0: without a reset, and with one in the second frame
+    "loads-by-pad-1": recording("loads-by-pad", 100_000, [1, 0, 0]),
+    "loads-by-pad-reset": recording_2("loads-by-pad", 100_000, [1, 0, 0], [0, 1, 0]),
     "store-past-the-page": recording("store-past-the-page", 100_000, [1, 2, 3]),
     "pixels-then-a-trap": recording("pixels-then-a-trap", 100_000, [1, 2, 3]),
     "extends-a-byte": recording("extends-a-byte", 100_000, [0]),
@@ -413,6 +441,8 @@ def main():
         write(f"carts/{name}.wasm", cart)
     for length in range(64):
         write(f"fronts/{length:02}.wasm", FIRST[:length])
+    for length in range(65):
+        write(f"fronts/{length:02}.w4rec", RECORDINGS["first"][:length])
     for body in UPDATES.strip("\n").split("\n"):
         write(f"bodies/{named(body)}.wasm", two_bodies(body, "20 00"))
     for body in SECONDS.strip("\n").split("\n"):

@@ -29,6 +29,30 @@ def of_framebuffer(front):
     return entry_of
 
 
+def written(recording):
+    """A recording of version 1 as it is written, in version 2: no frame has a reset."""
+    assert recording[:5] == b"W4RC\x01"
+    disk_end = 43 + int.from_bytes(recording[41:43], "little")
+    front, frames = recording[5:disk_end + 4], recording[disk_end + 4:]
+    assert len(frames) == 9 * int.from_bytes(recording[disk_end:disk_end + 4], "little")
+    return b"W4RC\x02" + front + b"".join(frames[at:at + 9] + b"\x00" for at in range(0, len(frames), 9))
+
+
+# The recordings that edits of cases leave.
+INPUTS = os.path.join(HERE, os.pardir, "inputs")
+LEFT = """
+calls-itself-of-4095 calls-itself-of-4096 copy-past-the-page divides-by-zero endless-loop fills-of-103 fills-of-104
+first first-27 loads-by-pad-0 loads-by-pad-1 nested-blocks-of-19999 nested-blocks-of-20000 store-past-the-page
+three-nops-of-2 three-nops-of-3 unreachable writes-a-long-disk
+"""
+for folder, names in (("recordings", [name + ".w4rec" for name in LEFT.split()]),
+                      ("machine", sorted(os.listdir(os.path.join(INPUTS, "machine"))))):
+    os.makedirs(os.path.join(HERE, folder), exist_ok=True)
+    for name in names:
+        if name.endswith(".w4rec"):
+            with open(os.path.join(INPUTS, folder, name), "rb") as file:
+                write(os.path.join(folder, name), written(file.read()))
+
 # A page on which nothing was painted.
 write("clear.ppm", image(of_framebuffer(b"")))
 # The first byte of the framebuffer is pad 1: 27, 1 and 2.

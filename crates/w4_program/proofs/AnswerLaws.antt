@@ -4,7 +4,7 @@ use Rattle.std.specs.Prelude.{OnOk, IfOk, Result, Ok, Err}
 use Rattle.std.proofs.lemmas.Bool.{lt-leb, le-leb, le-ltb}
 use Rattle.std.proofs.Math.ListN.{drop_of_length-le}
 use Rattle.w4_defs.specs.declared.console.Input.{Input}
-use Rattle.w4_program.specs.declared.order.Order.{Order}
+use Rattle.w4_defs.specs.declared.order.Order.{Order}
 use Rattle.w4_defs.specs.Reset.{Setup}
 use Rattle.w4_defs.specs.Run.{run}
 use Rattle.w4_house.specs.World.{World, Appends}

@@ -1,12 +1,14 @@
--- A cart's file: it wasn't read, or its bytes are a cart or none.
-use Rattle.std.proofs.Common.{◌≡◌, ℕ, inl, inr, List, Ok, refl}
+-- A cart's file: it wasn't read, or its bytes are a cart, whose runs have a meaning, or none.
+use Rattle.std.proofs.Common.{◌≡◌, ℕ, inl, inr, List, Result, Ok, Err, refl}
 use Rattle.std.specs.Option.{ForSome}
 use Rattle.w4_defs.specs.declared.refusal.CartKind.{CartKind}
-use Rattle.w4_defs.specs.Module.{WasmModule}
+use Rattle.sha2.specs.Sha256.{sha256}
 use Rattle.w4_defs.specs.Cart.{IsCart, IsRefused}
-use Rattle.w4_house.specs.World.{World}
-use Rattle.w4_program.specs.Refusals.{CartRefused, Manner, Finished, Formless, ReadFailed, WriteFailed, NoMemory, Refused}
-use Rattle.w4_program.specs.Output.{reading, CartIn}
+use Rattle.w4_console.specs.Meaning.{RunsHaveMeaning, AcceptedRunsHaveMeaning}
+use Rattle.w4_house.specs.World.{Files, World}
+use Rattle.w4_program.specs.Refusals.{Refusal, CartRefused, Manner, Finished, Formless, ReadFailed, WriteFailed, NoMemory, Refused}
+use Rattle.w4_program.specs.Output.{CartFile, JudgedCart, CartIn, reading}
+use Rattle.w4_program.specs.CartRuns.{CartRunsHaveMeaning}
 use Rattle.w4_program.specs.Causes.{ResultsIn, Refuses, Stops}
 
 pub cart_unread : (old new : World) (why : Manner) (name : List ℕ)
@@ -20,12 +22,29 @@ cart_unread old new WriteFailed name h = h
 cart_unread old new NoMemory name h = tt
 cart_unread old new (Refused refusal) name h = λ files texts. rw (h files texts) refl
 
-pub cart_given : (old : World) (name bytes : List ℕ) (m : WasmModule)
-    → ForSome old.files (λ files. reading files name 65537 ≡ Ok bytes) → IsCart bytes m
-    → ForSome old.files (λ files. CartIn name files (Ok m))
-cart_given old name bytes m given cart = λ files texts. rw (given files texts) cart
+pub cart_given : (old : World) (name bytes : List ℕ) (cart : CartFile)
+    → ForSome old.files (λ files. reading files name 65537 ≡ Ok bytes) → IsCart bytes cart.code
+    → cart.digest ≡ sha256 bytes
+    → ForSome old.files (λ files. CartIn name files (Ok cart))
+cart_given old name bytes cart given is digest = λ files texts. rw (given files texts) (is, digest)
 
 pub cart_refused : (old : World) (name bytes : List ℕ) (kind : CartKind)
     → ForSome old.files (λ files. reading files name 65537 ≡ Ok bytes) → IsRefused bytes kind
     → Refuses old (CartRefused kind) (λ files cart. CartIn name files cart)
 cart_refused old name bytes kind given refused = λ files texts. rw (given files texts) refused
+
+not_both : (cart : CartFile) (refusal : Refusal) (found : Result CartFile Refusal) → found ≡ Ok cart
+    → found ≡ Err refusal → ⊥
+not_both cart refusal found one other = cc
+
+judged_cart_runs : AcceptedRunsHaveMeaning
+    → (found : Result (List ℕ) Refusal) (cart : CartFile) → JudgedCart found (Ok cart)
+    → RunsHaveMeaning cart.code
+judged_cart_runs law (Err refusal) cart judged = absurd (not_both cart refusal (Ok cart) refl judged)
+judged_cart_runs law (Ok bytes) cart judged = law bytes cart.code judged.0
+
+-- each run of a cart that the words name has a meaning
+pub cart_runs : AcceptedRunsHaveMeaning
+    → (words : List (List ℕ)) (files : Files) → CartRunsHaveMeaning words files
+cart_runs law words files = λ name named cart judged.
+    judged_cart_runs law (reading files name 65537) cart judged

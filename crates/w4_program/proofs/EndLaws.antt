@@ -1,15 +1,14 @@
 -- How the whole ended, put together from how its steps ended; and what each status then says.
 use Rattle.std.proofs.Common.{◌≡◌, ℕ, ◌≤◌, ◌⊎◌, inl, inr, List, Result, Ok, Err, refl, sym, subst, ◌∙◌}
 use Rattle.std.specs.Option.{ForSome}
-use Rattle.w4_defs.specs.Module.{WasmModule}
-use Rattle.w4_program.specs.FirstRecording.{spelling}
+use Rattle.w4_defs.specs.Recording.{encoding}
 use Rattle.w4_house.specs.World.{Files, World, Rises, LeavesReading, LeavesPrinting, LeavesReporting}
 use Rattle.w4_house.proofs.WorldLaws.{rises_later}
 use Rattle.w4_program.specs.declared.status.Status.{Status}
 use Rattle.w4_program.specs.declared.status.Status.TheVariants as status
 use Rattle.w4_program.specs.Refusals.{Refusal, NoFile, Manner, Finished, Formless, ReadFailed, WriteFailed, NoMemory, Refused, manner_of}
 use Rattle.w4_program.specs.Forms.{EditWords}
-use Rattle.w4_program.specs.Output.{◌>>=◌, Output, Loaded, edit_files, edit_answers, edited_recording, only_printed, edit_result, edit_output, CartIn, OverCart}
+use Rattle.w4_program.specs.Output.{◌>>=◌, CartFile, Output, Loaded, edit_files, edit_answers, edited_recording, only_printed, edit_result, edit_output, CartIn, OverCart}
 use Rattle.w4_program.specs.Causes.{ResultsIn, ReadFails, Stops, StopsWriting, LeavesOutputs, Writes, Ends, Carries, Prints}
 use Rattle.w4_program.proofs.StepLaws.{stops_first}
 
@@ -57,7 +56,7 @@ prints_formed old new why out h e = subst (λ s. Prints old new (manner_of s) ou
 
 -- the cart wasn't read or is none
 pub ends_unjudged : (old new : World) (why : Manner) (name : List ℕ)
-    (make : WasmModule → Files → Result Output Refusal)
+    (make : CartFile → Files → Result Output Refusal)
     → LeavesReading old new
     → Stops old new why (λ files cart. CartIn name files cart)
     → Ends old new why (λ files made. OverCart name make files made)
@@ -72,34 +71,34 @@ ends_unjudged old new (Refused refusal) name make leaves h =
     ((λ files texts. (Err refusal, h files texts, refl)), (leaves.out, leaves.files))
 
 -- the cart was judged, and the rest ended so
-pub ends_judged : (first second third : World) (why : Manner) (name : List ℕ) (m : WasmModule)
-    (make : WasmModule → Files → Result Output Refusal)
+pub ends_judged : (first second third : World) (why : Manner) (name : List ℕ) (cart : CartFile)
+    (make : CartFile → Files → Result Output Refusal)
     → LeavesReading first second
-    → ForSome first.files (λ files. CartIn name files (Ok m))
-    → Ends second third why (ResultsIn (λ files. make m files))
+    → ForSome first.files (λ files. CartIn name files (Ok cart))
+    → Ends second third why (ResultsIn (λ files. make cart files))
     → Ends first third why (λ files made. OverCart name make files made)
-ends_judged first second third Finished name m make leaves given h = λ files texts.
+ends_judged first second third Finished name cart make leaves given h = λ files texts.
     let made = h files (leaves.files ∙ texts) in
-    (made.0, (Ok m, given files texts, made.1), ((λ before t. made.2.0 before (leaves.out ∙ t)), made.2.1))
-ends_judged first second third Formless name m make leaves given h = (
-  (λ files texts. (Ok m, given files texts, h.0 files (leaves.files ∙ texts))),
+    (made.0, (Ok cart, given files texts, made.1), ((λ before t. made.2.0 before (leaves.out ∙ t)), made.2.1))
+ends_judged first second third Formless name cart make leaves given h = (
+  (λ files texts. (Ok cart, given files texts, h.0 files (leaves.files ∙ texts))),
   (h.1.0 ∙ leaves.out, h.1.1 ∙ leaves.files),
 )
-ends_judged first second third ReadFailed name m make leaves given (inl rise, same) = (
+ends_judged first second third ReadFailed name cart make leaves given (inl rise, same) = (
   inl (rises_later first.read_faults second.read_faults third.read_faults leaves.later rise),
   (same.0 ∙ leaves.out, same.1 ∙ leaves.files),
 )
-ends_judged first second third ReadFailed name m make leaves given (inr (files, texts, none), same) = (
-  inr (files, sym leaves.files ∙ texts, (Ok m, given files (sym leaves.files ∙ texts), none)),
+ends_judged first second third ReadFailed name cart make leaves given (inr (files, texts, none), same) = (
+  inr (files, sym leaves.files ∙ texts, (Ok cart, given files (sym leaves.files ∙ texts), none)),
   (same.0 ∙ leaves.out, same.1 ∙ leaves.files),
 )
-ends_judged first second third WriteFailed name m make leaves given h = (
+ends_judged first second third WriteFailed name cart make leaves given h = (
   subst (λ n. Rises n third.write_faults) leaves.writes h.0,
-  λ files texts. let made = h.1 files (leaves.files ∙ texts) in (made.0, (Ok m, given files texts, made.1)),
+  λ files texts. let made = h.1 files (leaves.files ∙ texts) in (made.0, (Ok cart, given files texts, made.1)),
 )
-ends_judged first second third NoMemory name m make leaves given h = tt
-ends_judged first second third (Refused refusal) name m make leaves given h = (
-  (λ files texts. (Ok m, given files texts, h.0 files (leaves.files ∙ texts))),
+ends_judged first second third NoMemory name cart make leaves given h = tt
+ends_judged first second third (Refused refusal) name cart make leaves given h = (
+  (λ files texts. (Ok cart, given files texts, h.0 files (leaves.files ∙ texts))),
   (h.1.0 ∙ leaves.out, h.1.1 ∙ leaves.files),
 )
 
@@ -149,26 +148,26 @@ ends_texts first second third NoMemory step g out leaves rest given h = tt
 ends_texts first second third (Refused refusal) step g out leaves rest given h = absurd h
 
 -- it was, and an edit was carried out
-pub ends_carried : (first second third : World) (why : Manner) (words : EditWords) (m : WasmModule)
+pub ends_carried : (first second third : World) (why : Manner) (words : EditWords) (cart : CartFile)
     (l : Loaded)
     → LeavesReading first second
-    → ForSome first.files (λ files. edit_files words files ≡ Ok l)
-    → Carries second third why (edit_answers m l).out words.out (spelling (edited_recording m l))
-    → Ends first third why (ResultsIn (λ files. edit_output words m files))
+    → ForSome first.files (λ files. edit_files cart.digest words files ≡ Ok l)
+    → Carries second third why (edit_answers cart.code l).out words.out (encoding 2 (edited_recording cart.code l))
+    → Ends first third why (ResultsIn (λ files. edit_output words cart files))
 unfolding edit_output
-ends_carried first second third Finished words m l leaves given h = λ files texts. (
-  edit_result m l words.out files,
+ends_carried first second third Finished words cart l leaves given h = λ files texts. (
+  edit_result cart.code l words.out files,
   rw (given files texts) refl,
   ((λ before t. h.0 before (leaves.out ∙ t)), h.1 files (leaves.files ∙ texts)),
 )
-ends_carried first second third Formless words m l leaves given h = absurd h
-ends_carried first second third ReadFailed words m l leaves given h = absurd h
-ends_carried first second third WriteFailed words m l leaves given h = (
+ends_carried first second third Formless words cart l leaves given h = absurd h
+ends_carried first second third ReadFailed words cart l leaves given h = absurd h
+ends_carried first second third WriteFailed words cart l leaves given h = (
   subst (λ n. Rises n third.write_faults) leaves.writes h,
-  λ files texts. (edit_result m l words.out files, rw (given files texts) refl),
+  λ files texts. (edit_result cart.code l words.out files, rw (given files texts) refl),
 )
-ends_carried first second third NoMemory words m l leaves given h = tt
-ends_carried first second third (Refused refusal) words m l leaves given h = absurd h
+ends_carried first second third NoMemory words cart l leaves given h = tt
+ends_carried first second third (Refused refusal) words cart l leaves given h = absurd h
 
 writes_reported : (old mid new : World) (made : Output) → LeavesReporting mid new → Writes old mid made
     → Writes old new made

@@ -10,9 +10,9 @@ use Rattle.w4_defs.specs.Validity.{IsFirstUntyped, IsValid}
 use Rattle.w4_defs.specs.Cart.{IsInvalid, IsCart, IsRefused}
 use Rattle.wasm_read.specs.Unique.{AtMostOneModule}
 use Rattle.w4_house.specs.World.{Files}
-use Rattle.w4_program.specs.Refusals.{Refusal, Usage, NoFile, CartRefused, FontRefused, FrameRefused, NotBuilt}
+use Rattle.w4_program.specs.Refusals.{Refusal, Usage, NoFile, CartRefused, RecordingRefused, FontRefused, ScriptRefused, FrameRefused, NotBuilt}
 use Rattle.w4_program.specs.Forms.{Form, form_of}
-use Rattle.w4_program.specs.Output.{Output, ◌>>=◌, JudgedCart, OverFile, OutputsForm, cart_word, output_of}
+use Rattle.w4_program.specs.Output.{CartFile, Output, ◌>>=◌, JudgedCart, OverFile, OutputsForm, cart_word, output_of}
 use Rattle.w4_program.specs.OneOutput.{AtMostOneOutput}
 
 -- the first function without a typing is one
@@ -84,41 +84,54 @@ refused_once unique bytes (Invalid f) (Invalid g) (short, m, spelled, none, inva
     ap (λ func. Invalid func)
     (invalid_once n f g (subst (λ x. IsInvalid x f) (unique bytes m n spelled spelt) invalid) other)
 
-judged_once : AtMostOneModule → (found : Result (List ℕ) Refusal) (cart other : Result WasmModule Refusal)
+-- a cart is its code and its digest
+same_cart : (cart other : CartFile) → cart.code ≡ other.code → cart.digest ≡ other.digest → cart ≡ other
+same_cart cart other code digest =
+    ap (λ (m : WasmModule). record { code = m; digest = cart.digest }) code
+    ∙ ap (λ (d : List ℕ). record { code = other.code; digest = d }) digest
+
+judged_once : AtMostOneModule → (found : Result (List ℕ) Refusal) (cart other : Result CartFile Refusal)
     → JudgedCart found cart → JudgedCart found other → cart ≡ other
 judged_once unique (Err refusal) cart other one two = one ∙ sym two
-judged_once unique (Ok bytes) (Ok m) (Ok n) one two =
-    ap (λ (x : WasmModule). Ok x) (unique bytes m n one.1 two.1)
-judged_once unique (Ok bytes) (Ok m) (Err (CartRefused l)) one two =
-    absurd (never_both unique bytes m l one two)
-judged_once unique (Ok bytes) (Ok m) (Err Usage) one two = absurd two
-judged_once unique (Ok bytes) (Ok m) (Err NoFile) one two = absurd two
-judged_once unique (Ok bytes) (Ok m) (Err FontRefused) one two = absurd two
-judged_once unique (Ok bytes) (Ok m) (Err (FrameRefused number n)) one two = absurd two
-judged_once unique (Ok bytes) (Ok m) (Err NotBuilt) one two = absurd two
-judged_once unique (Ok bytes) (Err (CartRefused k)) (Ok n) one two =
-    absurd (never_both unique bytes n k two one)
+judged_once unique (Ok bytes) (Ok cart) (Ok other) one two =
+    ap (λ (c : CartFile). Ok c)
+    (same_cart cart other (unique bytes cart.code other.code one.0.1 two.0.1) (one.1 ∙ sym two.1))
+judged_once unique (Ok bytes) (Ok cart) (Err (CartRefused l)) one two =
+    absurd (never_both unique bytes cart.code l one.0 two)
+judged_once unique (Ok bytes) (Ok cart) (Err Usage) one two = absurd two
+judged_once unique (Ok bytes) (Ok cart) (Err NoFile) one two = absurd two
+judged_once unique (Ok bytes) (Ok cart) (Err (RecordingRefused kind)) one two = absurd two
+judged_once unique (Ok bytes) (Ok cart) (Err FontRefused) one two = absurd two
+judged_once unique (Ok bytes) (Ok cart) (Err (ScriptRefused kind)) one two = absurd two
+judged_once unique (Ok bytes) (Ok cart) (Err (FrameRefused number n)) one two = absurd two
+judged_once unique (Ok bytes) (Ok cart) (Err NotBuilt) one two = absurd two
+judged_once unique (Ok bytes) (Err (CartRefused k)) (Ok cart) one two =
+    absurd (never_both unique bytes cart.code k two.0 one)
 judged_once unique (Ok bytes) (Err (CartRefused k)) (Err (CartRefused l)) one two =
     ap (λ kind. Err (CartRefused kind)) (refused_once unique bytes k l one two)
 judged_once unique (Ok bytes) (Err (CartRefused k)) (Err Usage) one two = absurd two
 judged_once unique (Ok bytes) (Err (CartRefused k)) (Err NoFile) one two = absurd two
+judged_once unique (Ok bytes) (Err (CartRefused k)) (Err (RecordingRefused kind)) one two = absurd two
 judged_once unique (Ok bytes) (Err (CartRefused k)) (Err FontRefused) one two = absurd two
+judged_once unique (Ok bytes) (Err (CartRefused k)) (Err (ScriptRefused kind)) one two = absurd two
 judged_once unique (Ok bytes) (Err (CartRefused k)) (Err (FrameRefused number n)) one two = absurd two
 judged_once unique (Ok bytes) (Err (CartRefused k)) (Err NotBuilt) one two = absurd two
 judged_once unique (Ok bytes) (Err Usage) other one two = absurd one
 judged_once unique (Ok bytes) (Err NoFile) other one two = absurd one
+judged_once unique (Ok bytes) (Err (RecordingRefused kind)) other one two = absurd one
 judged_once unique (Ok bytes) (Err FontRefused) other one two = absurd one
+judged_once unique (Ok bytes) (Err (ScriptRefused kind)) other one two = absurd one
 judged_once unique (Ok bytes) (Err (FrameRefused number n)) other one two = absurd one
 judged_once unique (Ok bytes) (Err NotBuilt) other one two = absurd one
 
 over_once : AtMostOneModule
-    → (word : Option (List ℕ)) (make : WasmModule → Files → Result Output Refusal) (files : Files)
+    → (word : Option (List ℕ)) (make : CartFile → Files → Result Output Refusal) (files : Files)
     (made other : Result Output Refusal)
     → OverFile word make files made → OverFile word make files other → made ≡ other
 over_once unique None make files made other one two = one ∙ sym two
 over_once unique (Some name) make files made other (cart, judged, e) (again, rejudged, d) =
     sym e
-    ∙ ap (λ (c : Result WasmModule Refusal). c >>= λ m. make m files)
+    ∙ ap (λ (c : Result CartFile Refusal). c >>= λ x. make x files)
     (judged_once unique _ cart again judged rejudged)
     ∙ d
 

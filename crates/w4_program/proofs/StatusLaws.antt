@@ -3,16 +3,23 @@ use Rattle.std.proofs.Common.{◌≡◌, ℕ, ◌⊎◌, inl, inr, List, Some, O
 use Rattle.std.specs.Option.{ForSome}
 use Rattle.w4_defs.specs.declared.refusal.CartKind.{CartKind}
 use Rattle.w4_house.specs.World.{Files, World, Rises, Appends}
+use Rattle.w4_program.specs.declared.status.RecordingKind.{RecordingKind}
+use Rattle.w4_program.specs.declared.status.ScriptKind.{ScriptKind}
 use Rattle.w4_program.specs.declared.status.Status.{Status}
 use Rattle.w4_program.specs.declared.status.Status.TheVariants as status
-use Rattle.w4_program.specs.Refusals.{Refusal, Usage, NoFile, CartRefused, FontRefused, FrameRefused, NotBuilt, manner_of}
+use Rattle.w4_program.specs.Refusals.{Refusal, Usage, NoFile, CartRefused, RecordingRefused, FontRefused, ScriptRefused, FrameRefused, NotBuilt, manner_of}
 use Rattle.w4_program.specs.Output.{Output}
-use Rattle.w4_program.specs.Causes.{ReadFails, Refuses, LeavesOutputs, Ends, IsExact, IsRefusal, Reports, Writes, LeavesErr}
+use Rattle.w4_program.specs.Causes.{ReadFails, Refuses, LeavesOutputs, Ends, IsExact, IsRefusal, Reports, LeavesErr}
 
 pub done : (old new : World) (result : Status) (step : Files → Result Output Refusal → Type 0)
-    → Ends old new (manner_of result) step → result ≡ status.Done
-    → ForSome old.files (λ files. (made : Output) × step files (Ok made) × Writes old new made)
-done old new result step h e = subst (λ s. Ends old new (manner_of s) step) e h
+    (Means : Files → Type 0)
+    → Ends old new (manner_of result) step → ((files : Files) → Means files) → result ≡ status.Done
+    → ForSome old.files
+    (λ files. (made : Output) × step files (Ok made) × Appends old.out new.out made.out
+    × (new.files ≡ Some made.files) × Means files)
+done old new result step Means h means e = λ files texts.
+    let made = subst (λ s. Ends old new (manner_of s) step) e h files texts in
+    (made.0, made.1, made.2.0, made.2.1, means files)
 
 pub write_fault : (old new : World) (result : Status) (step : Files → Result Output Refusal → Type 0)
     → Ends old new (manner_of result) step → result ≡ status.WriteFault
@@ -29,10 +36,20 @@ pub cart_refused : (old new : World) (result : Status) (step : Files → Result 
     → (kind : CartKind) → result ≡ status.CartRefused kind → Refuses old (CartRefused kind) step
 cart_refused old new result step h kind e = (subst (λ s. Ends old new (manner_of s) step) e h).0
 
+pub recording_refused : (old new : World) (result : Status) (step : Files → Result Output Refusal → Type 0)
+    → Ends old new (manner_of result) step
+    → (kind : RecordingKind) → result ≡ status.RecordingRefused kind → Refuses old (RecordingRefused kind) step
+recording_refused old new result step h kind e = (subst (λ s. Ends old new (manner_of s) step) e h).0
+
 pub font_refused : (old new : World) (result : Status) (step : Files → Result Output Refusal → Type 0)
     → Ends old new (manner_of result) step
     → result ≡ status.FontRefused → Refuses old FontRefused step
 font_refused old new result step h e = (subst (λ s. Ends old new (manner_of s) step) e h).0
+
+pub script_refused : (old new : World) (result : Status) (step : Files → Result Output Refusal → Type 0)
+    → Ends old new (manner_of result) step
+    → (kind : ScriptKind) → result ≡ status.ScriptRefused kind → Refuses old (ScriptRefused kind) step
+script_refused old new result step h kind e = (subst (λ s. Ends old new (manner_of s) step) e h).0
 
 pub frame_refused : (old new : World) (result : Status) (step : Files → Result Output Refusal → Type 0)
     → Ends old new (manner_of result) step
@@ -48,7 +65,9 @@ pub refused : (old new : World) (result : Status) (step : Files → Result Outpu
 refused old new status.Done step h r = absurd r
 refused old new status.Usage step h r = h.1
 refused old new (status.CartRefused kind) step h r = h.1
+refused old new (status.RecordingRefused kind) step h r = h.1
 refused old new status.FontRefused step h r = h.1
+refused old new (status.ScriptRefused kind) step h r = h.1
 refused old new status.ReadFault step h r = h.1
 refused old new status.WriteFault step h r = absurd r
 refused old new status.OutOfMemory step h r = absurd r
@@ -81,8 +100,12 @@ exact old new status.Done step h =
 exact old new status.Usage step h = λ files texts reads writes. inr (Err Usage, h.0 files texts, refl)
 exact old new (status.CartRefused kind) step h =
     λ files texts reads writes. inr (Err (CartRefused kind), h.0 files texts, refl)
+exact old new (status.RecordingRefused kind) step h =
+    λ files texts reads writes. inr (Err (RecordingRefused kind), h.0 files texts, refl)
 exact old new status.FontRefused step h =
     λ files texts reads writes. inr (Err FontRefused, h.0 files texts, refl)
+exact old new (status.ScriptRefused kind) step h =
+    λ files texts reads writes. inr (Err (ScriptRefused kind), h.0 files texts, refl)
 exact old new status.ReadFault step (inl rise, same) = λ files texts reads writes. absurd (reads rise)
 exact old new status.ReadFault step (inr (found, known, absent), same) = λ files texts reads writes.
     inr (Err NoFile, subst (λ fs. step fs (Err NoFile)) (some_is found files (sym known ∙ texts)) absent, refl)

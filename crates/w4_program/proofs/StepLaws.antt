@@ -6,7 +6,7 @@ use Rattle.w4_house.proofs.WorldLaws.{rises_later}
 use Rattle.w4_program.specs.declared.status.Status.{Status}
 use Rattle.w4_program.specs.Refusals.{Refusal, Manner, Finished, Formless, ReadFailed, WriteFailed, NoMemory, Refused, manner_of}
 use Rattle.w4_program.specs.Output.{◌>>=◌, reading, judged}
-use Rattle.w4_program.specs.Reads.{GivesNoValue, GivesValue}
+use Rattle.w4_program.specs.Reads.{GivesRefusal, GivesValue}
 use Rattle.w4_program.specs.Causes.{ResultsIn, Stops, StepGives}
 
 -- what stops a step stops what begins with it
@@ -48,26 +48,24 @@ gives_then first second step x next y leaves one other =
     λ files texts. rw (one files texts) (other files (leaves.files ∙ texts))
 
 -- a file that was read and then found wrong
-pub unread_stops : {Y : Type 0} (old new : World) (why : Manner) (refusal : Refusal)
-    (judge : List ℕ → Option Y) (limit : ℕ) (name bytes : List ℕ)
+pub unread_stops : {Y : Type 0} (old new : World) (why : Manner) (judge : List ℕ → Result Y Refusal) (limit : ℕ)
+    (name bytes : List ℕ)
     → ForSome old.files (λ files. reading files name (limit + 1) ≡ Ok bytes)
-    → GivesNoValue refusal why (judge bytes)
-    → Stops old new why (ResultsIn (λ files. judged limit refusal judge files name))
-unread_stops old new Finished refusal judge limit name bytes given h = absurd h
-unread_stops old new Formless refusal judge limit name bytes given h = absurd h
-unread_stops old new ReadFailed refusal judge limit name bytes given h = absurd h
-unread_stops old new WriteFailed refusal judge limit name bytes given h = absurd h
-unread_stops old new NoMemory refusal judge limit name bytes given h = tt
-unread_stops old new (Refused why) refusal judge limit name bytes given h =
-    λ files texts. rw (given files texts, h.0, h.1) refl
+    → GivesRefusal why (judge bytes)
+    → Stops old new why (ResultsIn (λ files. judged limit judge files name))
+unread_stops old new Finished judge limit name bytes given h = absurd h
+unread_stops old new Formless judge limit name bytes given h = absurd h
+unread_stops old new ReadFailed judge limit name bytes given h = absurd h
+unread_stops old new WriteFailed judge limit name bytes given h = absurd h
+unread_stops old new NoMemory judge limit name bytes given h = tt
+unread_stops old new (Refused refusal) judge limit name bytes given h = λ files texts. rw (given files texts) h
 
 -- a file that was read and then judged
-pub judged_by : {X Y : Type 0} (old new : World) (refusal : Refusal) (view : X → Y) (result : Result X Status)
-    (judge : List ℕ → Option Y) (limit : ℕ) (name bytes : List ℕ)
+pub judged_by : {X Y : Type 0} (old new : World) (view : X → Y) (result : Result X Status)
+    (judge : List ℕ → Result Y Refusal) (limit : ℕ) (name bytes : List ℕ)
     → ForSome old.files (λ files. reading files name (limit + 1) ≡ Ok bytes)
-    → GivesValue refusal view result (judge bytes)
-    → StepGives old new view result (ResultsIn (λ files. judged limit refusal judge files name))
-judged_by old new refusal view (Ok x) judge limit name bytes given h =
-    λ files texts. rw (given files texts, h) refl
-judged_by old new refusal view (Err why) judge limit name bytes given h =
-    unread_stops old new (manner_of why) refusal judge limit name bytes given h
+    → GivesValue view result (judge bytes)
+    → StepGives old new view result (ResultsIn (λ files. judged limit judge files name))
+judged_by old new view (Ok x) judge limit name bytes given h = λ files texts. rw (given files texts) h
+judged_by old new view (Err why) judge limit name bytes given h =
+    unread_stops old new (manner_of why) judge limit name bytes given h

@@ -5,8 +5,8 @@
 -- `refused no frame` and changes nothing.
 use Rattle.std.specs.Prelude.{ℕ, List, [], ◌∷◌, ◌++◌, length, slice_set, nat_lt, nat_le, codes, if◌then◌else◌}
 use Rattle.w4_defs.specs.declared.console.Input.{Input}
-use Rattle.w4_program.specs.declared.order.Order.{Order}
-use Rattle.w4_program.specs.declared.order.Order.TheVariants.{Set, Show, StateAt}
+use Rattle.w4_defs.specs.declared.order.Order.{Order}
+use Rattle.w4_defs.specs.declared.order.Order.TheVariants.{Set, Show, StateAt}
 use Rattle.w4_defs.specs.Reset.{Setup}
 use Rattle.w4_defs.specs.Run.{run}
 use Rattle.w4_program.specs.Texts.{picture, state_text}
@@ -39,11 +39,12 @@ answer_state setup disk inputs p = if nat_le p (length inputs)
     then record { out = state_text p (length inputs) (run setup disk inputs p); inputs = inputs }
     else refused inputs
 
--- the answer of one order, over the inputs as they are
+-- the answer of one order, over the inputs as they are; one that isn't built is never given, and does nothing
 abbrev pub answer : Setup → List ℕ → List Input → Order → Answered
 answer setup disk inputs (Set k input) = answer_set inputs k input
 answer setup disk inputs (Show p) = answer_show setup disk inputs p
 answer setup disk inputs (StateAt p) = answer_state setup disk inputs p
+answer setup disk inputs order = no_output inputs
 
 -- all answers in order
 unfoldable pub answers : Setup → List ℕ → List Input → List Order → Answered

@@ -2,7 +2,7 @@
 -- at most 4,294,967,295. Arguments that match no command are refused.
 use Rattle.std.specs.Prelude.{◌≡◌, ℕ, List, [], ◌∷◌, codes, nat_le, Option, Some, None, bytes_eq, if◌then◌else◌, refl}
 use Rattle.w4_defs.specs.Reading.{◌>>=◌}
-use Rattle.w4_program.specs.FirstScript.{number_of}
+use Rattle.w4_defs.specs.Lines.{number_of}
 
 -- the names of the three files that a run is made of
 pub record RunWords : Type 0 where

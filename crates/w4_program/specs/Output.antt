@@ -1,15 +1,20 @@
 -- What the program makes of its words and of the files that it finds, or the first refusal (project rule).
--- The words are judged first, then the cart, the recording, the font and the script, each before the next is
--- read, and last the places that the words name. A file is judged by its first bytes, one more than its
--- limit: 65,536 of a cart, 325,071 of a recording, 1,792 of a font, 1,048,576 of a script. What a cart's
--- bytes are is a relation; all that follows is a function of the cart's module.
-use Rattle.std.specs.Prelude.{◌≡◌, ℕ, ◌+◌, ◌-◌, ◌==◌, nat_le, List, [], ◌∷◌, ◌++◌, codes, length, Option, Some, None, Result, Ok, Err, if◌then◌else◌}
+-- The words are judged first, then the cart, the recording, whether it is the cart's, the font and the script,
+-- each file before the next is read, and last the places that the words name. A file is judged by its first
+-- bytes, one more than its limit: 65,536 of a cart, 361,071 of a recording, 1,792 of a font, 1,048,576 of a
+-- script. What a cart's bytes are is a relation; all that follows is a function of the cart.
+use Rattle.std.specs.Prelude.{◌≡◌, ℕ, ◌+◌, ◌-◌, ◌==◌, Bool, true, false, nat_le, List, [], ◌∷◌, ◌++◌, codes, length, Option, Some, None, Result, Ok, Err, if◌then◌else◌}
 use Rattle.std.specs.FinMap.{insert}
-use Rattle.w4_program.specs.declared.order.Order.{Order}
+use Rattle.std.specs.List.{list_all}
+use Rattle.std.specs.Str.{bytes_eq}
+use Rattle.sha2.specs.Sha256.{sha256}
+use Rattle.w4_defs.specs.declared.order.Order.{Order}
+use Rattle.w4_defs.specs.declared.order.Order.TheVariants.{Set, Show, StateAt}
 use Rattle.w4_defs.specs.Module.{WasmModule}
 use Rattle.w4_defs.specs.Cart.{IsCart, IsRefused}
-use Rattle.w4_program.specs.FirstRecording.{Recording, recording_of, spelling}
-use Rattle.w4_program.specs.FirstScript.{orders_of}
+use Rattle.w4_defs.specs.Recording.{Recording, recording_of, encoding}
+use Rattle.w4_defs.specs.OrderFile.{ScriptFault, TooLong, BadLine}
+use Rattle.w4_defs.specs.Script.{script_of}
 use Rattle.w4_defs.specs.Board.{console_setup}
 use Rattle.w4_defs.specs.Reset.{Setup}
 use Rattle.w4_defs.specs.Run.{run}
@@ -17,7 +22,9 @@ use Rattle.w4_defs.specs.State.{Moment}
 use Rattle.w4_house.specs.World.{Files, front_of}
 use Rattle.w4_program.specs.declared.place_text.PlaceText.{PlaceText}
 use Rattle.w4_program.specs.declared.place_text.PlaceText.TheVariants.{Image, Schedule, Traces, DiskBytes}
-use Rattle.w4_program.specs.Refusals.{Refusal, Usage, NoFile, CartRefused, FontRefused, FrameRefused, NotBuilt}
+use Rattle.w4_program.specs.declared.status.RecordingKind.TheVariants.{Bad, WrongCart}
+use Rattle.w4_program.specs.declared.status.ScriptKind.TheVariants as script
+use Rattle.w4_program.specs.Refusals.{Refusal, Usage, NoFile, CartRefused, RecordingRefused, FontRefused, ScriptRefused, FrameRefused, NotBuilt}
 use Rattle.w4_program.specs.Forms.{RunWords, EditWords, Form, Check, Blank, Frames, Tones, Trace, Disk, Edit, Make, form_of}
 use Rattle.w4_program.specs.Texts.{place_text, place_texts}
 use Rattle.w4_program.specs.Answering.{Answered, answers}
@@ -40,59 +47,85 @@ or_refuse refusal None = Err refusal
 abbrev pub reading : Files → List ℕ → ℕ → Result (List ℕ) Refusal
 reading files name most = or_refuse NoFile (front_of files name most)
 
--- what the bytes of a cart's file are: the module of a cart, or a refusal with the first cause that holds
-abbrev pub JudgedCart : Result (List ℕ) Refusal → Result WasmModule Refusal → Type 0
+-- a cart, as the module of its code, and the SHA-256 of its bytes
+pub record CartFile : Type 0 where
+  pub code : WasmModule
+  pub digest : List ℕ
+
+-- what the bytes of a cart's file are: a cart, or a refusal with the first cause that holds
+abbrev pub JudgedCart : Result (List ℕ) Refusal → Result CartFile Refusal → Type 0
 JudgedCart (Err refusal) cart = cart ≡ Err refusal
-JudgedCart (Ok bytes) (Ok m) = IsCart bytes m
+JudgedCart (Ok bytes) (Ok cart) = IsCart bytes cart.code × (cart.digest ≡ sha256 bytes)
 JudgedCart (Ok bytes) (Err (CartRefused kind)) = IsRefused bytes kind
 JudgedCart (Ok bytes) (Err refusal) = ⊥
 
-abbrev pub CartIn : List ℕ → Files → Result WasmModule Refusal → Type 0
+abbrev pub CartIn : List ℕ → Files → Result CartFile Refusal → Type 0
 CartIn name files cart = JudgedCart (reading files name 65537) cart
 
--- a file of at most `limit` bytes that is right
-abbrev pub judged : {A : Type 0} → ℕ → Refusal → (List ℕ → Option A) → Files → List ℕ → Result A Refusal
-judged limit refusal judge files name = do
-  bytes ← reading files name (limit + 1)
-  or_refuse refusal (judge bytes)
+-- what is made of a file of at most `limit` bytes
+abbrev pub judged : {A : Type 0} → ℕ → (List ℕ → Result A Refusal) → Files → List ℕ → Result A Refusal
+judged limit judge files name = reading files name (limit + 1) >>= judge
 
-abbrev pub font_of : List ℕ → Option (List ℕ)
-font_of bytes = if length bytes == 1792 then Some bytes else None
+-- a recording is the cart's if and only if it has the cart's digest
+abbrev pub of_cart : List ℕ → Recording → Result Recording Refusal
+of_cart digest r = if bytes_eq r.digest digest then Ok r else Err (RecordingRefused WrongCart)
 
-unfoldable pub recording_in : Files → List ℕ → Result Recording Refusal
-recording_in = judged 325071 NotBuilt recording_of
+unfoldable pub cart_recording : List ℕ → List ℕ → Result Recording Refusal
+cart_recording digest bytes = or_refuse (RecordingRefused Bad) (recording_of bytes) >>= of_cart digest
+
+unfoldable pub recording_in : List ℕ → Files → List ℕ → Result Recording Refusal
+recording_in digest = judged 361071 (cart_recording digest)
+
+abbrev pub font_of : List ℕ → Result (List ℕ) Refusal
+font_of bytes = if length bytes == 1792 then Ok bytes else Err FontRefused
 
 unfoldable pub font_in : Files → List ℕ → Result (List ℕ) Refusal
-font_in = judged 1792 FontRefused font_of
+font_in = judged 1792 font_of
+
+-- the orders that are built
+abbrev pub is_built : Order → Bool
+is_built (Set k input) = true
+is_built (Show p) = true
+is_built (StateAt p) = true
+is_built order = false
+
+-- A script's grammar is judged first. A script that keeps it, and has an order that isn't built, isn't built.
+abbrev pub built_orders : Result (List Order) ScriptFault → Result (List Order) Refusal
+built_orders (Ok orders) = if list_all is_built orders then Ok orders else Err NotBuilt
+built_orders (Err TooLong) = Err (ScriptRefused script.TooLong)
+built_orders (Err (BadLine number)) = Err (ScriptRefused (script.BadLine number))
+
+unfoldable pub orders_of : List ℕ → Result (List Order) Refusal
+orders_of bytes = built_orders (script_of bytes)
 
 unfoldable pub orders_in : Files → List ℕ → Result (List Order) Refusal
-orders_in = judged 1048576 NotBuilt orders_of
+orders_in = judged 1048576 orders_of
 
 -- what a run is made of besides the cart
 pub record Played : Type 0 where
   pub recording : Recording
   pub font : List ℕ
 
-unfoldable pub run_files : RunWords → Files → Result Played Refusal
-run_files words files = do
-  recording ← recording_in files words.recording
+unfoldable pub run_files : List ℕ → RunWords → Files → Result Played Refusal
+run_files digest words files = do
+  recording ← recording_in digest files words.recording
   font ← font_in files words.font
   Ok (record { recording = recording; font = font })
 
 -- where it has this place
-unfoldable pub run_files_to : RunWords → ℕ → Files → Result Played Refusal
-run_files_to words place files = do
-  p ← run_files words files
-  if nat_le place (length p.recording.inputs) then Ok p
-      else Err (FrameRefused place (length p.recording.inputs))
+unfoldable pub run_files_to : List ℕ → RunWords → ℕ → Files → Result Played Refusal
+run_files_to digest words place files = do
+  p ← run_files digest words files
+  if nat_le place (length p.recording.frames) then Ok p
+      else Err (FrameRefused place (length p.recording.frames))
 
 pub record Loaded : Type 0 where
   pub run : Played
   pub orders : List Order
 
-unfoldable pub edit_files : EditWords → Files → Result Loaded Refusal
-edit_files words files = do
-  run ← run_files words.run files
+unfoldable pub edit_files : List ℕ → EditWords → Files → Result Loaded Refusal
+edit_files digest words files = do
+  run ← run_files digest words.run files
   orders ← orders_in files words.script
   Ok (record { run = run; orders = orders })
 
@@ -101,7 +134,7 @@ setup_of m p = console_setup m p.font p.recording.budget
 
 -- a place of the run
 abbrev pub moment_at : WasmModule → Played → ℕ → Option Moment
-moment_at m p place = run (setup_of m p) p.recording.disk p.recording.inputs place
+moment_at m p place = run (setup_of m p) p.recording.disk p.recording.frames place
 
 -- what is told of places one after another
 abbrev pub place_texts_from : PlaceText → WasmModule → Played → ℕ → ℕ → List ℕ
@@ -109,40 +142,40 @@ place_texts_from wanted m p from count = place_texts (λ place. place_text wante
 
 -- the answers of all orders
 abbrev pub edit_answers : WasmModule → Loaded → Answered
-edit_answers m l = answers (setup_of m l.run) l.run.recording.disk l.run.recording.inputs l.orders
+edit_answers m l = answers (setup_of m l.run) l.run.recording.disk l.run.recording.frames l.orders
 
 -- the recording left
 abbrev pub edited_recording : WasmModule → Loaded → Recording
-edited_recording m l = record l.run.recording { inputs = (edit_answers m l).inputs }
+edited_recording m l = record l.run.recording { frames = (edit_answers m l).inputs }
 
 -- bytes on standard output, and no file changed
 abbrev pub only_printed : List ℕ → Files → Output
 only_printed out files = record { out = out; files = files }
 
 abbrev pub edit_result : WasmModule → Loaded → List ℕ → Files → Output
-edit_result m l name files = record { out = (edit_answers m l).out; files = insert files name (spelling (edited_recording m l)) }
+edit_result m l name files = record { out = (edit_answers m l).out; files = insert files name (encoding 2 (edited_recording m l)) }
 
-unfoldable pub edit_output : EditWords → WasmModule → Files → Result Output Refusal
-edit_output words m files = do
-  l ← edit_files words files
-  Ok (edit_result m l words.out files)
+unfoldable pub edit_output : EditWords → CartFile → Files → Result Output Refusal
+edit_output words cart files = do
+  l ← edit_files cart.digest words files
+  Ok (edit_result cart.code l words.out files)
 
 -- the images of places FROM to TO
-unfoldable pub images_output : RunWords → ℕ → ℕ → WasmModule → Files → Result Output Refusal
-images_output words from to m files = do
-  p ← run_files_to words to files
-  Ok (only_printed (place_texts_from Image m p from (to + 1 - from)) files)
+unfoldable pub images_output : RunWords → ℕ → ℕ → CartFile → Files → Result Output Refusal
+images_output words from to cart files = do
+  p ← run_files_to cart.digest words to files
+  Ok (only_printed (place_texts_from Image cart.code p from (to + 1 - from)) files)
 
 -- the texts of all places, or the disk of one
-unfoldable pub texts_output : PlaceText → RunWords → WasmModule → Files → Result Output Refusal
-texts_output wanted words m files = do
-  p ← run_files words files
-  Ok (only_printed (place_texts_from wanted m p 0 (length p.recording.inputs + 1)) files)
+unfoldable pub texts_output : PlaceText → RunWords → CartFile → Files → Result Output Refusal
+texts_output wanted words cart files = do
+  p ← run_files cart.digest words files
+  Ok (only_printed (place_texts_from wanted cart.code p 0 (length p.recording.frames + 1)) files)
 
-unfoldable pub disk_output : RunWords → ℕ → WasmModule → Files → Result Output Refusal
-disk_output words place m files = do
-  p ← run_files_to words place files
-  Ok (only_printed (place_texts_from DiskBytes m p place 1) files)
+unfoldable pub disk_output : RunWords → ℕ → CartFile → Files → Result Output Refusal
+disk_output words place cart files = do
+  p ← run_files_to cart.digest words place files
+  Ok (only_printed (place_texts_from DiskBytes cart.code p place 1) files)
 
 abbrev pub checked : List ℕ
 checked = codes "ok" ++ 10 ∷ []
@@ -158,24 +191,24 @@ cart_word (Disk words place) = Some words.cart
 cart_word (Edit words) = Some words.run.cart
 cart_word (Make number) = None
 
--- what is made of a cart with this module and of the files
-abbrev pub output_of : Form → WasmModule → Files → Result Output Refusal
-output_of (Check cart) m files = Ok (only_printed checked files)
-output_of (Blank cart budget) m files = Err NotBuilt
-output_of (Frames words from to) m files = images_output words from to m files
-output_of (Tones words) m files = texts_output Schedule words m files
-output_of (Trace words) m files = texts_output Traces words m files
-output_of (Disk words place) m files = disk_output words place m files
-output_of (Edit words) m files = edit_output words m files
-output_of (Make number) m files = Err NotBuilt
+-- what is made of a cart and of the files
+abbrev pub output_of : Form → CartFile → Files → Result Output Refusal
+output_of (Check name) cart files = Ok (only_printed checked files)
+output_of (Blank name budget) cart files = Err NotBuilt
+output_of (Frames words from to) cart files = images_output words from to cart files
+output_of (Tones words) cart files = texts_output Schedule words cart files
+output_of (Trace words) cart files = texts_output Traces words cart files
+output_of (Disk words place) cart files = disk_output words place cart files
+output_of (Edit words) cart files = edit_output words cart files
+output_of (Make number) cart files = Err NotBuilt
 
 -- the cart is judged, and then the rest
-abbrev pub OverCart : List ℕ → (WasmModule → Files → Result Output Refusal) → Files → Result Output Refusal
+abbrev pub OverCart : List ℕ → (CartFile → Files → Result Output Refusal) → Files → Result Output Refusal
     → Type 0
 OverCart name make files made =
-    (cart : Result WasmModule Refusal) × CartIn name files cart × ((cart >>= λ m. make m files) ≡ made)
+    (cart : Result CartFile Refusal) × CartIn name files cart × ((cart >>= λ c. make c files) ≡ made)
 
-abbrev pub OverFile : Option (List ℕ) → (WasmModule → Files → Result Output Refusal) → Files
+abbrev pub OverFile : Option (List ℕ) → (CartFile → Files → Result Output Refusal) → Files
     → Result Output Refusal → Type 0
 OverFile (Some name) make files made = OverCart name make files made
 OverFile None make files made = made ≡ Err NotBuilt

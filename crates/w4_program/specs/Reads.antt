@@ -1,17 +1,16 @@
--- What a reader of bytes gives: the value that the bytes encode; or a refusal, where they encode none; or
--- that memory was refused.
-use Rattle.std.specs.Prelude.{◌≡◌, Option, Some, None, Result, Ok, Err, ⊤}
+-- What a judge of bytes gives: what the definition makes of them, or that memory was refused.
+use Rattle.std.specs.Prelude.{◌≡◌, Result, Ok, Err, ⊤}
 use Rattle.w4_program.specs.declared.status.Status.{Status}
 use Rattle.w4_program.specs.Refusals.{Refusal, Manner, Finished, Formless, ReadFailed, WriteFailed, NoMemory, Refused, manner_of}
 
-abbrev pub GivesNoValue : {Y : Type 0} → Refusal → Manner → Option Y → Type 0
-GivesNoValue refusal Finished read = ⊥
-GivesNoValue refusal Formless read = ⊥
-GivesNoValue refusal ReadFailed read = ⊥
-GivesNoValue refusal WriteFailed read = ⊥
-GivesNoValue refusal NoMemory read = ⊤
-GivesNoValue refusal (Refused why) read = (why ≡ refusal) × (read ≡ None)
+abbrev pub GivesRefusal : {Y : Type 0} → Manner → Result Y Refusal → Type 0
+GivesRefusal Finished made = ⊥
+GivesRefusal Formless made = ⊥
+GivesRefusal ReadFailed made = ⊥
+GivesRefusal WriteFailed made = ⊥
+GivesRefusal NoMemory made = ⊤
+GivesRefusal (Refused refusal) made = made ≡ Err refusal
 
-abbrev pub GivesValue : {X Y : Type 0} → Refusal → (X → Y) → Result X Status → Option Y → Type 0
-GivesValue refusal view (Ok x) read = read ≡ Some (view x)
-GivesValue refusal view (Err status) read = GivesNoValue refusal (manner_of status) read
+abbrev pub GivesValue : {X Y : Type 0} → (X → Y) → Result X Status → Result Y Refusal → Type 0
+GivesValue view (Ok x) made = made ≡ Ok (view x)
+GivesValue view (Err status) made = GivesRefusal (manner_of status) made

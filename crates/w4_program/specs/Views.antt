@@ -3,11 +3,11 @@ use Rattle.w4_program.specs.declared.words.RunNames.{RunNames}
 use Rattle.w4_program.specs.declared.words.EditNames.{EditNames}
 use Rattle.w4_program.specs.declared.words.Form.{Form as Named}
 use Rattle.w4_program.specs.declared.words.Form.TheVariants as named
+use Rattle.w4_program.specs.declared.cart.CartFile.{CartFile}
 use Rattle.w4_program.specs.declared.load.Played.{Played}
 use Rattle.w4_program.specs.declared.load.Loaded.{Loaded}
 use Rattle.w4_program.specs.Forms.{RunWords, EditWords, Form, Check, Blank, Frames, Tones, Trace, Disk, Edit, Make}
-use Rattle.w4_program.specs.Recorded.{recording_view}
-use Rattle.w4_program.specs.Output.{Played as Given, Loaded as GivenOrders}
+use Rattle.w4_program.specs.Output.{CartFile as GivenCart, Played as Given, Loaded as GivenOrders}
 
 abbrev pub run_view : RunNames → RunWords
 run_view n = record { cart = n.cart.now; recording = n.recording.now; font = n.font.now }
@@ -25,8 +25,11 @@ form_view (named.Disk names place) = Disk (run_view names) place
 form_view (named.Edit names) = Edit (edit_view names)
 form_view (named.Make number) = Make number
 
+abbrev pub cart_view : CartFile → GivenCart
+cart_view c = record { code = c.cart; digest = c.digest }
+
 abbrev pub played_view : Played → Given
-played_view p = record { recording = recording_view p.recording; font = p.font }
+played_view p = record { recording = p.recording; font = p.font }
 
 abbrev pub loaded_view : Loaded → GivenOrders
 loaded_view l = record { run = played_view l.run; orders = l.orders.items }

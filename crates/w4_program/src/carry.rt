@@ -8,7 +8,7 @@ ghost use Rattle.std.specs.Prelude.{
   IfErr,
   vec_len,
 };
-ghost use Rattle.w4_program.specs.FirstRecording.{spelling};
+ghost use Rattle.w4_defs.specs.Recording.{encoding};
 ghost use Rattle.w4_console.specs.UnderWay.{HasGlobals};
 ghost use Rattle.w4_house.specs.World.{Appends, Puts, LeavesPrinting, LeavesSaving};
 ghost use Rattle.w4_program.specs.Answering.{
@@ -25,17 +25,15 @@ ghost use Rattle.w4_program.specs.Scenes.{scene_setup};
 ghost use Rattle.w4_program.specs.Views.{loaded_view};
 
 use crate::load::{Loaded, Played};
-use crate::order::Order;
 use crate::place_text::{PlaceText, write_place};
 use crate::printing::print;
-use crate::recording::Recording;
 use crate::scene::Scene;
 use crate::stage::{Stage, new_stage, run_to, state_text};
 use crate::status::Status;
-use crate::writing::write_recording;
 use std::alloc::Global;
-use w4_defs::Input;
+use w4_defs::{Input, Order};
 use w4_house::{House, WriteRefusal};
+use w4_record::{Recording, write_recording};
 use wasm_valid::Cart;
 
 /// Makes a file of just these bytes.
@@ -136,7 +134,7 @@ fn set<H: House>(
     Ok(())
 }
 
-/// Carries out one order.
+/// Carries out one order. One that isn't built is never given.
 fn obey_order<H: House>(
     alloc: Global,
     house: &mut H,
@@ -162,6 +160,7 @@ fn obey_order<H: House>(
         Order::Set { k, input } => set(alloc, house, inputs, k, input),
         Order::Show { p } => show(alloc, house, stage, scene, inputs.as_slice(), p),
         Order::StateAt { p } => tell(alloc, house, stage, scene, inputs.as_slice(), p),
+        _ => Ok(()),
     }
 }
 
@@ -203,7 +202,7 @@ fn work<H: House>(
     ensures out { OnOk result (Appends (H.world house.old).out (H.world house.new).out
         (edit_answers cart.now (loaded_view loaded)).out) }
     ensures saved { OnOk result (Puts (H.world house.old).files (H.world house.new).files
-        name.now (spelling (edited_recording cart.now (loaded_view loaded)))) }
+        name.now (encoding 2 (edited_recording cart.now (loaded_view loaded)))) }
     ensures stops { IfErr result (λ why.
         StopsWriting (H.world house.old) (H.world house.new) (manner_of why)) }
     ensures err { LeavesErr (H.world house.old) (H.world house.new) }
@@ -214,7 +213,7 @@ fn work<H: House>(
         digest,
         budget,
         disk,
-        mut inputs,
+        frames: mut inputs,
     } = recording;
     let mut stage = new_stage(alloc, cart)?;
     let scene = Scene {
@@ -231,12 +230,7 @@ fn work<H: House>(
         &mut inputs,
         orders.as_slice(),
     )?;
-    let edited = Recording {
-        digest,
-        budget,
-        disk,
-        inputs,
-    };
+    let edited = Recording::new(digest, budget, disk, inputs);
     let bytes = write_recording(alloc, &edited)?;
     save(alloc, house, name, bytes.as_slice())
 }
@@ -251,7 +245,7 @@ pub fn carry_out<H: House>(
 ) -> Status
     ensures ends { Carries (H.world house.old) (H.world house.new) (manner_of result)
         (edit_answers cart.now (loaded_view loaded)).out name.now
-        (spelling (edited_recording cart.now (loaded_view loaded))) }
+        (encoding 2 (edited_recording cart.now (loaded_view loaded))) }
     ensures err { LeavesErr (H.world house.old) (H.world house.new) }
 {
     match work(alloc, house, cart, loaded, name) {

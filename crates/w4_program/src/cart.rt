@@ -1,12 +1,14 @@
 //! Judging bytes as a cart.
 
 ghost use Rattle.std.specs.Prelude.{◌≡◌, Err, IfOk, Option, ℕ};
+ghost use Rattle.sha2.specs.Sha256.{sha256};
 ghost use Rattle.w4_defs.specs.Cart.{IsCart, IsRefused};
 ghost use Rattle.w4_defs.specs.declared.refusal.CartKind.{CartKind};
 ghost use Rattle.w4_program.specs.declared.cart.CartRefusal.TheVariants.{Kind as OfKind};
 
 use std::alloc::Global;
 use w4_defs::CartKind;
+use w4_record::digest_of;
 use wasm_link::check_profile;
 use wasm_read::{ReadRefusal, read_module};
 use wasm_valid::{Cart, ValidRefusal, validate};
@@ -18,6 +20,13 @@ pub enum CartRefusal {
     Kind(CartKind),
     /// Memory was refused.
     OutOfMemory,
+}
+
+/// A cart and the SHA-256 of its bytes, by which recordings name it.
+#[derive(Drop)]
+pub struct CartFile {
+    pub cart: Cart,
+    pub digest: [u8; 32],
 }
 
 /// The cart that the bytes are. The causes of `CartKind` are looked at in their order.
@@ -41,4 +50,15 @@ pub fn accept(alloc: Global, bytes: &[u8]) -> Result<Cart, CartRefusal>
         Err(ValidRefusal::Invalid(func)) => Err(CartRefusal::Kind(CartKind::Invalid(func))),
         Err(ValidRefusal::OutOfMemory) => Err(CartRefusal::OutOfMemory),
     }
+}
+
+/// The cart that the bytes are, with their digest.
+pub fn accept_file(alloc: Global, bytes: &[u8]) -> Result<CartFile, CartRefusal>
+    ensures cart { IfOk result (λ file. IsCart bytes.now file.cart) }
+    ensures digest { IfOk result (λ file. file.digest ≡ sha256 bytes.now) }
+    ensures refused { (kind : CartKind) → result ≡ Err (OfKind kind) → IsRefused bytes.now kind }
+{
+    let cart = accept(alloc, bytes)?;
+    let digest = digest_of(bytes);
+    Ok(CartFile { cart, digest })
 }

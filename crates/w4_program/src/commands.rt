@@ -17,9 +17,10 @@ ghost use Rattle.w4_program.specs.Output.{
   place_texts_from,
 };
 ghost use Rattle.w4_program.specs.Causes.{Ends, LeavesErr, Prints, ResultsIn, StopsWriting};
-ghost use Rattle.w4_program.specs.Views.{edit_view, form_view, played_view, run_view};
+ghost use Rattle.w4_program.specs.Views.{cart_view, edit_view, form_view, played_view, run_view};
 
 use crate::carry::carry_out;
+use crate::cart::CartFile;
 use crate::load::{Played, load_cart, load_edit, load_run, load_run_to};
 use crate::place_text::{PlaceText, write_places};
 use crate::places::Places;
@@ -69,26 +70,26 @@ fn over_cart<H: House>(alloc: Global, house: &mut H, name: &str, form: Form<'_>)
     ensures err { LeavesErr (H.world house.old) (H.world house.new) }
 {
     match load_cart(alloc, house, name) {
-        Ok(cart) => make(alloc, house, &cart, form),
+        Ok(file) => make(alloc, house, &file, form),
         Err(status) => status,
     }
 }
 
 /// What a form makes of a cart.
-fn make<H: House>(alloc: Global, house: &mut H, cart: &Cart, form: Form<'_>) -> Status
+fn make<H: House>(alloc: Global, house: &mut H, file: &CartFile, form: Form<'_>) -> Status
     ensures ends { Ends (H.world house.old) (H.world house.new) (manner_of result)
-        (ResultsIn (λ files. output_of (form_view form.entry) cart.now files)) }
+        (ResultsIn (λ files. output_of (form_view form.entry) (cart_view file.now) files)) }
     ensures formed { result ≡ Status.Usage → ⊥ }
     ensures err { LeavesErr (H.world house.old) (H.world house.new) }
 {
     match form {
         Form::Check(_) => check(alloc, house),
         Form::Blank(_, _) => Status::NotBuilt,
-        Form::Frames(names, places) => frames(alloc, house, cart, names, places),
-        Form::Tones(names) => texts(alloc, house, cart, names, PlaceText::Schedule),
-        Form::Trace(names) => texts(alloc, house, cart, names, PlaceText::Traces),
-        Form::Disk(names, place) => disk(alloc, house, cart, names, place),
-        Form::Edit(names) => edit(alloc, house, cart, names),
+        Form::Frames(names, places) => frames(alloc, house, file, names, places),
+        Form::Tones(names) => texts(alloc, house, file, names, PlaceText::Schedule),
+        Form::Trace(names) => texts(alloc, house, file, names, PlaceText::Traces),
+        Form::Disk(names, place) => disk(alloc, house, file, names, place),
+        Form::Edit(names) => edit(alloc, house, file, names),
         Form::Make(_) => Status::NotBuilt,
     }
 }
@@ -111,18 +112,18 @@ fn check<H: House>(alloc: Global, house: &mut H) -> Status
 fn frames<H: House>(
     alloc: Global,
     house: &mut H,
-    cart: &Cart,
+    file: &CartFile,
     names: RunNames<'_>,
     places: Places,
 ) -> Status
     ensures ends { Ends (H.world house.old) (H.world house.new) (manner_of result)
-        (ResultsIn (λ files. images_output (run_view names.entry) places.from places.to cart.now files)) }
+        (ResultsIn (λ files. images_output (run_view names.entry) places.from places.to (cart_view file.now) files)) }
     ensures formed { result ≡ Status.Usage → ⊥ }
     ensures err { LeavesErr (H.world house.old) (H.world house.new) }
 {
     let (from, to) = (places.from as usize, places.to as usize);
-    match load_run_to(alloc, house, names, places.to) {
-        Ok(run) => write_run(alloc, house, cart, run, PlaceText::Image, from, to),
+    match load_run_to(alloc, house, &file.digest, names, places.to) {
+        Ok(run) => write_run(alloc, house, &file.cart, run, PlaceText::Image, from, to),
         Err(status) => status,
     }
 }
@@ -132,19 +133,19 @@ fn frames<H: House>(
 fn texts<H: House>(
     alloc: Global,
     house: &mut H,
-    cart: &Cart,
+    file: &CartFile,
     names: RunNames<'_>,
     wanted: PlaceText,
 ) -> Status
     ensures ends { Ends (H.world house.old) (H.world house.new) (manner_of result)
-        (ResultsIn (λ files. texts_output wanted (run_view names.entry) cart.now files)) }
+        (ResultsIn (λ files. texts_output wanted (run_view names.entry) (cart_view file.now) files)) }
     ensures formed { result ≡ Status.Usage → ⊥ }
     ensures err { LeavesErr (H.world house.old) (H.world house.new) }
 {
-    match load_run(alloc, house, names) {
+    match load_run(alloc, house, &file.digest, names) {
         Ok(run) => {
-            let n = run.recording.inputs.len();
-            write_run(alloc, house, cart, run, wanted, 0, n)
+            let n = run.recording.frames.len();
+            write_run(alloc, house, &file.cart, run, wanted, 0, n)
         }
         Err(status) => status,
     }
@@ -155,32 +156,32 @@ fn texts<H: House>(
 fn disk<H: House>(
     alloc: Global,
     house: &mut H,
-    cart: &Cart,
+    file: &CartFile,
     names: RunNames<'_>,
     place: u32,
 ) -> Status
     ensures ends { Ends (H.world house.old) (H.world house.new) (manner_of result)
-        (ResultsIn (λ files. disk_output (run_view names.entry) place cart.now files)) }
+        (ResultsIn (λ files. disk_output (run_view names.entry) place (cart_view file.now) files)) }
     ensures formed { result ≡ Status.Usage → ⊥ }
     ensures err { LeavesErr (H.world house.old) (H.world house.new) }
 {
     let at = place as usize;
-    match load_run_to(alloc, house, names, place) {
-        Ok(run) => write_run(alloc, house, cart, run, PlaceText::DiskBytes, at, at),
+    match load_run_to(alloc, house, &file.digest, names, place) {
+        Ok(run) => write_run(alloc, house, &file.cart, run, PlaceText::DiskBytes, at, at),
         Err(status) => status,
     }
 }
 
 /// `edit CART REC FONT SCRIPT OUT`.
 #[tactic(auto, unfolding(crate::specs::Output::edit_output))]
-fn edit<H: House>(alloc: Global, house: &mut H, cart: &Cart, names: EditNames<'_>) -> Status
+fn edit<H: House>(alloc: Global, house: &mut H, file: &CartFile, names: EditNames<'_>) -> Status
     ensures ends { Ends (H.world house.old) (H.world house.new) (manner_of result)
-        (ResultsIn (λ files. edit_output (edit_view names.entry) cart.now files)) }
+        (ResultsIn (λ files. edit_output (edit_view names.entry) (cart_view file.now) files)) }
     ensures formed { result ≡ Status.Usage → ⊥ }
     ensures err { LeavesErr (H.world house.old) (H.world house.new) }
 {
-    match load_edit(alloc, house, names) {
-        Ok(loaded) => carry_out(alloc, house, cart, loaded, names.out),
+    match load_edit(alloc, house, &file.digest, names) {
+        Ok(loaded) => carry_out(alloc, house, &file.cart, loaded, names.out),
         Err(status) => status,
     }
 }
@@ -196,7 +197,7 @@ fn write_run<H: House>(
     to: usize,
 ) -> Status
     requires order { from ≤ to }
-    requires place { to ≤ length run.recording.inputs.items }
+    requires place { to ≤ length run.recording.frames }
     ensures prints { Prints (H.world house.old) (H.world house.new) (manner_of result)
         (place_texts_from wanted cart.now (played_view run) from (to + 1 - from)) }
     ensures rest { LeavesPrinting (H.world house.old) (H.world house.new) }
@@ -218,7 +219,7 @@ fn try_write_run<H: House>(
     to: usize,
 ) -> Result<(), Status>
     requires order { from ≤ to }
-    requires place { to ≤ length run.recording.inputs.items }
+    requires place { to ≤ length run.recording.frames }
     ensures out { OnOk result (Appends (H.world house.old).out (H.world house.new).out
         (place_texts_from wanted cart.now (played_view run) from (to + 1 - from))) }
     ensures stops { IfErr result (λ why.
@@ -232,6 +233,6 @@ fn try_write_run<H: House>(
         disk: run.recording.disk.as_slice(),
         budget: run.recording.budget,
     };
-    let inputs = run.recording.inputs.as_slice();
+    let inputs = run.recording.frames.as_slice();
     write_places(alloc, house, &mut stage, &scene, inputs, wanted, from, to)
 }

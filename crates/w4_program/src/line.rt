@@ -2,9 +2,17 @@
 
 ghost use Rattle.std.specs.Prelude.{◌≡◌, ◌++◌, IfOk, OnOk};
 ghost use Rattle.w4_defs.specs.FrameTexts.{spaced};
-ghost use Rattle.w4_program.specs.Lines.{cart_words, invalid_words, profile_words, status_line, status_words};
+ghost use Rattle.w4_program.specs.Lines.{
+  cart_words,
+  invalid_words,
+  profile_words,
+  recording_words,
+  script_words,
+  status_line,
+  status_words,
+};
 
-use crate::status::Status;
+use crate::status::{RecordingKind, ScriptKind, Status};
 use crate::text::{add_number, add_words};
 use std::alloc::Global;
 use w4_defs::{CartKind, OutOfMemory, ProfileRefusal};
@@ -60,6 +68,38 @@ fn add_refused_cart(text: &mut Vec<u8>, kind: CartKind) -> Result<(), OutOfMemor
     add_cart(text, kind)
 }
 
+fn add_recording(text: &mut Vec<u8>, kind: RecordingKind) -> Result<(), OutOfMemory>
+    ensures { OnOk result (text.new.items ≡ text.old.items ++ recording_words kind) }
+{
+    match kind {
+        RecordingKind::Bad => add_words(text, b"bad"),
+        RecordingKind::WrongCart => add_words(text, b"wrong cart"),
+    }
+}
+
+fn add_refused_recording(text: &mut Vec<u8>, kind: RecordingKind) -> Result<(), OutOfMemory>
+    ensures { OnOk result (text.new.items ≡ text.old.items ++ status_words (Status.RecordingRefused kind)) }
+{
+    add_words(text, b"recording: ")?;
+    add_recording(text, kind)
+}
+
+fn add_script(text: &mut Vec<u8>, kind: ScriptKind) -> Result<(), OutOfMemory>
+    ensures { OnOk result (text.new.items ≡ text.old.items ++ script_words kind) }
+{
+    match kind {
+        ScriptKind::TooLong => add_words(text, b"too long"),
+        ScriptKind::BadLine(number) => add_numbered(text, b"line", number as usize),
+    }
+}
+
+fn add_refused_script(text: &mut Vec<u8>, kind: ScriptKind) -> Result<(), OutOfMemory>
+    ensures { OnOk result (text.new.items ≡ text.old.items ++ status_words (Status.ScriptRefused kind)) }
+{
+    add_words(text, b"script: ")?;
+    add_script(text, kind)
+}
+
 fn add_refused_frame(text: &mut Vec<u8>, number: u32, n: usize) -> Result<(), OutOfMemory>
     ensures { OnOk result (text.new.items ≡ text.old.items ++ status_words (Status.FrameRefused number n)) }
 {
@@ -74,7 +114,9 @@ fn add_status(text: &mut Vec<u8>, status: Status) -> Result<(), OutOfMemory>
         Status::Done => Ok(()),
         Status::Usage => add_words(text, b"usage"),
         Status::CartRefused(kind) => add_refused_cart(text, kind),
+        Status::RecordingRefused(kind) => add_refused_recording(text, kind),
         Status::FontRefused => add_words(text, b"font: not 1792 bytes"),
+        Status::ScriptRefused(kind) => add_refused_script(text, kind),
         Status::ReadFault => add_words(text, b"cannot read"),
         Status::WriteFault => add_words(text, b"cannot write"),
         Status::OutOfMemory => add_words(text, b"out of memory"),

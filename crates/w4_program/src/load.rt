@@ -1,37 +1,36 @@
 //! Files, each judged before the next is read. Nothing is written.
 
 ghost use Rattle.std.specs.Prelude.{◌≡◌, ◌+◌, ◌≤◌, length, Result, Ok, Err, IfOk};
+ghost use Rattle.std.specs.List.{list_all};
 ghost use Rattle.std.specs.Option.{ForSome};
-ghost use Rattle.w4_program.specs.FirstScript.{orders_of};
 ghost use Rattle.w4_house.specs.World.{LeavesReading};
 ghost use Rattle.w4_program.specs.Output.{
   CartIn,
+  cart_recording,
+  edit_files,
   font_in,
   font_of,
-  edit_files,
+  is_built,
   orders_in,
-  run_files,
-  run_files_to,
+  orders_of,
   reading,
   recording_in,
+  run_files,
+  run_files_to,
 };
 ghost use Rattle.w4_program.specs.Reads.{GivesValue};
-ghost use Rattle.w4_program.specs.Recorded.{recording_view};
-ghost use Rattle.w4_program.specs.Refusals.{FontRefused};
 ghost use Rattle.w4_program.specs.Causes.{ResultsIn, StepGives};
-ghost use Rattle.w4_program.specs.Views.{edit_view, loaded_view, played_view, run_view};
+ghost use Rattle.w4_program.specs.Views.{cart_view, edit_view, loaded_view, played_view, run_view};
 
-use crate::cart::{CartRefusal, accept};
-use crate::order::Order;
-use crate::reading::read_recording;
-use crate::recording::Recording;
-use crate::script::read_script;
-use crate::status::Status;
+use crate::cart::{CartFile, CartRefusal, accept_file};
+use crate::status::{RecordingKind, ScriptKind, Status};
 use crate::words::{EditNames, RunNames};
 use std::alloc::Global;
 use w4_blit::{Font, FontLength};
+use w4_defs::Order;
 use w4_house::{House, HouseFault};
-use wasm_valid::Cart;
+use w4_record::{Recording, RecordingRefusal, read_recording};
+use w4_script::{ScriptRefusal, read_script};
 
 /// What a run is made of besides the cart.
 #[derive(Drop)]
@@ -67,22 +66,40 @@ fn read_file<H: House>(
 }
 
 /// Reads and judges a cart.
-pub fn load_cart<H: House>(alloc: Global, house: &mut H, name: &str) -> Result<Cart, Status>
-    ensures gives { StepGives (H.world house.old) (H.world house.new) (λ cart. cart) result
+pub fn load_cart<H: House>(alloc: Global, house: &mut H, name: &str) -> Result<CartFile, Status>
+    ensures gives { StepGives (H.world house.old) (H.world house.new) cart_view result
         (λ files cart. CartIn name.now files cart) }
     ensures rest { LeavesReading (H.world house.old) (H.world house.new) }
 {
     let bytes = read_file(alloc, house, name, 65_537)?;
-    match accept(alloc, bytes.as_slice()) {
-        Ok(cart) => Ok(cart),
+    match accept_file(alloc, bytes.as_slice()) {
+        Ok(file) => Ok(file),
         Err(CartRefusal::Kind(kind)) => Err(Status::CartRefused(kind)),
         Err(CartRefusal::OutOfMemory) => Err(Status::OutOfMemory),
     }
 }
 
+/// The recording that the bytes encode, which has to be of the cart with this digest.
+#[tactic(auto, unfolding(crate::specs::Output::cart_recording))]
+fn judge_recording(alloc: Global, bytes: &[u8], digest: &[u8; 32]) -> Result<Recording, Status>
+    ensures { GivesValue (λ recording. recording) result (cart_recording digest.now bytes.now) }
+{
+    let recording = match read_recording(alloc, bytes) {
+        Ok(recording) => recording,
+        Err(RecordingRefusal::BadRecording) => {
+            return Err(Status::RecordingRefused(RecordingKind::Bad));
+        }
+        Err(RecordingRefusal::OutOfMemory) => return Err(Status::OutOfMemory),
+    };
+    if recording.digest != *digest {
+        return Err(Status::RecordingRefused(RecordingKind::WrongCart));
+    }
+    Ok(recording)
+}
+
 /// The font, where the bytes are one.
-fn read_font(bytes: &[u8]) -> Result<Font, Status>
-    ensures { GivesValue FontRefused (λ font. font) result (font_of bytes.now) }
+fn judge_font(bytes: &[u8]) -> Result<Font, Status>
+    ensures { GivesValue (λ font. font) result (font_of bytes.now) }
 {
     match Font::new(bytes) {
         Ok(font) => Ok(font),
@@ -90,14 +107,60 @@ fn read_font(bytes: &[u8]) -> Result<Font, Status>
     }
 }
 
+/// Whether an order is one of those that are built.
+fn is_built(order: &Order) -> bool
+    ensures { result ≡ is_built order.now }
+{
+    matches!(
+        order,
+        Order::Set { .. } | Order::Show { .. } | Order::StateAt { .. }
+    )
+}
+
+/// Whether all orders are built.
+fn are_built(orders: &[Order]) -> bool
+    ensures { result ≡ list_all is_built orders.now }
+{
+    for order in orders {
+        if !is_built(order) {
+            return false;
+        }
+    }
+    true
+}
+
+/// The orders of a script, which have to be built.
+#[tactic(auto, unfolding(crate::specs::Output::orders_of))]
+fn judge_script(alloc: Global, bytes: &[u8]) -> Result<Vec<Order>, Status>
+    ensures { GivesValue (λ orders. orders.items) result (orders_of bytes.now) }
+{
+    let orders = match read_script(alloc, bytes) {
+        Ok(orders) => orders,
+        Err(ScriptRefusal::TooLong) => return Err(Status::ScriptRefused(ScriptKind::TooLong)),
+        Err(ScriptRefusal::BadLine(number)) => {
+            return Err(Status::ScriptRefused(ScriptKind::BadLine(number)));
+        }
+        Err(ScriptRefusal::OutOfMemory) => return Err(Status::OutOfMemory),
+    };
+    if !are_built(orders.as_slice()) {
+        return Err(Status::NotBuilt);
+    }
+    Ok(orders)
+}
+
 #[tactic(auto, unfolding(crate::specs::Output::recording_in))]
-fn load_recording<H: House>(alloc: Global, house: &mut H, name: &str) -> Result<Recording, Status>
-    ensures gives { StepGives (H.world house.old) (H.world house.new) recording_view result
-        (ResultsIn (λ files. recording_in files name.now)) }
+fn load_recording<H: House>(
+    alloc: Global,
+    house: &mut H,
+    digest: &[u8; 32],
+    name: &str,
+) -> Result<Recording, Status>
+    ensures gives { StepGives (H.world house.old) (H.world house.new) (λ recording. recording) result
+        (ResultsIn (λ files. recording_in digest.now files name.now)) }
     ensures rest { LeavesReading (H.world house.old) (H.world house.new) }
 {
-    let bytes = read_file(alloc, house, name, 325_072)?;
-    read_recording(alloc, bytes.as_slice())
+    let bytes = read_file(alloc, house, name, 361_072)?;
+    judge_recording(alloc, bytes.as_slice(), digest)
 }
 
 #[tactic(auto, unfolding(crate::specs::Output::font_in))]
@@ -107,7 +170,7 @@ fn load_font<H: House>(alloc: Global, house: &mut H, name: &str) -> Result<Font,
     ensures rest { LeavesReading (H.world house.old) (H.world house.new) }
 {
     let bytes = read_file(alloc, house, name, 1793)?;
-    read_font(bytes.as_slice())
+    judge_font(bytes.as_slice())
 }
 
 #[tactic(auto, unfolding(crate::specs::Output::orders_in))]
@@ -117,58 +180,61 @@ fn load_orders<H: House>(alloc: Global, house: &mut H, name: &str) -> Result<Vec
     ensures rest { LeavesReading (H.world house.old) (H.world house.new) }
 {
     let bytes = read_file(alloc, house, name, 1_048_577)?;
-    read_script(alloc, bytes.as_slice())
+    judge_script(alloc, bytes.as_slice())
 }
 
-/// Reads what a run is made of.
+/// Reads what a run of the cart with this digest is made of.
 #[tactic(auto, unfolding(crate::specs::Output::run_files))]
 pub fn load_run<H: House>(
     alloc: Global,
     house: &mut H,
+    digest: &[u8; 32],
     names: RunNames<'_>,
 ) -> Result<Played, Status>
     ensures gives { StepGives (H.world house.old) (H.world house.new) played_view result
-        (ResultsIn (λ files. run_files (run_view names.entry) files)) }
+        (ResultsIn (λ files. run_files digest.now (run_view names.entry) files)) }
     ensures rest { LeavesReading (H.world house.old) (H.world house.new) }
 {
-    let recording = load_recording(alloc, house, names.recording)?;
+    let recording = load_recording(alloc, house, digest, names.recording)?;
     let font = load_font(alloc, house, names.font)?;
     Ok(Played { recording, font })
 }
 
-/// Reads what a run is made of, which has to have this place.
+/// Reads what a run of the cart with this digest is made of, which has to have this place.
 #[tactic(auto, unfolding(crate::specs::Output::run_files_to))]
 pub fn load_run_to<H: House>(
     alloc: Global,
     house: &mut H,
+    digest: &[u8; 32],
     names: RunNames<'_>,
     place: u32,
 ) -> Result<Played, Status>
     ensures gives { StepGives (H.world house.old) (H.world house.new) played_view result
-        (ResultsIn (λ files. run_files_to (run_view names.entry) place files)) }
-    ensures place { IfOk result (λ run. place ≤ length run.recording.inputs.items) }
+        (ResultsIn (λ files. run_files_to digest.now (run_view names.entry) place files)) }
+    ensures place { IfOk result (λ run. place ≤ length run.recording.frames) }
     ensures rest { LeavesReading (H.world house.old) (H.world house.new) }
 {
-    let run = load_run(alloc, house, names)?;
-    let n = run.recording.inputs.len();
+    let run = load_run(alloc, house, digest, names)?;
+    let n = run.recording.frames.len();
     if place as usize > n {
         return Err(Status::FrameRefused { number: place, n });
     }
     Ok(run)
 }
 
-/// Reads what an edit is made of.
+/// Reads what an edit over the cart with this digest is made of.
 #[tactic(auto, unfolding(crate::specs::Output::edit_files))]
 pub fn load_edit<H: House>(
     alloc: Global,
     house: &mut H,
+    digest: &[u8; 32],
     names: EditNames<'_>,
 ) -> Result<Loaded, Status>
     ensures gives { StepGives (H.world house.old) (H.world house.new) loaded_view result
-        (ResultsIn (λ files. edit_files (edit_view names.entry) files)) }
+        (ResultsIn (λ files. edit_files digest.now (edit_view names.entry) files)) }
     ensures rest { LeavesReading (H.world house.old) (H.world house.new) }
 {
-    let run = load_run(alloc, house, names.run)?;
+    let run = load_run(alloc, house, digest, names.run)?;
     let orders = load_orders(alloc, house, names.script)?;
     Ok(Loaded { run, orders })
 }

@@ -7,18 +7,13 @@
 mod carry;
 mod cart;
 mod commands;
-mod fields;
 mod line;
 mod load;
-mod order;
 mod place_text;
 mod places;
 mod printing;
-mod reading;
-mod recording;
 mod run;
 mod scene;
-mod script;
 mod stage;
 mod state_line;
 mod status;
@@ -26,7 +21,6 @@ mod status;
 mod tests;
 mod text;
 mod words;
-mod writing;
 
 use crate::run::w4_run;
 use crate::status::number;

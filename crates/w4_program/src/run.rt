@@ -12,13 +12,23 @@ ghost use Rattle.std.specs.Prelude.{
 };
 ghost use Rattle.std.specs.Option.{ForSome};
 ghost use Rattle.w4_defs.specs.declared.refusal.CartKind.{CartKind};
-ghost use Rattle.w4_house.specs.World.{Rises, LeavesReporting};
+ghost use Rattle.w4_house.specs.World.{Rises, Appends, LeavesReporting};
 ghost use Rattle.w4_program.specs.Lines.{status_line};
 ghost use Rattle.w4_program.specs.Forms.{form_of};
-ghost use Rattle.w4_program.specs.Refusals.{CartRefused, FontRefused, FrameRefused, NotBuilt, manner_of};
+ghost use Rattle.w4_program.specs.declared.status.RecordingKind.{RecordingKind};
+ghost use Rattle.w4_program.specs.declared.status.ScriptKind.{ScriptKind};
+ghost use Rattle.w4_program.specs.Refusals.{
+  CartRefused,
+  RecordingRefused,
+  FontRefused,
+  ScriptRefused,
+  FrameRefused,
+  NotBuilt,
+  manner_of,
+};
 ghost use Rattle.w4_program.specs.Output.{Output, Outputs};
 ghost use Rattle.w4_program.specs.OneOutput.{AtMostOneOutput};
-ghost use Rattle.w4_program.specs.RunsMean.{AllRunsHaveMeaning};
+ghost use Rattle.w4_program.specs.CartRuns.{CartRunsHaveMeaning};
 ghost use Rattle.w4_program.specs.Causes.{
   ReadFails,
   Ends,
@@ -26,7 +36,6 @@ ghost use Rattle.w4_program.specs.Causes.{
   IsRefusal,
   IsReported,
   Reports,
-  Writes,
   LeavesErr,
 };
 
@@ -50,12 +59,13 @@ pub fn w4_run<R: Threads + Sync, H: House>(
     words: &[String],
     house: &mut H,
 ) -> Status
-    // Where it is done, one answer of the definition says what standard output has got, exactly, and which files
-    // there are: OUT is the recording left, and no other file has changed. And every run of the cart has a meaning.
+    // Where it is done, standard output has got exactly the definition's bytes, and the files are the
+    // definition's: OUT is the recording left, and no other file has changed. Each run of the cart has a meaning.
     ensures done { result ≡ Status.Done → ForSome (H.world house.old).files (λ files.
-        (output : Output) × Outputs (map string_bytes words.now) files (Ok output)
-        × Writes (H.world house.old) (H.world house.new) output
-        × AllRunsHaveMeaning (map string_bytes words.now) files) }
+        (made : Output) × Outputs (map string_bytes words.now) files (Ok made)
+        × Appends (H.world house.old).out (H.world house.new).out made.out
+        × ((H.world house.new).files ≡ Some made.files)
+        × CartRunsHaveMeaning (map string_bytes words.now) files) }
     ensures done_err { result ≡ Status.Done → (H.world house.new).err ≡ (H.world house.old).err }
     // Words that have no form are refused over every house, and no others are.
     ensures usage { result ≡ Status.Usage → form_of (map string_bytes words.now) ≡ None }
@@ -64,9 +74,15 @@ pub fn w4_run<R: Threads + Sync, H: House>(
     ensures cart_refused { (kind : CartKind) → result ≡ Status.CartRefused kind →
         ForSome (H.world house.old).files (λ files.
         Outputs (map string_bytes words.now) files (Err (CartRefused kind))) }
+    ensures recording_refused { (kind : RecordingKind) → result ≡ Status.RecordingRefused kind →
+        ForSome (H.world house.old).files (λ files.
+        Outputs (map string_bytes words.now) files (Err (RecordingRefused kind))) }
     ensures font_refused { result ≡ Status.FontRefused →
         ForSome (H.world house.old).files (λ files.
         Outputs (map string_bytes words.now) files (Err FontRefused)) }
+    ensures script_refused { (kind : ScriptKind) → result ≡ Status.ScriptRefused kind →
+        ForSome (H.world house.old).files (λ files.
+        Outputs (map string_bytes words.now) files (Err (ScriptRefused kind))) }
     ensures frame_refused { (number n : ℕ) → result ≡ Status.FrameRefused number n →
         ForSome (H.world house.old).files (λ files.
         Outputs (map string_bytes words.now) files (Err (FrameRefused number n))) }

@@ -6,6 +6,24 @@ ghost use Rattle.w4_program.specs.Lines.{number_of_status};
 use std::alloc::{AllocError, AllocFailed};
 use w4_defs::{CartKind, OutOfMemory};
 
+/// Why a recording is refused.
+#[derive(Clone, Copy, PartialEq, Eq, Debug)]
+pub enum RecordingKind {
+    /// The bytes encode no recording.
+    Bad,
+    /// Its digest isn't the SHA-256 of the cart.
+    WrongCart,
+}
+
+/// Why a script is refused.
+#[derive(Clone, Copy, PartialEq, Eq, Debug)]
+pub enum ScriptKind {
+    /// There are more than 1,048,576 bytes.
+    TooLong,
+    /// This line, counted from 1, is the first bad one.
+    BadLine(u32),
+}
+
 /// How a run ended.
 #[derive(Clone, Copy, PartialEq, Eq, Debug)]
 pub enum Status {
@@ -15,8 +33,12 @@ pub enum Status {
     Usage,
     /// The bytes of the cart's file are no cart, by the first cause that holds.
     CartRefused(CartKind),
+    /// The bytes encode no recording, or one of another cart.
+    RecordingRefused(RecordingKind),
     /// The font hasn't 1,792 bytes.
     FontRefused,
+    /// The script is too long or has a bad line.
+    ScriptRefused(ScriptKind),
     /// A file couldn't be read, or isn't there.
     ReadFault,
     /// Standard output or a file couldn't be written.
@@ -25,7 +47,7 @@ pub enum Status {
     OutOfMemory,
     /// The words name a place past the last, `n`.
     FrameRefused { number: u32, n: usize },
-    /// The words or a file ask for what isn't built yet.
+    /// The words or an order of the script ask for what isn't built yet.
     NotBuilt,
 }
 
@@ -67,7 +89,9 @@ pub fn number(status: Status) -> u8
         Status::Done => 0,
         Status::Usage => 2,
         Status::CartRefused(_) => 3,
+        Status::RecordingRefused(_) => 4,
         Status::FontRefused => 5,
+        Status::ScriptRefused(_) => 6,
         Status::ReadFault => 7,
         Status::WriteFault => 8,
         Status::OutOfMemory => 9,

@@ -16,7 +16,7 @@ ghost use Rattle.w4_program.specs.Forms.{
 ghost use Rattle.w4_program.specs.Views.{form_view, run_view};
 
 use crate::places::Places;
-use crate::script::number;
+use w4_script::number_of;
 
 /// The names of the three files that a run is made of.
 #[derive(Clone, Copy)]
@@ -83,7 +83,7 @@ fn blank(words: &[String]) -> Option<Form<'_>>
     let [cart, budget] = words else {
         return None;
     };
-    let budget = number(budget.as_bytes())?;
+    let budget = number_of(budget.as_bytes())?;
     if budget < 1 {
         return None;
     }
@@ -97,8 +97,8 @@ fn frames(words: &[String]) -> Option<Form<'_>>
     let [cart, recording, font, from, to] = words else {
         return None;
     };
-    let from = number(from.as_bytes())?;
-    let to = number(to.as_bytes())?;
+    let from = number_of(from.as_bytes())?;
+    let to = number_of(to.as_bytes())?;
     if from > to {
         return None;
     }
@@ -130,7 +130,7 @@ fn disk(words: &[String]) -> Option<Form<'_>>
     let [cart, recording, font, place] = words else {
         return None;
     };
-    let place = number(place.as_bytes())?;
+    let place = number_of(place.as_bytes())?;
     Some(Form::Disk(run_names(cart, recording, font), place))
 }
 
@@ -154,7 +154,7 @@ fn make(words: &[String]) -> Option<Form<'_>>
     let [number_word] = words else {
         return None;
     };
-    let number = number(number_word.as_bytes())?;
+    let number = number_of(number_word.as_bytes())?;
     Some(Form::Make(number))
 }
 

@@ -9,12 +9,14 @@ use Rattle.w4_record.specs.Frames.{version_number}
 use Rattle.w4_record.specs.Parts.{recording_from}
 
 abbrev recording_with : ℕ → List ℕ → List ℕ → List Input → Recording
-recording_with budget digest disk frames = record { digest = digest; budget = budget; disk = disk; frames = frames }
+recording_with budget digest disk frames =
+    record { digest = digest; budget = budget; disk = disk; frames = frames }
 
 abbrev with_frames : Parts → List Input → Option Recording
 with_frames parts frames = Some (recording_with parts.budget parts.digest.now parts.disk.now frames)
 
-pub recording_read : (bytes digest disk : List ℕ) (found : Option Parts) (parts : Parts) (frames : List Input)
+pub recording_read : (bytes digest disk : List ℕ) (found : Option Parts) (parts : Parts)
+    (frames : List Input)
     → recording_of bytes ≡ recording_from found → found ≡ Some parts
     → frames_of (version_number parts.version) parts.count parts.frames.now ≡ Some frames
     → digest ≡ parts.digest.now → disk ≡ parts.disk.now
@@ -23,7 +25,8 @@ recording_read bytes digest disk found parts frames read is all d k =
     read ∙ ap recording_from is ∙ ap (λ o. o >>= with_frames parts) all
     ∙ (λ i. Some (recording_with parts.budget (sym d i) (sym k i) frames))
 
-pub recording_within_limits : (bytes digest disk : List ℕ) (found : Option Parts) (parts : Parts) (frames : List Input)
+pub recording_within_limits : (bytes digest disk : List ℕ) (found : Option Parts) (parts : Parts)
+    (frames : List Input)
     → IsBytes bytes → recording_of bytes ≡ recording_from found → found ≡ Some parts
     → frames_of (version_number parts.version) parts.count parts.frames.now ≡ Some frames
     → digest ≡ parts.digest.now → disk ≡ parts.disk.now

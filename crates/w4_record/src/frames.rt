@@ -102,7 +102,8 @@ pub fn frames_of(
     bytes: &[u8],
 ) -> Result<Vec<Input>, OutOfMemory>
     requires { IsSome (frames_of (version_number version) count bytes.now) }
-    ensures { IfOk result (λ inputs. frames_of (version_number version) count bytes.now ≡ Some inputs.items) }
+    ensures { IfOk result (λ inputs.
+        frames_of (version_number version) count bytes.now ≡ Some inputs.items) }
 {
     let mut inputs = Vec::new(alloc);
     let mut rest = bytes;

@@ -1,7 +1,7 @@
 //! Edits over houses in memory.
 
 use crate::run::w4_run;
-use crate::status::Status;
+use crate::status::{RecordingKind, Status};
 use std::alloc::Global;
 use std::process::Abort;
 use std::test::Fail;
@@ -17,13 +17,22 @@ const CART: [u8; 64] = [
     0x0f, 0x01, 0x0d, 0x00, 0x41, 0xa0, 0x01, 0x41, 0x16, 0x2d, 0x00, 0x00, 0x3a, 0x00, 0x00, 0x0b,
 ];
 
-/// Two frames of zeros with a budget of 100,000, of this cart.
+/// Two frames of zeros with a budget of 100,000, of this cart, in version 1.
 const RECORDING: [u8; 65] = [
     0x57, 0x34, 0x52, 0x43, 0x01, 0xcd, 0xfa, 0xdf, 0x8a, 0xd2, 0x7d, 0x9c, 0xb2, 0xa2, 0x3a, 0xe7,
     0xa6, 0x84, 0x74, 0xdd, 0x63, 0x34, 0x52, 0xaa, 0xa1, 0x6a, 0xac, 0xdd, 0x25, 0x92, 0x7c, 0x00,
     0xd5, 0x9a, 0x33, 0x52, 0xfc, 0xa0, 0x86, 0x01, 0x00, 0x00, 0x00, 0x02, 0x00, 0x00, 0x00, 0x00,
     0x00, 0x00, 0x00, 0x00, 0x00, 0x00, 0x00, 0x00, 0x00, 0x00, 0x00, 0x00, 0x00, 0x00, 0x00, 0x00,
     0x00,
+];
+
+/// What the edit leaves of it, in version 2.
+const EDITED: [u8; 67] = [
+    0x57, 0x34, 0x52, 0x43, 0x02, 0xcd, 0xfa, 0xdf, 0x8a, 0xd2, 0x7d, 0x9c, 0xb2, 0xa2, 0x3a, 0xe7,
+    0xa6, 0x84, 0x74, 0xdd, 0x63, 0x34, 0x52, 0xaa, 0xa1, 0x6a, 0xac, 0xdd, 0x25, 0x92, 0x7c, 0x00,
+    0xd5, 0x9a, 0x33, 0x52, 0xfc, 0xa0, 0x86, 0x01, 0x00, 0x00, 0x00, 0x02, 0x00, 0x00, 0x00, 0x1b,
+    0x00, 0x00, 0x00, 0x00, 0x00, 0x00, 0x00, 0x00, 0x00, 0x00, 0x00, 0x00, 0x00, 0x00, 0x00, 0x00,
+    0x00, 0x00, 0x00,
 ];
 
 const SCRIPT: &str = "set 0 27 0 0 0 0 0 0\nshow 1\n";
@@ -49,10 +58,35 @@ fn an_edit_is_done_where_no_call_fails(rt: HostRuntime) -> Result<(), Fail> {
     assert_eq!(rt; status, Status::Done);
     assert_eq!(rt; house.out().len(), 76_815);
     let left = house.file("o").ok_or("no file was made")?;
-    let mut changed = RECORDING;
-    changed[47] = 27;
-    assert!(rt; left == changed.as_slice());
+    assert!(rt; left == EDITED.as_slice());
     Ok(())
+}
+
+/// A house with the cart and a recording of another one.
+fn house_with_another_recording(alloc: Global) -> Result<MemoryHouse, OutOfMemory> {
+    let mut house = MemoryHouse::new(alloc);
+    let mut recording = RECORDING;
+    recording[5] = 0xce;
+    house.put_file("c", &CART)?;
+    house.put_file("r", &recording)?;
+    Ok(house)
+}
+
+#[test]
+fn a_recording_of_another_cart_is_refused(rt: HostRuntime) -> Result<(), Fail> {
+    let house = house_with_another_recording(rt.alloc())?;
+    let refused = Status::RecordingRefused(RecordingKind::WrongCart);
+    let line = "w4: recording: wrong cart\n";
+    check_fault(&rt, rt.alloc(), house, refused, line, 0)
+}
+
+#[test]
+fn a_refusal_stays_where_its_line_is_not_written(rt: HostRuntime) -> Result<(), Fail> {
+    let mut house = house_with_another_recording(rt.alloc())?;
+    // after two reads
+    house.fail_at(3)?;
+    let refused = Status::RecordingRefused(RecordingKind::WrongCart);
+    check_fault(&rt, rt.alloc(), house, refused, "", 0)
 }
 
 /// A house with the files of the edit but its script.

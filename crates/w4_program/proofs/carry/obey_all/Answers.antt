@@ -1,6 +1,6 @@
 use Rattle.std.proofs.Common.{◌∙◌, [], ap, sym, drop, false, pos}
-use Rattle.w4_program.specs.declared.order.Order.{Order}
-use Rattle.w4_program.specs.declared.order.Order.TheVariants.{Set}
+use Rattle.w4_defs.specs.declared.order.Order.{Order}
+use Rattle.w4_defs.specs.declared.order.Order.TheVariants.{Set}
 use Rattle.w4_house.proofs.WorldLaws.{printing_then}
 use Rattle.w4_program.specs.Answering.{Answered, answers}
 use Rattle.w4_program.specs.Scenes.{scene_setup}

@@ -13,7 +13,7 @@ returns-in_err-run-clause-gives g c =
     let p = err_from_is_err_and c.from_residual.result c.from_residual.ensures.1 in
     rw (p.1, p.2)
     (stops_first (g.H.House.world c.args.house.now) (g.H.House.world c.load_run.new.house)
-    (manner_of c.in_err-run.field-0.0) (λ files. run_files (run_view c.args.names.run) files)
+    (manner_of c.in_err-run.field-0.0) (λ files. run_files c.args.digest.now (run_view c.args.names.run) files)
     (λ files run. orders_in files c.args.names.script.now >>= λ orders.
     Ok (record { run = run; orders = orders }))
     c.in_err-run.ensures.gives)
@@ -27,7 +27,7 @@ returns-in_err-orders-clause-gives g c =
     rw (p.1, p.2)
     (stops_later (g.H.House.world c.args.house.now) (g.H.House.world c.load_run.new.house)
     (g.H.House.world c.load_orders.new.house) (manner_of c.in_err-orders.field-0.0)
-    (λ files. run_files (run_view c.args.names.run) files) run
+    (λ files. run_files c.args.digest.now (run_view c.args.names.run) files) run
     (λ files run. orders_in files c.args.names.script.now >>= λ orders.
     Ok (record { run = run; orders = orders }))
     c.in_ok-run.ensures.rest c.in_ok-run.ensures.gives

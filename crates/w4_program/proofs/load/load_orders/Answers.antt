@@ -1,7 +1,6 @@
 use Rattle.std.proofs.lemmas.Result.{err_from_is_err_and}
-use Rattle.w4_program.specs.FirstScript.{orders_of}
-use Rattle.w4_program.specs.Refusals.{NotBuilt, manner_of}
-use Rattle.w4_program.specs.Output.{or_refuse, reading, orders_in}
+use Rattle.w4_program.specs.Refusals.{manner_of}
+use Rattle.w4_program.specs.Output.{reading, orders_of, orders_in}
 use Rattle.w4_program.proofs.StepLaws.{stops_first, judged_by}
 use Rattle.w4_program.proofs.load.load_orders.Goals as goal
 
@@ -12,12 +11,12 @@ returns-in_err-bytes-clause-gives g c =
     rw (p.1, p.2)
     (stops_first (g.H.House.world c.args.house.now) (g.H.House.world c.read_file.new.house)
     (manner_of c.in_err-bytes.field-0.0) (λ files. reading files c.args.name.now 1048577)
-    (λ files bytes. or_refuse NotBuilt (orders_of bytes)) c.in_err-bytes.ensures.gives)
+    (λ files bytes. orders_of bytes) c.in_err-bytes.ensures.gives)
 
 pub returns-clause-gives : goal.returns-clause-gives
 unfolding orders_in
 returns-clause-gives g c =
-    judged_by (g.H.House.world c.args.house.now) (g.H.House.world c.read_file.new.house) NotBuilt
-    (λ orders. orders.items) c.read_script.result orders_of 1048576 c.args.name.now
+    judged_by (g.H.House.world c.args.house.now) (g.H.House.world c.read_file.new.house)
+    (λ orders. orders.items) c.judge_script.result orders_of 1048576 c.args.name.now
     c.in_ok-bytes.bytes.items c.in_ok-bytes.ensures.gives
-    (rw (← c.as_slice.ensures.value) c.read_script.ensures)
+    (rw (← c.as_slice.ensures.value) c.judge_script.ensures)

@@ -1,8 +1,6 @@
 use Rattle.std.proofs.lemmas.Result.{err_from_is_err_and}
-use Rattle.w4_program.specs.FirstRecording.{recording_of}
-use Rattle.w4_program.specs.Recorded.{recording_view}
-use Rattle.w4_program.specs.Refusals.{NotBuilt, manner_of}
-use Rattle.w4_program.specs.Output.{or_refuse, reading, recording_in}
+use Rattle.w4_program.specs.Refusals.{manner_of}
+use Rattle.w4_program.specs.Output.{reading, cart_recording, recording_in}
 use Rattle.w4_program.proofs.StepLaws.{stops_first, judged_by}
 use Rattle.w4_program.proofs.load.load_recording.Goals as goal
 
@@ -12,12 +10,12 @@ returns-in_err-bytes-clause-gives g c =
     let p = err_from_is_err_and c.from_residual.result c.from_residual.ensures.1 in
     rw (p.1, p.2)
     (stops_first (g.H.House.world c.args.house.now) (g.H.House.world c.read_file.new.house)
-    (manner_of c.in_err-bytes.field-0.0) (λ files. reading files c.args.name.now 325072)
-    (λ files bytes. or_refuse NotBuilt (recording_of bytes)) c.in_err-bytes.ensures.gives)
+    (manner_of c.in_err-bytes.field-0.0) (λ files. reading files c.args.name.now 361072)
+    (λ files bytes. cart_recording c.args.digest.now bytes) c.in_err-bytes.ensures.gives)
 
 pub returns-clause-gives : goal.returns-clause-gives
 unfolding recording_in
 returns-clause-gives g c =
-    judged_by (g.H.House.world c.args.house.now) (g.H.House.world c.read_file.new.house) NotBuilt
-    recording_view c.read_recording.result recording_of 325071 c.args.name.now c.in_ok-bytes.bytes.items
-    c.in_ok-bytes.ensures.gives (rw (← c.as_slice.ensures.value) c.read_recording.ensures)
+    judged_by (g.H.House.world c.args.house.now) (g.H.House.world c.read_file.new.house)
+    (λ recording. recording) c.judge_recording.result (cart_recording c.args.digest.now) 361071 c.args.name.now c.in_ok-bytes.bytes.items
+    c.in_ok-bytes.ensures.gives (rw (← c.as_slice.ensures.value) c.judge_recording.ensures)

@@ -12,7 +12,7 @@ returns-in_err-run-clause-gives g c =
     let p = err_from_is_err_and c.from_residual.result c.from_residual.ensures.1 in
     rw (p.1, p.2)
     (stops_first (g.H.House.world c.args.house.now) (g.H.House.world c.load_run.new.house)
-    (manner_of c.in_err-run.field-0.0) (λ files. run_files (run_view c.args.names) files)
-    (λ files p. if nat_le c.args.place (length p.recording.inputs) then Ok p
-    else Err (FrameRefused c.args.place (length p.recording.inputs)))
+    (manner_of c.in_err-run.field-0.0) (λ files. run_files c.args.digest.now (run_view c.args.names) files)
+    (λ files p. if nat_le c.args.place (length p.recording.frames) then Ok p
+    else Err (FrameRefused c.args.place (length p.recording.frames)))
     c.in_err-run.ensures.gives)

@@ -5,7 +5,8 @@ use Rattle.w4_program.specs.declared.status.Status.TheVariants as status
 use Rattle.w4_program.specs.Lines.{status_line}
 use Rattle.w4_program.specs.Refusals.{Refusal}
 use Rattle.w4_program.specs.Output.{Output, Outputs}
-use Rattle.w4_program.proofs.MeaningLaws.{all_runs}
+use Rattle.w4_program.specs.CartRuns.{CartRunsHaveMeaning}
+use Rattle.w4_program.proofs.CartLaws.{cart_runs}
 use Rattle.w4_program.proofs.EndLaws.{ends_reported}
 use Rattle.w4_program.proofs.StatusLaws as laws
 use Rattle.w4_program.proofs.run.w4_run.Goals as goal
@@ -16,20 +17,16 @@ returns g c =
     let mid = g.H.House.world c.obey-status.new.house in
     let new = g.H.House.world c.report.new.house in
     let result = c.report.result in
+    let words = map string_bytes c.args.words.now in
     let step : Files → Result Output Refusal → Type 0 =
-    λ files made. Outputs (map string_bytes c.args.words.now) files made in
+    λ files made. Outputs words files made in
     let ends =
     ends_reported old mid new c.obey-status.result result step c.report.ensures.rest
     c.report.ensures.status c.obey-status.ensures.ends in
     record {
       done =
-          λ e files told.
-          let made = laws.done old new result step ends e files told in (
-            made.0,
-            made.1,
-            made.2,
-            all_runs c.accepted_runs_have_meaning.ensures (map string_bytes c.args.words.now) files,
-          );
+          laws.done old new result step (λ files. CartRunsHaveMeaning words files) ends
+          (λ files. cart_runs c.accepted_runs_have_meaning.ensures words files);
       done_err = λ e. c.report.ensures.done e ∙ c.obey-status.ensures.err.0;
       usage =
           λ e.
@@ -40,7 +37,9 @@ returns g c =
           laws.texts_or_memory c.obey-status.result status.Usage result
           (c.obey-status.ensures.no_form none) c.report.ensures.status;
       cart_refused = laws.cart_refused old new result step ends;
+      recording_refused = laws.recording_refused old new result step ends;
       font_refused = laws.font_refused old new result step ends;
+      script_refused = laws.script_refused old new result step ends;
       frame_refused = laws.frame_refused old new result step ends;
       not_built = laws.not_built old new result step ends;
       read_fault = laws.read_fault old new result step ends;
