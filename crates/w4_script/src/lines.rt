@@ -10,8 +10,8 @@ use crate::words::Words;
 use std::alloc::Global;
 use w4_defs::OutOfMemory;
 
-/// A line that isn't skipped: its number in the text, counted from 1, skipped lines too, and its words, of which
-/// there is at least one, none empty.
+/// A line that isn't skipped: its number in the text, counted from 1, skipped lines too, and its words. There is
+/// at least one word, and none is empty.
 #[derive(PartialEq, Eq, Debug, Drop)]
 pub struct Line {
     pub number: u32,
@@ -29,8 +29,8 @@ fn owned_words(alloc: Global, words: Words<'_>) -> Result<Vec<Vec<u8>>, OutOfMem
     Ok(owned)
 }
 
-/// The lines of a text that aren't skipped, in order. Byte 10 ends a line, one byte 13 before it is dropped, words
-/// are parted by spaces, and a line is skipped if it has no word or its first begins with `#`.
+/// The lines of a text that aren't skipped, in order. Byte 10 ends a line, one byte 13 at its end is dropped,
+/// words are parted by spaces, and a line is skipped if it has no word or its first begins with `#`.
 pub fn script_lines(alloc: Global, bytes: &[u8]) -> Result<Vec<Line>, OutOfMemory>
     requires { length bytes.now ≤ 1048576 }
     ensures { IfOk result (λ lines. map line_view lines.items ≡ lines_of bytes.now) }

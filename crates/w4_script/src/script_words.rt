@@ -1,4 +1,4 @@
-//! The words that follow the names of a script's orders on places: a number within bounds, two places, a film.
+//! The words after the names of a script's orders on places: a number within bounds, two places, a film.
 
 ghost use Rattle.std.specs.Prelude.{◌≡◌, ℕ, option_map};
 ghost use Rattle.w4_defs.specs.Script.{film_order, number_order, range_order};
@@ -12,7 +12,8 @@ use w4_defs::Order;
 
 /// The one number that is left, from `least` to `most`.
 pub fn number_between(words: Words<'_>, least: u32, most: u32) -> Option<u32>
-    ensures { (make : ℕ → Order) → option_map make result ≡ number_order make least most (words_left words.entry) }
+    ensures { (make : ℕ → Order) →
+        option_map make result ≡ number_order make least most (words_left words.entry) }
 {
     let number = one_number(words)?;
     if least <= number && number <= most {

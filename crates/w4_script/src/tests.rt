@@ -1,5 +1,5 @@
-//! What no clause says: that the clauses mean the rule on lines, words, numbers and orders, and that each call
-//! that takes memory gives its answer where there is ample memory.
+//! What no clause says: that the clauses mean the rule on lines, words, numbers and orders, and that each
+//! call that takes memory gives its answer where there is ample memory.
 
 use crate::{Line, Order, ScriptRefusal, number_of, read_script, script_lines};
 use std::test::Fail;

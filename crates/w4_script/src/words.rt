@@ -23,7 +23,7 @@ fn without_return(line: &[u8]) -> &[u8]
     }
 }
 
-/// The words of a line, which are parted by one or more spaces. One byte 13 at the line's end isn't part of it.
+/// The words of a line, parted by one or more spaces. One byte 13 at the line's end isn't part of it.
 pub fn words_of(line: &[u8]) -> Words<'_>
     ensures { words_left result ≡ words_of line.now }
 {
