@@ -1,16 +1,21 @@
 -- Answers that are written one after another.
-use Rattle.std.proofs.Common.{◌≡◌, ℕ, ◌+◌, ◌<◌, ◌≤◌, List, [], ◌∷◌, ◌++◌, length, get_or, drop, true, false, cond, leb, refl, sym, ap, subst, ◌∙◌, add-one, drop-cons}
+use Rattle.std.proofs.Common.{◌≡◌, ℕ, ◌+◌, ◌<◌, ◌≤◌, List, [], ◌∷◌, ◌++◌, length, get_or, drop, true, false, cond, leb, pos, refl, sym, ap, subst, ◌∙◌, add-one, drop-cons}
 use Rattle.std.specs.Prelude.{OnOk, IfOk, Result, Ok, Err}
 use Rattle.std.proofs.lemmas.Bool.{lt-leb, le-leb, le-ltb}
 use Rattle.std.proofs.Math.ListN.{drop_of_length-le}
 use Rattle.w4_defs.specs.declared.console.Input.{Input}
 use Rattle.w4_defs.specs.declared.order.Order.{Order}
+use Rattle.w4_defs.specs.declared.order.Order.TheVariants.{Set}
 use Rattle.w4_defs.specs.Reset.{Setup}
 use Rattle.w4_defs.specs.Run.{run}
 use Rattle.w4_house.specs.World.{World, Appends}
 use Rattle.w4_program.specs.Texts.{picture, state_text}
 use Rattle.w4_program.proofs.OwesLaws.{Owes, owes_less}
 use Rattle.w4_program.specs.Answering.{Answered, no_frame, refused, answer, answer_set, answer_show, answer_state, answers}
+
+-- what a list of orders gives past its end
+abbrev pub past_end : Order
+past_end = Set 0 (record { pads = []; mouse_x = pos 0; mouse_y = pos 0; buttons = 0; reset = false })
 
 -- the first order's answer, and those of the rest over the inputs that it leaves
 answers-step : (setup : Setup) (disk : List ℕ) (items next : List Input) (orders : List Order) (i : ℕ)

@@ -21,7 +21,7 @@ ghost use Rattle.w4_program.specs.Views.{cart_view, edit_view, form_view, played
 
 use crate::carry::carry_out;
 use crate::cart::CartFile;
-use crate::load::{Played, load_cart, load_edit, load_run, load_run_to};
+use crate::load::{Played, frame_count, load_cart, load_edit, load_run, load_run_to};
 use crate::place_text::{PlaceText, write_places};
 use crate::places::Places;
 use crate::printing::print;
@@ -31,6 +31,7 @@ use crate::status::Status;
 use crate::words::{EditNames, Form, RunNames};
 use std::alloc::Global;
 use w4_house::House;
+use w4_record::Recording;
 use wasm_valid::Cart;
 
 /// Does what a form asks for. Nothing is written to standard error.
@@ -144,7 +145,7 @@ fn texts<H: House>(
 {
     match load_run(alloc, house, &file.digest, names) {
         Ok(run) => {
-            let n = run.recording.frames.len();
+            let n = frame_count(&run);
             write_run(alloc, house, &file.cart, run, wanted, 0, n)
         }
         Err(status) => status,
@@ -227,12 +228,19 @@ fn try_write_run<H: House>(
     ensures rest { LeavesPrinting (H.world house.old) (H.world house.new) }
 {
     let mut stage = new_stage(alloc, cart)?;
+    let Played { recording, font } = run;
+    let Recording {
+        digest: _,
+        budget,
+        disk,
+        frames,
+    } = recording;
     let scene = Scene {
         cart,
-        font: &run.font,
-        disk: run.recording.disk.as_slice(),
-        budget: run.recording.budget,
+        font: &font,
+        disk: disk.as_slice(),
+        budget,
     };
-    let inputs = run.recording.frames.as_slice();
+    let inputs = frames.as_slice();
     write_places(alloc, house, &mut stage, &scene, inputs, wanted, from, to)
 }

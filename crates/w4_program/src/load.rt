@@ -39,6 +39,13 @@ pub struct Played {
     pub font: Font,
 }
 
+/// How many frames the recording has.
+pub fn frame_count(run: &Played) -> usize
+    ensures { result ≡ length run.now.recording.frames }
+{
+    run.recording.frames.len()
+}
+
 /// What an edit is made of besides the cart.
 #[derive(Drop)]
 pub struct Loaded {
@@ -215,7 +222,7 @@ pub fn load_run_to<H: House>(
     ensures rest { LeavesReading (H.world house.old) (H.world house.new) }
 {
     let run = load_run(alloc, house, digest, names)?;
-    let n = run.recording.frames.len();
+    let n = frame_count(&run);
     if place as usize > n {
         return Err(Status::FrameRefused { number: place, n });
     }

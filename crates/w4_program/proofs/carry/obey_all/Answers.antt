@@ -1,16 +1,10 @@
-use Rattle.std.proofs.Common.{◌∙◌, [], ap, sym, drop, false, pos}
-use Rattle.w4_defs.specs.declared.order.Order.{Order}
-use Rattle.w4_defs.specs.declared.order.Order.TheVariants.{Set}
+use Rattle.std.proofs.Common.{◌∙◌, ap, sym, drop}
 use Rattle.w4_house.proofs.WorldLaws.{printing_then}
 use Rattle.w4_program.specs.Answering.{Answered, answers}
 use Rattle.w4_program.specs.Scenes.{scene_setup}
 use Rattle.w4_program.proofs.OwesLaws.{owes_nothing}
-use Rattle.w4_program.proofs.AnswerLaws.{answers-out-step, answers-inputs-step, answers-end}
+use Rattle.w4_program.proofs.AnswerLaws.{past_end, answers-out-step, answers-inputs-step, answers-end}
 use Rattle.w4_program.proofs.carry.obey_all.Goals as goal
-
--- what a list of orders gives past its end
-abbrev past_end : Order
-past_end = Set 0 (record { pads = []; mouse_x = pos 0; mouse_y = pos 0; buttons = 0; reset = false })
 
 pub loop-order-preserved : goal.loop-order-preserved
 loop-order-preserved g c =

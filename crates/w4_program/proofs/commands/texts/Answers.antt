@@ -18,8 +18,8 @@ returns-in-Err-clause-ends g c =
 pub returns-in-Ok-clause-ends : goal.returns-in-Ok-clause-ends
 unfolding texts_output
 returns-in-Ok-clause-ends g c =
-    let all : c.len-n.result + 1 - 0 ≡ length c.in-Ok.run'.recording.frames + 1 =
-    omega (arith, c.len-n.ensures) in
+    let all : c.frame_count-n.result + 1 - 0 ≡ length c.in-Ok.run'.recording.frames + 1 =
+    omega (arith, c.frame_count-n.ensures) in
     ends_texts (g.H.House.world c.args.house.now) (g.H.House.world c.load_run.new.house)
     (g.H.House.world c.write_run.new.house) (manner_of c.write_run.result)
     (λ files. run_files c.args.file.now.digest (run_view c.args.names) files) (played_view c.in-Ok.run')

@@ -2,4 +2,5 @@ use Rattle.w4_program.proofs.commands.try_write_run.Goals as goal
 
 pub returns-clause-out : goal.returns-clause-out
 returns-clause-out g c =
-    rw (← c.as_slice.ensures.value, ← c.as_slice-inputs.ensures.value) c.write_places.ensures.out
+    rw (← c.recording.view_is, ← c.as_slice.ensures.value, ← c.as_slice-inputs.ensures.value)
+    c.write_places.ensures.out
