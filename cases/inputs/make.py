@@ -7,6 +7,8 @@ import hashlib
 import os
 import struct
 
+from encoding import hexed, number, section
+
 HERE = os.path.dirname(os.path.abspath(__file__))
 
 
@@ -15,23 +17,6 @@ def write(name, data):
     os.makedirs(os.path.dirname(path), exist_ok=True)
     with open(path, "wb") as file:
         file.write(data)
-
-
-def hexed(text):
-    return bytes.fromhex(text)
-
-
-def number(n):
-    """An unsigned LEB128 number in its shortest spelling."""
-    spelled = b""
-    while n >= 128:
-        spelled += bytes([n % 128 + 128])
-        n //= 128
-    return spelled + bytes([n])
-
-
-def section(kind, contents):
-    return bytes([kind]) + number(len(contents)) + contents
 
 
 def code(*bodies):

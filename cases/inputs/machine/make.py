@@ -8,23 +8,14 @@ it is wanted that its frame ends without a trap.
 import hashlib
 import os
 import struct
+import sys
 
 HERE = os.path.dirname(os.path.abspath(__file__))
+sys.path.insert(0, os.path.dirname(HERE))
+from encoding import hexed, number, section  # noqa: E402
+
 WANTED = os.path.join(HERE, "..", "..", "wanted", "machine")
 AMPLE = 100_000
-
-
-def hexed(text):
-    return bytes.fromhex(text)
-
-
-def number(n):
-    """An unsigned LEB128 number in its shortest spelling."""
-    spelled = b""
-    while n >= 128:
-        spelled += bytes([n % 128 + 128])
-        n //= 128
-    return spelled + bytes([n])
 
 
 def signed_number(n):
@@ -39,10 +30,6 @@ def signed_number(n):
 def constant(width, n):
     """i32.const or i64.const of a number from 0 on, which is below 2 to the width."""
     return bytes([0x41 if width == 32 else 0x42]) + signed_number(n - 2**width if n >= 2 ** (width - 1) else n)
-
-
-def section(kind, contents):
-    return bytes([kind]) + number(len(contents)) + contents
 
 
 def code(*bodies):
