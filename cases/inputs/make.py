@@ -6,10 +6,14 @@ Add a line and run it, or put a file here that was made in any other way.
 import hashlib
 import os
 import struct
+import sys
 
 from encoding import hexed, number, section
 
 HERE = os.path.dirname(os.path.abspath(__file__))
+sys.dont_write_bytecode = True
+sys.path.append(os.path.join(HERE, os.pardir, os.pardir, "examples", "made"))
+from make_cart import made  # noqa: E402
 
 
 def write(name, data):
@@ -374,6 +378,8 @@ RECORDINGS = {
     "first-27": recording("first", 100_000, [27, 0]),
     "first-0-1-2": recording("first", 100_000, [0, 1, 2]),
     "first-version-2": recording_2("first", 100_000, [0, 0], [0, 0]),
+    "smallest-blank": recording_2("smallest", 100_000, [], []),
+    "smallest-blank-of-1": recording_2("smallest", 1, [], []),
     "first-0-1-2-version-2": recording_2("first", 100_000, [0, 1, 2], [0, 0, 0]),
     # a budget of 0; a byte less and a byte more; a disk of 1,025 bytes
     "first-without-budget": recording("first", 0, [0, 0]),
@@ -434,6 +440,9 @@ def main():
         write(f"results/{named(body)}.wasm", two_bodies("", body))
     for name, bytes_of in RECORDINGS.items():
         write(f"recordings/{name}.w4rec", bytes_of)
+    cart, recording_of_it = made(14)
+    write("carts/made-14.wasm", cart)
+    write("recordings/made-14.w4rec", recording_of_it)
     write("font.bin", bytes(1_792))
     write("short-font.bin", bytes(1_791))
 

@@ -13,7 +13,8 @@ or_none None = refl
 or_none (Some n) = refl
 
 code_over : (font : List ℕ) (colors code : ℕ) (left x y : ℤ) (codes : List ℕ) (u v : ℕ)
-    → option_or (codes_painter font colors left codes (if code == 10 then left else x +ℤ pos 8) (if code == 10 then y +ℤ pos 8 else y) u v) (glyph_painter font colors code x y u v)
+    → option_or (codes_painter font colors left codes (if code == 10 then left else x +ℤ pos 8)
+    (if code == 10 then y +ℤ pos 8 else y) u v) (glyph_painter font colors code x y u v)
     ≡ codes_painter font colors left (code ∷ codes) x y u v
 code_over font colors code left x y codes u v = elim (cases_eq code 10) [
   | inl newline ↦ rw newline (or_none (codes_painter font colors left codes left (y +ℤ pos 8) u v))
@@ -22,15 +23,20 @@ code_over font colors code left x y codes u v = elim (cases_eq code 10) [
 
 -- a code's cells, and then the rest from where the pen stands after it
 pub code_first : (page font : List ℕ) (colors code : ℕ) (left x y : ℤ) (codes : List ℕ) → length page ≡ 65536
-    → paint (paint page (glyph_painter font colors code x y)) (codes_painter font colors left codes (if code == 10 then left else x +ℤ pos 8) (if code == 10 then y +ℤ pos 8 else y))
+    → paint (paint page (glyph_painter font colors code x y))
+    (codes_painter font colors left codes (if code == 10 then left else x +ℤ pos 8)
+    (if code == 10 then y +ℤ pos 8 else y))
     ≡ paint page (codes_painter font colors left (code ∷ codes) x y)
 code_first page font colors code left x y codes len =
     paint_step page (glyph_painter font colors code x y)
-    (codes_painter font colors left codes (if code == 10 then left else x +ℤ pos 8) (if code == 10 then y +ℤ pos 8 else y))
-    (codes_painter font colors left (code ∷ codes) x y) len (λ u v hu hv. code_over font colors code left x y codes u v)
+    (codes_painter font colors left codes (if code == 10 then left else x +ℤ pos 8)
+    (if code == 10 then y +ℤ pos 8 else y))
+    (codes_painter font colors left (code ∷ codes) x y) len
+    (λ u v hu hv. code_over font colors code left x y codes u v)
 
 -- the pen, wherever it goes, stays below a bound
-pub either_below : (code : ℕ) (newline other : ℤ) (limit : ℕ) → newline ≤ℤ pos limit → other ≤ℤ pos limit → (if code == 10 then newline else other) ≤ℤ pos limit
+pub either_below : (code : ℕ) (newline other : ℤ) (limit : ℕ) → newline ≤ℤ pos limit → other ≤ℤ pos limit
+    → (if code == 10 then newline else other) ≤ℤ pos limit
 either_below code newline other limit hn ho = elim (cases_eq code 10) [
   | inl same ↦ rw same hn
   | inr apart ↦ (let off : (code == 10) ≡ false = grind (arith, nat_tests) in rw off ho)

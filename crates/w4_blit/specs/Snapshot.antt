@@ -3,7 +3,8 @@ use Rattle.std.specs.Prelude.{ℕ, ◌-◌, ◌||◌, List, map, length, nat_lt,
 use Rattle.std.specs.List.{range_with_len}
 
 abbrev pub snapshot_byte : List ℕ → List ℕ → ℕ → ℕ
-snapshot_byte page snapshot i = if nat_lt i 160 || nat_le 6560 i then slice_index page i else slice_index snapshot (i - 160)
+snapshot_byte page snapshot i =
+    if nat_lt i 160 || nat_le 6560 i then slice_index page i else slice_index snapshot (i - 160)
 
 unfoldable pub with_snapshot : List ℕ → List ℕ → List ℕ
 with_snapshot page snapshot = map (snapshot_byte page snapshot) (range_with_len 0 (length page))

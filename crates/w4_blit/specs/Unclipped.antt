@@ -11,4 +11,5 @@ abbrev pub cells_painter : List ℕ → Picture → ℤ → ℤ → Painter
 cells_painter page picture x y u v = landed_index page picture (natural (pos u -ℤ x)) (natural (pos v -ℤ y))
 
 abbrev pub bits_painter : List ℕ → ℕ → ℕ → ℤ → ℤ → Painter
-bits_painter font colors code x y u v = palette_index colors (glyph_bit font code (natural (pos u -ℤ x)) (natural (pos v -ℤ y)) + 1)
+bits_painter font colors code x y u v =
+    palette_index colors (glyph_bit font code (natural (pos u -ℤ x)) (natural (pos v -ℤ y)) + 1)

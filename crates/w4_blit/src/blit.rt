@@ -30,7 +30,16 @@ pub fn blit_sub(
     flags: u32,
 )
     ensures { page.new ≡ paint page.old (blit_painter page.old
-        (record { colors = colors; ptr = ptr; w = natural w; h = natural h; src_x = src_x; src_y = src_y; stride = stride; flags = flags }) x y) }
+        (record {
+          colors = colors;
+          ptr = ptr;
+          w = natural w;
+          h = natural h;
+          src_x = src_x;
+          src_y = src_y;
+          stride = stride;
+          flags = flags;
+        }) x y) }
 {
     let (w, h) = (side(w), side(h));
     let picture = Picture {
@@ -77,7 +86,9 @@ fn blit_row(
 )
     requires columns { right ≤ 160 }
     requires row { v < 160 }
-    ensures { page.new ≡ paint page.old (clipped (cells_painter (with_snapshot page.old snapshot.now) picture.now x y) left right v (v + 1)) }
+    ensures { page.new ≡ paint page.old
+        (clipped (cells_painter (with_snapshot page.old snapshot.now) picture.now x y) left right v
+        (v + 1)) }
 {
     for u in left..right {
         let index = index_at(page, snapshot, picture, x, y, u, v);

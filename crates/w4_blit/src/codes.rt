@@ -47,7 +47,8 @@ fn bytes_there(ptr: u32, len: u32) -> usize
 
 /// How many bytes from `ptr` on stand before the first 0 or the page's end.
 fn bytes_before_zero(page: &PageBytes, snapshot: &Snapshot, ptr: u32) -> usize
-    ensures value { result ≡ length (take_while (λ b. not (b == 0)) (drop ptr (with_snapshot page.now snapshot.now))) }
+    ensures value { result
+        ≡ length (take_while (λ b. not (b == 0)) (drop ptr (with_snapshot page.now snapshot.now))) }
     ensures bound { result ≤ 65536 }
 {
     let first = ptr.min(65536) as usize;

@@ -41,7 +41,8 @@ pub(crate) fn put_glyph(page: &mut PageBytes, font: &Font, glyph: Glyph)
 fn glyph_rows(page: &mut PageBytes, font: &Font, glyph: Glyph)
     requires column { glyph.x ≤ℤ pos 4294967296 }
     requires row { glyph.y ≤ℤ pos 4294967296 }
-    ensures { page.new ≡ paint page.old (λ u v. only_if (is_inside glyph.x (glyph.x +ℤ pos 8) glyph.y (glyph.y +ℤ pos 8) u v)
+    ensures { page.new ≡ paint page.old
+        (λ u v. only_if (is_inside glyph.x (glyph.x +ℤ pos 8) glyph.y (glyph.y +ℤ pos 8) u v)
         (bits_painter font.now glyph.colors glyph.code glyph.x glyph.y u v)) }
 {
     let (left, right) = (on_screen(glyph.x), on_screen(glyph.x + 8));
@@ -55,7 +56,8 @@ fn glyph_rows(page: &mut PageBytes, font: &Font, glyph: Glyph)
 fn glyph_row(page: &mut PageBytes, font: &Font, glyph: Glyph, left: usize, right: usize, v: usize)
     requires columns { right ≤ 160 }
     requires row { v < 160 }
-    ensures { page.new ≡ paint page.old (clipped (bits_painter font.now glyph.colors glyph.code glyph.x glyph.y) left right v (v + 1)) }
+    ensures { page.new ≡ paint page.old
+        (clipped (bits_painter font.now glyph.colors glyph.code glyph.x glyph.y) left right v (v + 1)) }
 {
     for u in left..right {
         let index = bit_index(font, glyph, u, v);

@@ -46,7 +46,8 @@ fn put_codes(
 )
     requires column { x ≤ℤ pos 2147483648 }
     requires row { y ≤ℤ pos 2147483648 }
-    ensures { page.new ≡ paint page.old (text_painter font.now colors (text_codes (with_snapshot page.old snapshot.now) source) x y) }
+    ensures { page.new ≡ paint page.old
+        (text_painter font.now colors (text_codes (with_snapshot page.old snapshot.now) source) x y) }
 {
     let mut pen = Pen { x, y };
     let count = code_count(page, snapshot, source);

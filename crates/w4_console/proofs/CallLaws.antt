@@ -7,10 +7,10 @@ use Rattle.w4_defs.specs.declared.console.Halt.TheVariants.{Running}
 use Rattle.w4_defs.specs.Board.{console, console_setup}
 use Rattle.w4_defs.specs.Evaluation.{run_entry}
 use Rattle.w4_defs.specs.Module.{WasmModule}
-use Rattle.w4_defs.specs.Outcome.{Store, Ended, Finished, Faulted, Exhausted, Undefined}
-use Rattle.w4_defs.specs.Reset.{call_all, underway_after, store_of, then_on}
-use Rattle.w4_defs.specs.State.{Board, State, Underway}
-use Rattle.w4_console.specs.UnderWay.{gone_on, halt_after, IsCalled, IsCalledFirst, rest_after}
+use Rattle.w4_defs.specs.Outcome.{Store, Ended, RunDone, RunTrap, RunSpent, RunStuck}
+use Rattle.w4_defs.specs.Reset.{call_all, logged_state_after, store_of, then_on}
+use Rattle.w4_defs.specs.State.{Board, State, LoggedState}
+use Rattle.w4_console.specs.ConsoleCalls.{gone_on, halt_after, IsCalled, IsCalledFirst, rest_after}
 use Rattle.wasm_machine.specs.declared.ending.Ending.{Ending}
 use Rattle.wasm_machine.specs.declared.ending.Ending.TheVariants as ending
 use Rattle.wasm_machine.specs.Ends.{EndsAs}
@@ -21,27 +21,28 @@ store page globals board = record { page = page; globals = globals; host = board
 -- what an ending says of how it goes on
 ended : (end : Ended Board) (found : Ending) (page : List ℕ) (globals : List Val) (board : Board)
     → EndsAs end found page globals board
-    → (go : Underway → ℕ → Option Underway)
-    → then_on end go ≡ gone_on (rest_after found) (underway_after (store page globals board) (halt_after found)) go
-ended (Finished st rest) (ending.Done underway_after) page globals board e go = rw (e.0, e.1) refl
-ended (Finished st rest) (ending.Trap cause) page globals board e go = absurd e
-ended (Finished st rest) ending.Spent page globals board e go = absurd e
-ended (Faulted cause st) (ending.Done underway_after) page globals board e go = absurd e
-ended (Faulted cause st) (ending.Trap found) page globals board e go = rw (e.0, e.1) refl
-ended (Faulted cause st) ending.Spent page globals board e go = absurd e
-ended (Exhausted st) (ending.Done underway_after) page globals board e go = absurd e
-ended (Exhausted st) (ending.Trap cause) page globals board e go = absurd e
-ended (Exhausted st) ending.Spent page globals board e go = rw e refl
-ended Undefined found page globals board e go = absurd e
+    → (go : LoggedState → ℕ → Option LoggedState)
+    → then_on end go ≡ gone_on (rest_after found)
+    (logged_state_after (store page globals board) (halt_after found)) go
+ended (RunDone st rest) (ending.Done left) page globals board e go = rw (e.0, e.1) refl
+ended (RunDone st rest) (ending.Trap cause) page globals board e go = absurd e
+ended (RunDone st rest) ending.Spent page globals board e go = absurd e
+ended (RunTrap cause st) (ending.Done left) page globals board e go = absurd e
+ended (RunTrap cause st) (ending.Trap found) page globals board e go = rw (e.0, e.1) refl
+ended (RunTrap cause st) ending.Spent page globals board e go = absurd e
+ended (RunSpent st) (ending.Done left) page globals board e go = absurd e
+ended (RunSpent st) (ending.Trap cause) page globals board e go = absurd e
+ended (RunSpent st) ending.Spent page globals board e go = rw e refl
+ended RunStuck found page globals board e go = absurd e
 
 -- a call on a board, and what stands after the devices are put back
-pub called : (cart : WasmModule) (font : List ℕ) (function : ℕ) (now next : Underway) (budget : ℕ)
+pub called : (cart : WasmModule) (font : List ℕ) (function : ℕ) (now next : LoggedState) (budget : ℕ)
     (found : Ending) (state : State) (first page : List ℕ) (firsts globals back : List Val)
     (board used : Board) (rest : Option ℕ) (halt : Halt)
     → store state.page state.globals board ≡ store_of font now → first ≡ state.page → firsts ≡ state.globals
     → EndsAs (run_entry cart console function (store first firsts board) budget) found page globals used
     → back ≡ globals → rest ≡ rest_after found → halt ≡ halt_after found
-    → next ≡ underway_after (store page back used) halt
+    → next ≡ logged_state_after (store page back used) halt
     → IsCalled cart font function now budget rest next
 called cart font function now next budget found state first page firsts globals back board used rest halt from
     p g e b r h n =
@@ -57,28 +58,28 @@ called cart font function now next budget found state first page firsts globals 
 pub still_runs : (found : Ending) (rest : Option ℕ) (halt here : Halt) → rest ≡ rest_after found
     → halt ≡ halt_after found → here ≡ halt
     → OnSome rest (here ≡ Running)
-still_runs (ending.Done underway_after) rest halt here r h e = rw (e, h, r) refl
+still_runs (ending.Done left) rest halt here r h e = rw (e, h, r) refl
 still_runs (ending.Trap cause) rest halt here r h e = rw (e, h, r) tt
 still_runs ending.Spent rest halt here r h e = rw (e, h, r) tt
 
 -- after the last it is the end in any case
-pub at_end : (found : Option ℕ) (next : Underway) → gone_on found next (λ now rest. Some now) ≡ Some next
+pub at_end : (found : Option ℕ) (next : LoggedState) → gone_on found next (λ now rest. Some now) ≡ Some next
 at_end None next = refl
 at_end (Some rest) next = refl
 
 module _ (cart : WasmModule) (font : List ℕ) (whole : ℕ) where
   -- these functions, called one after another, come from one of these to the other
-  abbrev pub Calls : List (Option ℕ) → Underway → ℕ → Underway → Type 0
+  abbrev pub Calls : List (Option ℕ) → LoggedState → ℕ → LoggedState → Type 0
   Calls functions now budget next = call_all (console_setup cart font whole) functions now budget ≡ Some next
 
   -- where no rest is left, the others aren't called; where one is left, they are called with it
-  pub stops : (function named : Option ℕ) (functions : List (Option ℕ)) (now next : Underway) (budget : ℕ)
+  pub stops : (function named : Option ℕ) (functions : List (Option ℕ)) (now next : LoggedState) (budget : ℕ)
       → function ≡ named
       → IsCalledFirst cart font function now budget None next → Calls (named ∷ functions) now budget next
   stops function named functions now next budget e is =
       subst (λ (f : Option ℕ). Calls (f ∷ functions) now budget next) e (is functions whole)
 
-  pub goes_on : (function named : Option ℕ) (functions : List (Option ℕ)) (now mid next : Underway)
+  pub goes_on : (function named : Option ℕ) (functions : List (Option ℕ)) (now mid next : LoggedState)
       (budget rest : ℕ)
       → function ≡ named
       → IsCalledFirst cart font function now budget (Some rest) mid → Calls functions mid rest next
@@ -86,7 +87,7 @@ module _ (cart : WasmModule) (font : List ℕ) (whole : ℕ) where
   goes_on function named functions now mid next budget rest e is others =
       subst (λ (f : Option ℕ). Calls (f ∷ functions) now budget next) e (is functions whole ∙ others)
 
-  pub ends : (function named : Option ℕ) (now next : Underway) (budget : ℕ) (found : Option ℕ)
+  pub ends : (function named : Option ℕ) (now next : LoggedState) (budget : ℕ) (found : Option ℕ)
       → function ≡ named
       → IsCalledFirst cart font function now budget found next → Calls (named ∷ []) now budget next
   ends function named now next budget found e is =

@@ -7,6 +7,7 @@ use Rattle.w4_defs.specs.declared.operation.Op.TheVariants.{I32Const, I64Const}
 use Rattle.w4_defs.specs.declared.value.Val.{Val}
 use Rattle.w4_defs.specs.declared.value.ValType.{ValType}
 use Rattle.w4_defs.specs.EntryPoints.{first_globals, first_value}
+use Rattle.w4_defs.specs.Lookup.{own_global_types}
 use Rattle.w4_defs.specs.ValueTypes.{type_of}
 use Rattle.w4_defs.specs.Module.{Global, WasmModule}
 use Rattle.w4_defs.specs.Program.{constant_number, constant_of, value_of}
@@ -20,17 +21,17 @@ of_op (I64Const value) t n e = subst (λ (k : ValType). type_of (value_of k n) �
 of_op op t n e = absurd cc
 
 of_first : (e : Expr) (t : ValType) → IsConstant t e → type_of (value_of t (constant_of e)) ≡ t
-of_first done t h = absurd h
+of_first done t h = absurd (cc h)
 of_first (plain m done) t h = of_op m.0 t (constant_number m.0) h
-of_first (plain m (plain n rest)) t h = absurd h
-of_first (plain m (block r inner rest)) t h = absurd h
-of_first (plain m (loop r inner rest)) t h = absurd h
-of_first (plain m (if_then r taken rest)) t h = absurd h
-of_first (plain m (if_else r taken other rest)) t h = absurd h
-of_first (block r inner rest) t h = absurd h
-of_first (loop r inner rest) t h = absurd h
-of_first (if_then r taken rest) t h = absurd h
-of_first (if_else r taken other rest) t h = absurd h
+of_first (plain m (plain n rest)) t h = absurd (cc h)
+of_first (plain m (block r inner rest)) t h = absurd (cc h)
+of_first (plain m (loop r inner rest)) t h = absurd (cc h)
+of_first (plain m (if_then r taken rest)) t h = absurd (cc h)
+of_first (plain m (if_else r taken other rest)) t h = absurd (cc h)
+of_first (block r inner rest) t h = absurd (cc h)
+of_first (loop r inner rest) t h = absurd (cc h)
+of_first (if_then r taken rest) t h = absurd (cc h)
+of_first (if_else r taken other rest) t h = absurd (cc h)
 
 of_all : (globals : List Global) → All (λ g. IsConstant g.global.value g.first) globals
     → types_of (map first_value globals) ≡ map (λ g. g.global.value) globals
@@ -43,7 +44,7 @@ of_all (g ∷ globals) h =
     refl
 
 pub first_types : (m : WasmModule) → IsValid m
-    → types_of (first_globals m) ≡ map (λ g. g.global.value) m.globals
+    → types_of (first_globals m) ≡ own_global_types m
 first_types m valid = of_all m.globals valid.0.globals
 
 length_of : (values : List Val) → length (types_of values) ≡ length values

@@ -1,16 +1,17 @@
--- Data segments, written one after another.
+-- Data segments, put_bytes one after another.
 use Rattle.std.proofs.Common.{◌≡◌, ℕ, zero, suc, ◌+◌, ◌≤◌, List, [], ◌∷◌, drop, length, Some, refl, arith, add-one}
 use Rattle.std.specs.Prelude.{option_map, slice_get}
 use Rattle.std.proofs.lemmas.Option.{same_Some}
 use Rattle.w4_defs.specs.Module.{DataSegment}
 use Rattle.w4_defs.specs.Program.{constant_of}
-use Rattle.w4_defs.specs.Reset.{with_segments, written}
+use Rattle.w4_defs.specs.Reset.{with_segments}
+use Rattle.w4_defs.specs.Bytes.{put_bytes}
 
--- the segment of this number is the next to be written
+-- the segment of this number is the next to be put_bytes
 more : (page : List ℕ) (segments : List DataSegment) (i at : ℕ) (bytes : List ℕ)
     → option_map (λ s. constant_of s.offset) (slice_get segments i) ≡ Some at
     → option_map (λ s. s.bytes) (slice_get segments i) ≡ Some bytes
-    → with_segments page (drop i segments) ≡ with_segments (written page at bytes) (drop (suc i) segments)
+    → with_segments page (drop i segments) ≡ with_segments (put_bytes page at bytes) (drop (suc i) segments)
 more page [] i at bytes a b = absurd cc
 more page (s ∷ segments) zero at bytes a b = rw (← same_Some _ _ a, ← same_Some _ _ b) refl
 more page (s ∷ segments) (suc i) at bytes a b = more page segments i at bytes a b
@@ -18,7 +19,7 @@ more page (s ∷ segments) (suc i) at bytes a b = more page segments i at bytes 
 pub one_more : (page : List ℕ) (segments : List DataSegment) (i at : ℕ) (bytes : List ℕ)
     → option_map (λ s. constant_of s.offset) (slice_get segments i) ≡ Some at
     → option_map (λ s. s.bytes) (slice_get segments i) ≡ Some bytes
-    → with_segments page (drop i segments) ≡ with_segments (written page at bytes) (drop (i + 1) segments)
+    → with_segments page (drop i segments) ≡ with_segments (put_bytes page at bytes) (drop (i + 1) segments)
 one_more page segments i at bytes a b = rw add-one (more page segments i at bytes a b)
 
 pub none_left : (page : List ℕ) (segments : List DataSegment) (i : ℕ) → length segments ≤ i

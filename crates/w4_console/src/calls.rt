@@ -4,15 +4,9 @@ ghost use Rattle.std.specs.Option.{IfSome, OnSome};
 ghost use Rattle.std.specs.Prelude.{◌≡◌, Some};
 ghost use Rattle.w4_defs.specs.declared.console.Halt.TheVariants.{Running};
 ghost use Rattle.w4_defs.specs.Lookup.{signature_of};
-ghost use Rattle.w4_defs.specs.Reset.{store_of, underway_after};
-ghost use Rattle.w4_console.specs.UnderWay.{
-  halt_after,
-  HasGlobals,
-  IsCalled,
-  IsCalledFirst,
-  rest_after,
-  so_far,
-};
+ghost use Rattle.w4_defs.specs.Reset.{store_of, logged_state_after};
+ghost use Rattle.w4_console.specs.ConsoleCalls.{halt_after, IsCalled, IsCalledFirst, rest_after, so_far};
+ghost use Rattle.w4_defs.specs.State.{HasGlobals};
 ghost use Rattle.w4_defs.specs.Module.{nothing_to_nothing};
 
 use std::mem;
@@ -96,7 +90,8 @@ fn board_of<'a>(font: &'a Font, state: &mut State, made: &mut FrameRecord) -> Bo
 /// Moves the devices and the logs back, and sets halt.
 fn put_back(state: &mut State, made: &mut FrameRecord, board: Board<'_>, halt: Halt)
     ensures { so_far state.new made.new
-        ≡ underway_after (record { page = state.old.page; globals = state.old.globals; host = board.entry }) halt }
+        ≡ logged_state_after
+        (record { page = state.old.page; globals = state.old.globals; host = board.entry }) halt }
 {
     state.channels = board.channels;
     state.disk = board.disk;

@@ -5,8 +5,8 @@ ghost use Rattle.w4_defs.specs.Board.{console_setup};
 ghost use Rattle.w4_defs.specs.EntryPoints.{first_globals};
 ghost use Rattle.w4_defs.specs.Frame.{frame};
 ghost use Rattle.w4_defs.specs.Reset.{reset};
-ghost use Rattle.w4_defs.specs.State.{blank_state};
-ghost use Rattle.w4_console.specs.UnderWay.{HasGlobals, moment};
+ghost use Rattle.w4_defs.specs.State.{blank_state, HasGlobals};
+ghost use Rattle.w4_console.specs.ConsoleCalls.{moment};
 
 use crate::frames::{begin, record, update};
 use crate::start::{first_globals, start};

@@ -4,7 +4,8 @@ ghost use Rattle.std.specs.Prelude.{◌≡◌, Some};
 ghost use Rattle.w4_defs.specs.Board.{console_setup};
 ghost use Rattle.w4_defs.specs.Frame.{before_update, update};
 ghost use Rattle.w4_defs.specs.Reset.{recorded};
-ghost use Rattle.w4_console.specs.UnderWay.{HasGlobals, moment, so_far};
+ghost use Rattle.w4_console.specs.ConsoleCalls.{moment, so_far};
+ghost use Rattle.w4_defs.specs.State.{HasGlobals};
 
 use crate::calls::call;
 use crate::page::put_input_page;

@@ -2,7 +2,8 @@
 
 ghost use Rattle.std.specs.Prelude.{◌≡◌, ◌+◌, ◌≤◌, length};
 ghost use Rattle.w4_defs.specs.Frame.{cleared, page_after_input};
-ghost use Rattle.w4_defs.specs.Reset.{first_page, start_page, written};
+ghost use Rattle.w4_defs.specs.Reset.{first_page, start_page};
+ghost use Rattle.w4_defs.specs.Bytes.{put_bytes};
 ghost use Rattle.w4_defs.specs.State.{zero_page};
 
 use w4_defs::{Input, PageBytes};
@@ -44,7 +45,7 @@ fn wipe(page: &mut PageBytes)
 /// Writes bytes from an address on.
 fn write(page: &mut PageBytes, at: usize, bytes: &[u8])
     requires { at + length bytes.now ≤ 65536 }
-    ensures { page.new ≡ written page.old at bytes.now }
+    ensures { page.new ≡ put_bytes page.old at bytes.now }
 {
     page[at..at + bytes.len()].copy_from_slice(bytes);
 }

@@ -1,12 +1,14 @@
 //! The start of a cart, before the record of its reset is taken.
 
-ghost use Rattle.std.specs.Prelude.{◌≡◌, map, Some};
+ghost use Rattle.std.specs.Prelude.{◌≡◌, Some};
 ghost use Rattle.w4_defs.specs.Board.{console_setup};
 ghost use Rattle.w4_defs.specs.declared.console.Halt.TheVariants.{Running};
 ghost use Rattle.w4_defs.specs.EntryPoints.{first_globals, start_functions};
+ghost use Rattle.w4_defs.specs.Lookup.{own_global_types};
 ghost use Rattle.w4_defs.specs.Reset.{call_all, fresh, start};
 ghost use Rattle.w4_defs.specs.RunLaws.{types_of};
-ghost use Rattle.w4_console.specs.UnderWay.{HasGlobals, so_far};
+ghost use Rattle.w4_console.specs.ConsoleCalls.{so_far};
+ghost use Rattle.w4_defs.specs.State.{HasGlobals};
 
 use crate::calls::call_if_there;
 use crate::page::put_start_page;
@@ -52,7 +54,7 @@ fn put_fresh(state: &mut State, cart: &Cart)
 /// The first values of a cart's globals, each of its global's type.
 pub(crate) fn first_globals(cart: &Cart) -> &[Val]
     ensures value { result.now ≡ first_globals cart.now }
-    ensures types { types_of result.now ≡ map (λ g. g.global.value) cart.now.globals }
+    ensures types { types_of result.now ≡ own_global_types cart.now }
 {
     // a valid module: its constants have the types of their globals
     let _code = cart.code();

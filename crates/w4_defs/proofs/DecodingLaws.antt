@@ -201,7 +201,8 @@ with_count version digest budget size disk count =
     (frames_of version count.0 count.1) None >>= with_frames digest budget disk
 
 abbrev with_disk : ℕ → List ℕ → ℕ → ℕ → (List ℕ × List ℕ) → Option Recording
-with_disk version digest budget size disk = little_endian_at w32 disk.1 >>= with_count version digest budget size disk.0
+with_disk version digest budget size disk =
+    little_endian_at w32 disk.1 >>= with_count version digest budget size disk.0
 
 abbrev with_size : ℕ → List ℕ → ℕ → (ℕ × List ℕ) → Option Recording
 with_size version digest budget size = front_at size.0 size.1 >>= with_disk version digest budget size.0
@@ -284,7 +285,8 @@ count_parts : (version : ℕ) (digest : List ℕ) (budget size : ℕ) (disk rest
 count_parts version digest budget size disk rest after count r known small whole e =
     let frames = bind_some (cond (is_within_limits budget size count) (frames_of version count after) None)
     (with_frames digest budget disk) r e in
-    let tested = if_some (is_within_limits budget size count) (frames_of version count after) frames.0 frames.1 in
+    let tested = if_some (is_within_limits budget size count) (frames_of version count after) frames.0
+    frames.1 in
     let fit = limits budget size count tested.0 in
     let are = frames_read version count after frames.0 known small tested.1 in
     let made : Recording = record { digest = digest; budget = budget; disk = disk; frames = frames.0 } in

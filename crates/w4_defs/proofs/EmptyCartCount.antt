@@ -10,7 +10,8 @@ use Rattle.w4_defs.proofs.EmptyCartSections.{type_section, import_section, funct
 
 abbrev pub counted_sections : List Section
 counted_sections =
-    (1, type_section) ∷ (2, import_section) ∷ (3, function_section) ∷ (7, export_section) ∷ (12, 0x00 ∷ []) ∷ (10, code_section) ∷ []
+    (1, type_section) ∷ (2, import_section) ∷ (3, function_section) ∷ (7, export_section) ∷ (12, 0x00 ∷ [])
+    ∷ (10, code_section) ∷ []
 
 abbrev pub after_count : List ℕ
 after_count = 0x0a ∷ 0x04 ∷ code_section

@@ -21,7 +21,8 @@ type_section = 0x01 ∷ 0x60 ∷ 0x00 ∷ 0x00 ∷ []
 
 abbrev pub import_section : List ℕ
 import_section =
-    0x01 ∷ 0x03 ∷ 0x65 ∷ 0x6e ∷ 0x76 ∷ 0x06 ∷ 0x6d ∷ 0x65 ∷ 0x6d ∷ 0x6f ∷ 0x72 ∷ 0x79 ∷ 0x02 ∷ 0x00 ∷ 0x01 ∷ []
+    0x01 ∷ 0x03 ∷ 0x65 ∷ 0x6e ∷ 0x76 ∷ 0x06 ∷ 0x6d ∷ 0x65 ∷ 0x6d ∷ 0x6f ∷ 0x72 ∷ 0x79 ∷ 0x02 ∷ 0x00 ∷ 0x01
+    ∷ []
 
 abbrev pub function_section : List ℕ
 function_section = 0x01 ∷ 0x00 ∷ []
@@ -34,7 +35,8 @@ code_section = 0x01 ∷ 0x02 ∷ 0x00 ∷ 0x0b ∷ []
 
 abbrev pub sections : List Section
 sections =
-    (1, type_section) ∷ (2, import_section) ∷ (3, function_section) ∷ (7, export_section) ∷ (10, code_section) ∷ []
+    (1, type_section) ∷ (2, import_section) ∷ (3, function_section) ∷ (7, export_section)
+    ∷ (10, code_section) ∷ []
 
 pub env_is_named : name (codes "env") (0x03 ∷ 0x65 ∷ 0x6e ∷ 0x76 ∷ [])
 unfolding lib.Utf8.encode
@@ -42,11 +44,23 @@ env_is_named = (0x03 ∷ [], codes "env", refl, short 3 (omega arith), ((codes "
 
 pub memory_is_named : name (codes "memory") (0x06 ∷ 0x6d ∷ 0x65 ∷ 0x6d ∷ 0x6f ∷ 0x72 ∷ 0x79 ∷ [])
 unfolding lib.Utf8.encode
-memory_is_named = (0x06 ∷ [], codes "memory", refl, short 6 (omega arith), ((codes "memory", (refl, refl)), refl))
+memory_is_named = (
+  0x06 ∷ [],
+  codes "memory",
+  refl,
+  short 6 (omega arith),
+  ((codes "memory", (refl, refl)), refl),
+)
 
 pub update_is_named : name (codes "update") (0x06 ∷ 0x75 ∷ 0x70 ∷ 0x64 ∷ 0x61 ∷ 0x74 ∷ 0x65 ∷ [])
 unfolding lib.Utf8.encode
-update_is_named = (0x06 ∷ [], codes "update", refl, short 6 (omega arith), ((codes "update", (refl, refl)), refl))
+update_is_named = (
+  0x06 ∷ [],
+  codes "update",
+  refl,
+  short 6 (omega arith),
+  ((codes "update", (refl, refl)), refl),
+)
 
 abbrev zero_is_short : unsigned 32 0 (0x00 ∷ [])
 zero_is_short = short 0 (omega arith)
@@ -95,7 +109,13 @@ collected =
               0x00 ∷ 0x00 ∷ [],
               refl,
               refl,
-              (0x00 ∷ [], 0x00 ∷ [], refl, (0x00 ∷ [], [], refl, zero_is_short, refl), (0x00 ∷ [], [], refl, zero_is_short, refl)),
+              (
+                0x00 ∷ [],
+                0x00 ∷ [],
+                refl,
+                (0x00 ∷ [], [], refl, zero_is_short, refl),
+                (0x00 ∷ [], [], refl, zero_is_short, refl),
+              ),
             ),
           ),
           refl,
@@ -107,7 +127,8 @@ collected =
         refl,
         one_is_short,
         (
-          0x03 ∷ 0x65 ∷ 0x6e ∷ 0x76 ∷ 0x06 ∷ 0x6d ∷ 0x65 ∷ 0x6d ∷ 0x6f ∷ 0x72 ∷ 0x79 ∷ 0x02 ∷ 0x00 ∷ 0x01 ∷ [],
+          0x03 ∷ 0x65 ∷ 0x6e ∷ 0x76 ∷ 0x06 ∷ 0x6d ∷ 0x65 ∷ 0x6d ∷ 0x6f ∷ 0x72 ∷ 0x79 ∷ 0x02 ∷ 0x00 ∷ 0x01
+              ∷ [],
           [],
           refl,
           (
@@ -176,8 +197,10 @@ collected =
     }
 
 -- a section encoded by its id, a text of its size, and its contents
-pub whole : (id : ℕ) (size contents : List ℕ) → unsigned 32 (length contents) size → section (id, contents) (id ∷ size ++ contents)
-whole id size contents counted = (id ∷ [], size ++ contents, refl, refl, (size, contents, refl, counted, refl))
+pub whole : (id : ℕ) (size contents : List ℕ) → unsigned 32 (length contents) size
+    → section (id, contents) (id ∷ size ++ contents)
+whole id size contents counted =
+    (id ∷ [], size ++ contents, refl, refl, (size, contents, refl, counted, refl))
 
 -- the text from each section on, where the last has this text for its size
 abbrev pub from_code : List ℕ → List ℕ

@@ -10,7 +10,8 @@ use Rattle.w4_defs.specs.declared.value.ValType.TheVariants.{I32}
 use Rattle.w4_defs.specs.declared.operation.Op.{Op}
 use Rattle.w4_defs.specs.declared.operation.Op.TheVariants.{Call, I32Add}
 use Rattle.w4_defs.specs.declared.refusal.ProfileRefusal.TheVariants.{Floats}
-use Rattle.w4_defs.specs.Module.{Signature, Function, WasmModule}
+use Rattle.w4_defs.specs.Module.{Signature, Function, WasmModule, nothing_to_nothing}
+use Rattle.w4_defs.specs.Imports.{returns_i32}
 use Rattle.w4_defs.specs.Lookup.{function_indices, signature_of}
 use Rattle.w4_defs.specs.Floats.{is_float_operation, function_has_float, module_has_float}
 use Rattle.w4_defs.specs.Profile.{if_so, causes, first_cause, profile_refusal}
@@ -53,7 +54,10 @@ all_choices = (
           (refl, λ c. refl),
           (
             (refl, λ c. refl),
-            ((refl, λ c. refl), ((refl, λ c. refl), ((refl, λ c. refl), ((refl, λ c. refl), ((refl, λ c. refl), tt))))),
+            (
+              (refl, λ c. refl),
+              ((refl, λ c. refl), ((refl, λ c. refl), ((refl, λ c. refl), ((refl, λ c. refl), tt)))),
+            ),
           ),
         ),
       ),
@@ -87,9 +91,11 @@ unfolding update_function
 update-no_float = refl
 
 abbrev bodies_from : ℕ → ℕ → ℕ → List Function
-bodies_from number start count = map (small_function number) (range_with_len start count) ++ update_function ∷ []
+bodies_from number start count = map (small_function number) (range_with_len start count)
+    ++ update_function ∷ []
 
-smalls-no_float : (number start count : ℕ) → list_any function_has_float (bodies_from number start count) ≡ false
+smalls-no_float : (number start count : ℕ)
+    → list_any function_has_float (bodies_from number start count) ≡ false
 smalls-no_float number start zero = or_from _ false update-no_float refl
 smalls-no_float number start (suc count) =
     or_from _ _ (small-no_float number start) (smalls-no_float number (start + 1) count)
@@ -106,10 +112,10 @@ made-profile number =
 
 -- `update`, and the small functions
 none_to_none : Signature
-none_to_none = record { params = []; results = [] }
+none_to_none = nothing_to_nothing
 
 two_to_one : Signature
-two_to_one = record { params = I32 ∷ I32 ∷ []; results = I32 ∷ [] }
+two_to_one = returns_i32 2
 
 small_context : WasmModule → ℕ → ℕ → Context
 small_context m number g = body_context m two_to_one (small_function number g)

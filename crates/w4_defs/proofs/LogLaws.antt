@@ -15,22 +15,48 @@ logged-room : {Entry : Type 0} (bound : ℕ) (entries : List Entry) (entry : Ent
 logged-room {Entry} bound entries entry h =
     let long : length (entries ++ (entry ∷ [])) ≡ length entries + 1 = length-append entries (entry ∷ []) in
     let all : take bound entries ≡ entries = take_all bound entries (omega arith) in
-    let more : take bound (entries ++ (entry ∷ [])) ≡ entries ++ (entry ∷ []) = take_all bound (entries ++ (entry ∷ [])) (omega (arith, long)) in
-    let fits : nat_lt (length (take bound entries)) bound ≡ true = lt-ltb (length (take bound entries)) bound (rw all h) in
-    let none : min (length entries - bound) (2 ^ 64 - 1) ≡ min (length (entries ++ (entry ∷ [])) - bound) (2 ^ 64 - 1) = omega (arith, long) in
-    let before : Log Entry = record { kept = take bound entries ++ (entry ∷ []); dropped = min (length entries - bound) (2 ^ 64 - 1) } in
-    let full : Log Entry = record { kept = take bound entries; dropped = min (min (length entries - bound) (2 ^ 64 - 1) + 1) (2 ^ 64 - 1) } in
+    let more : take bound (entries ++ (entry ∷ [])) ≡ entries ++ (entry ∷ []) =
+    take_all bound (entries ++ (entry ∷ [])) (omega (arith, long)) in
+    let fits : nat_lt (length (take bound entries)) bound ≡ true =
+    lt-ltb (length (take bound entries)) bound (rw all h) in
+    let none : min (length entries - bound) (2 ^ 64 - 1) ≡ min (length (entries ++ (entry ∷ [])) - bound)
+    (2 ^ 64 - 1) = omega (arith, long) in
+    let before : Log Entry =
+    record {
+      kept = take bound entries ++ (entry ∷ []);
+      dropped =
+          min (length entries - bound) (2 ^ 64 - 1);
+    } in
+    let full : Log Entry =
+    record {
+      kept = take bound entries;
+      dropped =
+          min (min (length entries - bound) (2 ^ 64 - 1) + 1) (2 ^ 64 - 1);
+    } in
     ap (λ b. cond b before full) fits
-    ∙ same_log (take bound entries ++ (entry ∷ [])) _ _ _ (ap (λ kept. kept ++ (entry ∷ [])) all ∙ sym more) none
+    ∙ same_log (take bound entries ++ (entry ∷ [])) _ _ _ (ap (λ kept. kept ++ (entry ∷ [])) all ∙ sym more)
+    none
 
 logged-full : {Entry : Type 0} (bound : ℕ) (entries : List Entry) (entry : Entry) → bound ≤ length entries →
     logged bound (log_of bound entries) entry ≡ log_of bound (entries ++ (entry ∷ []))
 logged-full {Entry} bound entries entry h =
     let long : length (entries ++ (entry ∷ [])) ≡ length entries + 1 = length-append entries (entry ∷ []) in
-    let fits : nat_lt (length (take bound entries)) bound ≡ false = le-ltb (length (take bound entries)) bound (omega (arith, length-take-le bound entries h)) in
-    let one : min (min (length entries - bound) (2 ^ 64 - 1) + 1) (2 ^ 64 - 1) ≡ min (length (entries ++ (entry ∷ [])) - bound) (2 ^ 64 - 1) = omega (arith, long) in
-    let before : Log Entry = record { kept = take bound entries ++ (entry ∷ []); dropped = min (length entries - bound) (2 ^ 64 - 1) } in
-    let full : Log Entry = record { kept = take bound entries; dropped = min (min (length entries - bound) (2 ^ 64 - 1) + 1) (2 ^ 64 - 1) } in
+    let fits : nat_lt (length (take bound entries)) bound ≡ false =
+    le-ltb (length (take bound entries)) bound (omega (arith, length-take-le bound entries h)) in
+    let one : min (min (length entries - bound) (2 ^ 64 - 1) + 1) (2 ^ 64 - 1)
+    ≡ min (length (entries ++ (entry ∷ [])) - bound) (2 ^ 64 - 1) = omega (arith, long) in
+    let before : Log Entry =
+    record {
+      kept = take bound entries ++ (entry ∷ []);
+      dropped =
+          min (length entries - bound) (2 ^ 64 - 1);
+    } in
+    let full : Log Entry =
+    record {
+      kept = take bound entries;
+      dropped =
+          min (min (length entries - bound) (2 ^ 64 - 1) + 1) (2 ^ 64 - 1);
+    } in
     ap (λ b. cond b before full) fits
     ∙ same_log (take bound entries) _ _ _ (sym (take-append-le bound entries (entry ∷ []) h)) one
 
@@ -53,5 +79,6 @@ all_logged-from bound before (entry ∷ entries) =
 pub logs_in_order : {Entry : Type 0} → LogsInOrder Entry
 logs_in_order {Entry} bound entries =
     let empty : empty_log {Entry = Entry} ≡ log_of bound [] =
-    same_log [] (take bound []) 0 (min (0 - bound) (2 ^ 64 - 1)) (sym (take_all bound [] (omega arith))) (omega arith) in
+    same_log [] (take bound []) 0 (min (0 - bound) (2 ^ 64 - 1)) (sym (take_all bound [] (omega arith)))
+    (omega arith) in
     ap (λ log. all_logged bound log entries) empty ∙ all_logged-from bound [] entries

@@ -8,7 +8,8 @@ cons_is_not_nil : (b : ℕ) (bs : List ℕ) → b ∷ bs ≡ [] → ⊥
 cons_is_not_nil b bs e = absurd cc
 
 -- what follows a byte has a text, where the byte isn't the last
-pub later : (w n b c : ℕ) (bs : List ℕ) → leb LastUnsigned w n (b ∷ c ∷ bs) → (m : ℕ) × leb LastUnsigned (w - 7) m (c ∷ bs)
+pub later : (w n b c : ℕ) (bs : List ℕ) → leb LastUnsigned w n (b ∷ c ∷ bs) → (m : ℕ)
+    × leb LastUnsigned (w - 7) m (c ∷ bs)
 later w n b c bs (inl (e, _)) = absurd (cons_is_not_nil c bs e)
 later w n b c bs (inr (_, _, m, _, h)) = (m, h)
 

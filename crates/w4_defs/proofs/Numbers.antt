@@ -8,7 +8,8 @@ use Rattle.w4_defs.specs.Bytes.{number_at, put_number, PutKeepsLength, PutKeepsO
 pub length-put_number : PutKeepsLength
 length-put_number bytes at zero number = refl
 length-put_number bytes at (suc count) number =
-    length-put_number (slice_set bytes at (number % 256)) (at + 1) count (number / 256) ∙ length-set bytes at (number % 256)
+    length-put_number (slice_set bytes at (number % 256)) (at + 1) count (number / 256)
+    ∙ length-set bytes at (number % 256)
 
 pub get_or-put_number : PutKeepsOthers
 get_or-put_number bytes at zero number i h = refl
@@ -32,7 +33,10 @@ number_at-put_number bytes at (suc count) number h =
     let first : slice_index (put_number bytes at (suc count) number) at ≡ number % 256 =
     get_or-put_number (slice_set bytes at (number % 256)) (at + 1) count (number / 256) at (inl (omega arith))
     ∙ get_or-set_same bytes at (number % 256) 0 (omega arith) in
-    let rest : number_at (put_number bytes at (suc count) number) (at + 1) count ≡ number / 256 % 256 ^ count =
-    number_at-put_number (slice_set bytes at (number % 256)) (at + 1) count (number / 256) (omega (arith, length-set bytes at (number % 256))) in
-    let digits : number % (256 ^ count * 256) ≡ (number / 256 % 256 ^ count) * 256 + number % 256 = mod-mul number {m = 256 ^ count} {c = 256} (byte_powers count) (omega arith) in
+    let rest : number_at (put_number bytes at (suc count) number) (at + 1) count ≡ number / 256 % 256 ^
+    count =
+    number_at-put_number (slice_set bytes at (number % 256)) (at + 1) count (number / 256)
+    (omega (arith, length-set bytes at (number % 256))) in
+    let digits : number % (256 ^ count * 256) ≡ (number / 256 % 256 ^ count) * 256 + number % 256 =
+    mod-mul number {m = 256 ^ count} {c = 256} (byte_powers count) (omega arith) in
     omega (arith, first, rest, digits, ap (λ m. number % m) (pow-suc 256 count))

@@ -139,7 +139,12 @@ module _ {A : Type 0} (kind : Kind A) (is : IsPlaced kind) where
 
   moved_back : (session : Session A) (draft : Option (Draft A))
       → option_map (session_of_places kind) (option_map
-      (λ d. record { current = d; older = without_last session.older; newer = session.newer ++ session.current ∷ [] }) draft)
+      (λ d. record {
+        current = d;
+        older = without_last session.older;
+        newer =
+            session.newer ++ session.current ∷ [];
+      }) draft)
       ≡ option_map (λ d. record {
         current = d;
         older = without_last
@@ -155,8 +160,19 @@ module _ {A : Type 0} (kind : Kind A) (is : IsPlaced kind) where
 
   moved_on : (session : Session A) (draft : Option (Draft A))
       → option_map (session_of_places kind) (option_map
-      (λ d. record { current = d; older = session.older ++ session.current ∷ []; newer = without_last session.newer }) draft)
-      ≡ option_map (λ d. record { current = d; older = bares session.older ++ draft_of_places kind session.current ∷ []; newer = without_last (bares session.newer) }) (option_map (draft_of_places kind) draft)
+      (λ d. record {
+        current = d;
+        older = session.older ++ session.current ∷ [];
+        newer =
+            without_last session.newer;
+      }) draft)
+      ≡ option_map (λ d. record {
+        current = d;
+        older = bares session.older
+            ++ draft_of_places kind session.current ∷ [];
+        newer = without_last (bares session.newer);
+      })
+      (option_map (draft_of_places kind) draft)
   moved_on session None = refl
   moved_on session (Some d) = λ i. Some (record {
     current = draft_of_places kind d;
@@ -175,12 +191,14 @@ module _ {A : Type 0} (kind : Kind A) (is : IsPlaced kind) where
   set_bare : (k : ℕ) (input : Input) (draft : Draft A)
       → draft_of_places kind (set_draft kind k input draft)
       ≡ set_draft places_alone k input (draft_of_places kind draft)
-  set_bare k input draft = λ i. record { inputs = set draft.inputs k input; kept = unlinked_places k draft.kept i }
+  set_bare k input draft =
+      λ i. record { inputs = set draft.inputs k input; kept = unlinked_places k draft.kept i }
 
   insert_bare : (k : ℕ) (input : Input) (draft : Draft A)
       → draft_of_places kind (insert_draft kind k input draft)
       ≡ insert_draft places_alone k input (draft_of_places kind draft)
-  insert_bare k input draft = λ i. record { inputs = insert draft.inputs k input; kept = insert_places k draft.kept i }
+  insert_bare k input draft =
+      λ i. record { inputs = insert draft.inputs k input; kept = insert_places k draft.kept i }
 
   delete_bare : (k : ℕ) (draft : Draft A)
       → draft_of_places kind (delete_draft kind k draft)
@@ -203,7 +221,12 @@ module _ {A : Type 0} (kind : Kind A) (is : IsPlaced kind) where
       → option_map (session_of_places kind) (redone session) ≡ redone (session_of_places kind session)
   redo_bare session =
       moved_on session (last_item session.newer)
-      ∙ ap (option_map (λ d. record { current = d; older = bares session.older ++ draft_of_places kind session.current ∷ []; newer = without_last (bares session.newer) }))
+      ∙ ap (option_map (λ d. record {
+        current = d;
+        older = bares session.older
+            ++ draft_of_places kind session.current ∷ [];
+        newer = without_last (bares session.newer);
+      }))
       (sym (last_bare session.newer))
 
   keep_bare : (p : ℕ) (draft : Draft A)

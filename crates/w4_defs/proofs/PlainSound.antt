@@ -23,7 +23,7 @@ use Rattle.w4_defs.specs.Integers.{binary}
 use Rattle.w4_defs.specs.Bytes.{number_at}
 use Rattle.w4_defs.specs.Control.{on_i32, on_number}
 use Rattle.w4_defs.specs.Effects.{Effect, Does, Traps, Lacks, Plain, width_of, in_page, load, store, calculated, eqz, comparison, one_operand, two_operands, loaded_value, conversion, push_value, memory_grow, memory_copy, memory_fill, page_after_copy, row_effect}
-use Rattle.w4_defs.specs.OperandTypes.{Arrow, arrow_if, row_type}
+use Rattle.w4_defs.specs.OperandTypes.{StackType, stack_type_if, row_type}
 use Rattle.w4_defs.specs.RunLaws.{types_of}
 use Rattle.w4_defs.specs.InstructionSoundness.{Suits, Sound, PlainInstructionsAreSound}
 
@@ -163,48 +163,52 @@ fill_sound = record {
 
 -- ---- the rows
 
-given : (plain : Plain) (arrow found : Arrow) → Sound plain arrow → Some arrow ≡ Some found
+given : (plain : Plain) (stack_type found : StackType) → Sound plain stack_type → Some stack_type ≡ Some found
     → Sound plain found
-given plain arrow found s h = subst (Sound plain) (cc h) s
+given plain stack_type found s h = subst (Sound plain) (cc h) s
 
-where_memory : (has : Bool) (plain : Plain) (a b : List ValType) (found : Arrow) → Sound plain (a, b)
-    → arrow_if has a b ≡ Some found → Sound plain found
+where_memory : (has : Bool) (plain : Plain) (a b : List ValType) (found : StackType) → Sound plain (a, b)
+    → stack_type_if has a b ≡ Some found → Sound plain found
 where_memory true plain a b found s h = given plain (a, b) found s h
 where_memory false plain a b found s h = absurd (cc h)
 
-row_sound : (has : Bool) (r : Row) (arrow : Arrow) → row_type has r ≡ Some arrow → Sound (row_effect r) arrow
-row_sound has (shape.Const t n) arrow h =
-    given _ _ arrow (pushed_sound (value_type_of t) (value_of (value_type_of t) n) (type_of_value t n)) h
-row_sound has (shape.Test t) arrow h = given _ _ arrow (eqz_sound t) h
-row_sound has (shape.Compare t o) arrow h = given _ _ arrow (comparison_sound t o) h
-row_sound has (shape.Unary t o) arrow h = given _ _ arrow (one_sound t o) h
-row_sound has (shape.Binary t o) arrow h = given _ _ arrow (two_sound t o) h
-row_sound has shape.Wrap arrow h =
-    given _ _ arrow (conversion_sound integer.I64 integer.I32 (λ a. val.I32 (a % 2 ^ 32)) (λ n. refl)) h
-row_sound has (shape.Extend sign) arrow h =
-    given _ _ arrow
+row_sound : (has : Bool) (r : Row) (stack_type : StackType) → row_type has r ≡ Some stack_type
+    → Sound (row_effect r) stack_type
+row_sound has (shape.Const t n) stack_type h =
+    given _ _ stack_type (pushed_sound (value_type_of t) (value_of (value_type_of t) n) (type_of_value t n)) h
+row_sound has (shape.Test t) stack_type h = given _ _ stack_type (eqz_sound t) h
+row_sound has (shape.Compare t o) stack_type h = given _ _ stack_type (comparison_sound t o) h
+row_sound has (shape.Unary t o) stack_type h = given _ _ stack_type (one_sound t o) h
+row_sound has (shape.Binary t o) stack_type h = given _ _ stack_type (two_sound t o) h
+row_sound has shape.Wrap stack_type h =
+    given _ _ stack_type (conversion_sound integer.I64 integer.I32 (λ a. val.I32 (a % 2 ^ 32)) (λ n. refl)) h
+row_sound has (shape.Extend sign) stack_type h =
+    given _ _ stack_type
     (conversion_sound integer.I32 integer.I64 (loaded_value I64 sign 32) (type_of_read integer.I64 sign 32)) h
-row_sound has (shape.ExtendWithin t bits) arrow h =
-    given _ _ arrow (conversion_sound t t (loaded_value (value_type_of t) Signed bits) (type_of_read t Signed bits)) h
-row_sound has (shape.Load t bytes sign align offset) arrow h =
-    where_memory (has && nat_le (2 ^ align) bytes) _ _ _ arrow
-    (load_sound offset bytes t (loaded_value (value_type_of t) sign (8 * bytes)) (type_of_read t sign (8 * bytes))) h
-row_sound has (shape.Store t bytes align offset) arrow h =
-    where_memory (has && nat_le (2 ^ align) bytes) _ _ _ arrow (store_sound offset bytes t) h
-row_sound has shape.MemorySize arrow h = where_memory has _ _ _ arrow (pushed_sound I32 (val.I32 1) refl) h
-row_sound has shape.MemoryGrow arrow h = where_memory has _ _ _ arrow grow_sound h
-row_sound has shape.MemoryCopy arrow h = where_memory has _ _ _ arrow copy_sound h
-row_sound has shape.MemoryFill arrow h = where_memory has _ _ _ arrow fill_sound h
-row_sound has shape.Float arrow h = absurd (cc h)
-row_sound has shape.Missing arrow h = absurd (cc h)
+row_sound has (shape.ExtendWithin t bits) stack_type h =
+    given _ _ stack_type
+    (conversion_sound t t (loaded_value (value_type_of t) Signed bits) (type_of_read t Signed bits)) h
+row_sound has (shape.Load t bytes sign align offset) stack_type h =
+    where_memory (has && nat_le (2 ^ align) bytes) _ _ _ stack_type
+    (load_sound offset bytes t (loaded_value (value_type_of t) sign (8 * bytes))
+    (type_of_read t sign (8 * bytes))) h
+row_sound has (shape.Store t bytes align offset) stack_type h =
+    where_memory (has && nat_le (2 ^ align) bytes) _ _ _ stack_type (store_sound offset bytes t) h
+row_sound has shape.MemorySize stack_type h =
+    where_memory has _ _ _ stack_type (pushed_sound I32 (val.I32 1) refl) h
+row_sound has shape.MemoryGrow stack_type h = where_memory has _ _ _ stack_type grow_sound h
+row_sound has shape.MemoryCopy stack_type h = where_memory has _ _ _ stack_type copy_sound h
+row_sound has shape.MemoryFill stack_type h = where_memory has _ _ _ stack_type fill_sound h
+row_sound has shape.Float stack_type h = absurd (cc h)
+row_sound has shape.NoRow stack_type h = absurd (cc h)
 
 -- what has an effect but no row has no type here
 pub plain_sound : PlainInstructionsAreSound
-plain_sound has op.Unreachable arrow h = absurd (cc h)
-plain_sound has op.Nop arrow h = absurd (cc h)
-plain_sound has op.Drop arrow h = absurd (cc h)
-plain_sound has op.Select arrow h = absurd (cc h)
-plain_sound has (op.LocalGet i) arrow h = absurd (cc h)
-plain_sound has (op.LocalSet i) arrow h = absurd (cc h)
-plain_sound has (op.LocalTee i) arrow h = absurd (cc h)
-plain_sound has o arrow h = row_sound has (row o) arrow h
+plain_sound has op.Unreachable stack_type h = absurd (cc h)
+plain_sound has op.Nop stack_type h = absurd (cc h)
+plain_sound has op.Drop stack_type h = absurd (cc h)
+plain_sound has op.Select stack_type h = absurd (cc h)
+plain_sound has (op.LocalGet i) stack_type h = absurd (cc h)
+plain_sound has (op.LocalSet i) stack_type h = absurd (cc h)
+plain_sound has (op.LocalTee i) stack_type h = absurd (cc h)
+plain_sound has o stack_type h = row_sound has (row o) stack_type h

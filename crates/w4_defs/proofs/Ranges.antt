@@ -49,7 +49,8 @@ rotated_lt : (w k a : ℕ) → k ≤ w → a < 2 ^ w → a * 2 ^ k % 2 ^ w + a /
 rotated_lt w k a h less =
     let e : w - k + k ≡ w = omega arith in
     let power : 2 ^ (w - k) * 2 ^ k ≡ 2 ^ w = sym (pow-add 2 (w - k) k) ∙ ap (λ x. 2 ^ x) e in
-    subst (λ x. a * 2 ^ k % x + a / 2 ^ (w - k) < x) power (turned_lt (w - k) k a (subst (λ x. a < x) (sym power) less))
+    subst (λ x. a * 2 ^ k % x + a / 2 ^ (w - k) < x) power
+    (turned_lt (w - k) k a (subst (λ x. a < x) (sym power) less))
 
 checked : (t : Bool) (c : Cause) (r : Result ℕ Cause) (P : ℕ → Type 0) → IfOk r P → IfOk (cond t (Err c) r) P
 checked true c r P h = tt
@@ -63,11 +64,15 @@ binary_in_range w DivS a b some ha hb =
     let quotient : Result ℕ Cause = Ok (wrapped w (int_div (as_signed w a) (as_signed w b))) in
     let least : Bool = nat_eq a (2 ^ (w - 1)) && nat_eq b (2 ^ w - 1) in
     checked (nat_eq b 0) DivideByZero (cond least (Err Overflow) quotient) (λ n. n < 2 ^ w)
-    (checked least Overflow quotient (λ n. n < 2 ^ w) (wrapped_lt w (int_div (as_signed w a) (as_signed w b))))
-binary_in_range w DivU a b some ha hb = checked (nat_eq b 0) DivideByZero (Ok (a / b)) (λ n. n < 2 ^ w) (omega (arith, div-le_self a b))
+    (checked least Overflow quotient (λ n. n < 2 ^ w)
+    (wrapped_lt w (int_div (as_signed w a) (as_signed w b))))
+binary_in_range w DivU a b some ha hb =
+    checked (nat_eq b 0) DivideByZero (Ok (a / b)) (λ n. n < 2 ^ w) (omega (arith, div-le_self a b))
 binary_in_range w RemS a b some ha hb =
-    checked (nat_eq b 0) DivideByZero (Ok (wrapped w (int_rem (as_signed w a) (as_signed w b)))) (λ n. n < 2 ^ w) (wrapped_lt w (int_rem (as_signed w a) (as_signed w b)))
-binary_in_range w RemU a b some ha hb = checked (nat_eq b 0) DivideByZero (Ok (a % b)) (λ n. n < 2 ^ w) (omega (arith, mod-le a b))
+    checked (nat_eq b 0) DivideByZero (Ok (wrapped w (int_rem (as_signed w a) (as_signed w b))))
+    (λ n. n < 2 ^ w) (wrapped_lt w (int_rem (as_signed w a) (as_signed w b)))
+binary_in_range w RemU a b some ha hb =
+    checked (nat_eq b 0) DivideByZero (Ok (a % b)) (λ n. n < 2 ^ w) (omega (arith, mod-le a b))
 binary_in_range w And a b some ha hb = and_lt w a b ha hb
 binary_in_range w Or a b some ha hb = or_lt w a b ha hb
 binary_in_range w Xor a b some ha hb = xor_lt w a b ha hb
@@ -79,8 +84,10 @@ binary_in_range w Rotr a b some ha hb =
     let k : ℕ = b % w in
     let kept : k < w = mod-lt b some in
     let back : w - (w - k) ≡ k = omega arith in
-    let turned : a * 2 ^ (w - k) % 2 ^ w + a / 2 ^ (w - (w - k)) < 2 ^ w = rotated_lt w (w - k) a (omega arith) ha in
-    let again : a * 2 ^ (w - k) % 2 ^ w + a / 2 ^ k < 2 ^ w = subst (λ x. a * 2 ^ (w - k) % 2 ^ w + a / 2 ^ x < 2 ^ w) back turned in
+    let turned : a * 2 ^ (w - k) % 2 ^ w + a / 2 ^ (w - (w - k)) < 2 ^ w =
+    rotated_lt w (w - k) a (omega arith) ha in
+    let again : a * 2 ^ (w - k) % 2 ^ w + a / 2 ^ k < 2 ^ w =
+    subst (λ x. a * 2 ^ (w - k) % 2 ^ w + a / 2 ^ x < 2 ^ w) back turned in
     omega arith
 
 pub extended_in_range : ExtendedInRange

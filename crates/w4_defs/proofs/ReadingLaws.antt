@@ -74,7 +74,8 @@ pub rest_bytes : (front rest : List ℕ) → IsBytes (front ++ rest) → IsBytes
 rest_bytes front rest all i = subst (λ n. n < 256) (get_or-append-add front rest i 0) (all (length front + i))
 
 -- the number that was read is written as the bytes begin
-pub number_read_2 : (bytes rest : List ℕ) (n : ℕ) → IsBytes bytes → little_endian_at w16 bytes ≡ Some (n, rest)
+pub number_read_2 : (bytes rest : List ℕ) (n : ℕ) → IsBytes bytes
+    → little_endian_at w16 bytes ≡ Some (n, rest)
     → (bytes ≡ to_le_bytes w16 n ++ rest)
 number_read_2 bytes rest n all e =
     let read = bytes_of_number w16 bytes rest n e in
@@ -86,7 +87,8 @@ number_read_2 bytes rest n all e =
 below_4 : (front : List ℕ) (n : ℕ) → IsBytes front → n ≡ from_le_bytes w32 front → n < 2 ^ 32
 below_4 front n small e = omega (arith, e, small 0, small 1, small 2, small 3)
 
-pub number_read_4 : (bytes rest : List ℕ) (n : ℕ) → IsBytes bytes → little_endian_at w32 bytes ≡ Some (n, rest)
+pub number_read_4 : (bytes rest : List ℕ) (n : ℕ) → IsBytes bytes
+    → little_endian_at w32 bytes ≡ Some (n, rest)
     → (bytes ≡ to_le_bytes w32 n ++ rest) × (n < 2 ^ 32)
 number_read_4 bytes rest n all e =
     let read = bytes_of_number w32 bytes rest n e in

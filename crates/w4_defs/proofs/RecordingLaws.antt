@@ -32,7 +32,8 @@ coordinate_again z fits =
     ap (cast_signed w16) whole ∙ to_z-of_z w16 z fits
 
 input_with : List ℕ → ℕ → Bool → ℤ → ℤ → Input
-input_with pads buttons reset x y = record { pads = pads; mouse_x = x; mouse_y = y; buttons = buttons; reset = reset }
+input_with pads buttons reset x y =
+    record { pads = pads; mouse_x = x; mouse_y = y; buttons = buttons; reset = reset }
 
 -- the nine bytes, and whatever follows them
 fields_again : (pads tail : List ℕ) (buttons : ℕ) (reset : Bool) (x y : ℤ) → length pads ≡ 4
@@ -55,7 +56,9 @@ fields_again (a ∷ b ∷ c ∷ d ∷ e ∷ pads) tail buttons reset x y h fx fy
 input_again : (input : Input) (tail : List ℕ) → IsInput input
     → input_of (input_bytes input ++ tail) input.reset ≡ input
 unfolding input_with
-input_again input tail is = fields_again input.pads tail input.buttons input.reset input.mouse_x input.mouse_y is.four_pads is.mouse_x is.mouse_y
+input_again input tail is =
+    fields_again input.pads tail input.buttons input.reset input.mouse_x input.mouse_y is.four_pads
+    is.mouse_x is.mouse_y
 
 reset_again : (reset : Bool) → reset_of (flag_of reset) ≡ Some reset
 reset_again true = refl
@@ -116,7 +119,8 @@ parts_again : (version : ℕ) (head digest b s disk c frames : List ℕ) (budget
     → recording_of (head ++ (digest ++ (b ++ (s ++ (disk ++ (c ++ frames))))))
     ≡ Some (record { digest = digest; budget = budget; disk = disk; frames = inputs })
 unfolding recording_of
-parts_again version head digest b s disk c frames budget inputs hl he dl bl bv sl sv cl cv least size most read =
+parts_again version head digest b s disk c frames budget inputs hl he dl bl bv sl sv cl cv least size most
+    read =
     rw (
       front_again head (digest ++ (b ++ (s ++ (disk ++ (c ++ frames))))) 5 hl,
       he,

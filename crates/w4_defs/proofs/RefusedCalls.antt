@@ -13,8 +13,10 @@ use Rattle.w4_defs.specs.RunLaws.{ForbiddenCallLeavesStore, RefusedCallsLeaveSto
 pub forbidden_call_leaves_store : {H : Type 0} → ForbiddenCallLeavesStore H
 forbidden_call_leaves_store prog e f env ops ls st b forbidden = rw forbidden refl
 
-other_type : {H : Type 0} (prog : Prog H) (e : Evaluator H) (s other : Signature) (callee : Callee) (env : Env) (ops ls : List Val) (st : Store H) (b : ℕ)
-    → IsOfType other callee → same_signature other s ≡ false → call_typed prog e s callee env ops ls st b ≡ Trap Type_ st
+other_type : {H : Type 0} (prog : Prog H) (e : Evaluator H) (s other : Signature) (callee : Callee)
+    (env : Env) (ops ls : List Val) (st : Store H) (b : ℕ)
+    → IsOfType other callee → same_signature other s ≡ false
+    → call_typed prog e s callee env ops ls st b ≡ Trap Type_ st
 other_type prog e s other (own_function f) env ops ls st b is differs = rw is (rw differs refl)
 other_type prog e s other (host_function t i) env ops ls st b is differs = rw is (rw differs refl)
 other_type prog e s other no_function env ops ls st b is differs = absurd is
@@ -23,5 +25,6 @@ pub refused_calls_leave_store : {H : Type 0} → RefusedCallsLeaveStore H
 refused_calls_leave_store prog e t index s env ops ls st b named = (
   λ past. rw named (rw past refl),
   λ empty. rw named (rw empty refl),
-  λ f callee other found there is differs. rw named (rw found (rw there (other_type prog e s other callee env ops ls st b is differs))),
+  λ f callee other found there is differs. rw named
+      (rw found (rw there (other_type prog e s other callee env ops ls st b is differs))),
 )

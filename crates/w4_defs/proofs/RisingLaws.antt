@@ -47,7 +47,8 @@ after_insert n k (p ∷ places) h =
           (all_raised k 0 n places h.1),
       subst (λ m. m < 1024) (sym (length_map (moved_up places_alone k) places)) h.2,
     ) in
-    subst (λ xs. ArePlaces (n + 1) (map (moved_up places_alone k) xs)) (sym (unlink_nothing k (p ∷ places))) are
+    subst (λ xs. ArePlaces (n + 1) (map (moved_up places_alone k) xs)) (sym (unlink_nothing k (p ∷ places)))
+    are
 
 -- ---- delete
 

@@ -63,7 +63,8 @@ folds_state setup moment (input ∷ inputs) =
     ∙ then_same (λ next. option_map state_of (go next)) (λ next. fold setup next.state inputs)
     (λ next. folds_state setup next inputs) (frame setup moment.state input)
 
-one_more : (setup : Setup) (moment : Moment) (input : Input) → played_on setup moment (input ∷ []) ≡ frame setup moment.state input
+one_more : (setup : Setup) (moment : Moment) (input : Input)
+    → played_on setup moment (input ∷ []) ≡ frame setup moment.state input
 one_more setup moment input = then_some (frame setup moment.state input)
 
 take_next : (inputs : List Input) (place : ℕ) (input : Input) → slice_get inputs place ≡ Some input →
@@ -78,10 +79,12 @@ pub runs_on : RunsOn
 runs_on setup disk inputs place input h =
     let play : List Input → Moment → Option Moment = λ some moment. played_on setup moment some in
     let next : Moment → Option Moment = λ moment. frame setup moment.state input in
-    then_same (play (take (place + 1) inputs)) (λ moment. option_and_then next (play (take place inputs) moment))
+    then_same (play (take (place + 1) inputs))
+    (λ moment. option_and_then next (play (take place inputs) moment))
     (λ moment. ap (λ some. play some moment) (take_next inputs place input h)
     ∙ (plays_in_parts setup moment (take place inputs) (input ∷ [])
-    ∙ then_same (play (input ∷ [])) next (λ last. one_more setup last input) (play (take place inputs) moment)))
+    ∙ then_same (play (input ∷ [])) next (λ last. one_more setup last input)
+    (play (take place inputs) moment)))
     (reset setup disk)
     ∙ sym (then_assoc next (play (take place inputs)) (reset setup disk))
 

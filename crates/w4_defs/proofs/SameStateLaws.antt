@@ -29,7 +29,8 @@ val_decides (I64 a) (I32 b) = (λ e. absurd cc, λ e. absurd cc)
 
 cause_numbered : ℕ → Cause
 cause_numbered n =
-    get_or (Unreachable ∷ DivideByZero ∷ Overflow ∷ Memory ∷ Table ∷ EmptyEntry ∷ Type_ ∷ Stack ∷ []) n Unreachable
+    get_or (Unreachable ∷ DivideByZero ∷ Overflow ∷ Memory ∷ Table ∷ EmptyEntry ∷ Type_ ∷ Stack ∷ []) n
+    Unreachable
 
 cause_again : (cause : Cause) → cause_numbered (cause_number cause) ≡ cause
 unfolding cause_numbered
@@ -114,7 +115,14 @@ channel_decides (Some a) (Some b) =
 pub same_state_decides : SameStateDecides
 unfolding same_state
 same_state_decides a b = Decides-like _
-    (λ e. λ i. record { page = e.0.0.0.0 i; globals = e.0.0.0.1 i; channels = e.0.0.1 i; disk = e.0.1 i; halt = e.1 i })
+    (λ e. λ i. record {
+      page = e.0.0.0.0 i;
+      globals = e.0.0.0.1 i;
+      channels = e.0.0.1 i;
+      disk =
+          e.0.1 i;
+      halt = e.1 i;
+    })
     (λ e. (
       (
         (

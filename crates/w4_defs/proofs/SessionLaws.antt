@@ -133,5 +133,8 @@ redo_bounded session bounded = elim (split_last session.newer) [
 ]
 
 pub history_stays_bounded : {A : Type 0} → HistoryStaysBounded A
-history_stays_bounded session draft bounded =
-    (edit_bounded (session.older ++ session.current ∷ []), undo_bounded session bounded, redo_bounded session bounded)
+history_stays_bounded session draft bounded = (
+  edit_bounded (session.older ++ session.current ∷ []),
+  undo_bounded session bounded,
+  redo_bounded session bounded,
+)

@@ -10,9 +10,9 @@ use Rattle.w4_defs.specs.declared.value.ValType.TheVariants.{I32}
 use Rattle.w4_defs.specs.declared.operation.Op.{Op}
 use Rattle.w4_defs.specs.declared.operation.Op.TheVariants.{Unreachable, Br, BrTable, Return, Drop, Select}
 use Rattle.w4_defs.specs.Tree.{Expr, done, plain, block, loop, if_then, if_else}
-use Rattle.w4_defs.specs.ValueTypes.{same_type, same_types}
-use Rattle.w4_defs.specs.OperandTypes.{Arrow}
-use Rattle.w4_defs.specs.Typing.{Context, with_label, result_types, only_type}
+use Rattle.w4_defs.specs.ValueTypes.{same_type, same_types, result_types}
+use Rattle.w4_defs.specs.OperandTypes.{StackType}
+use Rattle.w4_defs.specs.Typing.{Context, with_label, only_type}
 
 -- a value type, or None where it is unknown
 abbrev pub OperandType : Type 0
@@ -69,8 +69,8 @@ taken ts s = option_map (with_operands s) (below_all (reverse ts) s.unreachable 
 abbrev pub given : List ValType → AbstractStack → AbstractStack
 given ts s = with_operands s (reverse (map Some ts) ++ s.operands)
 
-abbrev pub passed : AbstractStack → Arrow → Option AbstractStack
-passed s arrow = option_map (given arrow.1) (taken arrow.0 s)
+abbrev pub passed : AbstractStack → StackType → Option AbstractStack
+passed s stack_type = option_map (given stack_type.1) (taken stack_type.0 s)
 
 -- the topmost operand type, and the operand types below it
 abbrev pub topmost : Bool → List OperandType → Option (OperandType × List OperandType)
@@ -110,14 +110,16 @@ abbrev pub common_label : Context → List ℕ → Option (List ValType)
 common_label c [] = None
 common_label c (l ∷ labels) =
     option_and_then
-    (λ label. if list_all (λ other. is_label label (slice_get c.labels other)) labels then Some label else None)
+    (λ label. if list_all (λ other. is_label label (slice_get c.labels other)) labels then Some label
+    else None)
     (slice_get c.labels l)
 
 -- the abstract stack after an operation with its labels
 abbrev pub step : Context → Op → List ℕ → AbstractStack → Option AbstractStack
 step c Unreachable labels s = Some anything
 step c (Br l) labels s = after_branch s (slice_get c.labels l)
-step c BrTable labels s = option_and_then (λ below. after_branch below (common_label c labels)) (taken (I32 ∷ []) s)
+step c BrTable labels s =
+    option_and_then (λ below. after_branch below (common_label c labels)) (taken (I32 ∷ []) s)
 step c Return labels s = after_branch s (Some c.results)
 step c Drop labels s = dropped s
 step c Select labels s = option_and_then selected (taken (I32 ∷ []) s)
@@ -128,16 +130,20 @@ abbrev pub stack_after : Context → Expr → AbstractStack → Option AbstractS
 stack_after c done s = Some s
 stack_after c (plain m rest) s = option_and_then (stack_after c rest) (step c m.0 m.1 s)
 stack_after c (block r inner rest) s =
-    if stands_in (stack_after (with_label (result_types r) c) inner empty) (result_types r) then stack_after c rest (given (result_types r) s) else None
+    if stands_in (stack_after (with_label (result_types r) c) inner empty) (result_types r)
+    then stack_after c rest (given (result_types r) s) else None
 stack_after c (loop r inner rest) s =
-    if stands_in (stack_after (with_label [] c) inner empty) (result_types r) then stack_after c rest (given (result_types r) s) else None
+    if stands_in (stack_after (with_label [] c) inner empty) (result_types r)
+    then stack_after c rest (given (result_types r) s) else None
 stack_after c (if_then None first_list rest) s =
-    if stands_in (stack_after (with_label [] c) first_list empty) [] then option_and_then (stack_after c rest) (taken (I32 ∷ []) s) else None
+    if stands_in (stack_after (with_label [] c) first_list empty) []
+    then option_and_then (stack_after c rest) (taken (I32 ∷ []) s) else None
 stack_after c (if_then (Some t) first_list rest) s = None
 stack_after c (if_else r first_list other rest) s =
     if stands_in (stack_after (with_label (result_types r) c) first_list empty) (result_types r)
     && stands_in (stack_after (with_label (result_types r) c) other empty) (result_types r)
-    then option_and_then (λ below. stack_after c rest (given (result_types r) below)) (taken (I32 ∷ []) s) else None
+    then option_and_then (λ below. stack_after c rest (given (result_types r) below)) (taken (I32 ∷ []) s)
+    else None
 
 -- the abstract stack of a list that begins with no types
 abbrev pub abstract_stack : Context → Expr → Option AbstractStack

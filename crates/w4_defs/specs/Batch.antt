@@ -36,7 +36,8 @@ unfoldable pub file_row : (List ℕ → List ℕ) → WasmModule → List ℕ �
 file_row sha256 cart font digest bytes = batch_row sha256 cart font digest (recording_of bytes)
 
 -- the rows of all files, in their order
-abbrev pub file_rows : (List ℕ → List ℕ) → WasmModule → List ℕ → List ℕ → List (List ℕ) → List (Option BatchRow)
+abbrev pub file_rows : (List ℕ → List ℕ) → WasmModule → List ℕ → List ℕ → List (List ℕ)
+    → List (Option BatchRow)
 file_rows sha256 cart font digest files = map (file_row sha256 cart font digest) files
 
 -- Worked cases: a recording of no frames of another cart, the same without its last byte, and what is told of

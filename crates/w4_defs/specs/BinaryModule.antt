@@ -75,5 +75,6 @@ pub record Collects (sections : List Section) (m : WasmModule) : Type 0 where
 -- the bytes encode the module
 abbrev pub SpellsModule : List ℕ → WasmModule → Type 0
 SpellsModule text m =
-    (sections : List Section) × (others : List ℕ) × (text ≡ preamble ++ others) × items section sections others
+    (sections : List Section) × (others : List ℕ) × (text ≡ preamble ++ others)
+    × items section sections others
     × Collects sections m

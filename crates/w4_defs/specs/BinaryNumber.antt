@@ -10,7 +10,8 @@ use Rattle.w4_defs.specs.BinaryText.{Texts}
 abbrev pub leb : (ℕ → ℕ → ℕ → Type 0) → ℕ → ℕ → Texts
 leb Last w n [] = ⊥
 leb Last w n (b ∷ bs) =
-    ((bs ≡ []) × Last w b n) ⊎ ((128 ≤ b) × (7 < w) × (m : ℕ) × (n + 128 ≡ b + 128 * m) × leb Last (w - 7) m bs)
+    ((bs ≡ []) × Last w b n)
+    ⊎ ((128 ≤ b) × (7 < w) × (m : ℕ) × (n + 128 ≡ b + 128 * m) × leb Last (w - 7) m bs)
 
 -- the byte b alone is n, below 2 ^ w
 abbrev pub LastUnsigned : ℕ → ℕ → ℕ → Type 0
@@ -19,7 +20,8 @@ LastUnsigned w b n = (b < 128) × (b < 2 ^ w) × (n ≡ b)
 -- the byte b alone is a number from -2 ^ (w - 1) to below 2 ^ (w - 1), and n is that number modulo 2 ^ w
 abbrev pub LastSigned : ℕ → ℕ → ℕ → Type 0
 LastSigned w b n =
-    ((b < 64) × (2 * b < 2 ^ w) × (n ≡ b)) ⊎ ((64 ≤ b) × (b < 128) × (256 ≤ 2 * b + 2 ^ w) × (n + 128 ≡ b + 2 ^ w))
+    ((b < 64) × (2 * b < 2 ^ w) × (n ≡ b))
+    ⊎ ((64 ≤ b) × (b < 128) × (256 ≤ 2 * b + 2 ^ w) × (n + 128 ≡ b + 2 ^ w))
 
 -- a number below 2 ^ w
 abbrev pub unsigned : ℕ → ℕ → Texts
@@ -36,7 +38,8 @@ little_endian w n text = (length text ≡ byte_len w) × (n ≡ from_le_bytes w 
 -- worked cases: 160 and -1; and 4 in five bytes
 abbrev pub NumberCases : Type 0
 NumberCases =
-    signed 32 160 (0xa0 ∷ 0x01 ∷ []) × signed 32 0xffffffff (0x7f ∷ []) × signed 64 0xffffffffffffffff (0x7f ∷ [])
+    signed 32 160 (0xa0 ∷ 0x01 ∷ []) × signed 32 0xffffffff (0x7f ∷ [])
+    × signed 64 0xffffffffffffffff (0x7f ∷ [])
     × unsigned 32 4 (0x84 ∷ 0x80 ∷ 0x80 ∷ 0x80 ∷ 0x00 ∷ [])
 
 -- bytes with a bit past the 32nd encode no number

@@ -37,7 +37,8 @@ value_type F64 = byte 0x7c
 -- project rule: a type with more than one result has no text, where Core 1.0 refuses it in validation
 abbrev pub func_type : Signature → Texts
 func_type s =
-    provided (length s.results ≤ 1) (byte 0x60 then vector value_type s.params then vector value_type s.results)
+    provided (length s.results ≤ 1)
+    (byte 0x60 then vector value_type s.params then vector value_type s.results)
 
 abbrev pub sizes : ℕ → Option ℕ → Texts
 sizes least None = byte 0x00 then unsigned 32 least

@@ -21,18 +21,22 @@ source_value page picture q =
 
 -- the column and the row of the picture that cell (i, j) reads
 abbrev pub source_column : Picture → ℕ → ℕ
-source_column picture i = picture.src_x + (if picture.flags / 2 % 2 == picture.flags / 8 % 2 then i else picture.w - 1 - i)
+source_column picture i =
+    picture.src_x + (if picture.flags / 2 % 2 == picture.flags / 8 % 2 then i else picture.w - 1 - i)
 
 abbrev pub source_row : Picture → ℕ → ℕ
 source_row picture j = picture.src_y + (if has_flag picture 4 then picture.h - 1 - j else j)
 
 -- pixel value v is painted in colour v + 1
 abbrev pub cell_index : List ℕ → Picture → ℕ → ℕ → Option ℕ
-cell_index page picture i j = palette_index picture.colors (source_value page picture (source_row picture j * picture.stride + source_column picture i) + 1)
+cell_index page picture i j =
+    palette_index picture.colors
+    (source_value page picture (source_row picture j * picture.stride + source_column picture i) + 1)
 
 -- the palette index of the cell that lands so far to the right and below
 abbrev pub landed_index : List ℕ → Picture → ℕ → ℕ → Option ℕ
-landed_index page picture right below = if has_flag picture 8 then cell_index page picture below right else cell_index page picture right below
+landed_index page picture right below =
+    if has_flag picture 8 then cell_index page picture below right else cell_index page picture right below
 
 -- the width and the height on the screen
 abbrev pub width_on_screen : Picture → ℕ
@@ -50,7 +54,8 @@ blit_painter page picture x y u v =
 -- (3, 7)
 abbrev pub TurnedCase : Type 0
 TurnedCase =
-    let picture : Picture = record { colors = 32; ptr = 0; w = 8; h = 8; src_x = 0; src_y = 0; stride = 8; flags = 10 } in
+    let picture : Picture =
+    record { colors = 32; ptr = 0; w = 8; h = 8; src_x = 0; src_y = 0; stride = 8; flags = 10 } in
     let f : Painter = blit_painter (255 ∷ 0 ∷ 0 ∷ 1 ∷ []) picture (pos 0) (pos 0) in
     (asked f 9 0 ≡ Some 1 ∷ None ∷ None ∷ None ∷ None ∷ None ∷ None ∷ None ∷ None ∷ [])
     × (asked f 9 6 ≡ Some 1 ∷ None ∷ None ∷ None ∷ None ∷ None ∷ None ∷ None ∷ None ∷ [])
@@ -65,7 +70,8 @@ turned-case = (refl, refl, refl, refl)
 abbrev pub OverlapCase : Type 0
 OverlapCase =
     let page = page_with (27 ∷ []) in
-    let picture : Picture = record { colors = 17185; ptr = 160; w = 4; h = 1; src_x = 0; src_y = 0; stride = 4; flags = 1 } in
+    let picture : Picture =
+    record { colors = 17185; ptr = 160; w = 4; h = 1; src_x = 0; src_y = 0; stride = 4; flags = 1 } in
     let f : Painter = blit_painter page picture (pos 1) (pos 0) in
     (painted_byte page f 160 ≡ 147) × (painted_byte page f 161 ≡ 3)
 

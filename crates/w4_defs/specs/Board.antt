@@ -90,7 +90,8 @@ blit_sub_picture args page = record {
 -- what a text paints; its x and y are arguments k and k + 1
 abbrev pub text_drawn : Board → List ℕ → List ℕ → TextSource → ℕ → Painter
 text_drawn board args page source k =
-    text_painter board.font (draw_colors page) (text_codes page source) (signed_argument args k) (signed_argument args (k + 1))
+    text_painter board.font (draw_colors page) (text_codes page source) (signed_argument args k)
+    (signed_argument args (k + 1))
 
 -- a call that paints, one that changes the board alone, and one that returns a number
 abbrev pub painting : Board → List ℕ → Painter → Called Board
@@ -104,61 +105,66 @@ answering board page count = record { page = page; host = board; answer = Some c
 
 -- a tone sounds, also where it is dropped from the log
 abbrev pub with_tone : Board → Tone → Board
-with_tone board tone = record {
-  font = board.font;
+with_tone board tone = record board {
   channels = channels_after_tone board.channels tone;
-  disk = board.disk;
   tones = logged kept_tones board.tones tone;
-  traces = board.traces;
 }
 
 abbrev pub with_line : Board → List ℕ → Board
-with_line board line = record {
-  font = board.font;
-  channels = board.channels;
-  disk = board.disk;
-  tones = board.tones;
-  traces = logged kept_lines board.traces line;
-}
+with_line board line = record board { traces = logged kept_lines board.traces line }
 
 abbrev pub with_disk : Board → List ℕ → Board
-with_disk board disk = record {
-  font = board.font;
-  channels = board.channels;
-  disk = disk;
-  tones = board.tones;
-  traces = board.traces;
-}
+with_disk board disk = record board { disk = disk }
 
 -- what each import does
 unfoldable pub import_effect : Board → Import → List ℕ → List ℕ → Called Board
 import_effect board import.Blit args page =
-    painting board page (blit_painter page (blit_picture args page) (signed_argument args 1) (signed_argument args 2))
+    painting board page
+    (blit_painter page (blit_picture args page) (signed_argument args 1) (signed_argument args 2))
 import_effect board import.BlitSub args page =
-    painting board page (blit_painter page (blit_sub_picture args page) (signed_argument args 1) (signed_argument args 2))
+    painting board page
+    (blit_painter page (blit_sub_picture args page) (signed_argument args 1) (signed_argument args 2))
 import_effect board import.Line args page =
-    painting board page (line_painter (draw_colors page) (signed_argument args 0) (signed_argument args 1) (signed_argument args 2) (signed_argument args 3))
+    painting board page
+    (line_painter (draw_colors page) (signed_argument args 0) (signed_argument args 1)
+    (signed_argument args 2) (signed_argument args 3))
 import_effect board import.Hline args page =
-    painting board page (hline_painter (draw_colors page) (signed_argument args 0) (signed_argument args 1) (signed_argument args 2))
+    painting board page
+    (hline_painter (draw_colors page) (signed_argument args 0) (signed_argument args 1)
+    (signed_argument args 2))
 import_effect board import.Vline args page =
-    painting board page (vline_painter (draw_colors page) (signed_argument args 0) (signed_argument args 1) (signed_argument args 2))
+    painting board page
+    (vline_painter (draw_colors page) (signed_argument args 0) (signed_argument args 1)
+    (signed_argument args 2))
 import_effect board import.Oval args page =
-    painting board page (oval_painter (draw_colors page) (signed_argument args 0) (signed_argument args 1) (signed_argument args 2) (signed_argument args 3))
+    painting board page
+    (oval_painter (draw_colors page) (signed_argument args 0) (signed_argument args 1)
+    (signed_argument args 2) (signed_argument args 3))
 import_effect board import.Rect args page =
-    painting board page (rect_painter (draw_colors page) (signed_argument args 0) (signed_argument args 1) (signed_argument args 2) (signed_argument args 3))
-import_effect board import.Text args page = painting board page (text_drawn board args page (cstr_source args) 1)
-import_effect board import.TextUtf8 args page = painting board page (text_drawn board args page (utf8_source args) 2)
-import_effect board import.TextUtf16 args page = painting board page (text_drawn board args page (utf16_source args) 2)
+    painting board page
+    (rect_painter (draw_colors page) (signed_argument args 0) (signed_argument args 1)
+    (signed_argument args 2) (signed_argument args 3))
+import_effect board import.Text args page =
+    painting board page (text_drawn board args page (cstr_source args) 1)
+import_effect board import.TextUtf8 args page =
+    painting board page (text_drawn board args page (utf8_source args) 2)
+import_effect board import.TextUtf16 args page =
+    painting board page (text_drawn board args page (utf16_source args) 2)
 import_effect board import.Tone args page =
-    noting (with_tone board (decoded (argument args 0) (argument args 1) (argument args 2) (argument args 3))) page
+    let tone = decoded (argument args 0) (argument args 1) (argument args 2) (argument args 3) in
+    noting (with_tone board tone) page
 import_effect board import.Diskr args page =
     answering board (disk_read board.disk page (argument args 0) (argument args 1))
     (disk_read_count board.disk page (argument args 0) (argument args 1))
 import_effect board import.Diskw args page =
-    let disk = disk_write page (argument args 0) (argument args 1) in answering (with_disk board disk) page (length disk)
-import_effect board import.Trace args page = noting (with_line board (trace_line page (cstr_source args))) page
-import_effect board import.TraceUtf8 args page = noting (with_line board (trace_line page (utf8_source args))) page
-import_effect board import.TraceUtf16 args page = noting (with_line board (trace_line page (utf16_source args))) page
+    let disk = disk_write page (argument args 0) (argument args 1) in
+    answering (with_disk board disk) page (length disk)
+import_effect board import.Trace args page =
+    noting (with_line board (trace_line page (cstr_source args))) page
+import_effect board import.TraceUtf8 args page =
+    noting (with_line board (trace_line page (utf8_source args))) page
+import_effect board import.TraceUtf16 args page =
+    noting (with_line board (trace_line page (utf16_source args))) page
 import_effect board import.Tracef args page =
     noting (with_line board (tracef_line page (argument args 0) (argument args 1))) page
 
@@ -168,7 +174,8 @@ console = record { weight = λ board. import_weight; effect = import_effect }
 
 -- a cart with a font and a budget on the console
 abbrev pub console_setup : WasmModule → List ℕ → ℕ → Setup
-console_setup cart font budget = record { cart = cart; host_functions = console; font = font; budget = budget }
+console_setup cart font budget =
+    record { cart = cart; host_functions = console; font = font; budget = budget }
 
 -- Worked cases over a small page: what texts weigh, what the disk's calls return, a line, and two tones on
 -- one channel of which the second has no length: both are listed and the channel is silent.

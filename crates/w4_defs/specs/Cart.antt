@@ -21,7 +21,8 @@ IsRefused bytes Malformed = (length bytes ≤ 65536) × ((m : WasmModule) → Sp
 IsRefused bytes (Profile refusal) =
     (length bytes ≤ 65536) × (m : WasmModule) × SpellsModule bytes m × (profile_refusal m ≡ Some refusal)
 IsRefused bytes (Invalid func) =
-    (length bytes ≤ 65536) × (m : WasmModule) × SpellsModule bytes m × (profile_refusal m ≡ None) × IsInvalid m func
+    (length bytes ≤ 65536) × (m : WasmModule) × SpellsModule bytes m × (profile_refusal m ≡ None)
+    × IsInvalid m func
 
 -- the bytes are a cart with this module: none of the causes holds
 abbrev pub IsCart : List ℕ → WasmModule → Type 0

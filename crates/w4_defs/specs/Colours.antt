@@ -10,7 +10,9 @@ palette_index colors number =
 
 -- of 0x7430 colour 1 is transparent, and colours 2, 3 and 4 are the palette indices 2, 3 and 2
 abbrev pub ColoursCase : Type 0
-ColoursCase = (palette_index 29744 1 ≡ None) × (palette_index 29744 2 ≡ Some 2) × (palette_index 29744 3 ≡ Some 3) × (palette_index 29744 4 ≡ Some 2)
+ColoursCase =
+    (palette_index 29744 1 ≡ None) × (palette_index 29744 2 ≡ Some 2) × (palette_index 29744 3 ≡ Some 3)
+    × (palette_index 29744 4 ≡ Some 2)
 
 pub colours-case : ColoursCase
 colours-case = (refl, refl, refl, refl)

@@ -1,6 +1,7 @@
 -- The disk (WASM-4 reference, `diskr` and `diskw`; project rule for sizes that don't fit): at most 1,024
 -- bytes. Both calls return how many bytes they moved.
-use Rattle.std.specs.Prelude.{◌≡◌, ℕ, ◌+◌, ◌-◌, min, List, [], ◌∷◌, ◌++◌, length, take, drop, refl}
+use Rattle.std.specs.Prelude.{◌≡◌, ℕ, ◌-◌, min, List, [], ◌∷◌, length, take, drop, refl}
+use Rattle.w4_defs.specs.Bytes.{replaced}
 
 abbrev pub disk_room : ℕ
 disk_room = 1024
@@ -17,7 +18,7 @@ disk_read_count disk page ptr size = min size (min (length disk) (length page - 
 abbrev pub disk_read : List ℕ → List ℕ → ℕ → ℕ → List ℕ
 disk_read disk page ptr size =
     let count = disk_read_count disk page ptr size in
-    take ptr page ++ take count disk ++ drop (ptr + count) page
+    replaced page ptr count (take count disk)
 
 -- worked cases over a page of four bytes: past the end of the disk or of the page nothing is moved
 abbrev pub DiskCases : Type 0

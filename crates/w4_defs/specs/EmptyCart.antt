@@ -7,7 +7,8 @@ use Rattle.w4_defs.specs.declared.module.ExportKind.TheVariants as exports
 use Rattle.w4_defs.specs.declared.refusal.CartKind.TheVariants.{Profile}
 use Rattle.w4_defs.specs.declared.refusal.ProfileRefusal.TheVariants.{NoMemory}
 use Rattle.w4_defs.specs.Tree.{Expr, mark, done, plain}
-use Rattle.w4_defs.specs.Module.{Signature, Function, WasmModule, nothing_to_nothing}
+use Rattle.w4_defs.specs.Module.{Function, WasmModule, nothing_to_nothing}
+use Rattle.w4_defs.specs.Imports.{import_module, memory_name}
 use Rattle.w4_defs.specs.BinaryModule.{preamble, SpellsModule}
 use Rattle.w4_defs.specs.Typing.{body_context, BodyHasType}
 use Rattle.w4_defs.specs.Cart.{IsRefused, IsCart}
@@ -18,7 +19,8 @@ abbrev pub empty_cart_head : List ℕ
 empty_cart_head =
     0x00 ∷ 0x61 ∷ 0x73 ∷ 0x6d ∷ 0x01 ∷ 0x00 ∷ 0x00 ∷ 0x00
     ∷ 0x01 ∷ 0x04 ∷ 0x01 ∷ 0x60 ∷ 0x00 ∷ 0x00
-    ∷ 0x02 ∷ 0x0f ∷ 0x01 ∷ 0x03 ∷ 0x65 ∷ 0x6e ∷ 0x76 ∷ 0x06 ∷ 0x6d ∷ 0x65 ∷ 0x6d ∷ 0x6f ∷ 0x72 ∷ 0x79 ∷ 0x02 ∷ 0x00 ∷ 0x01
+    ∷ 0x02 ∷ 0x0f ∷ 0x01 ∷ 0x03 ∷ 0x65 ∷ 0x6e ∷ 0x76 ∷ 0x06 ∷ 0x6d ∷ 0x65 ∷ 0x6d ∷ 0x6f ∷ 0x72 ∷ 0x79 ∷ 0x02
+    ∷ 0x00 ∷ 0x01
     ∷ 0x03 ∷ 0x02 ∷ 0x01 ∷ 0x00
     ∷ 0x07 ∷ 0x0a ∷ 0x01 ∷ 0x06 ∷ 0x75 ∷ 0x70 ∷ 0x64 ∷ 0x61 ∷ 0x74 ∷ 0x65 ∷ 0x00 ∷ 0x00 ∷ []
 
@@ -37,8 +39,8 @@ empty_module =
       types = nothing_to_nothing ∷ [];
       imports =
           record {
-            module_name = codes "env";
-            name = codes "memory";
+            module_name = import_module;
+            name = memory_name;
             kind = imports.Memory (record { least = 1; greatest = None });
           } ∷ [];
       functions = 0 ∷ [];
@@ -75,14 +77,17 @@ EmptyCartIsCart = IsCart empty_cart empty_module
 
 -- unreachable, i32.add, drop
 abbrev pub adds_nothing : Function
-adds_nothing = record { runs = []; list = plain (mark Unreachable) (plain (mark I32Add) (plain (mark Drop) done)) }
+adds_nothing =
+    record { runs = []; list = plain (mark Unreachable) (plain (mark I32Add) (plain (mark Drop) done)) }
 
 -- unreachable, i64.const, i32.add, drop
 abbrev pub adds_mixed : Expr
-adds_mixed = plain (mark Unreachable) (plain (mark (I64Const 0)) (plain (mark I32Add) (plain (mark Drop) done)))
+adds_mixed =
+    plain (mark Unreachable) (plain (mark (I64Const 0)) (plain (mark I32Add) (plain (mark Drop) done)))
 
 abbrev pub UnreachableCodeHasType : Type 0
 UnreachableCodeHasType = BodyHasType empty_module 0 adds_nothing
 
 abbrev pub MixedCodeHasNoStack : Type 0
-MixedCodeHasNoStack = abstract_stack (body_context empty_module nothing_to_nothing adds_nothing) adds_mixed ≡ None
+MixedCodeHasNoStack =
+    abstract_stack (body_context empty_module nothing_to_nothing adds_nothing) adds_mixed ≡ None

@@ -35,7 +35,8 @@ has_float (plain m rest) = is_float_operation m.0 || has_float rest
 has_float (block r inner rest) = is_float_result r || has_float inner || has_float rest
 has_float (loop r inner rest) = is_float_result r || has_float inner || has_float rest
 has_float (if_then r taken rest) = is_float_result r || has_float taken || has_float rest
-has_float (if_else r taken other rest) = is_float_result r || has_float taken || has_float other || has_float rest
+has_float (if_else r taken other rest) =
+    is_float_result r || has_float taken || has_float other || has_float rest
 
 abbrev pub signature_has_float : Signature → Bool
 signature_has_float s = list_any is_float s.params || list_any is_float s.results

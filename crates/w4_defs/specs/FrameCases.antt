@@ -9,7 +9,8 @@ use Rattle.w4_defs.specs.declared.console.Halt.{Halt}
 use Rattle.w4_defs.specs.declared.console.Halt.TheVariants.{Running, Trapped, Spent}
 use Rattle.w4_defs.specs.declared.console.Input.{Input}
 use Rattle.w4_defs.specs.Tree.{Expr, done, plain, loop, mark}
-use Rattle.w4_defs.specs.Module.{Exported, DataSegment, WasmModule}
+use Rattle.w4_defs.specs.Module.{Exported, DataSegment, WasmModule, nothing_to_nothing}
+use Rattle.w4_defs.specs.Imports.{import_module, takes_i32s}
 use Rattle.w4_defs.specs.Evaluation.{eval, eval_within}
 use Rattle.w4_defs.specs.State.{Moment, zero_page}
 use Rattle.w4_defs.specs.Reset.{first_page, start_page, start, reset}
@@ -20,12 +21,13 @@ use Rattle.w4_defs.specs.Run.{run}
 -- a cart that imports `trace` as function 0, and exports own functions from index 1 on
 abbrev exports_from : ℕ → List (List ℕ × Expr) → List Exported
 exports_from index [] = []
-exports_from index (row ∷ rows) = record { name = row.0; kind = export.Func; index = index } ∷ exports_from (index + 1) rows
+exports_from index (row ∷ rows) =
+    record { name = row.0; kind = export.Func; index = index } ∷ exports_from (index + 1) rows
 
 abbrev small_cart : List (List ℕ × Expr) → List DataSegment → WasmModule
 small_cart rows segments = record {
-  types = record { params = []; results = [] } ∷ record { params = type.I32 ∷ []; results = [] } ∷ [];
-  imports = record { module_name = codes "env"; name = codes "trace"; kind = kind.Func 1 } ∷ [];
+  types = nothing_to_nothing ∷ takes_i32s 1 ∷ [];
+  imports = record { module_name = import_module; name = codes "trace"; kind = kind.Func 1 } ∷ [];
   functions = map (λ row. 0) rows;
   tables = [];
   memories = [];
@@ -57,13 +59,16 @@ abbrev tracing : Expr
 tracing = plain (mark (op.I32Const 0)) (plain (mark (op.Call 0)) done)
 
 abbrev bytes_at : ℕ → List ℕ → DataSegment
-bytes_at address bytes = record { memory = 0; offset = plain (mark (op.I32Const address)) done; bytes = bytes }
+bytes_at address bytes =
+    record { memory = 0; offset = plain (mark (op.I32Const address)) done; bytes = bytes }
 
 abbrev pad : ℕ → Bool → Input
-pad bits again = record { pads = bits ∷ 0 ∷ 0 ∷ 0 ∷ []; mouse_x = pos 0; mouse_y = pos 0; buttons = 0; reset = again }
+pad bits again =
+    record { pads = bits ∷ 0 ∷ 0 ∷ 0 ∷ []; mouse_x = pos 0; mouse_y = pos 0; buttons = 0; reset = again }
 
 abbrev last : List (List ℕ × Expr) → List DataSegment → ℕ → List Input → Option Moment
-last rows segments budget inputs = run (console_setup (small_cart rows segments) [] budget) [] inputs (length inputs)
+last rows segments budget inputs =
+    run (console_setup (small_cart rows segments) [] budget) [] inputs (length inputs)
 
 abbrev halt_of : Option Moment → Option Halt
 halt_of moment = option_map (λ moment. moment.state.halt) moment
@@ -92,8 +97,10 @@ abbrev pub StartCases : Type 0
 StartCases =
     let two : Expr = then_nop (then_nop done) in
     let shared = (codes "update", done) ∷ (codes "start", two) ∷ (codes "_start", two) ∷ [] in
-    let trapped = (codes "update", then_nop done) ∷ (codes "_initialize", endless) ∷ (codes "_start", trapping) ∷ [] in
-    let spent = (codes "update", then_nop done) ∷ (codes "_initialize", endless) ∷ (codes "start", trapping) ∷ [] in
+    let trapped =
+    (codes "update", then_nop done) ∷ (codes "_initialize", endless) ∷ (codes "_start", trapping) ∷ [] in
+    let spent =
+    (codes "update", then_nop done) ∷ (codes "_initialize", endless) ∷ (codes "start", trapping) ∷ [] in
     (halt_of (last shared [] 4 []) ≡ Some Running)
     × (halt_of (last shared [] 3 []) ≡ Some Spent)
     × (halt_of (last trapped [] 40 []) ≡ Some (Trapped cause.Unreachable))
@@ -115,7 +122,8 @@ PageCases =
     × (page_byte 4 (last still [] 9 []) ≡ Some 207)
     × (page_byte 4 (last still (bytes_at 4 (7 ∷ []) ∷ []) 9 []) ≡ Some 7)
     × (page_byte 160 (last still (bytes_at 160 (9 ∷ []) ∷ []) 9 (pad 0 false ∷ [])) ≡ Some 0)
-    × (page_byte 160 (last still (bytes_at 160 (9 ∷ []) ∷ bytes_at 31 (1 ∷ []) ∷ []) 9 (pad 0 false ∷ [])) ≡ Some 9)
+    × (page_byte 160 (last still (bytes_at 160 (9 ∷ []) ∷ bytes_at 31 (1 ∷ []) ∷ []) 9 (pad 0 false ∷ []))
+    ≡ Some 9)
 
 pub page-cases : PageCases
 unfolding eval eval_within zero_page first_page start_page start reset cleared frame
@@ -134,13 +142,20 @@ TraceLineCases =
     × (halt_of (last both text 66 []) ≡ Some Spent)
 
 pub trace-line-cases : TraceLineCases
-unfolding eval eval_within zero_page first_page start_page start reset cleared frame import_weight import_effect
+unfolding eval eval_within zero_page first_page start_page start reset cleared frame import_weight
+    import_effect
 trace-line-cases = (refl, refl, refl, refl, refl)
 
 -- mouse x of -2, mouse y of 300, and the left and middle buttons stand in their registers
 abbrev pub MouseCase : Type 0
 MouseCase =
-    let mouse : Input = record { pads = 0 ∷ 0 ∷ 0 ∷ 0 ∷ []; mouse_x = negsuc 1; mouse_y = pos 300; buttons = 5; reset = false } in
+    let mouse : Input = record {
+      pads = 0 ∷ 0 ∷ 0 ∷ 0 ∷ [];
+      mouse_x = negsuc 1;
+      mouse_y = pos 300;
+      buttons = 5;
+      reset = false;
+    } in
     let after = last ((codes "update", done) ∷ []) [] 9 (mouse ∷ []) in
     (page_byte 26 after ≡ Some 254)
     × (page_byte 27 after ≡ Some 255)
@@ -168,5 +183,6 @@ StartCase =
     lines_of (run setup [] [] 0) ≡ Some ((66 ∷ []) ∷ (65 ∷ []) ∷ [])
 
 pub start-case : StartCase
-unfolding eval eval_within zero_page first_page start_page start reset cleared frame import_weight import_effect
+unfolding eval eval_within zero_page first_page start_page start reset cleared frame import_weight
+    import_effect
 start-case = refl

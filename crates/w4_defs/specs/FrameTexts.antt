@@ -58,12 +58,14 @@ schedule_text place made =
 abbrev pub hex_digit : ℕ → ℕ
 hex_digit n = if nat_lt n 10 then 48 + n else 87 + n
 
+-- a byte in two of them
+abbrev pub hex_byte : ℕ → List ℕ
+hex_byte byte = hex_digit (byte / 16) ∷ hex_digit (byte % 16) ∷ []
+
 -- a byte of a line: the printable ones but the backslash are themselves, all others \x and two digits
 abbrev pub escaped : ℕ → List ℕ
 escaped byte =
-    if nat_lt byte 32 || nat_lt 126 byte || byte == 92 then
-    92 ∷ 120 ∷ hex_digit (byte / 16) ∷ hex_digit (byte % 16) ∷ []
-    else byte ∷ []
+    if nat_lt byte 32 || nat_lt 126 byte || byte == 92 then 92 ∷ 120 ∷ hex_byte byte else byte ∷ []
 
 abbrev pub trace_text_line : List ℕ → List ℕ
 trace_text_line line = codes "trace " ++ flat_map escaped line ++ line_end
@@ -110,11 +112,13 @@ abbrev pub crowded_record : FrameRecord
 crowded_record = record {
   tones = record { kept = []; dropped = 2 };
   traces = record { kept = []; dropped = 10 };
-  sounds = None ∷ Some (record { level = 3; frequency = 9 }) ∷ None ∷ Some (record { level = 0; frequency = 70 }) ∷ [];
+  sounds = None ∷ Some (record { level = 3; frequency = 9 }) ∷ None
+      ∷ Some (record { level = 0; frequency = 70 }) ∷ [];
 }
 
 abbrev pub worked_state : State
-worked_state = record { page = []; globals = []; channels = silent; disk = 7 ∷ 8 ∷ []; halt = Trapped DivideByZero }
+worked_state =
+    record { page = []; globals = []; channels = silent; disk = 7 ∷ 8 ∷ []; halt = Trapped DivideByZero }
 
 abbrev pub TextCases : Type 0
 TextCases =
@@ -122,7 +126,8 @@ TextCases =
     × (schedule_text 0 crowded_record ≡ codes "frame 0\ndropped 2\nsound 1 3 9\nsound 3 0 70\n")
     × (trace_text 12 worked_record ≡ codes "frame 12\ntrace \\x1f A[\\x5c]~\\x7f\\xff\n")
     × (trace_text 0 crowded_record ≡ codes "frame 0\ndropped 10\n")
-    × (state_line 6 10 worked_state (0 ∷ 5 ∷ 6 ∷ []) ≡ codes "state 6 of 10 halt trap divide by zero disk 2 kept 0 5 6\n")
+    × (state_line 6 10 worked_state (0 ∷ 5 ∷ 6 ∷ [])
+    ≡ codes "state 6 of 10 halt trap divide by zero disk 2 kept 0 5 6\n")
 
 pub text-cases : TextCases
 unfolding schedule_text trace_text state_line digits level_at frequency_at

@@ -64,11 +64,14 @@ PaintIsPainted = (page : List ℕ) (f : Painter) → length page ≡ 65536 → P
 
 -- and no other page is
 abbrev pub PaintIsTheOne : Type 0
-PaintIsTheOne = (before after : List ℕ) (f : Painter) → length before ≡ 65536 → Paints before after f → after ≡ paint before f
+PaintIsTheOne =
+    (before after : List ℕ) (f : Painter) → length before ≡ 65536 → Paints before after f
+    → after ≡ paint before f
 
 -- painting twice is painting the one over the other
 abbrev pub PaintTwice : Type 0
-PaintTwice = (page : List ℕ) (f g : Painter) → length page ≡ 65536 → paint (paint page f) g ≡ paint page (over g f)
+PaintTwice =
+    (page : List ℕ) (f g : Painter) → length page ≡ 65536 → paint (paint page f) g ≡ paint page (over g f)
 
 -- only what a painter says of the screen's pixels counts
 abbrev pub PaintOnScreen : Type 0

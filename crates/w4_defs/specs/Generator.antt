@@ -6,13 +6,13 @@
 use Rattle.std.specs.Prelude.{◌≡◌, ℕ, zero, suc, ◌+◌, ◌*◌, ◌/◌, ◌%◌, ◌^◌, List, [], ◌∷◌, ◌++◌, map, flat_map, replicate, slice_index_or, codes, pos, Some, None, false, refl}
 use Rattle.std.specs.List.{range_with_len}
 use Rattle.w4_defs.specs.declared.console.Input.{Input}
-use Rattle.w4_defs.specs.declared.value.ValType.TheVariants.{I32}
 use Rattle.w4_defs.specs.declared.operation.Op.{Op}
 use Rattle.w4_defs.specs.declared.operation.Op.TheVariants.{LocalGet, I32Const, I32Load, I32Load8U, I32Store, Call, I32Add, I32Sub, I32Mul, I32And, I32Or, I32Xor, I32Shl, I32ShrS, I32ShrU, I32Rotl, I32Rotr}
 use Rattle.w4_defs.specs.declared.module.ImportKind.TheVariants as imports
 use Rattle.w4_defs.specs.declared.module.ExportKind.TheVariants as exports
-use Rattle.w4_defs.specs.Tree.{Expr, mark, done, plain, sequence}
-use Rattle.w4_defs.specs.Module.{Signature, Imported, Function, WasmModule}
+use Rattle.w4_defs.specs.Tree.{sequence}
+use Rattle.w4_defs.specs.Module.{Signature, Imported, Function, WasmModule, nothing_to_nothing}
+use Rattle.w4_defs.specs.Imports.{import_module, memory_name, returns_i32, takes_i32s}
 
 -- the generator's number after so many draws
 unfoldable pub seed_after : ℕ → ℕ → ℕ
@@ -75,18 +75,15 @@ update_function = record {
 -- nothing to nothing, two i32 to an i32, and four i32 to nothing
 abbrev pub made_types : List Signature
 made_types =
-    record { params = []; results = [] }
-    ∷ record { params = I32 ∷ I32 ∷ []; results = I32 ∷ [] }
-    ∷ record { params = I32 ∷ I32 ∷ I32 ∷ I32 ∷ []; results = [] }
-    ∷ []
+    nothing_to_nothing ∷ returns_i32 2 ∷ takes_i32s 4 ∷ []
 
 -- `rect`, which is function 0, and a memory of exactly one page
 abbrev pub made_imports : List Imported
 made_imports =
-    record { module_name = codes "env"; name = codes "rect"; kind = imports.Func 2 }
+    record { module_name = import_module; name = codes "rect"; kind = imports.Func 2 }
     ∷ record {
-      module_name = codes "env";
-      name = codes "memory";
+      module_name = import_module;
+      name = memory_name;
       kind = imports.Memory (record { least = 1; greatest = Some 1 });
     }
     ∷ []

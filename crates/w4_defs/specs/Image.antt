@@ -1,6 +1,7 @@
 -- The image of a page, as a PPM file (Netpbm, raw PPM): `P6`, `160 160` and `255` on lines of their own,
 -- then red, green and blue of each pixel in rows from the top, 76,815 bytes in all.
-use Rattle.std.specs.Prelude.{◌≡◌, ℕ, zero, suc, ◌+◌, ◌/◌, ◌%◌, List, [], ◌∷◌, ◌++◌, length}
+use Rattle.std.specs.Prelude.{◌≡◌, ℕ, ◌/◌, ◌%◌, List, [], ◌∷◌, ◌++◌, flat_map, length}
+use Rattle.std.specs.List.{range_with_len}
 use Rattle.w4_defs.specs.Framebuffer.{pixel}
 use Rattle.w4_defs.specs.MemoryMap.{palette}
 
@@ -13,8 +14,7 @@ pixel_colour page n = palette page (pixel page (n % 160) (n / 160))
 
 -- the colours of `count` pixels from the n-th on
 unfoldable pub pixel_colours : List ℕ → ℕ → ℕ → List ℕ
-pixel_colours page n zero = []
-pixel_colours page n (suc count) = pixel_colour page n ++ pixel_colours page (n + 1) count
+pixel_colours page n count = flat_map (pixel_colour page) (range_with_len n count)
 
 unfoldable pub image : List ℕ → List ℕ
 image page = image_header ++ pixel_colours page 0 25600

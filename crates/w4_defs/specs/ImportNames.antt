@@ -2,6 +2,7 @@
 use Rattle.std.specs.Prelude.{ℕ, List, [], ◌∷◌, Option, Some, None, codes, bytes_eq, if◌then◌else◌}
 use Rattle.w4_defs.specs.declared.console.Import.{Import}
 use Rattle.w4_defs.specs.declared.console.Import.TheVariants.{Blit, BlitSub, Line, Hline, Vline, Oval, Rect, Text, TextUtf8, TextUtf16, Tone, Diskr, Diskw, Trace, TraceUtf8, TraceUtf16, Tracef}
+use Rattle.w4_defs.specs.Imports.{import_module}
 
 abbrev pub import_names : List (List ℕ × Import)
 import_names =
@@ -30,4 +31,5 @@ named_in (row ∷ rows) name = if bytes_eq row.0 name then Some row.1 else named
 
 -- the import of this module name and this name
 abbrev pub import_named : List ℕ → List ℕ → Option Import
-import_named module_name name = if bytes_eq module_name (codes "env") then named_in import_names name else None
+import_named module_name name =
+    if bytes_eq module_name import_module then named_in import_names name else None

@@ -6,8 +6,8 @@ use Rattle.w4_defs.specs.declared.console.Import.TheVariants.{Blit, BlitSub, Lin
 use Rattle.w4_defs.specs.Module.{Signature}
 
 -- the module of all imports, and the name of the memory
-abbrev pub env : List ℕ
-env = codes "env"
+abbrev pub import_module : List ℕ
+import_module = codes "env"
 
 abbrev pub memory_name : List ℕ
 memory_name = codes "memory"

@@ -4,9 +4,7 @@
 use Rattle.std.specs.Prelude.{◌≡◌, ℕ, zero, suc, ◌+◌, ◌-◌, ◌≤◌, ◌<◌, ◌&&◌, Bool, true, false, List, [], map, length, slice_index_or, slice_range, slice_set, insert, Option, Some, option_map, nat_lt, if◌then◌else◌}
 use Rattle.std.specs.List.{position_or_len, All}
 use Rattle.w4_defs.specs.declared.console.Input.{Input}
-use Rattle.w4_defs.specs.Module.{WasmModule}
-use Rattle.w4_defs.specs.RunLaws.{types_of}
-use Rattle.w4_defs.specs.State.{State, blank_state}
+use Rattle.w4_defs.specs.State.{State, blank_state, HasGlobals}
 use Rattle.w4_defs.specs.SameState.{same_state}
 use Rattle.w4_defs.specs.Reset.{Setup, reset}
 use Rattle.w4_defs.specs.Run.{fold, run_state}
@@ -21,10 +19,9 @@ pub record Entry : Type 0 where
 abbrev pub kept_entries : Kind Entry
 kept_entries = record {
   place = λ x. x.place;
-  at = λ p x. record { place = p; state = x.state; linked = x.linked };
-  unlinked = λ x. record { place = x.place; state = x.state; linked = false };
-  after_drop = λ dropped next.
-      record { place = next.place; state = next.state; linked = dropped.linked && next.linked };
+  at = λ p x. record x { place = p };
+  unlinked = λ x. record x { linked = false };
+  after_drop = λ dropped next. record next { linked = dropped.linked && next.linked };
 }
 
 -- entry i; past the end one that is nowhere, and unlinked
@@ -64,10 +61,6 @@ kept_segment inputs kept i = slice_range inputs (place_at kept i) (place_at kept
 abbrev pub computed : Setup → List Input → List Entry → ℕ → Option State
 computed setup inputs kept i = fold setup (state_at kept i) (kept_segment inputs kept i)
 
--- the globals have the cart's types
-abbrev pub HasCartGlobals : WasmModule → State → Type 0
-HasCartGlobals cart state = types_of state.globals ≡ map (λ g. g.global.value) cart.globals
-
 -- the kept list of these inputs: places rise from 0, entry 0 has the reset's state, and every link is true
 pub record IsConsistent (setup : Setup) (disk : List ℕ) (inputs : List Input)
     (kept : List Entry) : Type 0 where
@@ -78,7 +71,7 @@ pub record IsConsistent (setup : Setup) (disk : List ℕ) (inputs : List Input)
   pub first_linked : linked_at kept 0 ≡ true
   pub rising : (i : ℕ) → i + 1 < length kept → place_at kept i < place_at kept (i + 1)
   pub within : (i : ℕ) → i < length kept → place_at kept i ≤ length inputs
-  pub globals : (i : ℕ) → i < length kept → HasCartGlobals setup.cart (state_at kept i)
+  pub globals : (i : ℕ) → i < length kept → HasGlobals setup.cart (state_at kept i)
   pub links : (i : ℕ) → i + 1 < length kept → linked_at kept (i + 1) ≡ true
       → computed setup inputs kept i ≡ Some (state_at kept (i + 1))
 
@@ -120,11 +113,13 @@ replaced_at i state kept =
 
 -- what an edit unlinks, by its number
 abbrev pub UnlinksOne : Type 0
-UnlinksOne = (p : ℕ) (kept : List Entry) → unlink_above kept_entries p kept ≡ unlinked_at (first_above p kept) kept
+UnlinksOne =
+    (p : ℕ) (kept : List Entry) → unlink_above kept_entries p kept ≡ unlinked_at (first_above p kept) kept
 
 -- where an entry is put, by its number
 abbrev pub KeptInOrder : Type 0
-KeptInOrder = (x : Entry) (kept : List Entry) → with_kept kept_entries x kept ≡ insert kept (first_above x.place kept) x
+KeptInOrder =
+    (x : Entry) (kept : List Entry) → with_kept kept_entries x kept ≡ insert kept (first_above x.place kept) x
 
 -- ---- showing
 

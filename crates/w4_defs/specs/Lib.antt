@@ -7,6 +7,7 @@ pub mod Flattening
 pub mod InstructionTable
 pub mod Module
 pub mod View
+pub mod Constants
 pub mod Lookup
 -- the binary format
 pub mod BinaryText

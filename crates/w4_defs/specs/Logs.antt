@@ -19,8 +19,8 @@ kept_tones = 64
 -- the log after one more entry
 abbrev pub logged : {Entry : Type 0} → ℕ → Log Entry → Entry → Log Entry
 logged bound log entry =
-    if nat_lt (length log.kept) bound then record { kept = log.kept ++ entry ∷ []; dropped = log.dropped }
-    else record { kept = log.kept; dropped = min (log.dropped + 1) (2 ^ 64 - 1) }
+    if nat_lt (length log.kept) bound then record log { kept = log.kept ++ entry ∷ [] }
+    else record log { dropped = min (log.dropped + 1) (2 ^ 64 - 1) }
 
 -- the log after more entries
 abbrev pub all_logged : {Entry : Type 0} → ℕ → Log Entry → List Entry → Log Entry
@@ -29,15 +29,19 @@ all_logged bound log (entry ∷ entries) = all_logged bound (logged bound log en
 
 -- the log of all these entries in words: the first ones, and the number of the others, cut at 2^64 - 1
 abbrev pub log_of : {Entry : Type 0} → ℕ → List Entry → Log Entry
-log_of bound entries = record { kept = take bound entries; dropped = min (length entries - bound) (2 ^ 64 - 1) }
+log_of bound entries =
+    record { kept = take bound entries; dropped = min (length entries - bound) (2 ^ 64 - 1) }
 
 -- entries that come one after another leave that log
 abbrev pub LogsInOrder : Type 0 → Type 0
-LogsInOrder Entry = (bound : ℕ) (entries : List Entry) → all_logged bound empty_log entries ≡ log_of bound entries
+LogsInOrder Entry =
+    (bound : ℕ) (entries : List Entry) → all_logged bound empty_log entries ≡ log_of bound entries
 
 -- 33 lines in a frame: 32 are kept and one is dropped
 abbrev pub DroppedCase : Type 0
-DroppedCase = all_logged {Entry = ℕ} kept_lines empty_log (replicate 33 7) ≡ record { kept = replicate 32 7; dropped = 1 }
+DroppedCase =
+    all_logged {Entry = ℕ} kept_lines empty_log (replicate 33 7)
+    ≡ record { kept = replicate 32 7; dropped = 1 }
 
 pub dropped-case : DroppedCase
 dropped-case = refl

@@ -39,6 +39,10 @@ memories_of m = filter_map (λ i. imported_memory i.kind) m.imports ++ m.memorie
 abbrev pub global_types : WasmModule → List GlobalType
 global_types m = filter_map (λ i. imported_global i.kind) m.imports ++ map (λ g. g.global) m.globals
 
+-- the types of the module's own globals
+abbrev pub own_global_types : WasmModule → List ValType
+own_global_types m = map (λ g. g.global.value) m.globals
+
 -- the type of a function, where there is such a function and its type index names a type
 abbrev pub signature_of : WasmModule → ℕ → Option Signature
 signature_of m func = option_and_then (λ index. slice_get m.types index) (slice_get (function_indices m) func)

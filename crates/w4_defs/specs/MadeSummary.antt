@@ -13,12 +13,12 @@ use Rattle.w4_defs.specs.State.{State}
 use Rattle.w4_defs.specs.Reset.{Setup}
 use Rattle.w4_defs.specs.Run.{run_state}
 use Rattle.w4_defs.specs.Board.{console_setup}
-use Rattle.w4_defs.specs.FrameTexts.{numbered, hex_digit, halt_words, line_end}
+use Rattle.w4_defs.specs.FrameTexts.{numbered, hex_byte, halt_words, line_end}
 use Rattle.w4_defs.specs.Generator.{made_module, made_inputs, made_frames, made_budget}
 
 -- a digest in lower-case hexadecimal
 abbrev pub hexadecimal : List ℕ → List ℕ
-hexadecimal digest = flat_map (λ byte. hex_digit (byte / 16) ∷ hex_digit (byte % 16) ∷ []) digest
+hexadecimal digest = flat_map hex_byte digest
 
 -- how many of the 25,600 pixels aren't 0
 unfoldable pub lit_pixels : List ℕ → ℕ

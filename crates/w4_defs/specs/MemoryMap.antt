@@ -1,8 +1,9 @@
 -- The registers of the page (WASM-4 memory map): the palette at 0x04, DRAW_COLORS at 0x14, the gamepads
 -- at 0x16, the mouse at 0x1a, the system flags at 0x1f. Numbers of several bytes have the lowest first.
-use Rattle.std.specs.Prelude.{◌<◌, ◌≤◌, ◌⊎◌, length, ◌≡◌, ℕ, ◌+◌, ◌*◌, ◌/◌, ◌%◌, Bool, List, [], ◌∷◌, ◌++◌, take, drop, slice_index, ◌==◌, refl}
+use Rattle.std.specs.Prelude.{◌<◌, ◌≤◌, ◌⊎◌, length, ◌≡◌, ℕ, ◌+◌, ◌*◌, ◌/◌, ◌%◌, Bool, List, [], ◌∷◌, slice_index, ◌==◌, refl}
 use Rattle.std.specs.Int.{cast_unsigned, w16}
 use Rattle.w4_defs.specs.declared.console.Input.{Input}
+use Rattle.w4_defs.specs.Bytes.{replaced}
 use Rattle.w4_defs.specs.Framebuffer.{Painter, paint}
 
 -- red, green and blue by a palette index, 0 to 3: the palette has 32 bits 0xRRGGBB for each, so that blue
@@ -37,7 +38,7 @@ input_bytes input =
 
 -- the page with an input in its registers
 abbrev pub put_input : List ℕ → Input → List ℕ
-put_input page input = take 22 page ++ input_bytes input ++ drop 31 page
+put_input page input = replaced page 22 9 (input_bytes input)
 
 -- ---- laws of the registers, of a page of 65,536 bytes
 

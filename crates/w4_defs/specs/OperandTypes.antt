@@ -10,40 +10,41 @@ use Rattle.w4_defs.specs.declared.instruction_table.Row.TheVariants as shape
 use Rattle.w4_defs.specs.InstructionTable.{value_type_of, row}
 
 -- what is taken, and what is given
-abbrev pub Arrow : Type 0
-Arrow = List ValType × List ValType
+abbrev pub StackType : Type 0
+StackType = List ValType × List ValType
 
-abbrev pub arrow_if : Bool → List ValType → List ValType → Option Arrow
-arrow_if true taken given = Some (taken, given)
-arrow_if false taken given = None
+abbrev pub stack_type_if : Bool → List ValType → List ValType → Option StackType
+stack_type_if true taken given = Some (taken, given)
+stack_type_if false taken given = None
 
-abbrev pub gives : ValType → Option Arrow
+abbrev pub gives : ValType → Option StackType
 gives t = Some ([], t ∷ [])
 
-abbrev pub unary_type : ValType → Option Arrow
+abbrev pub unary_type : ValType → Option StackType
 unary_type t = Some (t ∷ [], t ∷ [])
 
-abbrev pub binary_type : ValType → Option Arrow
+abbrev pub binary_type : ValType → Option StackType
 binary_type t = Some (t ∷ t ∷ [], t ∷ [])
 
-abbrev pub test_type : ValType → Option Arrow
+abbrev pub test_type : ValType → Option StackType
 test_type t = Some (t ∷ [], I32 ∷ [])
 
-abbrev pub comparison_type : ValType → Option Arrow
+abbrev pub comparison_type : ValType → Option StackType
 comparison_type t = Some (t ∷ t ∷ [], I32 ∷ [])
 
-abbrev pub conversion_type : ValType → ValType → Option Arrow
+abbrev pub conversion_type : ValType → ValType → Option StackType
 conversion_type from to = Some (from ∷ [], to ∷ [])
 
 -- there is a memory, and the alignment is at most as many bytes as are accessed
-abbrev pub load_type : Bool → ℕ → ℕ → ValType → Option Arrow
-load_type has_memory align count t = arrow_if (has_memory && nat_le (2 ^ align) count) (I32 ∷ []) (t ∷ [])
+abbrev pub load_type : Bool → ℕ → ℕ → ValType → Option StackType
+load_type has_memory align count t =
+    stack_type_if (has_memory && nat_le (2 ^ align) count) (I32 ∷ []) (t ∷ [])
 
-abbrev pub store_type : Bool → ℕ → ℕ → ValType → Option Arrow
-store_type has_memory align count t = arrow_if (has_memory && nat_le (2 ^ align) count) (I32 ∷ t ∷ []) []
+abbrev pub store_type : Bool → ℕ → ℕ → ValType → Option StackType
+store_type has_memory align count t = stack_type_if (has_memory && nat_le (2 ^ align) count) (I32 ∷ t ∷ []) []
 
 -- what a row takes and gives, with a memory or without
-abbrev pub row_type : Bool → Row → Option Arrow
+abbrev pub row_type : Bool → Row → Option StackType
 row_type has_memory (shape.Const t n) = gives (value_type_of t)
 row_type has_memory (shape.Test t) = test_type (value_type_of t)
 row_type has_memory (shape.Compare t o) = comparison_type (value_type_of t)
@@ -52,14 +53,15 @@ row_type has_memory (shape.Binary t o) = binary_type (value_type_of t)
 row_type has_memory shape.Wrap = conversion_type I64 I32
 row_type has_memory (shape.Extend sign) = conversion_type I32 I64
 row_type has_memory (shape.ExtendWithin t bits) = unary_type (value_type_of t)
-row_type has_memory (shape.Load t bytes sign align offset) = load_type has_memory align bytes (value_type_of t)
+row_type has_memory (shape.Load t bytes sign align offset) =
+    load_type has_memory align bytes (value_type_of t)
 row_type has_memory (shape.Store t bytes align offset) = store_type has_memory align bytes (value_type_of t)
-row_type has_memory shape.MemorySize = arrow_if has_memory [] (I32 ∷ [])
-row_type has_memory shape.MemoryGrow = arrow_if has_memory (I32 ∷ []) (I32 ∷ [])
-row_type has_memory shape.MemoryCopy = arrow_if has_memory (I32 ∷ I32 ∷ I32 ∷ []) []
-row_type has_memory shape.MemoryFill = arrow_if has_memory (I32 ∷ I32 ∷ I32 ∷ []) []
+row_type has_memory shape.MemorySize = stack_type_if has_memory [] (I32 ∷ [])
+row_type has_memory shape.MemoryGrow = stack_type_if has_memory (I32 ∷ []) (I32 ∷ [])
+row_type has_memory shape.MemoryCopy = stack_type_if has_memory (I32 ∷ I32 ∷ I32 ∷ []) []
+row_type has_memory shape.MemoryFill = stack_type_if has_memory (I32 ∷ I32 ∷ I32 ∷ []) []
 row_type has_memory shape.Float = None
-row_type has_memory shape.Missing = None
+row_type has_memory shape.NoRow = None
 
-abbrev pub memory_type : Bool → Op → Option Arrow
+abbrev pub memory_type : Bool → Op → Option StackType
 memory_type has_memory op = row_type has_memory (row op)

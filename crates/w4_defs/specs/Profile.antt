@@ -4,7 +4,6 @@ use Rattle.std.specs.Prelude.{ℕ, ◌+◌, Bool, true, false, not, ◌&&◌, �
 use Rattle.std.specs.List.{list_any}
 use Rattle.w4_defs.specs.declared.value.Limits.{Limits}
 use Rattle.w4_defs.specs.declared.operation.Op.{Op}
-use Rattle.w4_defs.specs.declared.operation.Op.TheVariants.{I32Const}
 use Rattle.w4_defs.specs.declared.console.Import.{Import}
 use Rattle.w4_defs.specs.declared.module.ImportKind.{ImportKind}
 use Rattle.w4_defs.specs.declared.module.ImportKind.TheVariants.{Func, Memory}
@@ -12,12 +11,13 @@ use Rattle.w4_defs.specs.declared.module.ExportKind.{ExportKind}
 use Rattle.w4_defs.specs.declared.module.ExportKind.TheVariants as exports
 use Rattle.w4_defs.specs.declared.refusal.ProfileRefusal.{ProfileRefusal}
 use Rattle.w4_defs.specs.declared.refusal.ProfileRefusal.TheVariants.{Floats, TooManyLocals, TableTooLarge, UnknownImport, WrongImport, NoMemory, NoUpdate, WrongEntry, SegmentOutside}
-use Rattle.w4_defs.specs.Tree.{Expr, done, plain}
-use Rattle.w4_defs.specs.Module.{Signature, Imported, Exported, Function, WasmModule}
+use Rattle.w4_defs.specs.Tree.{Expr}
+use Rattle.w4_defs.specs.Constants.{const_value, expression_value, i32_number}
+use Rattle.w4_defs.specs.Module.{Signature, Imported, Exported, Function, WasmModule, nothing_to_nothing}
 use Rattle.w4_defs.specs.Lookup.{signature_of, local_count}
 use Rattle.w4_defs.specs.ValueTypes.{same_signature}
 use Rattle.w4_defs.specs.ImportNames.{import_named}
-use Rattle.w4_defs.specs.Imports.{env, memory_name, import_type, takes_i32s}
+use Rattle.w4_defs.specs.Imports.{import_module, memory_name, import_type}
 use Rattle.w4_defs.specs.Floats.{module_has_float}
 
 -- parameters count 0 where the type index names no type
@@ -31,7 +31,7 @@ has_many_locals m own = nat_lt 1024 (param_count (slice_get m.types own.0) + loc
 
 -- whether an import has the two names of the memory
 abbrev pub is_memory : Imported → Bool
-is_memory i = bytes_eq i.module_name env && bytes_eq i.name memory_name
+is_memory i = bytes_eq i.module_name import_module && bytes_eq i.name memory_name
 
 abbrev pub is_known : Imported → Bool
 is_known i = is_memory i || is_some (import_named i.module_name i.name)
@@ -58,7 +58,8 @@ is_right_memory _ = false
 
 abbrev pub is_right : WasmModule → Imported → Bool
 is_right m i =
-    if is_memory i then is_right_memory i.kind else is_right_function m (import_named i.module_name i.name) i.kind
+    if is_memory i then is_right_memory i.kind
+    else is_right_function m (import_named i.module_name i.name) i.kind
 
 abbrev pub first_wrong_import : WasmModule → Option ℕ
 first_wrong_import m = position (λ i. not (is_right m i)) m.imports
@@ -73,11 +74,13 @@ if_so false refusal = None
 
 abbrev pub unknown_import : WasmModule → Option ProfileRefusal
 unknown_import m =
-    option_and_then (λ k. if_so (not (is_known_entry (slice_get m.imports k))) (UnknownImport k)) (first_wrong_import m)
+    option_and_then (λ k. if_so (not (is_known_entry (slice_get m.imports k))) (UnknownImport k))
+    (first_wrong_import m)
 
 abbrev pub wrong_import : WasmModule → Option ProfileRefusal
 wrong_import m =
-    option_and_then (λ k. if_so (is_known_entry (slice_get m.imports k)) (WrongImport k)) (first_wrong_import m)
+    option_and_then (λ k. if_so (is_known_entry (slice_get m.imports k)) (WrongImport k))
+    (first_wrong_import m)
 
 abbrev pub is_update : Exported → Bool
 is_update e = bytes_eq e.name (codes "update")
@@ -91,7 +94,7 @@ is_entry_name name =
 -- whether the type is there, without parameters and results
 abbrev pub takes_nothing : Option Signature → Bool
 takes_nothing None = false
-takes_nothing (Some s) = same_signature s (takes_i32s 0)
+takes_nothing (Some s) = same_signature s nothing_to_nothing
 
 abbrev pub is_entry_function : WasmModule → ExportKind → ℕ → Bool
 is_entry_function m exports.Func index = takes_nothing (signature_of m index)
@@ -102,13 +105,11 @@ is_wrong_entry m e = is_entry_name e.name && not (is_entry_function m e.kind e.i
 
 -- the number of an i32.const
 abbrev pub i32_constant : Op → Option ℕ
-i32_constant (I32Const value) = Some value
-i32_constant _ = None
+i32_constant op = option_and_then i32_number (const_value op)
 
 -- the number of an expression that is a single i32.const
 abbrev pub single_constant : Expr → Option ℕ
-single_constant (plain m done) = i32_constant m.0
-single_constant _ = None
+single_constant e = option_and_then i32_number (expression_value e)
 
 -- whether so many items from a constant offset on pass the size; an offset of another form fits
 abbrev pub exceeds_size : Option ℕ → ℕ → ℕ → Bool
@@ -123,7 +124,8 @@ table_size (Some l) = l.least
 -- whether each segment is outside, the element segments first
 abbrev pub segments_outside : WasmModule → List Bool
 segments_outside m =
-    map (λ s. exceeds_size (single_constant s.offset) (length s.functions) (table_size (slice_get m.tables 0))) m.elements
+    map (λ s. exceeds_size (single_constant s.offset) (length s.functions)
+    (table_size (slice_get m.tables 0))) m.elements
     ++ map (λ s. exceeds_size (single_constant s.offset) (length s.bytes) 65536) m.segments
 
 -- each cause that holds, as its refusal

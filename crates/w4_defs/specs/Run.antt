@@ -29,7 +29,8 @@ run_state setup disk inputs place = option_map (λ moment. moment.state) (run se
 -- a run in two parts: the second goes on from where the first ends
 abbrev pub PlaysInParts : Type 0
 PlaysInParts = (setup : Setup) (moment : Moment) (first rest : List Input) →
-    played_on setup moment (first ++ rest) ≡ option_and_then (λ next. played_on setup next rest) (played_on setup moment first)
+    played_on setup moment (first ++ rest)
+    ≡ option_and_then (λ next. played_on setup next rest) (played_on setup moment first)
 
 abbrev pub FoldsInParts : Type 0
 FoldsInParts = (setup : Setup) (state : State) (first rest : List Input) →
@@ -44,10 +45,12 @@ FoldsState = (setup : Setup) (moment : Moment) (inputs : List Input) →
 abbrev pub RunsOn : Type 0
 RunsOn = (setup : Setup) (disk : List ℕ) (inputs : List Input) (place : ℕ) (input : Input) →
     slice_get inputs place ≡ Some input →
-    run setup disk inputs (place + 1) ≡ option_and_then (λ moment. frame setup moment.state input) (run setup disk inputs place)
+    run setup disk inputs (place + 1)
+    ≡ option_and_then (λ moment. frame setup moment.state input) (run setup disk inputs place)
 
 -- a later place of a run is the fold of the inputs between
 abbrev pub RunsBetween : Type 0
 RunsBetween = (setup : Setup) (disk : List ℕ) (inputs : List Input) (place more : ℕ) →
     run_state setup disk inputs (place + more)
-    ≡ option_and_then (λ state. fold setup state (take more (drop place inputs))) (run_state setup disk inputs place)
+    ≡ option_and_then (λ state. fold setup state (take more (drop place inputs)))
+    (run_state setup disk inputs place)

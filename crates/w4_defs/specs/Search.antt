@@ -8,10 +8,6 @@ use Rattle.w4_defs.specs.declared.inspect.Test.{Test}
 use Rattle.w4_defs.specs.declared.inspect.Test.TheVariants.{Is, Same, Changed, More, Less}
 use Rattle.w4_defs.specs.Bytes.{number_at}
 
--- the number of 1, 2 or 4 bytes at an address, little-endian
-abbrev pub value_at : List ℕ → ℕ → ℕ → ℕ
-value_at page address width = number_at page address width
-
 -- all addresses at which so many bytes lie in the page, rising
 abbrev pub addresses : ℕ → List ℕ
 addresses width = range_with_len 0 (65537 - width)
@@ -26,7 +22,7 @@ holds Less new old = nat_lt new old
 
 -- whether it holds at an address, between a new page and the last one
 abbrev pub holds_at : ℕ → Test → List ℕ → List ℕ → ℕ → Bool
-holds_at width test new last address = holds test (value_at new address width) (value_at last address width)
+holds_at width test new last address = holds test (number_at new address width) (number_at last address width)
 
 -- a search: how many bytes a value has, the last page, and the addresses that are left, rising
 pub record Search : Type 0 where
@@ -42,8 +38,7 @@ abbrev pub Step : Type 0
 Step = List ℕ × Test
 
 abbrev pub narrow : Search → Step → Search
-narrow search step = record {
-  width = search.width;
+narrow search step = record search {
   page = step.0;
   candidates = filter (holds_at search.width step.1 step.0 search.page) search.candidates;
 }
@@ -65,7 +60,8 @@ RemainingIsNarrowed = (width : ℕ) (page : List ℕ) (steps : List Step) →
 
 -- the addresses that are left rise
 abbrev pub RemainingRises : Type 0
-RemainingRises = (width : ℕ) (page : List ℕ) (steps : List Step) → IsStrictlyIncreasing (remaining width page steps)
+RemainingRises =
+    (width : ℕ) (page : List ℕ) (steps : List Step) → IsStrictlyIncreasing (remaining width page steps)
 
 -- Worked cases, over four bytes of a page: 5, 9, 200, 7, and then 6, 9, 100, 7. The byte that rose, those
 -- that stayed, the one that is 100, and numbers of two bytes that fell. A value of 65,535 bytes has two
@@ -77,7 +73,7 @@ kept_by width test candidates =
 
 abbrev pub SearchCases : Type 0
 SearchCases =
-    (value_at (5 ∷ 9 ∷ 200 ∷ 7 ∷ []) 1 2 ≡ 51209)
+    (number_at (5 ∷ 9 ∷ 200 ∷ 7 ∷ []) 1 2 ≡ 51209)
     × (kept_by 1 More (0 ∷ 1 ∷ 2 ∷ 3 ∷ []) ≡ 0 ∷ [])
     × (kept_by 1 Same (0 ∷ 1 ∷ 2 ∷ 3 ∷ []) ≡ 1 ∷ 3 ∷ [])
     × (kept_by 1 Changed (0 ∷ 1 ∷ 2 ∷ 3 ∷ []) ≡ 0 ∷ 2 ∷ [])

@@ -25,7 +25,8 @@ pub record Kind (A : Type 0) : Type 0 where
 
 -- places alone, without links
 abbrev pub places_alone : Kind ℕ
-places_alone = record { place = λ p. p; at = λ p old. p; unlinked = λ p. p; after_drop = λ dropped next. next }
+places_alone =
+    record { place = λ p. p; at = λ p old. p; unlinked = λ p. p; after_drop = λ dropped next. next }
 
 -- places that rise from above a place to at most n
 abbrev pub Rise : ℕ → ℕ → List ℕ → Type 0
@@ -149,11 +150,7 @@ redone session = option_map (λ draft. record {
 
 -- the session with another kept list
 abbrev pub with_list : {A : Type 0} → Session A → List A → Session A
-with_list session kept = record {
-  current = record { inputs = session.current.inputs; kept = kept };
-  older = session.older;
-  newer = session.newer;
-}
+with_list session kept = record session { current = record session.current { kept = kept } }
 
 -- ---- refusals, in their order: an input or a place that isn't there, then a limit or what is kept
 

@@ -20,7 +20,8 @@ is_at z u = int_le z (pos u) && int_le (pos u) z
 
 -- the pixel is in the box of the columns from x0 to below x1 and the rows from y0 to below y1
 abbrev pub is_inside : ℤ → ℤ → ℤ → ℤ → ℕ → ℕ → Bool
-is_inside x0 x1 y0 y1 u v = (int_le x0 (pos u) && int_lt (pos u) x1) && (int_le y0 (pos v) && int_lt (pos v) y1)
+is_inside x0 x1 y0 y1 u v =
+    (int_le x0 (pos u) && int_lt (pos u) x1) && (int_le y0 (pos v) && int_lt (pos v) y1)
 
 -- a width or height of cells: 0 where the number is negative
 abbrev pub natural : ℤ → ℕ
@@ -45,11 +46,13 @@ box_painter x0 x1 y0 y1 index u v = only_if (is_inside x0 x1 y0 y1 u v) index
 -- the first and last column and row of a box
 abbrev pub outline_painter : ℤ → ℤ → ℤ → ℤ → Option ℕ → Painter
 outline_painter x0 x1 y0 y1 index u v =
-    only_if (is_inside x0 x1 y0 y1 u v && (is_at x0 u || is_at (x1 -ℤ pos 1) u || is_at y0 v || is_at (y1 -ℤ pos 1) v)) index
+    only_if (is_inside x0 x1 y0 y1 u v
+    && (is_at x0 u || is_at (x1 -ℤ pos 1) u || is_at y0 v || is_at (y1 -ℤ pos 1) v)) index
 
 -- the points (xs t, ys t) for t below n
 abbrev pub points_painter : (ℕ → ℤ) → (ℕ → ℤ) → ℕ → Option ℕ → Painter
-points_painter xs ys n index u v = only_if (list_any (λ t. is_at (xs t) u && is_at (ys t) v) (range_with_len 0 n)) index
+points_painter xs ys n index u v =
+    only_if (list_any (λ t. is_at (xs t) u && is_at (ys t) v) (range_with_len 0 n)) index
 
 -- ---- hline, vline and rect
 
@@ -62,7 +65,8 @@ vline_painter colors x y len = column_painter x y (y +ℤ len) (palette_index co
 -- colour 1 fills, then colour 2 paints the outline
 abbrev pub rect_painter : ℕ → ℤ → ℤ → ℤ → ℤ → Painter
 rect_painter colors x y w h =
-    over (outline_painter x (x +ℤ w) y (y +ℤ h) (palette_index colors 2)) (box_painter x (x +ℤ w) y (y +ℤ h) (palette_index colors 1))
+    over (outline_painter x (x +ℤ w) y (y +ℤ h) (palette_index colors 2))
+    (box_painter x (x +ℤ w) y (y +ℤ h) (palette_index colors 1))
 
 -- ---- oval
 
@@ -72,19 +76,25 @@ aside i w = unsigned_abs (((i +ℤ i) +ℤ pos 1) -ℤ pos w)
 
 -- cell (i, j) of w by h cells is within the oval: (2i+1-w)^2 h^2 + (2j+1-h)^2 w^2 <= w^2 h^2
 abbrev pub is_within : ℕ → ℕ → ℤ → ℤ → Bool
-is_within w h i j = nat_le ((aside i w * aside i w) * (h * h) + (aside j h * aside j h) * (w * w)) ((w * w) * (h * h))
+is_within w h i j =
+    nat_le ((aside i w * aside i w) * (h * h) + (aside j h * aside j h) * (w * w)) ((w * w) * (h * h))
 
 -- one of the cell's four neighbours isn't within the oval
 abbrev pub is_edge : ℕ → ℕ → ℤ → ℤ → Bool
-is_edge w h i j = not (is_within w h (i -ℤ pos 1) j && is_within w h (i +ℤ pos 1) j && is_within w h i (j -ℤ pos 1) && is_within w h i (j +ℤ pos 1))
+is_edge w h i j =
+    not (is_within w h (i -ℤ pos 1) j && is_within w h (i +ℤ pos 1) j && is_within w h i (j -ℤ pos 1)
+    && is_within w h i (j +ℤ pos 1))
 
 -- colour 1 fills the cells within, then colour 2 paints those at the edge
 abbrev pub oval_index : ℕ → ℕ → ℕ → ℤ → ℤ → Option ℕ
-oval_index colors w h i j = only_if (is_within w h i j) (option_or (only_if (is_edge w h i j) (palette_index colors 2)) (palette_index colors 1))
+oval_index colors w h i j =
+    only_if (is_within w h i j)
+    (option_or (only_if (is_edge w h i j) (palette_index colors 2)) (palette_index colors 1))
 
 abbrev pub oval_painter : ℕ → ℤ → ℤ → ℤ → ℤ → Painter
 oval_painter colors x y w h u v =
-    only_if (is_inside x (x +ℤ w) y (y +ℤ h) u v) (oval_index colors (natural w) (natural h) (pos u -ℤ x) (pos v -ℤ y))
+    only_if (is_inside x (x +ℤ w) y (y +ℤ h) u v)
+    (oval_index colors (natural w) (natural h) (pos u -ℤ x) (pos v -ℤ y))
 
 -- ---- line
 
@@ -113,13 +123,15 @@ moved own other t = if nat_le other own then t else minor_step t own other
 -- the points of a line that starts at its first end, one for each step of the greater distance
 abbrev pub line_from : ℤ → ℤ → ℤ → ℤ → Option ℕ → Painter
 line_from x1 y1 x2 y2 = points_painter
-    (λ t. toward x1 x2 (moved (apart x1 x2) (apart y1 y2) t)) (λ t. toward y1 y2 (moved (apart y1 y2) (apart x1 x2) t))
+    (λ t. toward x1 x2 (moved (apart x1 x2) (apart y1 y2) t))
+    (λ t. toward y1 y2 (moved (apart y1 y2) (apart x1 x2) t))
     (max (apart x1 x2) (apart y1 y2) + 1)
 
 -- a line starts at the end with the smaller y, at a tie at the first
 abbrev pub line_painter : ℕ → ℤ → ℤ → ℤ → ℤ → Painter
 line_painter colors x1 y1 x2 y2 =
-    if int_lt y2 y1 then line_from x2 y2 x1 y1 (palette_index colors 1) else line_from x1 y1 x2 y2 (palette_index colors 1)
+    if int_lt y2 y1 then line_from x2 y2 x1 y1 (palette_index colors 1)
+    else line_from x1 y1 x2 y2 (palette_index colors 1)
 
 -- ---- worked cases
 

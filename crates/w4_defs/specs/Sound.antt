@@ -113,8 +113,7 @@ next_noise tick wave =
 
 -- after a tick
 abbrev pub ticked : ℕ → Wave → Wave
-ticked tick wave = record {
-  channels = wave.channels;
+ticked tick wave = record wave {
   phases = map (next_phase tick wave) (0 ∷ 1 ∷ 2 ∷ 3 ∷ []);
   noise = next_noise tick wave;
 }
@@ -130,13 +129,14 @@ silenced voice None = None
 silenced voice (Some sound) = voice
 
 abbrev pub wave_with_channels : Wave → Channels → Wave
-wave_with_channels wave channels = record { channels = channels; phases = wave.phases; noise = wave.noise }
+wave_with_channels wave channels = record wave { channels = channels }
 
 -- a frame before its first tick: a tone that the log dropped isn't played
 abbrev pub with_record : FrameRecord → Wave → Wave
 with_record made wave =
     wave_with_channels wave
-    (map (λ pair. silenced pair.0 pair.1) (zip (fold channels_after_tone wave.channels made.tones.kept) made.sounds))
+    (map (λ pair. silenced pair.0 pair.1)
+    (zip (fold channels_after_tone wave.channels made.tones.kept) made.sounds))
 
 -- the bytes of a frame: 735 samples of 4 bytes
 unfoldable pub frame_samples : Wave → List ℕ

@@ -10,9 +10,13 @@ use Rattle.w4_defs.specs.Framebuffer.{Painter}
 use Rattle.w4_defs.specs.Colours.{palette_index}
 use Rattle.w4_defs.specs.Shapes.{only_if, is_inside, natural, asked}
 
+-- the bytes before the first 0, or all
+abbrev pub before_zero : List ℕ → List ℕ
+before_zero bytes = take_while (λ byte. not (byte == 0)) bytes
+
 -- the bytes of a source: up to the first 0 or the page's end, or so many, cut at the page's end
 abbrev pub source_bytes : List ℕ → TextSource → List ℕ
-source_bytes page (Cstr ptr) = take_while (λ b. not (b == 0)) (drop ptr page)
+source_bytes page (Cstr ptr) = before_zero (drop ptr page)
 source_bytes page (Utf8 ptr len) = take len (drop ptr page)
 source_bytes page (Utf16 ptr len) = take len (drop ptr page)
 
@@ -44,7 +48,8 @@ codes_painter font colors left [] x y u v = None
 codes_painter font colors left (code ∷ codes) x y u v =
     if code == 10
     then codes_painter font colors left codes left (y +ℤ pos 8) u v
-    else option_or (codes_painter font colors left codes (x +ℤ pos 8) y u v) (glyph_painter font colors code x y u v)
+    else option_or (codes_painter font colors left codes (x +ℤ pos 8) y u v)
+    (glyph_painter font colors code x y u v)
 
 abbrev pub text_painter : List ℕ → ℕ → List ℕ → ℤ → ℤ → Painter
 text_painter font colors codes x y = codes_painter font colors x codes x y
@@ -52,7 +57,8 @@ text_painter font colors codes x y = codes_painter font colors x codes x y
 -- `A`, newline, `B` by a font of zeros: two cells, one below the other, in colour 1
 abbrev pub TextCase : Type 0
 TextCase = let f : Painter = text_painter [] 2 (65 ∷ 10 ∷ 66 ∷ []) (pos 0) (pos 0) in
-    let row : List (Option ℕ) = Some 1 ∷ Some 1 ∷ Some 1 ∷ Some 1 ∷ Some 1 ∷ Some 1 ∷ Some 1 ∷ Some 1 ∷ None ∷ [] in
+    let row : List (Option ℕ) =
+    Some 1 ∷ Some 1 ∷ Some 1 ∷ Some 1 ∷ Some 1 ∷ Some 1 ∷ Some 1 ∷ Some 1 ∷ None ∷ [] in
     (asked f 9 0 ≡ row) × (asked f 9 7 ≡ row) × (asked f 9 8 ≡ row) × (asked f 9 15 ≡ row)
     × (asked f 2 16 ≡ None ∷ None ∷ [])
 
@@ -62,7 +68,8 @@ text-case = (refl, refl, refl, refl, refl)
 -- the three sources over the bytes `41 00 42 00 43`
 abbrev pub SourceCase : Type 0
 SourceCase = let page : List ℕ = 65 ∷ 0 ∷ 66 ∷ 0 ∷ 67 ∷ [] in
-    (text_codes page (Cstr 2) ≡ 66 ∷ []) × (text_codes page (Cstr 4) ≡ 67 ∷ []) × (text_codes page (Utf8 3 9) ≡ 0 ∷ 67 ∷ [])
+    (text_codes page (Cstr 2) ≡ 66 ∷ []) × (text_codes page (Cstr 4) ≡ 67 ∷ [])
+    × (text_codes page (Utf8 3 9) ≡ 0 ∷ 67 ∷ [])
     × (text_codes page (Utf16 0 9) ≡ 65 ∷ 66 ∷ []) × (text_codes page (Utf16 9 1) ≡ [])
 
 pub source-case : SourceCase

@@ -103,7 +103,7 @@ channels_after_tone channels tone = slice_set channels tone.channel (started ton
 -- one frame later: a voice that has reached the length of its tone ends
 abbrev pub older : Voice → Option Voice
 older voice =
-    if nat_lt (voice.age + 1) (tone_frames voice.tone) then Some (record { tone = voice.tone; age = voice.age + 1 })
+    if nat_lt (voice.age + 1) (tone_frames voice.tone) then Some (record voice { age = voice.age + 1 })
     else None
 
 abbrev pub aged : Option Voice → Option Voice
@@ -147,7 +147,9 @@ decay-case = refl
 
 -- in note mode the first frequency stays
 abbrev pub NoteCase : Type 0
-NoteCase = heard 2 (channels_after_tone silent (decoded 58982500 262145 20500 64)) ≡ sounding 80 100 ∷ sounding 65 100 ∷ []
+NoteCase =
+    heard 2 (channels_after_tone silent (decoded 58982500 262145 20500 64))
+    ≡ sounding 80 100 ∷ sounding 65 100 ∷ []
 
 pub note-case : NoteCase
 unfolding level_at frequency_at
@@ -155,7 +157,9 @@ note-case = refl
 
 -- a second tone on the channel, of length 0, makes it silent
 abbrev pub SilencedCase : Type 0
-SilencedCase = channels_after_tone (channels_after_tone silent (decoded 14418360 67109890 50 0)) (decoded 14418360 0 50 0) ≡ silent
+SilencedCase =
+    channels_after_tone (channels_after_tone silent (decoded 14418360 67109890 50 0))
+    (decoded 14418360 0 50 0) ≡ silent
 
 pub silenced-case : SilencedCase
 silenced-case = refl

@@ -1,16 +1,12 @@
 -- Trace lines (WASM-4 reference: `trace`, `traceUtf8`, `traceUtf16`, `tracef`). Project rules: a line is cut
 -- after 128 bytes, a UTF-16 unit above 255 is a question mark, and the conversions of tracef's format are
 -- those below.
-use Rattle.std.specs.Prelude.{◌≡◌, ℕ, ◌+◌, ◌%◌, ◌==◌, nat_le, ◌||◌, if◌then◌else◌, List, [], ◌∷◌, ◌++◌, map, take, take_while, not, drop, codes, false, length, replicate, refl}
+use Rattle.std.specs.Prelude.{◌≡◌, ℕ, ◌+◌, ◌%◌, ◌==◌, nat_le, ◌||◌, if◌then◌else◌, List, [], ◌∷◌, ◌++◌, map, take, drop, codes, false, length, replicate, refl}
 use Rattle.std.specs.Fmt.{digits, signed_decimal}
 use Rattle.w4_defs.specs.declared.console.TextSource.{TextSource}
 use Rattle.w4_defs.specs.declared.console.TextSource.TheVariants.{Cstr, Utf8, Utf16}
 use Rattle.w4_defs.specs.Words.{word_at, signed_word}
-use Rattle.w4_defs.specs.Text.{source_bytes, units}
-
--- the bytes before the first 0, or all
-abbrev pub before_zero : List ℕ → List ℕ
-before_zero bytes = take_while (λ byte. not (byte == 0)) bytes
+use Rattle.w4_defs.specs.Text.{before_zero, source_bytes, text_codes}
 
 abbrev pub line_room : ℕ
 line_room = 128
@@ -26,7 +22,7 @@ traced_unit unit = if nat_le unit 255 then unit else 63
 abbrev pub traced : List ℕ → TextSource → List ℕ
 traced page (Cstr ptr) = source_bytes page (Cstr ptr)
 traced page (Utf8 ptr len) = source_bytes page (Utf8 ptr len)
-traced page (Utf16 ptr len) = map traced_unit (units (source_bytes page (Utf16 ptr len)))
+traced page (Utf16 ptr len) = map traced_unit (text_codes page (Utf16 ptr len))
 
 abbrev pub trace_line : List ℕ → TextSource → List ℕ
 trace_line page source = line_of (traced page source)
@@ -76,7 +72,8 @@ tracef-case = refl
 
 -- the other letters of a format: a byte, a float of eight bytes, an unknown letter, a lone % at the end
 abbrev pub PlaceCases : Type 0
-PlaceCases = let page = codes "%c%f%d%q%" ++ 0 ∷ 65 ∷ 9 ∷ 9 ∷ 9 ∷ 9 ∷ 9 ∷ 9 ∷ 9 ∷ 9 ∷ 9 ∷ 9 ∷ 9 ∷ 7 ∷ 0 ∷ 0 ∷ 0 ∷ [] in
+PlaceCases =
+    let page = codes "%c%f%d%q%" ++ 0 ∷ 65 ∷ 9 ∷ 9 ∷ 9 ∷ 9 ∷ 9 ∷ 9 ∷ 9 ∷ 9 ∷ 9 ∷ 9 ∷ 9 ∷ 7 ∷ 0 ∷ 0 ∷ 0 ∷ [] in
     tracef_line page 0 10 ≡ codes "A<f64>7q"
 
 pub place-cases : PlaceCases

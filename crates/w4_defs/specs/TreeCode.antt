@@ -74,17 +74,25 @@ pub trees-signs : (e : Expr) (ss : List Sign) → trees (signs e ++ ss) ≡ e �
 trees-signs done ss = refl
 trees-signs (plain m rest) ss = ap (λ es. plain m (first es) ∷ others es) (trees-signs rest ss)
 trees-signs (block r inner rest) ss =
-    ap (rebuilt blocks r) (ap trees (append_assoc (signs inner) (signs rest) ss) ∙ trees-signs inner (signs rest ++ ss) ∙ ap (λ es. inner ∷ es) (trees-signs rest ss))
+    ap (rebuilt blocks r)
+    (ap trees (append_assoc (signs inner) (signs rest) ss) ∙ trees-signs inner (signs rest ++ ss)
+    ∙ ap (λ es. inner ∷ es) (trees-signs rest ss))
 trees-signs (loop r inner rest) ss =
-    ap (rebuilt loops r) (ap trees (append_assoc (signs inner) (signs rest) ss) ∙ trees-signs inner (signs rest ++ ss) ∙ ap (λ es. inner ∷ es) (trees-signs rest ss))
+    ap (rebuilt loops r)
+    (ap trees (append_assoc (signs inner) (signs rest) ss) ∙ trees-signs inner (signs rest ++ ss)
+    ∙ ap (λ es. inner ∷ es) (trees-signs rest ss))
 trees-signs (if_then r taken rest) ss =
-    ap (rebuilt chooses r) (ap trees (append_assoc (signs taken) (signs rest) ss) ∙ trees-signs taken (signs rest ++ ss) ∙ ap (λ es. taken ∷ es) (trees-signs rest ss))
+    ap (rebuilt chooses r)
+    (ap trees (append_assoc (signs taken) (signs rest) ss) ∙ trees-signs taken (signs rest ++ ss)
+    ∙ ap (λ es. taken ∷ es) (trees-signs rest ss))
 trees-signs (if_else r taken other rest) ss =
     ap
     (rebuilt parts r)
-    (ap trees (append_assoc (signs taken ++ signs other) (signs rest) ss ∙ append_assoc (signs taken) (signs other) (signs rest ++ ss))
+    (ap trees (append_assoc (signs taken ++ signs other) (signs rest) ss
+    ∙ append_assoc (signs taken) (signs other) (signs rest ++ ss))
     ∙ trees-signs taken (signs other ++ (signs rest ++ ss))
-    ∙ ap (λ es. taken ∷ es) (trees-signs other (signs rest ++ ss) ∙ ap (λ es. other ∷ es) (trees-signs rest ss)))
+    ∙ ap (λ es. taken ∷ es)
+    (trees-signs other (signs rest ++ ss) ∙ ap (λ es. other ∷ es) (trees-signs rest ss)))
 
 abbrev pub tree : List Sign → Expr
 tree ss = first (trees ss)
@@ -97,7 +105,8 @@ head_code = code_by ℕ coded_ℕ head_number head_of head_of-head_number
 
 abbrev pub sign_code : Coded Sign
 sign_code =
-    coded⊎ (coded× operation.the_row.coded (coded_list coded_ℕ)) (coded× head_code (coded_option value_type.the_row.coded))
+    coded⊎ (coded× operation.the_row.coded (coded_list coded_ℕ))
+    (coded× head_code (coded_option value_type.the_row.coded))
 
 abbrev pub tree_code : Coded Expr
 tree_code = code_by (List Sign) (coded_list sign_code) signs tree tree-signs

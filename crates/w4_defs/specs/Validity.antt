@@ -1,15 +1,16 @@
 -- When a module is valid (Core Specification, section 3.4, without floats): the module rules hold and
 -- each own body has its type.
-use Rattle.std.specs.Prelude.{◌≡◌, ◌≢◌, ℕ, ◌<◌, ◌≤◌, [], length, slice_get, Option, Some, None, All, AllPairs}
+use Rattle.std.specs.Prelude.{◌≡◌, ◌≢◌, ℕ, ◌<◌, ◌≤◌, length, slice_get, Option, Some, None, option_map, All, AllPairs}
 use Rattle.w4_defs.specs.declared.value.ValType.{ValType}
-use Rattle.w4_defs.specs.declared.value.ValType.TheVariants.{I32, I64}
+use Rattle.w4_defs.specs.declared.value.ValType.TheVariants.{I32}
 use Rattle.w4_defs.specs.declared.value.Limits.{Limits}
 use Rattle.w4_defs.specs.declared.operation.Op.{Op}
-use Rattle.w4_defs.specs.declared.operation.Op.TheVariants.{I32Const, I64Const}
 use Rattle.w4_defs.specs.declared.module.ExportKind.{ExportKind}
 use Rattle.w4_defs.specs.declared.module.ExportKind.TheVariants.{Func, Table, Memory, Global}
-use Rattle.w4_defs.specs.Tree.{Expr, done, plain}
-use Rattle.w4_defs.specs.Module.{ElementSegment, DataSegment, Function, WasmModule}
+use Rattle.w4_defs.specs.Tree.{Expr}
+use Rattle.w4_defs.specs.Module.{ElementSegment, DataSegment, Function, WasmModule, nothing_to_nothing}
+use Rattle.w4_defs.specs.ValueTypes.{type_of}
+use Rattle.w4_defs.specs.Constants.{const_value, expression_value}
 use Rattle.w4_defs.specs.Lookup.{function_indices, signature_of, tables_of, memories_of, global_types}
 use Rattle.w4_defs.specs.Typing.{BodyHasType}
 
@@ -28,14 +29,11 @@ abbrev pub AreMemoryLimits : Limits → Type 0
 AreMemoryLimits l = AreLimits l × (l.least ≤ 65536) × IsAtMost 65536 l.greatest
 
 abbrev pub constant_type : Op → Option ValType
-constant_type (I32Const value) = Some I32
-constant_type (I64Const value) = Some I64
-constant_type _ = None
+constant_type op = option_map type_of (const_value op)
 
 -- a single constant of this type
 abbrev pub IsConstant : ValType → Expr → Type 0
-IsConstant t (plain m done) = constant_type m.0 ≡ Some t
-IsConstant t _ = ⊥
+IsConstant t e = option_map type_of (expression_value e) ≡ Some t
 
 -- an export's index names something, imports counted first
 abbrev pub Exists : WasmModule → ExportKind → ℕ → Type 0
@@ -47,7 +45,7 @@ Exists m Global index = index < length (global_types m)
 -- a start function exists, without parameters and results
 abbrev pub IsStart : WasmModule → Option ℕ → Type 0
 IsStart m None = Unit {0}
-IsStart m (Some func) = signature_of m func ≡ Some (record { params = []; results = [] })
+IsStart m (Some func) = signature_of m func ≡ Some nothing_to_nothing
 
 abbrev pub IsElementSegment : WasmModule → ElementSegment → Type 0
 IsElementSegment m s =

@@ -1,6 +1,6 @@
 -- Values by their types (Core Specification, sections 2.3.1 and 4.2.1): which type a value has, and whether
 -- values are of the types of a list.
-use Rattle.std.specs.Prelude.{ℕ, List, [], ◌∷◌, Bool, true, false, ◌&&◌, Option, Some, None}
+use Rattle.std.specs.Prelude.{ℕ, List, [], ◌∷◌, Bool, true, false, ◌&&◌, Option, length, option_to_list}
 use Rattle.w4_defs.specs.declared.value.Val.{Val}
 use Rattle.w4_defs.specs.declared.value.Val.TheVariants as val
 use Rattle.w4_defs.specs.declared.value.ValType.{ValType}
@@ -43,7 +43,9 @@ have_types ts vs = false
 abbrev pub same_value_type : Val → Val → Bool
 same_value_type v w = same_type (type_of v) (type_of w)
 
--- how many values a block's result is
+-- the types of a block's result, and how many they are
+abbrev pub result_types : Option ValType → List ValType
+result_types r = option_to_list r
+
 abbrev pub result_arity : Option ValType → ℕ
-result_arity None = 0
-result_arity (Some t) = 1
+result_arity r = length (result_types r)

@@ -3,14 +3,16 @@ use Rattle.std.specs.Prelude.{◌≡◌, ℕ, List, [], ◌∷◌, ◌++◌, rep
 use Rattle.w4_defs.specs.declared.value.Cause.TheVariants as cause
 use Rattle.w4_defs.specs.declared.operation.Op.TheVariants as op
 use Rattle.w4_defs.specs.Tree.{Expr, sequence}
-use Rattle.w4_defs.specs.Outcome.{Finished, Faulted}
+use Rattle.w4_defs.specs.Outcome.{RunDone, RunTrap}
 use Rattle.w4_defs.specs.Evaluation.{eval, eval_within}
 use Rattle.w4_defs.specs.MemoryMap.{palette}
 use Rattle.w4_defs.specs.WorkedRuns.{worked_store, worked_run}
 
 -- it loads at 65,535 plus gamepad 1: the page's last byte, or past it
 abbrev pub loading : Expr
-loading = sequence (op.I32Const 65535 ∷ op.I32Const 22 ∷ op.I32Load8U 0 0 ∷ op.I32Add ∷ op.I32Load8U 0 0 ∷ op.Drop ∷ [])
+loading =
+    sequence (op.I32Const 65535 ∷ op.I32Const 22 ∷ op.I32Load8U 0 0 ∷ op.I32Add ∷ op.I32Load8U 0 0
+    ∷ op.Drop ∷ [])
 
 -- a page that ends with gamepad 1
 abbrev pub page_to_pad : ℕ → List ℕ
@@ -18,8 +20,8 @@ page_to_pad pad = replicate 22 0 ++ pad ∷ []
 
 abbrev pub LastByteIsLoaded : Type 0
 LastByteIsLoaded =
-    (worked_run loading (page_to_pad 0) 6 ≡ Finished (worked_store (page_to_pad 0)) 0)
-    × (worked_run loading (page_to_pad 1) 6 ≡ Faulted cause.Memory (worked_store (page_to_pad 1)))
+    (worked_run loading (page_to_pad 0) 6 ≡ RunDone (worked_store (page_to_pad 0)) 0)
+    × (worked_run loading (page_to_pad 1) 6 ≡ RunTrap cause.Memory (worked_store (page_to_pad 1)))
 
 pub last_byte_is_loaded : LastByteIsLoaded
 unfolding eval eval_within
@@ -28,8 +30,9 @@ last_byte_is_loaded = (refl, refl)
 -- 128 as a signed byte, stored as 32 bits
 abbrev pub ByteIsExtended : Type 0
 ByteIsExtended =
-    worked_run (sequence (op.I32Const 0 ∷ op.I32Const 128 ∷ op.I32Extend8S ∷ op.I32Store 2 0 ∷ [])) (replicate 4 0) 4
-    ≡ Finished (worked_store (128 ∷ 255 ∷ 255 ∷ 255 ∷ [])) 0
+    worked_run (sequence (op.I32Const 0 ∷ op.I32Const 128 ∷ op.I32Extend8S ∷ op.I32Store 2 0 ∷ []))
+    (replicate 4 0) 4
+    ≡ RunDone (worked_store (128 ∷ 255 ∷ 255 ∷ 255 ∷ [])) 0
 
 pub byte_is_extended : ByteIsExtended
 unfolding eval eval_within
@@ -42,7 +45,7 @@ shifted_page = 0 ∷ 0 ∷ 0 ∷ 0 ∷ 207 ∷ 207 ∷ 248 ∷ 224 ∷ []
 abbrev pub PaletteIsCopied : Type 0
 PaletteIsCopied =
     (worked_run (sequence (op.I32Const 5 ∷ op.I32Const 4 ∷ op.I32Const 3 ∷ op.MemoryCopy ∷ []))
-    (0 ∷ 0 ∷ 0 ∷ 0 ∷ 207 ∷ 248 ∷ 224 ∷ 0 ∷ []) 4 ≡ Finished (worked_store shifted_page) 0)
+    (0 ∷ 0 ∷ 0 ∷ 0 ∷ 207 ∷ 248 ∷ 224 ∷ 0 ∷ []) 4 ≡ RunDone (worked_store shifted_page) 0)
     × (palette shifted_page 0 ≡ 248 ∷ 207 ∷ 207 ∷ [])
 
 pub palette_is_copied : PaletteIsCopied
@@ -52,8 +55,9 @@ palette_is_copied = (refl, refl)
 -- a copy of four bytes to 65,533 would pass the page's end, and changes nothing
 abbrev pub CopyPastTheEndTraps : Type 0
 CopyPastTheEndTraps =
-    worked_run (sequence (op.I32Const 65533 ∷ op.I32Const 0 ∷ op.I32Const 4 ∷ op.MemoryCopy ∷ [])) (7 ∷ 8 ∷ []) 4
-    ≡ Faulted cause.Memory (worked_store (7 ∷ 8 ∷ []))
+    worked_run (sequence (op.I32Const 65533 ∷ op.I32Const 0 ∷ op.I32Const 4 ∷ op.MemoryCopy ∷ []))
+    (7 ∷ 8 ∷ []) 4
+    ≡ RunTrap cause.Memory (worked_store (7 ∷ 8 ∷ []))
 
 pub copy_past_the_end_traps : CopyPastTheEndTraps
 unfolding eval eval_within

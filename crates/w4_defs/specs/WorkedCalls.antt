@@ -2,14 +2,14 @@
 -- result, a global, a branch that keeps a value, an indirect call of an import, and the stack rule at its two
 -- bounds.
 use Rattle.std.specs.Prelude.{◌≡◌, ℕ, List, [], ◌∷◌, true, false, Some, None, codes, refl}
-use Rattle.w4_defs.specs.declared.value.Val.{Val}
 use Rattle.w4_defs.specs.declared.value.Val.TheVariants as val
 use Rattle.w4_defs.specs.declared.value.ValType.TheVariants as type
 use Rattle.w4_defs.specs.declared.module.ImportKind.TheVariants.{Func}
 use Rattle.w4_defs.specs.declared.operation.Op.TheVariants as op
 use Rattle.w4_defs.specs.Tree.{Expr, mark, done, plain, block, sequence}
-use Rattle.w4_defs.specs.Module.{Signature, WasmModule, nothing_to_nothing}
-use Rattle.w4_defs.specs.Outcome.{Store, Ended, Finished, Exhausted}
+use Rattle.w4_defs.specs.Module.{WasmModule, nothing_to_nothing}
+use Rattle.w4_defs.specs.Imports.{import_module, returns_i32, takes_i32s}
+use Rattle.w4_defs.specs.Outcome.{Store, Ended, RunDone, RunSpent}
 use Rattle.w4_defs.specs.Program.{Own}
 use Rattle.w4_defs.specs.Evaluation.{Env, allowed, run_entry, eval, eval_within}
 use Rattle.w4_defs.specs.WorkedRuns.{marking}
@@ -20,13 +20,16 @@ abbrev pub two_functions : Expr → WasmModule
 two_functions body = record {
   types =
       nothing_to_nothing
-      ∷ record { params = type.I32 ∷ []; results = [] }
-      ∷ record { params = type.I32 ∷ type.I32 ∷ []; results = type.I32 ∷ [] } ∷ [];
-  imports = record { module_name = codes "env"; name = codes "trace"; kind = Func 1 } ∷ [];
+      ∷ takes_i32s 1
+      ∷ returns_i32 2 ∷ [];
+  imports = record { module_name = import_module; name = codes "trace"; kind = Func 1 } ∷ [];
   functions = 0 ∷ 2 ∷ [];
   tables = record { least = 1; greatest = None } ∷ [];
   memories = [];
-  globals = record { global = record { value = type.I32; mutable = true }; first = sequence (op.I32Const 5 ∷ []) } ∷ [];
+  globals = record {
+    global = record { value = type.I32; mutable = true };
+    first = sequence (op.I32Const 5 ∷ []);
+  } ∷ [];
   exports = [];
   start = None;
   elements = record { table = 0; offset = sequence (op.I32Const 0 ∷ []); functions = 0 ∷ [] } ∷ [];
@@ -49,7 +52,8 @@ subtracting = sequence (op.I32Const 0 ∷ op.I32Const 7 ∷ op.I32Const 2 ∷ op
 
 abbrev pub ArgumentsAreInOrder : Type 0
 ArgumentsAreInOrder =
-    (run_first subtracting 8 ≡ Finished (stored (5 ∷ []) 5) 0) × (run_first subtracting 7 ≡ Exhausted (stored (0 ∷ []) 5))
+    (run_first subtracting 8 ≡ RunDone (stored (5 ∷ []) 5) 0)
+    × (run_first subtracting 7 ≡ RunSpent (stored (0 ∷ []) 5))
 
 pub arguments_are_in_order : ArgumentsAreInOrder
 unfolding eval eval_within
@@ -59,8 +63,9 @@ arguments_are_in_order = (refl, refl)
 abbrev pub GlobalIsSet : Type 0
 GlobalIsSet =
     run_first
-    (sequence (op.I32Const 0 ∷ op.GlobalGet 0 ∷ op.I32Const 1 ∷ op.I32Add ∷ op.GlobalSet 0 ∷ op.GlobalGet 0 ∷ op.I32Store8 0 0 ∷ []))
-    7 ≡ Finished (stored (6 ∷ []) 6) 0
+    (sequence (op.I32Const 0 ∷ op.GlobalGet 0 ∷ op.I32Const 1 ∷ op.I32Add ∷ op.GlobalSet 0 ∷ op.GlobalGet 0
+    ∷ op.I32Store8 0 0 ∷ []))
+    7 ≡ RunDone (stored (6 ∷ []) 6) 0
 
 pub global_is_set : GlobalIsSet
 unfolding eval eval_within
@@ -78,7 +83,8 @@ keeping condition =
 
 abbrev pub BranchKeepsValue : Type 0
 BranchKeepsValue =
-    (run_first (keeping 1) 6 ≡ Finished (stored (9 ∷ []) 5) 0) × (run_first (keeping 0) 8 ≡ Finished (stored (13 ∷ []) 5) 0)
+    (run_first (keeping 1) 6 ≡ RunDone (stored (9 ∷ []) 5) 0)
+    × (run_first (keeping 0) 8 ≡ RunDone (stored (13 ∷ []) 5) 0)
 
 pub branch_keeps_value : BranchKeepsValue
 unfolding eval eval_within
@@ -90,7 +96,8 @@ tracing = sequence (op.I32Const 77 ∷ op.I32Const 0 ∷ op.CallIndirect 1 0 ∷
 
 abbrev pub ImportIsCalledIndirectly : Type 0
 ImportIsCalledIndirectly =
-    (run_first tracing 259 ≡ Finished (stored (77 ∷ []) 5) 0) × (run_first tracing 258 ≡ Exhausted (stored (0 ∷ []) 5))
+    (run_first tracing 259 ≡ RunDone (stored (77 ∷ []) 5) 0)
+    × (run_first tracing 258 ≡ RunSpent (stored (0 ∷ []) 5))
 
 pub import_is_called_indirectly : ImportIsCalledIndirectly
 unfolding eval eval_within

@@ -1,7 +1,7 @@
 -- Worked pictures, each worked out from the rule in words: an oval that isn't square, lines that are steep or
 -- go to the left, blits that are flipped, rotated or cut from a larger picture, and a glyph with ink on one
 -- side.
-use Rattle.std.specs.Prelude.{◌≡◌, ℕ, List, [], ◌∷◌, Option, Some, None, pos, refl}
+use Rattle.std.specs.Prelude.{◌≡◌, ℕ, List, [], ◌∷◌, Some, None, pos, refl}
 use Rattle.w4_defs.specs.declared.picture.Picture.{Picture}
 use Rattle.w4_defs.specs.Framebuffer.{Painter}
 use Rattle.w4_defs.specs.Shapes.{asked, line_painter, oval_painter}
@@ -43,15 +43,16 @@ steep-and-left-lines = (refl, refl, refl, refl, refl, refl, refl, refl, refl)
 
 -- 3 by 2 pixels of two bits, 1 2 3 over 0 0 1, each value in its own entry: flip x, flip y, rotated, and all
 -- three
-abbrev pub picture : ℕ → Picture
-picture flags = record { colors = 17185; ptr = 0; w = 3; h = 2; src_x = 0; src_y = 0; stride = 3; flags = flags }
+abbrev pub worked_picture : ℕ → Picture
+worked_picture flags =
+    record { colors = 17185; ptr = 0; w = 3; h = 2; src_x = 0; src_y = 0; stride = 3; flags = flags }
 
 abbrev pub TurnedPictures : Type 0
 TurnedPictures = let page : List ℕ = 108 ∷ 16 ∷ [] in
-    let flipped_x : Painter = blit_painter page (picture 3) (pos 0) (pos 0) in
-    let flipped_y : Painter = blit_painter page (picture 5) (pos 0) (pos 0) in
-    let rotated : Painter = blit_painter page (picture 9) (pos 0) (pos 0) in
-    let all_three : Painter = blit_painter page (picture 15) (pos 0) (pos 0) in
+    let flipped_x : Painter = blit_painter page (worked_picture 3) (pos 0) (pos 0) in
+    let flipped_y : Painter = blit_painter page (worked_picture 5) (pos 0) (pos 0) in
+    let rotated : Painter = blit_painter page (worked_picture 9) (pos 0) (pos 0) in
+    let all_three : Painter = blit_painter page (worked_picture 15) (pos 0) (pos 0) in
     (asked flipped_x 4 0 ≡ Some 3 ∷ Some 2 ∷ Some 1 ∷ None ∷ [])
     × (asked flipped_x 4 1 ≡ Some 1 ∷ Some 0 ∷ Some 0 ∷ None ∷ [])
     × (asked flipped_x 4 2 ≡ None ∷ None ∷ None ∷ None ∷ [])
@@ -73,14 +74,15 @@ turned-pictures = (refl, refl, refl, refl, refl, refl, refl, refl, refl, refl, r
 -- 3 by 2 pixels of one bit from column 2 and row 1 on, of a picture of 6 columns: 110100, 011011, 010010
 abbrev pub CutPicture : Type 0
 CutPicture = let page : List ℕ = 209 ∷ 180 ∷ 128 ∷ [] in
-    let cut : Picture = record { colors = 17185; ptr = 0; w = 3; h = 2; src_x = 2; src_y = 1; stride = 6; flags = 0 } in
+    let cut : Picture =
+    record { colors = 17185; ptr = 0; w = 3; h = 2; src_x = 2; src_y = 1; stride = 6; flags = 0 } in
     let f : Painter = blit_painter page cut (pos 0) (pos 0) in
     (asked f 4 0 ≡ Some 1 ∷ Some 0 ∷ Some 1 ∷ None ∷ [])
     × (asked f 4 1 ≡ Some 0 ∷ Some 0 ∷ Some 1 ∷ None ∷ [])
     × (asked f 4 2 ≡ None ∷ None ∷ None ∷ None ∷ [])
 
-pub cut-picture : CutPicture
-cut-picture = (refl, refl, refl)
+pub cut-worked_picture : CutPicture
+cut-worked_picture = (refl, refl, refl)
 
 -- code 32 by a font whose first row is 00001111 and whose second is 11110000: a bit 0 is ink, in colour 1
 abbrev pub OneSidedGlyph : Type 0

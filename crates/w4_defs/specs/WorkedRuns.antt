@@ -4,19 +4,19 @@ use Rattle.w4_defs.specs.declared.value.ValType.TheVariants as type
 use Rattle.w4_defs.specs.declared.value.Cause.TheVariants as cause
 use Rattle.w4_defs.specs.declared.value.Limits.{Limits}
 use Rattle.w4_defs.specs.declared.module.ImportKind.TheVariants.{Func}
-use Rattle.w4_defs.specs.declared.operation.Op.{Op}
 use Rattle.w4_defs.specs.declared.operation.Op.TheVariants as op
-use Rattle.w4_defs.specs.Tree.{Expr, done, plain, block, loop, if_else, mark, sequence}
+use Rattle.w4_defs.specs.Tree.{Expr, done, block, loop, if_else, sequence}
 use Rattle.w4_defs.specs.Module.{Signature, WasmModule, nothing_to_nothing}
-use Rattle.w4_defs.specs.Outcome.{Store, HostFunctions, Ended, Finished, Faulted, Exhausted}
+use Rattle.w4_defs.specs.Imports.{import_module, returns_i32, takes_i32s}
+use Rattle.w4_defs.specs.Outcome.{Store, HostFunctions, Ended, RunDone, RunTrap, RunSpent}
 use Rattle.w4_defs.specs.Program.{reserve_of}
 use Rattle.w4_defs.specs.Evaluation.{run_entry, eval, eval_within}
 
 -- a module with these types and tables, an import `trace`, and one own function, number 1, with this body
 abbrev pub worked_module : List Signature → List Limits → Expr → WasmModule
 worked_module types tables body = record {
-  types = nothing_to_nothing ∷ (record { params = type.I32 ∷ []; results = [] } ∷ types);
-  imports = record { module_name = codes "env"; name = codes "trace"; kind = Func 1 } ∷ [];
+  types = nothing_to_nothing ∷ (takes_i32s 1 ∷ types);
+  imports = record { module_name = import_module; name = codes "trace"; kind = Func 1 } ∷ [];
   functions = 0 ∷ [];
   tables = tables;
   memories = [];
@@ -30,7 +30,10 @@ worked_module types tables body = record {
 
 -- each import weighs 256 and leaves its arguments as the page
 abbrev pub marking : HostFunctions (Unit {0})
-marking = record { weight = λ h i args page. 256; effect = λ h i args page. record { page = args; host = h; answer = None } }
+marking = record {
+  weight = λ h i args page. 256;
+  effect = λ h i args page. record { page = args; host = h; answer = None };
+}
 
 abbrev pub worked_store : List ℕ → Store (Unit {0})
 worked_store page = record { page = page; globals = []; host = tt }
@@ -44,8 +47,8 @@ worked_run body page budget = run_entry (worked_module [] [] body) marking 1 (wo
 -- each instruction takes one unit before its effect
 abbrev pub NopsTakeUnits : Type 0
 NopsTakeUnits =
-    (worked_run (sequence (op.Nop ∷ op.Nop ∷ op.Nop ∷ [])) [] 3 ≡ Finished (worked_store []) 0)
-    × (worked_run (sequence (op.Nop ∷ op.Nop ∷ op.Nop ∷ [])) [] 2 ≡ Exhausted (worked_store []))
+    (worked_run (sequence (op.Nop ∷ op.Nop ∷ op.Nop ∷ [])) [] 3 ≡ RunDone (worked_store []) 0)
+    × (worked_run (sequence (op.Nop ∷ op.Nop ∷ op.Nop ∷ [])) [] 2 ≡ RunSpent (worked_store []))
 
 pub nops_take_units : NopsTakeUnits
 unfolding eval eval_within
@@ -54,8 +57,8 @@ nops_take_units = (refl, refl)
 -- also one that traps
 abbrev pub TrapTakesUnit : Type 0
 TrapTakesUnit =
-    (worked_run (sequence (op.Unreachable ∷ [])) [] 0 ≡ Exhausted (worked_store []))
-    × (worked_run (sequence (op.Unreachable ∷ [])) [] 1 ≡ Faulted cause.Unreachable (worked_store []))
+    (worked_run (sequence (op.Unreachable ∷ [])) [] 0 ≡ RunSpent (worked_store []))
+    × (worked_run (sequence (op.Unreachable ∷ [])) [] 1 ≡ RunTrap cause.Unreachable (worked_store []))
 
 pub trap_takes_unit : TrapTakesUnit
 unfolding eval eval_within
@@ -63,7 +66,7 @@ trap_takes_unit = (refl, refl)
 
 -- an endless loop is spent
 abbrev pub EndlessLoopIsSpent : Type 0
-EndlessLoopIsSpent = worked_run (loop None (sequence (op.Br 0 ∷ [])) done) [] 100 ≡ Exhausted (worked_store [])
+EndlessLoopIsSpent = worked_run (loop None (sequence (op.Br 0 ∷ [])) done) [] 100 ≡ RunSpent (worked_store [])
 
 pub endless_loop_is_spent : EndlessLoopIsSpent
 unfolding eval eval_within
@@ -72,12 +75,15 @@ endless_loop_is_spent = refl
 -- a branch back doesn't charge the loop again: three turns of eleven instructions, counted in the page,
 -- take 34 units
 abbrev pub counting : Expr
-counting = loop None (sequence (op.I32Const 0 ∷ op.I32Const 0 ∷ op.I32Load8U 0 0 ∷ op.I32Const 1 ∷ op.I32Add ∷ op.I32Store8 0 0
+counting =
+    loop None (sequence (op.I32Const 0 ∷ op.I32Const 0 ∷ op.I32Load8U 0 0 ∷ op.I32Const 1 ∷ op.I32Add
+    ∷ op.I32Store8 0 0
     ∷ op.I32Const 0 ∷ op.I32Load8U 0 0 ∷ op.I32Const 3 ∷ op.I32LtU ∷ op.BrIf 0 ∷ [])) done
 
 abbrev pub LoopIsChargedOnce : Type 0
 LoopIsChargedOnce =
-    (worked_run counting (0 ∷ []) 34 ≡ Finished (worked_store (3 ∷ [])) 0) × (worked_run counting (0 ∷ []) 33 ≡ Exhausted (worked_store (3 ∷ [])))
+    (worked_run counting (0 ∷ []) 34 ≡ RunDone (worked_store (3 ∷ [])) 0)
+    × (worked_run counting (0 ∷ []) 33 ≡ RunSpent (worked_store (3 ∷ [])))
 
 pub loop_is_charged_once : LoopIsChargedOnce
 unfolding eval eval_within
@@ -86,8 +92,8 @@ loop_is_charged_once = (refl, refl)
 -- an import's weight is taken besides its unit, and before its effect
 abbrev pub ImportTakesWeight : Type 0
 ImportTakesWeight =
-    (worked_run (sequence (op.I32Const 8 ∷ op.Call 0 ∷ [])) [] 258 ≡ Finished (worked_store (8 ∷ [])) 0)
-    × (worked_run (sequence (op.I32Const 8 ∷ op.Call 0 ∷ [])) [] 257 ≡ Exhausted (worked_store []))
+    (worked_run (sequence (op.I32Const 8 ∷ op.Call 0 ∷ [])) [] 258 ≡ RunDone (worked_store (8 ∷ [])) 0)
+    × (worked_run (sequence (op.I32Const 8 ∷ op.Call 0 ∷ [])) [] 257 ≡ RunSpent (worked_store []))
 
 pub import_takes_weight : ImportTakesWeight
 unfolding eval eval_within
@@ -98,10 +104,13 @@ import_takes_weight = (refl, refl)
 -- a load or a store past the end traps, and a store that traps changes nothing
 abbrev pub PastTheEndTraps : Type 0
 PastTheEndTraps =
-    (worked_run (sequence (op.I32Const 65535 ∷ op.I32Load 2 0 ∷ op.Drop ∷ [])) [] 9 ≡ Faulted cause.Memory (worked_store []))
-    × (worked_run (sequence (op.I32Const 4294967295 ∷ op.I32Load8U 0 1 ∷ op.Drop ∷ [])) [] 9 ≡ Faulted cause.Memory (worked_store []))
-    × (worked_run (sequence (op.I32Const 0 ∷ op.I32Const 5 ∷ op.I32Store8 0 0 ∷ op.I32Const 65533 ∷ op.I32Const 4294967295 ∷ op.I32Store 2 0 ∷ []))
-    (9 ∷ (9 ∷ [])) 9 ≡ Faulted cause.Memory (worked_store (5 ∷ (9 ∷ []))))
+    (worked_run (sequence (op.I32Const 65535 ∷ op.I32Load 2 0 ∷ op.Drop ∷ [])) [] 9
+    ≡ RunTrap cause.Memory (worked_store []))
+    × (worked_run (sequence (op.I32Const 4294967295 ∷ op.I32Load8U 0 1 ∷ op.Drop ∷ [])) [] 9
+    ≡ RunTrap cause.Memory (worked_store []))
+    × (worked_run (sequence (op.I32Const 0 ∷ op.I32Const 5 ∷ op.I32Store8 0 0 ∷ op.I32Const 65533
+    ∷ op.I32Const 4294967295 ∷ op.I32Store 2 0 ∷ []))
+    (9 ∷ (9 ∷ [])) 9 ≡ RunTrap cause.Memory (worked_store (5 ∷ (9 ∷ []))))
 
 pub past_the_end_traps : PastTheEndTraps
 unfolding eval eval_within
@@ -110,8 +119,9 @@ past_the_end_traps = (refl, refl, refl)
 -- numbers are little-endian, and a narrow store keeps the low bytes
 abbrev pub StoresAreLittleEndian : Type 0
 StoresAreLittleEndian =
-    worked_run (sequence (op.I32Const 1 ∷ op.I32Const 0x12345678 ∷ op.I32Store16 1 0 ∷ [])) (0 ∷ (0 ∷ (0 ∷ (0 ∷ [])))) 3
-    ≡ Finished (worked_store (0 ∷ (0x78 ∷ (0x56 ∷ (0 ∷ []))))) 0
+    worked_run (sequence (op.I32Const 1 ∷ op.I32Const 0x12345678 ∷ op.I32Store16 1 0 ∷ []))
+    (0 ∷ (0 ∷ (0 ∷ (0 ∷ [])))) 3
+    ≡ RunDone (worked_store (0 ∷ (0x78 ∷ (0x56 ∷ (0 ∷ []))))) 0
 
 pub stores_are_little_endian : StoresAreLittleEndian
 unfolding eval eval_within
@@ -120,10 +130,12 @@ stores_are_little_endian = refl
 -- a copy onto itself: the bytes become those that stood
 abbrev pub CopyTakesOldBytes : Type 0
 CopyTakesOldBytes =
-    (worked_run (sequence (op.I32Const 1 ∷ op.I32Const 0 ∷ op.I32Const 5 ∷ op.MemoryCopy ∷ [])) (0 ∷ (1 ∷ (2 ∷ (3 ∷ (4 ∷ (5 ∷ (6 ∷ []))))))) 4
-    ≡ Finished (worked_store (0 ∷ (0 ∷ (1 ∷ (2 ∷ (3 ∷ (4 ∷ (6 ∷ [])))))))) 0)
-    × (worked_run (sequence (op.I32Const 0 ∷ op.I32Const 1 ∷ op.I32Const 5 ∷ op.MemoryCopy ∷ [])) (0 ∷ (1 ∷ (2 ∷ (3 ∷ (4 ∷ (5 ∷ (6 ∷ []))))))) 4
-    ≡ Finished (worked_store (1 ∷ (2 ∷ (3 ∷ (4 ∷ (5 ∷ (5 ∷ (6 ∷ [])))))))) 0)
+    (worked_run (sequence (op.I32Const 1 ∷ op.I32Const 0 ∷ op.I32Const 5 ∷ op.MemoryCopy ∷ []))
+    (0 ∷ (1 ∷ (2 ∷ (3 ∷ (4 ∷ (5 ∷ (6 ∷ []))))))) 4
+    ≡ RunDone (worked_store (0 ∷ (0 ∷ (1 ∷ (2 ∷ (3 ∷ (4 ∷ (6 ∷ [])))))))) 0)
+    × (worked_run (sequence (op.I32Const 0 ∷ op.I32Const 1 ∷ op.I32Const 5 ∷ op.MemoryCopy ∷ []))
+    (0 ∷ (1 ∷ (2 ∷ (3 ∷ (4 ∷ (5 ∷ (6 ∷ []))))))) 4
+    ≡ RunDone (worked_store (1 ∷ (2 ∷ (3 ∷ (4 ∷ (5 ∷ (5 ∷ (6 ∷ [])))))))) 0)
 
 pub copy_takes_old_bytes : CopyTakesOldBytes
 unfolding eval eval_within
@@ -136,11 +148,13 @@ filling n = sequence (op.I32Const 0 ∷ op.I32Const 0x107 ∷ op.I32Const n ∷ 
 
 abbrev pub FillTakesFurtherUnits : Type 0
 FillTakesFurtherUnits =
-    (worked_run (filling 63) (replicate 128 0) 4 ≡ Finished (worked_store (replicate 63 7 ++ replicate 65 0)) 0)
-    × (worked_run (filling 64) (replicate 128 0) 4 ≡ Exhausted (worked_store (replicate 128 0)))
-    × (worked_run (filling 64) (replicate 128 0) 5 ≡ Finished (worked_store (replicate 64 7 ++ replicate 64 0)) 0)
-    × (worked_run (filling 128) (replicate 128 0) 5 ≡ Exhausted (worked_store (replicate 128 0)))
-    × (worked_run (filling 128) (replicate 128 0) 6 ≡ Finished (worked_store (replicate 128 7)) 0)
+    (worked_run (filling 63) (replicate 128 0) 4
+    ≡ RunDone (worked_store (replicate 63 7 ++ replicate 65 0)) 0)
+    × (worked_run (filling 64) (replicate 128 0) 4 ≡ RunSpent (worked_store (replicate 128 0)))
+    × (worked_run (filling 64) (replicate 128 0) 5
+    ≡ RunDone (worked_store (replicate 64 7 ++ replicate 64 0)) 0)
+    × (worked_run (filling 128) (replicate 128 0) 5 ≡ RunSpent (worked_store (replicate 128 0)))
+    × (worked_run (filling 128) (replicate 128 0) 6 ≡ RunDone (worked_store (replicate 128 7)) 0)
 
 pub fill_takes_further_units : FillTakesFurtherUnits
 unfolding eval eval_within
@@ -149,7 +163,8 @@ fill_takes_further_units = (refl, refl, refl, refl, refl)
 -- one that runs past the end traps whatever is left, and takes no further units
 abbrev pub FillPastTheEndTraps : Type 0
 FillPastTheEndTraps =
-    worked_run (sequence (op.I32Const 65500 ∷ op.I32Const 7 ∷ op.I32Const 64 ∷ op.MemoryFill ∷ [])) (0 ∷ []) 4 ≡ Faulted cause.Memory (worked_store (0 ∷ []))
+    worked_run (sequence (op.I32Const 65500 ∷ op.I32Const 7 ∷ op.I32Const 64 ∷ op.MemoryFill ∷ [])) (0 ∷ []) 4
+    ≡ RunTrap cause.Memory (worked_store (0 ∷ []))
 
 pub fill_past_the_end_traps : FillPastTheEndTraps
 unfolding eval eval_within
@@ -158,9 +173,11 @@ fill_past_the_end_traps = refl
 -- there is one page, and no more is granted
 abbrev pub MemoryIsOnePage : Type 0
 MemoryIsOnePage =
-    worked_run (sequence (op.I32Const 0 ∷ op.MemorySize ∷ op.I32Store8 0 0 ∷ op.I32Const 1 ∷ op.I32Const 0 ∷ op.MemoryGrow ∷ op.I32Store8 0 0
-    ∷ op.I32Const 2 ∷ op.I32Const 1 ∷ op.MemoryGrow ∷ op.I32Store 0 0 ∷ [])) (0 ∷ (0 ∷ (0 ∷ (0 ∷ (0 ∷ (0 ∷ [])))))) 11
-    ≡ Finished (worked_store (1 ∷ (1 ∷ (255 ∷ (255 ∷ (255 ∷ (255 ∷ []))))))) 0
+    worked_run (sequence (op.I32Const 0 ∷ op.MemorySize ∷ op.I32Store8 0 0 ∷ op.I32Const 1 ∷ op.I32Const 0
+    ∷ op.MemoryGrow ∷ op.I32Store8 0 0
+    ∷ op.I32Const 2 ∷ op.I32Const 1 ∷ op.MemoryGrow ∷ op.I32Store 0 0 ∷ []))
+    (0 ∷ (0 ∷ (0 ∷ (0 ∷ (0 ∷ (0 ∷ [])))))) 11
+    ≡ RunDone (worked_store (1 ∷ (1 ∷ (255 ∷ (255 ∷ (255 ∷ (255 ∷ []))))))) 0
 
 pub memory_is_one_page : MemoryIsOnePage
 unfolding eval eval_within
@@ -171,8 +188,8 @@ memory_is_one_page = refl
 -- 4,096 functions may be active: the 4,096th nested call traps, after its unit
 abbrev pub DepthIsBounded : Type 0
 DepthIsBounded =
-    (worked_run (sequence (op.Call 1 ∷ [])) [] 4095 ≡ Exhausted (worked_store []))
-    × (worked_run (sequence (op.Call 1 ∷ [])) [] 4096 ≡ Faulted cause.Stack (worked_store []))
+    (worked_run (sequence (op.Call 1 ∷ [])) [] 4095 ≡ RunSpent (worked_store []))
+    × (worked_run (sequence (op.Call 1 ∷ [])) [] 4096 ≡ RunTrap cause.Stack (worked_store []))
 
 pub depth_is_bounded : DepthIsBounded
 unfolding eval eval_within
@@ -181,14 +198,15 @@ depth_is_bounded = (refl, refl)
 -- a table of two entries, of which the first holds function 1, of type 0
 abbrev pub run_indirect : ℕ → ℕ → ℕ → Ended (Unit {0})
 run_indirect t index budget = run_entry
-    (worked_module (record { params = []; results = type.I32 ∷ [] } ∷ []) (record { least = 2; greatest = None } ∷ []) (sequence (op.I32Const index ∷ op.CallIndirect t 0 ∷ []))) marking 1 (worked_store []) budget
+    (worked_module (returns_i32 0 ∷ []) (record { least = 2; greatest = None } ∷ [])
+    (sequence (op.I32Const index ∷ op.CallIndirect t 0 ∷ []))) marking 1 (worked_store []) budget
 
 abbrev pub IndirectCallsAreJudged : Type 0
 IndirectCallsAreJudged =
-    (run_indirect 0 2 9 ≡ Faulted cause.Table (worked_store []))
-    × (run_indirect 0 1 9 ≡ Faulted cause.EmptyEntry (worked_store []))
-    × (run_indirect 2 0 9 ≡ Faulted cause.Type_ (worked_store []))
-    × (run_indirect 0 0 9 ≡ Exhausted (worked_store []))
+    (run_indirect 0 2 9 ≡ RunTrap cause.Table (worked_store []))
+    × (run_indirect 0 1 9 ≡ RunTrap cause.EmptyEntry (worked_store []))
+    × (run_indirect 2 0 9 ≡ RunTrap cause.Type_ (worked_store []))
+    × (run_indirect 0 0 9 ≡ RunSpent (worked_store []))
 
 pub indirect_calls_are_judged : IndirectCallsAreJudged
 unfolding eval eval_within
@@ -201,7 +219,8 @@ ReserveCounts =
       signature = record { params = type.I32 ∷ (type.I64 ∷ []); results = [] };
       function = record {
         runs = record { count = 3; kind = type.I32 } ∷ [];
-        list = if_else None (sequence (op.Nop ∷ [])) (block None (sequence (op.Nop ∷ op.Nop ∷ [])) done) (sequence (op.Drop ∷ []));
+        list = if_else None (sequence (op.Nop ∷ [])) (block None (sequence (op.Nop ∷ op.Nop ∷ [])) done)
+            (sequence (op.Drop ∷ []));
       };
     })
     ≡ 11

@@ -58,7 +58,8 @@ deleted-case = (refl, refl, refl, refl, refl, refl, refl, refl)
 abbrev pub InputCases : Type 0
 InputCases =
     let three = new_session (pad 1 ∷ pad 2 ∷ pad 3 ∷ []) 0 in
-    (pads_of (set_input places_alone 1 (pad 9) three) ≡ pads_of (Ok (new_session (pad 1 ∷ pad 9 ∷ pad 3 ∷ []) 0)))
+    (pads_of (set_input places_alone 1 (pad 9) three)
+    ≡ pads_of (Ok (new_session (pad 1 ∷ pad 9 ∷ pad 3 ∷ []) 0)))
     × (pads_of (insert_input places_alone 1 (pad 9) three)
     ≡ pads_of (Ok (new_session (pad 1 ∷ pad 9 ∷ pad 2 ∷ pad 3 ∷ []) 0)))
     × (pads_of (insert_input places_alone 3 (pad 9) three)
@@ -137,7 +138,8 @@ entry place n linked = record { place = place; state = state n; linked = linked 
 abbrev pub EntryCases : Type 0
 EntryCases =
     let kept = entry 0 0 true ∷ entry 5 1 true ∷ entry 6 2 true ∷ entry 9 3 true ∷ [] in
-    (kept_after_set kept_entries 4 kept ≡ entry 0 0 true ∷ entry 5 1 false ∷ entry 6 2 true ∷ entry 9 3 true ∷ [])
+    (kept_after_set kept_entries 4 kept
+    ≡ entry 0 0 true ∷ entry 5 1 false ∷ entry 6 2 true ∷ entry 9 3 true ∷ [])
     × (kept_after_set kept_entries 5 kept
     ≡ entry 0 0 true ∷ entry 5 1 true ∷ entry 6 2 false ∷ entry 9 3 true ∷ [])
     × (kept_after_set kept_entries 9 kept ≡ kept)

@@ -46,12 +46,14 @@ pub fn frequency_between(tone: Tone, tick: u32)
 /// A sliding frequency is the first one and the part of the signed difference, cut toward zero.
 pub fn frequency_cut(first: u16, second: u16, at: u32, len: u32)
     requires { at < len }
-    ensures { pos (frequency_slide first second at len) ≡ pos first +ℤ int_div ((pos second -ℤ pos first) *ℤ pos at) (pos len) }
+    ensures { pos (frequency_slide first second at len) ≡ pos first +ℤ int_div
+        ((pos second -ℤ pos first) *ℤ pos at) (pos len) }
 {}
 
 /// A new tone sounds for exactly its frames, and then its channel is silent.
 pub fn tone_ends(tone: Tone, frames: u16)
-    ensures sounds { frames < tone_frames tone → aged_often frames (started tone) ≡ Some (record { tone = tone; age = frames }) }
+    ensures sounds { frames < tone_frames tone
+        → aged_often frames (started tone) ≡ Some (record { tone = tone; age = frames }) }
     ensures ends { tone_frames tone ≤ frames → aged_often frames (started tone) ≡ None }
 {}
 

@@ -58,5 +58,5 @@ pub enum Row {
     /// Any instruction of floats.
     Float,
     /// None: a control, parametric or variable instruction.
-    Missing,
+    NoRow,
 }

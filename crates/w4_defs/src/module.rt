@@ -118,7 +118,11 @@ impl Model for Element {
 
     ghost use Rattle.w4_defs.specs.View.{expression_of};
 
-    ghost view = { λ s. record { table = s.table; offset = expression_of s.offset.items; functions = s.functions.items } };
+    ghost view = { λ s. record {
+      table = s.table;
+      offset = expression_of s.offset.items;
+      functions = s.functions.items;
+    } };
 }
 
 /// An own function's code: its runs of locals, as they are written, and its expression.
@@ -163,7 +167,11 @@ impl Model for Segment {
 
     ghost use Rattle.w4_defs.specs.View.{expression_of};
 
-    ghost view = { λ s. record { memory = s.memory; offset = expression_of s.offset.items; bytes = s.bytes.items } };
+    ghost view = { λ s. record {
+      memory = s.memory;
+      offset = expression_of s.offset.items;
+      bytes = s.bytes.items;
+    } };
 }
 
 /// A module. `functions` has the type indices of own functions, `segments` the data segments.
@@ -192,5 +200,17 @@ impl Model for Module {
 
     ghost coded = { Prim.hlevel (codes, tree_code) };
 
-    ghost view = { λ m. record { types = m.types.items; imports = m.imports.items; functions = m.functions.items; tables = m.tables.items; memories = m.memories.items; globals = m.globals.items; exports = m.exports.items; start = m.start; elements = m.elements.items; bodies = m.bodies.items; segments = m.segments.items } };
+    ghost view = { λ m. record {
+      types = m.types.items;
+      imports = m.imports.items;
+      functions = m.functions.items;
+      tables = m.tables.items;
+      memories = m.memories.items;
+      globals = m.globals.items;
+      exports = m.exports.items;
+      start = m.start;
+      elements = m.elements.items;
+      bodies = m.bodies.items;
+      segments = m.segments.items;
+    } };
 }

@@ -5,7 +5,8 @@ use Rattle.std.proofs.Math.Seq.{take-append-add}
 use Rattle.w4_defs.specs.Traces.{line_of}
 
 -- what fits of a later list, after one that leaves room for k
-pub fits_cut : (n : ℕ) (xs ys : List ℕ) (k : ℕ) → k + length xs ≡ n → xs ++ take (min k (length ys)) ys ≡ take n (xs ++ ys)
+pub fits_cut : (n : ℕ) (xs ys : List ℕ) (k : ℕ) → k + length xs ≡ n
+    → xs ++ take (min k (length ys)) ys ≡ take n (xs ++ ys)
 fits_cut n xs ys k h =
     let whole : length xs + k ≡ n = omega arith in
     ap (λ zs. xs ++ zs) (take_min k ys) ∙ (sym (take-append-add xs ys k) ∙ ap (λ m. take m (xs ++ ys)) whole)
@@ -16,7 +17,8 @@ take-cut (suc n) [] ys = refl
 take-cut (suc n) (x ∷ xs) ys = ap (λ zs. x ∷ zs) (take-cut n xs ys)
 
 -- a line that is cut and goes on is the cut of all
-pub cut_more : (line more rest : List ℕ) → line_of (line_of (line ++ more) ++ rest) ≡ line_of (line ++ (more ++ rest))
+pub cut_more : (line more rest : List ℕ)
+    → line_of (line_of (line ++ more) ++ rest) ≡ line_of (line ++ (more ++ rest))
 cut_more line more rest = take-cut 128 (line ++ more) rest ∙ ap line_of (append_assoc line more rest)
 
 -- a cut line stays as it is

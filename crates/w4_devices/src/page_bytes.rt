@@ -1,7 +1,7 @@
 //! What stands in the page from an address on; a byte past the page's end reads 0.
 
 ghost use Rattle.std.specs.Prelude.{◌≡◌, ◌+◌, ◌<◌, ◌≤◌, ◌^◌, drop, length, slice_index, take};
-ghost use Rattle.w4_defs.specs.Traces.{before_zero};
+ghost use Rattle.w4_defs.specs.Text.{before_zero};
 ghost use Rattle.w4_defs.specs.Words.{word_at};
 
 use w4_defs::PageBytes;

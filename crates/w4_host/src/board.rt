@@ -29,7 +29,13 @@ impl<'a> Model for Board<'a> {
 
     ghost Value = { Board };
 
-    ghost view = { λ b. record { font = b.font.now; channels = b.channels; disk = b.disk; tones = b.tones; traces = b.traces } };
+    ghost view = { λ b. record {
+      font = b.font.now;
+      channels = b.channels;
+      disk = b.disk;
+      tones = b.tones;
+      traces = b.traces;
+    } };
 }
 
 impl Host for Board<'_> {
@@ -98,7 +104,8 @@ impl Board<'_> {
     fn tone(&mut self, args: &[u32])
         requires { length args.now ≡ 4 }
         ensures { self.new ≡ with_tone self.old
-            (decoded (argument args.now 0) (argument args.now 1) (argument args.now 2) (argument args.now 3)) }
+            (decoded (argument args.now 0) (argument args.now 1) (argument args.now 2)
+            (argument args.now 3)) }
     {
         let tone = decode(
             argument(args, 0),

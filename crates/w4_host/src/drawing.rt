@@ -17,7 +17,8 @@ use w4_map::draw_colors;
 pub(crate) fn blit(args: &[u32], page: &mut PageBytes)
     requires { length args.now ≡ 6 }
     ensures { page.new ≡ paint page.old
-        (blit_painter page.old (blit_picture args.now page.old) (signed_argument args.now 1) (signed_argument args.now 2)) }
+        (blit_painter page.old (blit_picture args.now page.old) (signed_argument args.now 1)
+        (signed_argument args.now 2)) }
 {
     blit_sub(
         page,
@@ -38,7 +39,8 @@ pub(crate) fn blit(args: &[u32], page: &mut PageBytes)
 pub(crate) fn blit_part(args: &[u32], page: &mut PageBytes)
     requires { length args.now ≡ 9 }
     ensures { page.new ≡ paint page.old
-        (blit_painter page.old (blit_sub_picture args.now page.old) (signed_argument args.now 1) (signed_argument args.now 2)) }
+        (blit_painter page.old (blit_sub_picture args.now page.old) (signed_argument args.now 1)
+        (signed_argument args.now 2)) }
 {
     blit_sub(
         page,
@@ -59,7 +61,8 @@ pub(crate) fn blit_part(args: &[u32], page: &mut PageBytes)
 pub(crate) fn line(args: &[u32], page: &mut PageBytes)
     requires { length args.now ≡ 4 }
     ensures { page.new ≡ paint page.old (line_painter (draw_colors page.old)
-        (signed_argument args.now 0) (signed_argument args.now 1) (signed_argument args.now 2) (signed_argument args.now 3)) }
+        (signed_argument args.now 0) (signed_argument args.now 1) (signed_argument args.now 2)
+        (signed_argument args.now 3)) }
 {
     let colors = draw_colors(page);
     w4_shapes::line(
@@ -108,7 +111,8 @@ pub(crate) fn vline(args: &[u32], page: &mut PageBytes)
 pub(crate) fn oval(args: &[u32], page: &mut PageBytes)
     requires { length args.now ≡ 4 }
     ensures { page.new ≡ paint page.old (oval_painter (draw_colors page.old)
-        (signed_argument args.now 0) (signed_argument args.now 1) (signed_argument args.now 2) (signed_argument args.now 3)) }
+        (signed_argument args.now 0) (signed_argument args.now 1) (signed_argument args.now 2)
+        (signed_argument args.now 3)) }
 {
     let colors = draw_colors(page);
     w4_shapes::oval(
@@ -125,7 +129,8 @@ pub(crate) fn oval(args: &[u32], page: &mut PageBytes)
 pub(crate) fn rect(args: &[u32], page: &mut PageBytes)
     requires { length args.now ≡ 4 }
     ensures { page.new ≡ paint page.old (rect_painter (draw_colors page.old)
-        (signed_argument args.now 0) (signed_argument args.now 1) (signed_argument args.now 2) (signed_argument args.now 3)) }
+        (signed_argument args.now 0) (signed_argument args.now 1) (signed_argument args.now 2)
+        (signed_argument args.now 3)) }
 {
     let colors = draw_colors(page);
     w4_shapes::rect(
@@ -141,7 +146,8 @@ pub(crate) fn rect(args: &[u32], page: &mut PageBytes)
 /// `text`, `textUtf8` and `textUtf16`: the text of a source at the two arguments from `k` on.
 pub(crate) fn text(font: &Font, args: &[u32], page: &mut PageBytes, source: TextSource, k: usize)
     requires { k + 2 ≤ length args.now }
-    ensures { page.new ≡ paint page.old (text_painter font.now (draw_colors page.old) (text_codes page.old source)
+    ensures { page.new ≡ paint page.old
+        (text_painter font.now (draw_colors page.old) (text_codes page.old source)
         (signed_argument args.now k) (signed_argument args.now (k + 1))) }
 {
     let colors = draw_colors(page);

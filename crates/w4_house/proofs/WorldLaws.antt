@@ -17,13 +17,15 @@ rises_later first second third later rises = omega arith
 
 -- Where nothing has changed, all is left that a call leaves.
 pub reading_none : (world : World) → LeavesReading world world
-reading_none world = record { files = refl; out = refl; err = refl; later = omega arith; writes = refl; errs = refl }
+reading_none world =
+    record { files = refl; out = refl; err = refl; later = omega arith; writes = refl; errs = refl }
 
 pub printing_none : (world : World) → LeavesPrinting world world
 printing_none world = record { files = refl; err = refl; reads = refl; later = omega arith; errs = refl }
 
 -- What each of two calls leaves, both leave.
-pub reading_then : (first second third : World) → LeavesReading first second → LeavesReading second third → LeavesReading first third
+pub reading_then : (first second third : World) → LeavesReading first second → LeavesReading second third
+    → LeavesReading first third
 reading_then first second third one next = record {
   files = next.files ∙ one.files;
   out = next.out ∙ one.out;
@@ -33,7 +35,8 @@ reading_then first second third one next = record {
   errs = next.errs ∙ one.errs;
 }
 
-pub printing_then : (first second third : World) → LeavesPrinting first second → LeavesPrinting second third → LeavesPrinting first third
+pub printing_then : (first second third : World) → LeavesPrinting first second → LeavesPrinting second third
+    → LeavesPrinting first third
 printing_then first second third one next = record {
   files = next.files ∙ one.files;
   err = next.err ∙ one.err;
@@ -42,7 +45,8 @@ printing_then first second third one next = record {
   errs = next.errs ∙ one.errs;
 }
 
-pub reporting_then : (first second third : World) → LeavesReporting first second → LeavesReporting second third → LeavesReporting first third
+pub reporting_then : (first second third : World) → LeavesReporting first second
+    → LeavesReporting second third → LeavesReporting first third
 reporting_then first second third one next = record {
   files = next.files ∙ one.files;
   out = next.out ∙ one.out;
@@ -51,7 +55,8 @@ reporting_then first second third one next = record {
   later = let before = one.later in let after = next.later in omega arith;
 }
 
-pub saving_then : (first second third : World) → LeavesSaving first second → LeavesSaving second third → LeavesSaving first third
+pub saving_then : (first second third : World) → LeavesSaving first second → LeavesSaving second third
+    → LeavesSaving first third
 saving_then first second third one next = record {
   out = next.out ∙ one.out;
   err = next.err ∙ one.err;
@@ -61,26 +66,32 @@ saving_then first second third one next = record {
 }
 
 -- Two writes append the bytes of both.
-pub appends_then : (first second third : Option (List ℕ)) (some more : List ℕ) → Appends first second some → Appends second third more → Appends first third (some ++ more)
-appends_then first second third some more one next before told = next (before ++ some) (one before told) ∙ ap Some (append_assoc before some more)
+pub appends_then : (first second third : Option (List ℕ)) (some more : List ℕ) → Appends first second some
+    → Appends second third more → Appends first third (some ++ more)
+appends_then first second third some more one next before told = next (before ++ some) (one before told)
+    ∙ ap Some (append_assoc before some more)
 
 -- A whole write and a part of a second one append a first part of both.
-pub appends_then_front : (first second third : Option (List ℕ)) (some more : List ℕ) → Appends first second some → AppendsFront second third more → AppendsFront first third (some ++ more)
+pub appends_then_front : (first second third : Option (List ℕ)) (some more : List ℕ)
+    → Appends first second some → AppendsFront second third more → AppendsFront first third (some ++ more)
 appends_then_front first second third some more one next = (
   length some + next.0,
   λ before told.
       next.1 (before ++ some) (one before told)
-      ∙ ap Some (append_assoc before some (take next.0 more) ∙ ap (λ part. before ++ part) (sym (take-append-add some more next.0))),
+      ∙ ap Some (append_assoc before some (take next.0 more)
+      ∙ ap (λ part. before ++ part) (sym (take-append-add some more next.0))),
 )
 
 -- A first part of some bytes stands in front of those bytes and more.
-front_length : (count : ℕ) (some more : List ℕ) → take (length (take count some)) (some ++ more) ≡ take count some
+front_length : (count : ℕ) (some more : List ℕ)
+    → take (length (take count some)) (some ++ more) ≡ take count some
 front_length count some more =
     ap (λ whole. take (length (take count some)) (whole ++ more)) (sym (take-append-drop count some))
     ∙ ap (take (length (take count some))) (append_assoc (take count some) (drop count some) more)
     ∙ take-append_seam (take count some) (drop count some ++ more)
 
-pub front_of_more : (old new : Option (List ℕ)) (some more : List ℕ) → AppendsFront old new some → AppendsFront old new (some ++ more)
+pub front_of_more : (old new : Option (List ℕ)) (some more : List ℕ) → AppendsFront old new some
+    → AppendsFront old new (some ++ more)
 front_of_more old new some more front = (
   length (take front.0 some),
   λ before told.
@@ -91,7 +102,8 @@ front_of_more old new some more front = (
 pub front_none : (old new : Option (List ℕ)) (bytes : List ℕ) → new ≡ old → AppendsFront old new bytes
 front_none old new bytes same = (0, λ before told. same ∙ told ∙ ap Some (sym (append-nil before)))
 
-pub front_whole : (old new : Option (List ℕ)) (bytes : List ℕ) → Appends old new bytes → AppendsFront old new bytes
+pub front_whole : (old new : Option (List ℕ)) (bytes : List ℕ) → Appends old new bytes
+    → AppendsFront old new bytes
 front_whole old new bytes whole = (
   length bytes,
   λ before told.

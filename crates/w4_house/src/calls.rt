@@ -87,25 +87,31 @@ pub trait House {
 
     /// The first `most` bytes of a file, or all where it has fewer.
     fn read_front(&mut self, alloc: Global, name: &str, most: usize) -> Result<Vec<u8>, HouseFault>
-        ensures bytes { IfOk result (λ bytes. ForSome (world self.old).files (λ files. front_of files name.now most ≡ Some bytes.items)) }
+        ensures bytes { IfOk result
+            (λ bytes. ForSome (world self.old).files
+            (λ files. front_of files name.now most ≡ Some bytes.items)) }
         ensures most { IfOk result (λ bytes. length bytes.items ≤ most) }
         ensures absent { IsErrOf result HouseFault.Absent → LacksFile (world self.old).files name.now }
-        ensures absent_count { IsErrOf result HouseFault.Absent → (world self.new).read_faults ≡ (world self.old).read_faults }
-        ensures failed { IsErrOf result HouseFault.Failed → Rises (world self.old).read_faults (world self.new).read_faults }
+        ensures absent_count { IsErrOf result HouseFault.Absent
+            → (world self.new).read_faults ≡ (world self.old).read_faults }
+        ensures failed { IsErrOf result HouseFault.Failed
+            → Rises (world self.old).read_faults (world self.new).read_faults }
         ensures rest { LeavesReading (world self.old) (world self.new) };
 
     /// Writes to standard output. After a refusal it has got a first part of the bytes.
     fn write_out(&mut self, alloc: Global, bytes: &[u8]) -> Result<(), WriteRefusal>
         ensures all { OnOk result (Appends (world self.old).out (world self.new).out bytes.now) }
         ensures front { OnErr result (AppendsFront (world self.old).out (world self.new).out bytes.now) }
-        ensures failed { IsErrOf result WriteRefusal.Failed → Rises (world self.old).write_faults (world self.new).write_faults }
+        ensures failed { IsErrOf result WriteRefusal.Failed
+            → Rises (world self.old).write_faults (world self.new).write_faults }
         ensures rest { LeavesPrinting (world self.old) (world self.new) };
 
     /// Writes to standard error. After a refusal it has got a first part of the bytes.
     fn write_err(&mut self, alloc: Global, bytes: &[u8]) -> Result<(), WriteRefusal>
         ensures all { OnOk result (Appends (world self.old).err (world self.new).err bytes.now) }
         ensures front { OnErr result (AppendsFront (world self.old).err (world self.new).err bytes.now) }
-        ensures failed { IsErrOf result WriteRefusal.Failed → Rises (world self.old).err_faults (world self.new).err_faults }
+        ensures failed { IsErrOf result WriteRefusal.Failed
+            → Rises (world self.old).err_faults (world self.new).err_faults }
         ensures rest { LeavesReporting (world self.old) (world self.new) };
 
     /// Makes a file of just these bytes. After a failure any bytes may stand in this one file; when memory
@@ -113,7 +119,9 @@ pub trait House {
     fn write_file(&mut self, alloc: Global, name: &str, bytes: &[u8]) -> Result<(), WriteRefusal>
         ensures whole { OnOk result (Puts (world self.old).files (world self.new).files name.now bytes.now) }
         ensures others { OnErr result (OpensOnly (world self.old).files (world self.new).files name.now) }
-        ensures failed { IsErrOf result WriteRefusal.Failed → Rises (world self.old).write_faults (world self.new).write_faults }
-        ensures out_of_memory { IsErrOf result WriteRefusal.OutOfMemory → (world self.new).files ≡ (world self.old).files }
+        ensures failed { IsErrOf result WriteRefusal.Failed
+            → Rises (world self.old).write_faults (world self.new).write_faults }
+        ensures out_of_memory { IsErrOf result WriteRefusal.OutOfMemory
+            → (world self.new).files ≡ (world self.old).files }
         ensures rest { LeavesSaving (world self.old) (world self.new) };
 }

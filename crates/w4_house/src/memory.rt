@@ -70,7 +70,8 @@ impl MemoryHouse {
 
     /// Makes a file of just these bytes. When memory runs out, nothing has changed.
     pub fn put_file(&mut self, name: &str, bytes: &[u8]) -> Result<(), OutOfMemory>
-        ensures whole { OnOk result (Puts (memory_world self.old).files (memory_world self.new).files name.now bytes.now) }
+        ensures whole { OnOk result
+            (Puts (memory_world self.old).files (memory_world self.new).files name.now bytes.now) }
         ensures refused { OnErr result ((memory_world self.new).files ≡ (memory_world self.old).files) }
         ensures rest { OnlyFiles (memory_world self.old) (memory_world self.new) }
         ensures numbered { last_call self.new ≡ last_call self.old }
@@ -141,15 +142,20 @@ impl House for MemoryHouse {
 
     /// Failed comes if and only if the number of the call is in the list.
     fn read_front(&mut self, alloc: Global, name: &str, most: usize) -> Result<Vec<u8>, HouseFault>
-        ensures bytes { IfOk result (λ bytes. ForSome (memory_world self.old).files (λ files. front_of files name.now most ≡ Some bytes.items)) }
+        ensures bytes { IfOk result
+            (λ bytes. ForSome (memory_world self.old).files
+            (λ files. front_of files name.now most ≡ Some bytes.items)) }
         ensures most { IfOk result (λ bytes. length bytes.items ≤ most) }
         ensures absent { IsErrOf result HouseFault.Absent → LacksFile (memory_world self.old).files name.now }
-        ensures absent_count { IsErrOf result HouseFault.Absent → (memory_world self.new).read_faults ≡ (memory_world self.old).read_faults }
-        ensures failed { IsErrOf result HouseFault.Failed → Rises (memory_world self.old).read_faults (memory_world self.new).read_faults }
+        ensures absent_count { IsErrOf result HouseFault.Absent
+            → (memory_world self.new).read_faults ≡ (memory_world self.old).read_faults }
+        ensures failed { IsErrOf result HouseFault.Failed
+            → Rises (memory_world self.old).read_faults (memory_world self.new).read_faults }
         ensures rest { LeavesReading (memory_world self.old) (memory_world self.new) }
         ensures fails { IsTrue (fails_next self.old) → IsErrOf result HouseFault.Failed }
         ensures fails_only { IsErrOf result HouseFault.Failed → IsTrue (fails_next self.old) }
-        ensures count { (memory_world self.new).read_faults ≡ count_after self.old (memory_world self.old).read_faults }
+        ensures count { (memory_world self.new).read_faults ≡ count_after self.old
+            (memory_world self.old).read_faults }
         ensures counted { CountsCall self.old self.new }
     {
         if is_failing(&mut self.calls, &self.failing) {
@@ -160,15 +166,20 @@ impl House for MemoryHouse {
     }
 
     fn write_out(&mut self, alloc: Global, bytes: &[u8]) -> Result<(), WriteRefusal>
-        ensures all { OnOk result (Appends (memory_world self.old).out (memory_world self.new).out bytes.now) }
-        ensures front { OnErr result (AppendsFront (memory_world self.old).out (memory_world self.new).out bytes.now) }
-        ensures failed { IsErrOf result WriteRefusal.Failed → Rises (memory_world self.old).write_faults (memory_world self.new).write_faults }
+        ensures all { OnOk result
+            (Appends (memory_world self.old).out (memory_world self.new).out bytes.now) }
+        ensures front { OnErr result
+            (AppendsFront (memory_world self.old).out (memory_world self.new).out bytes.now) }
+        ensures failed { IsErrOf result WriteRefusal.Failed
+            → Rises (memory_world self.old).write_faults (memory_world self.new).write_faults }
         ensures rest { LeavesPrinting (memory_world self.old) (memory_world self.new) }
         ensures fails { IsTrue (fails_next self.old) → IsErrOf result WriteRefusal.Failed }
         ensures fails_only { IsErrOf result WriteRefusal.Failed → IsTrue (fails_next self.old) }
-        ensures count { (memory_world self.new).write_faults ≡ count_after self.old (memory_world self.old).write_faults }
+        ensures count { (memory_world self.new).write_faults ≡ count_after self.old
+            (memory_world self.old).write_faults }
         ensures counted { CountsCall self.old self.new }
-        ensures unchanged { IsErrOf result WriteRefusal.Failed → (memory_world self.new).out ≡ (memory_world self.old).out }
+        ensures unchanged { IsErrOf result WriteRefusal.Failed
+            → (memory_world self.new).out ≡ (memory_world self.old).out }
     {
         if is_failing(&mut self.calls, &self.failing) {
             self.write_faults = self.write_faults.saturating_add(1);
@@ -178,15 +189,20 @@ impl House for MemoryHouse {
     }
 
     fn write_err(&mut self, alloc: Global, bytes: &[u8]) -> Result<(), WriteRefusal>
-        ensures all { OnOk result (Appends (memory_world self.old).err (memory_world self.new).err bytes.now) }
-        ensures front { OnErr result (AppendsFront (memory_world self.old).err (memory_world self.new).err bytes.now) }
-        ensures failed { IsErrOf result WriteRefusal.Failed → Rises (memory_world self.old).err_faults (memory_world self.new).err_faults }
+        ensures all { OnOk result
+            (Appends (memory_world self.old).err (memory_world self.new).err bytes.now) }
+        ensures front { OnErr result
+            (AppendsFront (memory_world self.old).err (memory_world self.new).err bytes.now) }
+        ensures failed { IsErrOf result WriteRefusal.Failed
+            → Rises (memory_world self.old).err_faults (memory_world self.new).err_faults }
         ensures rest { LeavesReporting (memory_world self.old) (memory_world self.new) }
         ensures fails { IsTrue (fails_next self.old) → IsErrOf result WriteRefusal.Failed }
         ensures fails_only { IsErrOf result WriteRefusal.Failed → IsTrue (fails_next self.old) }
-        ensures count { (memory_world self.new).err_faults ≡ count_after self.old (memory_world self.old).err_faults }
+        ensures count { (memory_world self.new).err_faults ≡ count_after self.old
+            (memory_world self.old).err_faults }
         ensures counted { CountsCall self.old self.new }
-        ensures unchanged { IsErrOf result WriteRefusal.Failed → (memory_world self.new).err ≡ (memory_world self.old).err }
+        ensures unchanged { IsErrOf result WriteRefusal.Failed
+            → (memory_world self.new).err ≡ (memory_world self.old).err }
     {
         if is_failing(&mut self.calls, &self.failing) {
             self.err_faults = self.err_faults.saturating_add(1);
@@ -196,16 +212,22 @@ impl House for MemoryHouse {
     }
 
     fn write_file(&mut self, alloc: Global, name: &str, bytes: &[u8]) -> Result<(), WriteRefusal>
-        ensures whole { OnOk result (Puts (memory_world self.old).files (memory_world self.new).files name.now bytes.now) }
-        ensures others { OnErr result (OpensOnly (memory_world self.old).files (memory_world self.new).files name.now) }
-        ensures failed { IsErrOf result WriteRefusal.Failed → Rises (memory_world self.old).write_faults (memory_world self.new).write_faults }
-        ensures out_of_memory { IsErrOf result WriteRefusal.OutOfMemory → (memory_world self.new).files ≡ (memory_world self.old).files }
+        ensures whole { OnOk result
+            (Puts (memory_world self.old).files (memory_world self.new).files name.now bytes.now) }
+        ensures others { OnErr result
+            (OpensOnly (memory_world self.old).files (memory_world self.new).files name.now) }
+        ensures failed { IsErrOf result WriteRefusal.Failed
+            → Rises (memory_world self.old).write_faults (memory_world self.new).write_faults }
+        ensures out_of_memory { IsErrOf result WriteRefusal.OutOfMemory
+            → (memory_world self.new).files ≡ (memory_world self.old).files }
         ensures rest { LeavesSaving (memory_world self.old) (memory_world self.new) }
         ensures fails { IsTrue (fails_next self.old) → IsErrOf result WriteRefusal.Failed }
         ensures fails_only { IsErrOf result WriteRefusal.Failed → IsTrue (fails_next self.old) }
-        ensures count { (memory_world self.new).write_faults ≡ count_after self.old (memory_world self.old).write_faults }
+        ensures count { (memory_world self.new).write_faults ≡ count_after self.old
+            (memory_world self.old).write_faults }
         ensures counted { CountsCall self.old self.new }
-        ensures unchanged { IsErrOf result WriteRefusal.Failed → (memory_world self.new).files ≡ (memory_world self.old).files }
+        ensures unchanged { IsErrOf result WriteRefusal.Failed
+            → (memory_world self.new).files ≡ (memory_world self.old).files }
     {
         if is_failing(&mut self.calls, &self.failing) {
             self.write_faults = self.write_faults.saturating_add(1);

@@ -15,7 +15,8 @@ pub(crate) fn put(
     name: &str,
     bytes: &[u8],
 ) -> Result<(), OutOfMemory>
-    ensures whole { OnOk result (stored_files files.new ≡ insert (stored_files files.old) name.now bytes.now) }
+    ensures whole { OnOk result
+        (stored_files files.new ≡ insert (stored_files files.old) name.now bytes.now) }
     ensures refused { OnErr result (stored_files files.new ≡ stored_files files.old) }
 {
     let key = String::from_str(alloc, name)?;

@@ -70,7 +70,8 @@ impl<'a, R: Files, O: Write + Drop, E: Write + Drop> RealHouse<'a, R, O, E> {
 fn read_piece<F: Read>(file: &mut F, bytes: &mut Vec<u8>, room: usize) -> Result<usize, HouseFault>
     ensures within { IfOk result (λ count. count ≤ room) }
     ensures grown { IfOk result (λ count. length bytes.new.items ≡ length bytes.old.items + count) }
-    ensures given { OnOk result (Gives (F.remaining file.old) (F.remaining file.new) bytes.old.items bytes.new.items) }
+    ensures given { OnOk result
+        (Gives (F.remaining file.old) (F.remaining file.new) bytes.old.items bytes.new.items) }
     ensures end { result ≡ Ok 0 → 0 < room → IsAtEnd (F.remaining file.new) }
     ensures never_absent { IsErrOf result HouseFault.Absent → ⊥ }
 {
@@ -87,7 +88,8 @@ fn read_piece<F: Read>(file: &mut F, bytes: &mut Vec<u8>, room: usize) -> Result
 
 /// The first `most` bytes that a reader gives, or all. Each turn takes a byte at least, or is the last.
 fn read_some<F: Read>(alloc: Global, file: &mut F, most: usize) -> Result<Vec<u8>, HouseFault>
-    ensures bytes { IfOk result (λ bytes. ForSome (F.remaining file.old) (λ left. bytes.items ≡ take most left)) }
+    ensures bytes { IfOk result
+        (λ bytes. ForSome (F.remaining file.old) (λ left. bytes.items ≡ take most left)) }
     ensures most { IfOk result (λ bytes. length bytes.items ≤ most) }
     ensures never_absent { IsErrOf result HouseFault.Absent → ⊥ }
 {
@@ -138,14 +140,19 @@ impl<'a, R: Files, O: Write + Drop, E: Write + Drop> House for RealHouse<'a, R, 
     ghost world = { real_world };
 
     fn read_front(&mut self, alloc: Global, name: &str, most: usize) -> Result<Vec<u8>, HouseFault>
-        ensures bytes { IfOk result (λ bytes. ForSome (real_world self.old).files (λ files. front_of files name.now most ≡ Some bytes.items)) }
+        ensures bytes { IfOk result
+            (λ bytes. ForSome (real_world self.old).files
+            (λ files. front_of files name.now most ≡ Some bytes.items)) }
         ensures most { IfOk result (λ bytes. length bytes.items ≤ most) }
         ensures absent { IsErrOf result HouseFault.Absent → LacksFile (real_world self.old).files name.now }
-        ensures absent_count { IsErrOf result HouseFault.Absent → (real_world self.new).read_faults ≡ (real_world self.old).read_faults }
-        ensures failed { IsErrOf result HouseFault.Failed → Rises (real_world self.old).read_faults (real_world self.new).read_faults }
+        ensures absent_count { IsErrOf result HouseFault.Absent
+            → (real_world self.new).read_faults ≡ (real_world self.old).read_faults }
+        ensures failed { IsErrOf result HouseFault.Failed
+            → Rises (real_world self.old).read_faults (real_world self.new).read_faults }
         ensures rest { LeavesReading (real_world self.old) (real_world self.new) }
         ensures never_absent { IsErrOf result HouseFault.Absent → ⊥ }
-        ensures count { (real_world self.new).read_faults ≡ count_since result (real_world self.old).read_faults }
+        ensures count { (real_world self.new).read_faults ≡ count_since result
+            (real_world self.old).read_faults }
     {
         let answer = read_file(alloc, self.runtime, name, most);
         if answer.is_err() {
@@ -156,12 +163,16 @@ impl<'a, R: Files, O: Write + Drop, E: Write + Drop> House for RealHouse<'a, R, 
 
     fn write_out(&mut self, _alloc: Global, bytes: &[u8]) -> Result<(), WriteRefusal>
         ensures all { OnOk result (Appends (real_world self.old).out (real_world self.new).out bytes.now) }
-        ensures front { OnErr result (AppendsFront (real_world self.old).out (real_world self.new).out bytes.now) }
-        ensures failed { IsErrOf result WriteRefusal.Failed → Rises (real_world self.old).write_faults (real_world self.new).write_faults }
+        ensures front { OnErr result
+            (AppendsFront (real_world self.old).out (real_world self.new).out bytes.now) }
+        ensures failed { IsErrOf result WriteRefusal.Failed
+            → Rises (real_world self.old).write_faults (real_world self.new).write_faults }
         ensures rest { LeavesPrinting (real_world self.old) (real_world self.new) }
-        ensures sent { OnOk result (known.Appends (O.contents self.old.out) (O.contents self.new.out) bytes.now) }
+        ensures sent { OnOk result
+            (known.Appends (O.contents self.old.out) (O.contents self.new.out) bytes.now) }
         ensures never_out_of_memory { IsErrOf result WriteRefusal.OutOfMemory → ⊥ }
-        ensures count { (real_world self.new).write_faults ≡ count_since result (real_world self.old).write_faults }
+        ensures count { (real_world self.new).write_faults ≡ count_since result
+            (real_world self.old).write_faults }
     {
         let written = self.out.write_all(bytes).is_ok() && self.out.flush().is_ok();
         if written {
@@ -173,12 +184,16 @@ impl<'a, R: Files, O: Write + Drop, E: Write + Drop> House for RealHouse<'a, R, 
 
     fn write_err(&mut self, _alloc: Global, bytes: &[u8]) -> Result<(), WriteRefusal>
         ensures all { OnOk result (Appends (real_world self.old).err (real_world self.new).err bytes.now) }
-        ensures front { OnErr result (AppendsFront (real_world self.old).err (real_world self.new).err bytes.now) }
-        ensures failed { IsErrOf result WriteRefusal.Failed → Rises (real_world self.old).err_faults (real_world self.new).err_faults }
+        ensures front { OnErr result
+            (AppendsFront (real_world self.old).err (real_world self.new).err bytes.now) }
+        ensures failed { IsErrOf result WriteRefusal.Failed
+            → Rises (real_world self.old).err_faults (real_world self.new).err_faults }
         ensures rest { LeavesReporting (real_world self.old) (real_world self.new) }
-        ensures sent { OnOk result (known.Appends (E.contents self.old.err) (E.contents self.new.err) bytes.now) }
+        ensures sent { OnOk result
+            (known.Appends (E.contents self.old.err) (E.contents self.new.err) bytes.now) }
         ensures never_out_of_memory { IsErrOf result WriteRefusal.OutOfMemory → ⊥ }
-        ensures count { (real_world self.new).err_faults ≡ count_since result (real_world self.old).err_faults }
+        ensures count { (real_world self.new).err_faults ≡ count_since result
+            (real_world self.old).err_faults }
     {
         let written = self.err.write_all(bytes).is_ok() && self.err.flush().is_ok();
         if written {
@@ -189,13 +204,18 @@ impl<'a, R: Files, O: Write + Drop, E: Write + Drop> House for RealHouse<'a, R, 
     }
 
     fn write_file(&mut self, _alloc: Global, name: &str, bytes: &[u8]) -> Result<(), WriteRefusal>
-        ensures whole { OnOk result (Puts (real_world self.old).files (real_world self.new).files name.now bytes.now) }
-        ensures others { OnErr result (OpensOnly (real_world self.old).files (real_world self.new).files name.now) }
-        ensures failed { IsErrOf result WriteRefusal.Failed → Rises (real_world self.old).write_faults (real_world self.new).write_faults }
-        ensures out_of_memory { IsErrOf result WriteRefusal.OutOfMemory → (real_world self.new).files ≡ (real_world self.old).files }
+        ensures whole { OnOk result
+            (Puts (real_world self.old).files (real_world self.new).files name.now bytes.now) }
+        ensures others { OnErr result
+            (OpensOnly (real_world self.old).files (real_world self.new).files name.now) }
+        ensures failed { IsErrOf result WriteRefusal.Failed
+            → Rises (real_world self.old).write_faults (real_world self.new).write_faults }
+        ensures out_of_memory { IsErrOf result WriteRefusal.OutOfMemory
+            → (real_world self.new).files ≡ (real_world self.old).files }
         ensures rest { LeavesSaving (real_world self.old) (real_world self.new) }
         ensures never_out_of_memory { IsErrOf result WriteRefusal.OutOfMemory → ⊥ }
-        ensures count { (real_world self.new).write_faults ≡ count_since result (real_world self.old).write_faults }
+        ensures count { (real_world self.new).write_faults ≡ count_since result
+            (real_world self.old).write_faults }
     {
         if fs::write(self.runtime, name, bytes).is_ok() {
             return Ok(());

@@ -38,7 +38,8 @@ impl SureHouse {
 
     /// Makes a file of just these bytes. When memory runs out, nothing has changed.
     pub fn put_file(&mut self, name: &str, bytes: &[u8]) -> Result<(), OutOfMemory>
-        ensures whole { OnOk result (Puts (sure_world self.old).files (sure_world self.new).files name.now bytes.now) }
+        ensures whole { OnOk result
+            (Puts (sure_world self.old).files (sure_world self.new).files name.now bytes.now) }
         ensures refused { OnErr result ((sure_world self.new).files ≡ (sure_world self.old).files) }
         ensures rest { OnlyFiles (sure_world self.old) (sure_world self.new) }
     {

@@ -1,6 +1,7 @@
 //! The writer of images.
 
-ghost use Rattle.std.specs.Prelude.{◌+◌, ◌*◌, ◌/◌, ◌%◌, ◌++◌, ◌<◌, ◌≡◌, ◌≤◌, drop, take};
+ghost use Rattle.std.specs.Prelude.{◌+◌, ◌*◌, ◌/◌, ◌%◌, ◌++◌, ◌<◌, ◌≡◌, ◌≤◌, drop};
+ghost use Rattle.w4_defs.specs.Bytes.{replaced};
 ghost use Rattle.w4_defs.specs.Framebuffer.{pixel};
 ghost use Rattle.w4_defs.specs.Image.{image, image_header, pixel_colour};
 ghost use Rattle.w4_defs.specs.MemoryMap.{palette};
@@ -47,7 +48,7 @@ fn palette(page: &PageBytes, index: u8) -> [u8; 3]
 
 fn put_color(out: &mut [u8; IMAGE_LEN], at: usize, color: [u8; 3])
     requires { at + 3 ≤ 76815 }
-    ensures { out.new ≡ take at out.old ++ color ++ drop (at + 3) out.old }
+    ensures { out.new ≡ replaced out.old at 3 color }
 {
     out[at..at + 3].copy_from_slice(&color);
 }

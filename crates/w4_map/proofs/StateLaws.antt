@@ -7,8 +7,11 @@ use Rattle.w4_defs.specs.State.{State, zero_page, blank_state}
 
 -- a state of these parts in which the cart runs
 abbrev pub running : List ℕ → List Val → Channels → List ℕ → State
-running page globals channels disk = record { page = page; globals = globals; channels = channels; disk = disk; halt = Running }
+running page globals channels disk =
+    record { page = page; globals = globals; channels = channels; disk = disk; halt = Running }
 
-pub is_blank : (page : List ℕ) (globals cart_globals : List Val) (channels : Channels) (disk : List ℕ) → page ≡ zero_page
-    → globals ≡ cart_globals → channels ≡ silent → disk ≡ [] → running page globals channels disk ≡ blank_state cart_globals
+pub is_blank : (page : List ℕ) (globals cart_globals : List Val) (channels : Channels) (disk : List ℕ)
+    → page ≡ zero_page
+    → globals ≡ cart_globals → channels ≡ silent → disk ≡ []
+    → running page globals channels disk ≡ blank_state cart_globals
 is_blank page globals cart_globals channels disk p g c d = rw (p, g, c, d) refl

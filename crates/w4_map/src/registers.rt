@@ -2,7 +2,7 @@
 
 ghost use Rattle.std.specs.Prelude.{◌≡◌, ◌+◌, ◌<◌, ◌≤◌, length};
 ghost use Rattle.w4_defs.specs.MemoryMap.{draw_colors, input_bytes, palette, put_input, system_flags};
-ghost use Rattle.w4_defs.specs.Reset.{written};
+ghost use Rattle.w4_defs.specs.Bytes.{put_bytes};
 
 use w4_defs::{Input, PageBytes};
 
@@ -17,7 +17,7 @@ pub fn put_input(page: &mut PageBytes, input: &Input)
 /// Writes bytes from an address on.
 fn write(page: &mut PageBytes, at: usize, bytes: &[u8])
     requires { at + length bytes.now ≤ 65536 }
-    ensures { page.new ≡ written page.old at bytes.now }
+    ensures { page.new ≡ put_bytes page.old at bytes.now }
 {
     page[at..at + bytes.len()].copy_from_slice(bytes);
 }

@@ -26,7 +26,13 @@ impl Model for State {
 
     ghost Value = { State };
 
-    ghost view = { λ s. record { page = s.page; globals = s.globals.items; channels = s.channels; disk = s.disk; halt = s.halt } };
+    ghost view = { λ s. record {
+      page = s.page;
+      globals = s.globals.items;
+      channels = s.channels;
+      disk = s.disk;
+      halt = s.halt;
+    } };
 }
 
 impl State {

@@ -10,14 +10,17 @@ use Rattle.w4_defs.specs.Shapes.{only_if, is_inside}
 use Rattle.w4_pixels.specs.Clipping.{clipped}
 
 -- no column, no row
-pub boxed_none : (f : Painter) (left right top bottom a b : ℕ) → right ≤ left → clipped f left right top bottom a b ≡ None
+pub boxed_none : (f : Painter) (left right top bottom a b : ℕ) → right ≤ left
+    → clipped f left right top bottom a b ≡ None
 boxed_none f left right top bottom a b h = grind (arith, nat_tests)
 
-pub boxed_no_row : (f : Painter) (left right top bottom a b : ℕ) → bottom ≤ top → clipped f left right top bottom a b ≡ None
+pub boxed_no_row : (f : Painter) (left right top bottom a b : ℕ) → bottom ≤ top
+    → clipped f left right top bottom a b ≡ None
 boxed_no_row f left right top bottom a b h = grind (arith, nat_tests)
 
 -- two parts of a painter, of which a pixel is in one at most, are the painter in both
-either : (first second both : Bool) (o : Option ℕ) → (first && second) ≡ false → both ≡ (first || second) → option_or (only_if first o) (only_if second o) ≡ only_if both o
+either : (first second both : Bool) (o : Option ℕ) → (first && second) ≡ false → both ≡ (first || second)
+    → option_or (only_if first o) (only_if second o) ≡ only_if both o
 either true true both o h e = absurd (cc)
 either true false both None h e = ap (λ t. only_if t None) (sym e)
 either true false both (Some n) h e = ap (λ t. only_if t (Some n)) (sym e)
@@ -28,7 +31,8 @@ away true o p e = absurd (cc)
 away false o p e = refl
 
 -- at the cell the painter is asked of the cell
-at_cell : (f : Painter) (u v a b : ℕ) → only_if (a == u && b == v) (f u v) ≡ only_if (a == u && b == v) (f a b)
+at_cell : (f : Painter) (u v a b : ℕ)
+    → only_if (a == u && b == v) (f u v) ≡ only_if (a == u && b == v) (f a b)
 at_cell f u v a b = elim (cases_eq a u) [
   | inl e ↦ elim (cases_eq b v) [
     | inl g ↦ ap (λ o. only_if (a == u && b == v) o) (ap (λ x. f x v) (sym e) ∙ ap (f a) (sym g))
@@ -38,24 +42,32 @@ at_cell f u v a b = elim (cases_eq a u) [
 ]
 
 -- one more cell of a row
-pub cell_more : (f : Painter) (left u v a b : ℕ) → left ≤ u → option_or (only_if (a == u && b == v) (f u v)) (clipped f left u v (v + 1) a b) ≡ clipped f left (u + 1) v (v + 1) a b
+pub cell_more : (f : Painter) (left u v a b : ℕ) → left ≤ u
+    → option_or (only_if (a == u && b == v) (f u v)) (clipped f left u v (v + 1) a b) ≡ clipped f left
+    (u + 1) v (v + 1) a b
 cell_more f left u v a b h =
-    ap (λ o. option_or o (clipped f left u v (v + 1) a b)) (at_cell f u v a b) ∙ either _ _ _ (f a b) (grind (arith, nat_tests)) (grind (arith, nat_tests))
+    ap (λ o. option_or o (clipped f left u v (v + 1) a b)) (at_cell f u v a b)
+    ∙ either _ _ _ (f a b) (grind (arith, nat_tests)) (grind (arith, nat_tests))
 
 -- one more row
-pub row_more : (f : Painter) (left right top v a b : ℕ) → top ≤ v → option_or (clipped f left right v (v + 1) a b) (clipped f left right top v a b) ≡ clipped f left right top (v + 1) a b
+pub row_more : (f : Painter) (left right top v a b : ℕ) → top ≤ v
+    → option_or (clipped f left right v (v + 1) a b) (clipped f left right top v a b) ≡ clipped f left
+    right top (v + 1) a b
 row_more f left right top v a b h = either _ _ _ (f a b) (grind (arith, nat_tests)) (grind (arith, nat_tests))
 
 -- the end of a loop over columns, and over rows
-pub boxed_past : (f : Painter) (left end u top bottom a b : ℕ) → end ≤ u → u ≤ max left end → clipped f left u top bottom a b ≡ clipped f left end top bottom a b
+pub boxed_past : (f : Painter) (left end u top bottom a b : ℕ) → end ≤ u → u ≤ max left end
+    → clipped f left u top bottom a b ≡ clipped f left end top bottom a b
 boxed_past f left end u top bottom a b h g = ap (λ t. only_if t (f a b)) (grind (arith, nat_tests))
 
-pub boxed_down : (f : Painter) (left right top end v a b : ℕ) → end ≤ v → v ≤ max top end → clipped f left right top v a b ≡ clipped f left right top end a b
+pub boxed_down : (f : Painter) (left right top end v a b : ℕ) → end ≤ v → v ≤ max top end
+    → clipped f left right top v a b ≡ clipped f left right top end a b
 boxed_down f left right top end v a b h g = ap (λ t. only_if t (f a b)) (grind (arith, nat_tests))
 
 -- a box in columns and rows of the screen is the box of the coordinates
 pub boxed_all : (f : Painter) (x0 x1 y0 y1 : ℤ) (left right top bottom u v : ℕ)
-    → nat_le left u ≡ int_le x0 (pos u) → nat_le right u ≡ int_le x1 (pos u) → nat_le top v ≡ int_le y0 (pos v) → nat_le bottom v ≡ int_le y1 (pos v)
+    → nat_le left u ≡ int_le x0 (pos u) → nat_le right u ≡ int_le x1 (pos u)
+    → nat_le top v ≡ int_le y0 (pos v) → nat_le bottom v ≡ int_le y1 (pos v)
     → clipped f left right top bottom u v ≡ only_if (is_inside x0 x1 y0 y1 u v) (f u v)
 boxed_all f x0 x1 y0 y1 left right top bottom u v hl hr ht hb =
     let right_end : nat_lt u right ≡ int_lt (pos u) x1 = grind (arith, ints, nat_tests) in

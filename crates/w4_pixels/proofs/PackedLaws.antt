@@ -12,31 +12,39 @@ use Rattle.w4_defs.proofs.PaintLaws.{paint_only}
 use Rattle.w4_defs.proofs.RegisterLaws.{spliced}
 use Rattle.w4_pixels.specs.Packed.{part_painter, row_painter, zero_painter}
 
-chosen_index : (test : Bool) (index digit : ℕ) → index < 4 → digit < 4 → cond test index digit ≡ unwrap_or (only_if test (Some index)) digit % 4
+chosen_index : (test : Bool) (index digit : ℕ) → index < 4 → digit < 4
+    → cond test index digit ≡ unwrap_or (only_if test (Some index)) digit % 4
 chosen_index true index digit h g = omega arith
 chosen_index false index digit h g = omega arith
 
-pub part_digit : (page : List ℕ) (q first end row index low high k digit : ℕ) → first < end → first < 4 * q + 4 → 4 * q < end → q < 40 → row < 160 → index < 4
+pub part_digit : (page : List ℕ) (q first end row index low high k digit : ℕ) → first < end
+    → first < 4 * q + 4 → 4 * q < end → q < 40 → row < 160 → index < 4
     → low ≡ first - 4 * q → high ≡ min (end - 4 * q) 4 → k < 4
-    → digit ≡ (if nat_le low k && nat_lt k high then index else get_or page (160 + (40 * row + q)) 0 / 4 ^ k % 4)
+    → digit ≡ (if nat_le low k && nat_lt k high then index else get_or page (160 + (40 * row + q)) 0 / 4 ^ k
+    % 4)
     → digit ≡ painted_pixel page (part_painter q first end row (Some index)) (4 * q + k) row
 part_digit page q first end row index low high k digit some left here hq hrow hentry el eh hk e =
     let place : (160 * row + (4 * q + k)) / 4 ≡ 40 * row + q = omega arith in
     let which : (4 * q + k) % 4 ≡ k = omega arith in
-    let test : ((4 * q + k) / 4 == q && ((nat_le first (4 * q + k) && nat_lt (4 * q + k) end) && row == row)) ≡ (nat_le low k && nat_lt k high) = grind (arith, nat_tests) in
-    rw (place, which, test) (e ∙ chosen_index (nat_le low k && nat_lt k high) index (get_or page (160 + (40 * row + q)) 0 / 4 ^ k % 4) hentry (omega arith))
+    let test : ((4 * q + k) / 4 == q && ((nat_le first (4 * q + k) && nat_lt (4 * q + k) end) && row == row))
+    ≡ (nat_le low k && nat_lt k high) = grind (arith, nat_tests) in
+    rw (place, which, test)
+    (e ∙ chosen_index (nat_le low k && nat_lt k high) index
+    (get_or page (160 + (40 * row + q)) 0 / 4 ^ k % 4) hentry (omega arith))
 
 -- a span in columns of the screen is the span of the coordinates
 pub span_row : (x0 x1 y : ℤ) (first end row u v : ℕ) (index : Option ℕ)
     → nat_le first u ≡ int_le x0 (pos u) → nat_le end u ≡ int_le x1 (pos u) → y ≡ pos row
     → row_painter first end row index u v ≡ span_painter x0 x1 y index u v
-span_row x0 x1 y first end row u v index low high line = ap (λ t. only_if t index) (grind (arith, ints, nat_tests))
+span_row x0 x1 y first end row u v index low high line =
+    ap (λ t. only_if t index) (grind (arith, ints, nat_tests))
 
 zero_digit : (k : ℕ) → 0 / 4 ^ k % 4 ≡ 0
 zero_digit k = ap (λ d. d % 4) (zero-div (4 ^ k))
 
 -- a page whose framebuffer's bytes are 0 is a page of pixels 0
-zero_bytes : (page new : List ℕ) → length page ≡ 65536 → length new ≡ length page → ((q : ℕ) → q < 6400 → get_or new (160 + q) 0 ≡ 0)
+zero_bytes : (page new : List ℕ) → length page ≡ 65536 → length new ≡ length page
+    → ((q : ℕ) → q < 6400 → get_or new (160 + q) 0 ≡ 0)
     → ((i : ℕ) → (i < 160) ⊎ (6560 ≤ i) → get_or new i 0 ≡ get_or page i 0) → new ≡ paint page zero_painter
 zero_bytes page new len size zero same = paint_only page new zero_painter len (record {
   pixels = λ x y hx hy. (rw (zero ((160 * y + x) / 4) (omega arith)) (zero_digit (x % 4)));
@@ -52,13 +60,16 @@ mid_size : (xs : List ℕ) (a k : ℕ) → a + k ≤ length xs → length (mid_o
 mid_size xs a k h = simp (length-take, length-drop) (omega arith)
 
 -- the framebuffer filled in place
-pub zero_filled : (page filled : List ℕ) (a k n : ℕ) → a ≡ 160 → k ≡ 6400 → a + k ≡ n → length page ≡ 65536 → filled ≡ replicate (length (mid_of a k page)) 0 → put_mid a k page filled ≡ paint page zero_painter
+pub zero_filled : (page filled : List ℕ) (a k n : ℕ) → a ≡ 160 → k ≡ 6400 → a + k ≡ n → length page ≡ 65536
+    → filled ≡ replicate (length (mid_of a k page)) 0 → put_mid a k page filled ≡ paint page zero_painter
 zero_filled page filled a k n ea ek en len all =
     let e : filled ≡ replicate k 0 = all ∙ ap (λ m. replicate m 0) (mid_size page a k (omega arith)) in
     let size : length filled ≡ k = ap length e ∙ length-replicate {A = ℕ} k 0 in
     let flat : put_mid a k page filled ≡ take a page ++ filled ++ drop n page =
-    ap (λ t. take a page ++ (filled ++ t)) (drop-drop k a page ∙ ap (λ j. drop j page) en) ∙ sym (append_assoc (take a page) filled (drop n page)) in
+    ap (λ t. take a page ++ (filled ++ t)) (drop-drop k a page ∙ ap (λ j. drop j page) en)
+    ∙ sym (append_assoc (take a page) filled (drop n page)) in
     let parts = spliced page filled a n (omega arith) (omega arith) in
     flat ∙ zero_bytes page (take a page ++ filled ++ drop n page) len parts.0
-    (λ q hq. ap (λ j. get_or (take a page ++ filled ++ drop n page) (j + q) 0) (sym ea) ∙ parts.1 q (omega arith) ∙ ap (λ f. get_or f q 0) e ∙ get_or-replicate k q 0 0 (omega arith))
+    (λ q hq. ap (λ j. get_or (take a page ++ filled ++ drop n page) (j + q) 0) (sym ea)
+    ∙ parts.1 q (omega arith) ∙ ap (λ f. get_or f q 0) e ∙ get_or-replicate k q 0 0 (omega arith))
     (λ i out. parts.2 i (grind arith))

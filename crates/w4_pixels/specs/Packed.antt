@@ -13,4 +13,5 @@ row_painter first end row index u v = only_if ((nat_le first u && nat_lt u end) 
 
 -- those of them in the row's byte q
 abbrev pub part_painter : ℕ → ℕ → ℕ → ℕ → Option ℕ → Painter
-part_painter q first end row index u v = only_if (u / 4 == q && ((nat_le first u && nat_lt u end) && v == row)) index
+part_painter q first end row index u v =
+    only_if (u / 4 == q && ((nat_le first u && nat_lt u end) && v == row)) index

@@ -18,7 +18,8 @@ pub fn digit(byte: u8, k: u32) -> u8
 /// The byte with the palette index in its digits from `low` up to `high`, which is left out.
 pub fn with_part(byte: u8, low: u32, high: u32, index: u8) -> u8
     requires { index < 4 }
-    ensures { (k : ℕ) → k < 4 → result / 4 ^ k % 4 ≡ (if nat_le low k && nat_lt k high then index else byte / 4 ^ k % 4) }
+    ensures { (k : ℕ) → k < 4
+        → result / 4 ^ k % 4 ≡ (if nat_le low k && nat_lt k high then index else byte / 4 ^ k % 4) }
 {
     if low == 0 && high == 4 {
         filled(index)
@@ -37,7 +38,8 @@ fn filled(index: u8) -> u8
 
 fn mixed(byte: u8, low: u32, high: u32, index: u8) -> u8
     requires { index < 4 }
-    ensures { (k : ℕ) → k < 4 → result / 4 ^ k % 4 ≡ (if nat_le low k && nat_lt k high then index else byte / 4 ^ k % 4) }
+    ensures { (k : ℕ) → k < 4
+        → result / 4 ^ k % 4 ≡ (if nat_le low k && nat_lt k high then index else byte / 4 ^ k % 4) }
 {
     let first = chosen(byte, 0, low, high, index);
     let second = chosen(byte, 1, low, high, index);

@@ -9,9 +9,11 @@ use Rattle.w4_defs.specs.declared.order.Order.TheVariants.{Set}
 use Rattle.w4_defs.specs.Reset.{Setup}
 use Rattle.w4_defs.specs.Run.{run}
 use Rattle.w4_house.specs.World.{World, Appends}
-use Rattle.w4_program.specs.Texts.{picture, state_text}
+use Rattle.w4_program.specs.declared.place_text.PlaceText.TheVariants.{Image}
+use Rattle.w4_program.specs.Texts.{place_text, state_text}
 use Rattle.w4_program.proofs.OwesLaws.{Owes, owes_less}
-use Rattle.w4_program.specs.Answering.{Answered, no_frame, refused, answer, answer_set, answer_show, answer_state, answers}
+use Rattle.w4_program.specs.Answering.{no_frame}
+use Rattle.w4_program.specs.BuiltOrders.{BuiltAnswer, refused, built_answer, answer_set, answer_show, answer_state, built_answers}
 
 -- what a list of orders gives past its end
 abbrev pub past_end : Order
@@ -21,14 +23,14 @@ past_end = Set 0 (record { pads = []; mouse_x = pos 0; mouse_y = pos 0; buttons 
 answers-step : (setup : Setup) (disk : List ℕ) (items next : List Input) (orders : List Order) (i : ℕ)
     (d : Order)
     → i < length orders
-    → next ≡ (answer setup disk items (get_or orders i d)).inputs
-    → answers setup disk items (drop i orders)
+    → next ≡ (built_answer setup disk items (get_or orders i d)).inputs
+    → built_answers setup disk items (drop i orders)
     ≡ record {
-      out = (answer setup disk items (get_or orders i d)).out
-          ++ (answers setup disk next (drop (i + 1) orders)).out;
-      inputs = (answers setup disk next (drop (i + 1) orders)).inputs;
+      out = (built_answer setup disk items (get_or orders i d)).out
+          ++ (built_answers setup disk next (drop (i + 1) orders)).out;
+      inputs = (built_answers setup disk next (drop (i + 1) orders)).inputs;
     }
-unfolding answers
+unfolding built_answers
 answers-step setup disk items next orders i d lt e =
     let first : drop i orders ≡ get_or orders i d ∷ drop (i + 1) orders =
     rw (add-one i) (drop-cons orders i d lt) in
@@ -37,29 +39,35 @@ answers-step setup disk items next orders i d lt e =
 pub answers-out-step : (first now after : World) (setup : Setup) (disk : List ℕ) (items next : List Input)
     (orders : List Order) (i : ℕ) (d : Order) (whole : List ℕ)
     → i < length orders
-    → next ≡ (answer setup disk items (get_or orders i d)).inputs
-    → Appends now.out after.out (answer setup disk items (get_or orders i d)).out
-    → Owes first now (answers setup disk items (drop i orders)).out whole
-    → Owes first after (answers setup disk next (drop (i + 1) orders)).out whole
+    → next ≡ (built_answer setup disk items (get_or orders i d)).inputs
+    → Appends now.out after.out (built_answer setup disk items (get_or orders i d)).out
+    → Owes first now (built_answers setup disk items (drop i orders)).out whole
+    → Owes first after (built_answers setup disk next (drop (i + 1) orders)).out whole
 answers-out-step first now after setup disk items next orders i d whole lt e more so_far =
-    owes_less first now after (answer setup disk items (get_or orders i d)).out
-    (answers setup disk next (drop (i + 1) orders)).out whole more
-    (subst (λ (a : Answered). Owes first now a.out whole)
+    owes_less first now after (built_answer setup disk items (get_or orders i d)).out
+    (built_answers setup disk next (drop (i + 1) orders)).out whole more
+    (subst (λ (a : BuiltAnswer). Owes first now a.out whole)
     (answers-step setup disk items next orders i d lt e) so_far)
 
 pub answers-inputs-step : (setup : Setup) (disk : List ℕ) (items next : List Input) (orders : List Order)
     (i : ℕ) (d : Order) (whole : List Input)
     → i < length orders
-    → next ≡ (answer setup disk items (get_or orders i d)).inputs
-    → (answers setup disk items (drop i orders)).inputs ≡ whole
-    → (answers setup disk next (drop (i + 1) orders)).inputs ≡ whole
+    → next ≡ (built_answer setup disk items (get_or orders i d)).inputs
+    → (built_answers setup disk items (drop i orders)).inputs ≡ whole
+    → (built_answers setup disk next (drop (i + 1) orders)).inputs ≡ whole
 answers-inputs-step setup disk items next orders i d whole lt e so_far =
-    sym (ap (λ (a : Answered). a.inputs) (answers-step setup disk items next orders i d lt e)) ∙ so_far
+    sym (ap (λ (a : BuiltAnswer). a.inputs) (answers-step setup disk items next orders i d lt e)) ∙ so_far
 
 pub answers-end : (setup : Setup) (disk : List ℕ) (items : List Input) (orders : List Order) (i : ℕ)
-    → length orders ≤ i → answers setup disk items (drop i orders) ≡ record { out = []; inputs = items }
-unfolding answers
+    → length orders ≤ i → built_answers setup disk items (drop i orders) ≡ record { out = []; inputs = items }
+unfolding built_answers
 answers-end setup disk items orders i le = rw (drop_of_length-le orders le) refl
+
+pub answers-inputs-end : (setup : Setup) (disk : List ℕ) (items : List Input) (orders : List Order) (i : ℕ)
+    (whole : List Input)
+    → length orders ≤ i → (built_answers setup disk items (drop i orders)).inputs ≡ whole → items ≡ whole
+answers-inputs-end setup disk items orders i whole le so_far =
+    sym (ap (λ (a : BuiltAnswer). a.inputs) (answers-end setup disk items orders i le)) ∙ so_far
 
 pub answer_set-past : (inputs : List Input) (k : ℕ) (input : Input) → length inputs ≤ k
     → (answer_set inputs k input).out ≡ no_frame
@@ -72,7 +80,7 @@ unfolding answer_show
 answer_show-past setup disk inputs p lt = rw (lt-leb p (length inputs) lt) refl
 
 pub answer_show-within : (setup : Setup) (disk : List ℕ) (inputs : List Input) (p : ℕ) → p ≤ length inputs
-    → (answer_show setup disk inputs p).out ≡ picture (run setup disk inputs p)
+    → (answer_show setup disk inputs p).out ≡ place_text Image p (run setup disk inputs p)
 unfolding answer_show
 answer_show-within setup disk inputs p le = rw (le-leb p (length inputs) le) refl
 
@@ -83,7 +91,7 @@ unfolding answer_show
 answer_show-inputs setup disk inputs p =
     elim (leb p (length inputs)) as
     (λ b. inputs
-    ≡ (cond b (record { out = picture (run setup disk inputs p); inputs = inputs })
+    ≡ (cond b (record { out = place_text Image p (run setup disk inputs p); inputs = inputs })
     (refused inputs)).inputs)
     [ true ↦ refl | false ↦ refl ]
 
@@ -93,7 +101,7 @@ unfolding answer_state
 answer_state-past setup disk inputs p lt = rw (lt-leb p (length inputs) lt) refl
 
 pub answer_state-within : (setup : Setup) (disk : List ℕ) (inputs : List Input) (p : ℕ) → p ≤ length inputs
-    → (answer_state setup disk inputs p).out ≡ state_text p (length inputs) (run setup disk inputs p)
+    → (answer_state setup disk inputs p).out ≡ state_text p (length inputs) (run setup disk inputs p) (0 ∷ [])
 unfolding answer_state
 answer_state-within setup disk inputs p le = rw (le-leb p (length inputs) le) refl
 
@@ -105,7 +113,7 @@ answer_state-inputs setup disk inputs p =
     elim (leb p (length inputs)) as
     (λ b. inputs
     ≡ (cond b
-    (record { out = state_text p (length inputs) (run setup disk inputs p); inputs = inputs })
+    (record { out = state_text p (length inputs) (run setup disk inputs p) (0 ∷ []); inputs = inputs })
     (refused inputs)).inputs)
     [ true ↦ refl | false ↦ refl ]
 

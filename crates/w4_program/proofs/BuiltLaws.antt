@@ -3,7 +3,7 @@ use Rattle.std.proofs.Common.{◌≡◌, ℕ, ◌+◌, ◌<◌, ◌≤◌, Bool,
 use Rattle.std.specs.List.{list_all}
 use Rattle.std.proofs.Math.ListN.{drop_of_length-le}
 use Rattle.w4_defs.specs.declared.order.Order.{Order}
-use Rattle.w4_program.specs.Output.{is_built}
+use Rattle.w4_program.specs.BuiltOrders.{is_built}
 
 -- the first order, and the others
 built-first : (orders : List Order) (i : ℕ) (d : Order) → i < length orders

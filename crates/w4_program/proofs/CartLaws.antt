@@ -6,7 +6,9 @@ use Rattle.sha2.specs.Sha256.{sha256}
 use Rattle.w4_defs.specs.Cart.{IsCart, IsRefused}
 use Rattle.w4_console.specs.Meaning.{RunsHaveMeaning, AcceptedRunsHaveMeaning}
 use Rattle.w4_house.specs.World.{Files, World}
-use Rattle.w4_program.specs.Refusals.{Refusal, CartRefused, Manner, Finished, Formless, ReadFailed, WriteFailed, NoMemory, Refused}
+use Rattle.w4_program.specs.declared.status.Status.{Status}
+use Rattle.w4_program.specs.declared.status.Status.TheVariants.{CartRefused}
+use Rattle.w4_program.specs.Endings.{Manner, AllWritten, NoCommand, ReadFailed, WriteFailed, NoMemory, Refused}
 use Rattle.w4_program.specs.Output.{CartFile, JudgedCart, CartIn, reading}
 use Rattle.w4_program.specs.CartRuns.{CartRunsHaveMeaning}
 use Rattle.w4_program.specs.Causes.{ResultsIn, Refuses, Stops}
@@ -14,8 +16,8 @@ use Rattle.w4_program.specs.Causes.{ResultsIn, Refuses, Stops}
 pub cart_unread : (old new : World) (why : Manner) (name : List ℕ)
     → Stops old new why (ResultsIn (λ files. reading files name 65537))
     → Stops old new why (λ files cart. CartIn name files cart)
-cart_unread old new Finished name h = h
-cart_unread old new Formless name h = h
+cart_unread old new AllWritten name h = h
+cart_unread old new NoCommand name h = h
 cart_unread old new ReadFailed name (inl rise) = inl rise
 cart_unread old new ReadFailed name (inr (files, texts, none)) = inr (files, texts, rw none refl)
 cart_unread old new WriteFailed name h = h
@@ -33,12 +35,12 @@ pub cart_refused : (old : World) (name bytes : List ℕ) (kind : CartKind)
     → Refuses old (CartRefused kind) (λ files cart. CartIn name files cart)
 cart_refused old name bytes kind given refused = λ files texts. rw (given files texts) refused
 
-not_both : (cart : CartFile) (refusal : Refusal) (found : Result CartFile Refusal) → found ≡ Ok cart
+not_both : (cart : CartFile) (refusal : Status) (found : Result CartFile Status) → found ≡ Ok cart
     → found ≡ Err refusal → ⊥
 not_both cart refusal found one other = cc
 
 judged_cart_runs : AcceptedRunsHaveMeaning
-    → (found : Result (List ℕ) Refusal) (cart : CartFile) → JudgedCart found (Ok cart)
+    → (found : Result (List ℕ) Status) (cart : CartFile) → JudgedCart found (Ok cart)
     → RunsHaveMeaning cart.code
 judged_cart_runs law (Err refusal) cart judged = absurd (not_both cart refusal (Ok cart) refl judged)
 judged_cart_runs law (Ok bytes) cart judged = law bytes cart.code judged.0

@@ -6,7 +6,7 @@ use Rattle.w4_house.specs.World.{Files, World, Rises, LeavesReading, LeavesPrint
 use Rattle.w4_house.proofs.WorldLaws.{rises_later}
 use Rattle.w4_program.specs.declared.status.Status.{Status}
 use Rattle.w4_program.specs.declared.status.Status.TheVariants as status
-use Rattle.w4_program.specs.Refusals.{Refusal, NoFile, Manner, Finished, Formless, ReadFailed, WriteFailed, NoMemory, Refused, manner_of}
+use Rattle.w4_program.specs.Endings.{Manner, AllWritten, NoCommand, ReadFailed, WriteFailed, NoMemory, Refused, manner_of}
 use Rattle.w4_program.specs.Forms.{EditWords}
 use Rattle.w4_program.specs.Output.{◌>>=◌, CartFile, Output, Loaded, edit_files, edit_answers, edited_recording, only_printed, edit_result, edit_output, CartIn, OverCart}
 use Rattle.w4_program.specs.Causes.{ResultsIn, ReadFails, Stops, StopsWriting, LeavesOutputs, Writes, Ends, Carries, Prints}
@@ -15,8 +15,8 @@ use Rattle.w4_program.proofs.StepLaws.{stops_first}
 -- a write that stopped after other writes
 pub stops_writing_later : (first second third : World) (why : Manner)
     → first.write_faults ≤ second.write_faults → StopsWriting second third why → StopsWriting first third why
-stops_writing_later first second third Finished le h = h
-stops_writing_later first second third Formless le h = h
+stops_writing_later first second third AllWritten le h = h
+stops_writing_later first second third NoCommand le h = h
 stops_writing_later first second third ReadFailed le h = h
 stops_writing_later first second third WriteFailed le h =
     rises_later first.write_faults second.write_faults third.write_faults le h
@@ -25,8 +25,8 @@ stops_writing_later first second third (Refused refusal) le h = h
 
 pub carries_stopped : (old new : World) (why : Manner) (out name bytes : List ℕ) → StopsWriting old new why
     → Carries old new why out name bytes
-carries_stopped old new Finished out name bytes h = absurd h
-carries_stopped old new Formless out name bytes h = h
+carries_stopped old new AllWritten out name bytes h = absurd h
+carries_stopped old new NoCommand out name bytes h = h
 carries_stopped old new ReadFailed out name bytes h = h
 carries_stopped old new WriteFailed out name bytes h = h
 carries_stopped old new NoMemory out name bytes h = tt
@@ -34,15 +34,15 @@ carries_stopped old new (Refused refusal) out name bytes h = h
 
 pub prints_stopped : (old new : World) (why : Manner) (out : List ℕ) → StopsWriting old new why
     → Prints old new why out
-prints_stopped old new Finished out h = absurd h
-prints_stopped old new Formless out h = h
+prints_stopped old new AllWritten out h = absurd h
+prints_stopped old new NoCommand out h = h
 prints_stopped old new ReadFailed out h = h
 prints_stopped old new WriteFailed out h = h
 prints_stopped old new NoMemory out h = tt
 prints_stopped old new (Refused refusal) out h = h
 
 -- only words are refused as such
-pub stops_formed : {Y : Type 0} (old new : World) (why : Status) (step : Files → Result Y Refusal → Type 0)
+pub stops_formed : {Y : Type 0} (old new : World) (why : Status) (step : Files → Result Y Status → Type 0)
     → Stops old new (manner_of why) step → why ≡ status.Usage → ⊥
 stops_formed old new why step h e = subst (λ s. Stops old new (manner_of s) step) e h
 
@@ -56,15 +56,15 @@ prints_formed old new why out h e = subst (λ s. Prints old new (manner_of s) ou
 
 -- the cart wasn't read or is none
 pub ends_unjudged : (old new : World) (why : Manner) (name : List ℕ)
-    (make : CartFile → Files → Result Output Refusal)
+    (make : CartFile → Files → Result Output Status)
     → LeavesReading old new
     → Stops old new why (λ files cart. CartIn name files cart)
     → Ends old new why (λ files made. OverCart name make files made)
-ends_unjudged old new Finished name make leaves h = absurd h
-ends_unjudged old new Formless name make leaves h = absurd h
+ends_unjudged old new AllWritten name make leaves h = absurd h
+ends_unjudged old new NoCommand name make leaves h = absurd h
 ends_unjudged old new ReadFailed name make leaves (inl rise) = (inl rise, (leaves.out, leaves.files))
 ends_unjudged old new ReadFailed name make leaves (inr (files, texts, none)) =
-    (inr (files, texts, (Err NoFile, none, refl)), (leaves.out, leaves.files))
+    (inr (files, texts, (Err status.ReadFault, none, refl)), (leaves.out, leaves.files))
 ends_unjudged old new WriteFailed name make leaves h = absurd h
 ends_unjudged old new NoMemory name make leaves h = tt
 ends_unjudged old new (Refused refusal) name make leaves h =
@@ -72,15 +72,15 @@ ends_unjudged old new (Refused refusal) name make leaves h =
 
 -- the cart was judged, and the rest ended so
 pub ends_judged : (first second third : World) (why : Manner) (name : List ℕ) (cart : CartFile)
-    (make : CartFile → Files → Result Output Refusal)
+    (make : CartFile → Files → Result Output Status)
     → LeavesReading first second
     → ForSome first.files (λ files. CartIn name files (Ok cart))
     → Ends second third why (ResultsIn (λ files. make cart files))
     → Ends first third why (λ files made. OverCart name make files made)
-ends_judged first second third Finished name cart make leaves given h = λ files texts.
+ends_judged first second third AllWritten name cart make leaves given h = λ files texts.
     let made = h files (leaves.files ∙ texts) in
     (made.0, (Ok cart, given files texts, made.1), ((λ before t. made.2.0 before (leaves.out ∙ t)), made.2.1))
-ends_judged first second third Formless name cart make leaves given h = (
+ends_judged first second third NoCommand name cart make leaves given h = (
   (λ files texts. (Ok cart, given files texts, h.0 files (leaves.files ∙ texts))),
   (h.1.0 ∙ leaves.out, h.1.1 ∙ leaves.files),
 )
@@ -94,7 +94,8 @@ ends_judged first second third ReadFailed name cart make leaves given (inr (file
 )
 ends_judged first second third WriteFailed name cart make leaves given h = (
   subst (λ n. Rises n third.write_faults) leaves.writes h.0,
-  λ files texts. let made = h.1 files (leaves.files ∙ texts) in (made.0, (Ok cart, given files texts, made.1)),
+  λ files texts. let made = h.1 files (leaves.files ∙ texts) in
+      (made.0, (Ok cart, given files texts, made.1)),
 )
 ends_judged first second third NoMemory name cart make leaves given h = tt
 ends_judged first second third (Refused refusal) name cart make leaves given h = (
@@ -103,12 +104,13 @@ ends_judged first second third (Refused refusal) name cart make leaves given h =
 )
 
 -- what was to be read wasn't right
-pub ends_untold : {G : Type 0} (old new : World) (why : Manner) (step : Files → Result G Refusal)
+pub ends_untold : {G : Type 0} (old new : World) (why : Manner) (step : Files → Result G Status)
     (make : Files → G → Output)
     → LeavesReading old new
-    → Stops old new why (ResultsIn step) → Ends old new why (ResultsIn (λ files. step files >>= λ g. Ok (make files g)))
-ends_untold old new Finished step make leaves h = absurd h
-ends_untold old new Formless step make leaves h = absurd h
+    → Stops old new why (ResultsIn step)
+    → Ends old new why (ResultsIn (λ files. step files >>= λ g. Ok (make files g)))
+ends_untold old new AllWritten step make leaves h = absurd h
+ends_untold old new NoCommand step make leaves h = absurd h
 ends_untold old new ReadFailed step make leaves h =
     (stops_first old new ReadFailed step (λ files g. Ok (make files g)) h, (leaves.out, leaves.files))
 ends_untold old new WriteFailed step make leaves h = absurd h
@@ -120,25 +122,25 @@ ends_untold old new (Refused refusal) step make leaves h =
 pub ends_printed : (old new : World) (why : Manner) (out : List ℕ) → new.files ≡ old.files
     → Prints old new why out
     → Ends old new why (ResultsIn (λ files. Ok (only_printed out files)))
-ends_printed old new Finished out same h = λ files texts. (only_printed out files, refl, (h, same ∙ texts))
-ends_printed old new Formless out same h = absurd h
+ends_printed old new AllWritten out same h = λ files texts. (only_printed out files, refl, (h, same ∙ texts))
+ends_printed old new NoCommand out same h = absurd h
 ends_printed old new ReadFailed out same h = absurd h
 ends_printed old new WriteFailed out same h = (h, λ files texts. (only_printed out files, refl))
 ends_printed old new NoMemory out same h = tt
 ends_printed old new (Refused refusal) out same h = absurd h
 
-pub ends_texts : {G : Type 0} (first second third : World) (why : Manner) (step : Files → Result G Refusal)
+pub ends_texts : {G : Type 0} (first second third : World) (why : Manner) (step : Files → Result G Status)
     (g : G) (out : G → List ℕ)
     → LeavesReading first second
     → LeavesPrinting second third → ForSome first.files (λ files. step files ≡ Ok g)
     → Prints second third why (out g)
     → Ends first third why (ResultsIn (λ files. step files >>= λ g. Ok (only_printed (out g) files)))
-ends_texts first second third Finished step g out leaves rest given h = λ files texts. (
+ends_texts first second third AllWritten step g out leaves rest given h = λ files texts. (
   only_printed (out g) files,
   rw (given files texts) refl,
   ((λ before t. h before (leaves.out ∙ t)), rest.files ∙ (leaves.files ∙ texts)),
 )
-ends_texts first second third Formless step g out leaves rest given h = absurd h
+ends_texts first second third NoCommand step g out leaves rest given h = absurd h
 ends_texts first second third ReadFailed step g out leaves rest given h = absurd h
 ends_texts first second third WriteFailed step g out leaves rest given h = (
   subst (λ n. Rises n third.write_faults) leaves.writes h,
@@ -152,15 +154,16 @@ pub ends_carried : (first second third : World) (why : Manner) (words : EditWord
     (l : Loaded)
     → LeavesReading first second
     → ForSome first.files (λ files. edit_files cart.digest words files ≡ Ok l)
-    → Carries second third why (edit_answers cart.code l).out words.out (encoding 2 (edited_recording cart.code l))
+    → Carries second third why (edit_answers cart.code l).out words.out
+    (encoding 2 (edited_recording cart.code l))
     → Ends first third why (ResultsIn (λ files. edit_output words cart files))
 unfolding edit_output
-ends_carried first second third Finished words cart l leaves given h = λ files texts. (
+ends_carried first second third AllWritten words cart l leaves given h = λ files texts. (
   edit_result cart.code l words.out files,
   rw (given files texts) refl,
   ((λ before t. h.0 before (leaves.out ∙ t)), h.1 files (leaves.files ∙ texts)),
 )
-ends_carried first second third Formless words cart l leaves given h = absurd h
+ends_carried first second third NoCommand words cart l leaves given h = absurd h
 ends_carried first second third ReadFailed words cart l leaves given h = absurd h
 ends_carried first second third WriteFailed words cart l leaves given h = (
   subst (λ n. Rises n third.write_faults) leaves.writes h,
@@ -174,21 +177,22 @@ writes_reported : (old mid new : World) (made : Output) → LeavesReporting mid 
 writes_reported old mid new made leaves h =
     ((λ before texts. leaves.out ∙ h.0 before texts), leaves.files ∙ h.1)
 
-untouched_reported : (old mid new : World) → LeavesReporting mid new → LeavesOutputs old mid → LeavesOutputs old new
+untouched_reported : (old mid new : World) → LeavesReporting mid new → LeavesOutputs old mid
+    → LeavesOutputs old new
 untouched_reported old mid new leaves h = (leaves.out ∙ h.0, leaves.files ∙ h.1)
 
-read_fails_reported : (old mid new : World) (step : Files → Result Output Refusal → Type 0)
+read_fails_reported : (old mid new : World) (step : Files → Result Output Status → Type 0)
     → LeavesReporting mid new → ReadFails old mid step → ReadFails old new step
 read_fails_reported old mid new step leaves (inl rise) =
     inl (subst (λ n. Rises old.read_faults n) (sym leaves.reads) rise)
 read_fails_reported old mid new step leaves (inr absent) = inr absent
 
-ends_kept : (old mid new : World) (why : Manner) (step : Files → Result Output Refusal → Type 0)
+ends_kept : (old mid new : World) (why : Manner) (step : Files → Result Output Status → Type 0)
     → LeavesReporting mid new → Ends old mid why step → Ends old new why step
-ends_kept old mid new Finished step leaves h =
+ends_kept old mid new AllWritten step leaves h =
     λ files texts. let made = h files texts in
     (made.0, made.1, writes_reported old mid new made.0 leaves made.2)
-ends_kept old mid new Formless step leaves h = (h.0, untouched_reported old mid new leaves h.1)
+ends_kept old mid new NoCommand step leaves h = (h.0, untouched_reported old mid new leaves h.1)
 ends_kept old mid new ReadFailed step leaves h =
     (read_fails_reported old mid new step leaves h.0, untouched_reported old mid new leaves h.1)
 ends_kept old mid new WriteFailed step leaves h =
@@ -197,7 +201,7 @@ ends_kept old mid new NoMemory step leaves h = tt
 ends_kept old mid new (Refused refusal) step leaves h = (h.0, untouched_reported old mid new leaves h.1)
 
 -- after the report, too
-pub ends_reported : (old mid new : World) (why result : Status) (step : Files → Result Output Refusal → Type 0)
+pub ends_reported : (old mid new : World) (why result : Status) (step : Files → Result Output Status → Type 0)
     → LeavesReporting mid new → (result ≡ why) ⊎ (result ≡ status.OutOfMemory)
     → Ends old mid (manner_of why) step → Ends old new (manner_of result) step
 ends_reported old mid new why result step leaves (inl e) h =

@@ -10,7 +10,8 @@ use Rattle.w4_defs.specs.Validity.{IsFirstUntyped, IsValid}
 use Rattle.w4_defs.specs.Cart.{IsInvalid, IsCart, IsRefused}
 use Rattle.wasm_read.specs.Unique.{AtMostOneModule}
 use Rattle.w4_house.specs.World.{Files}
-use Rattle.w4_program.specs.Refusals.{Refusal, Usage, NoFile, CartRefused, RecordingRefused, FontRefused, ScriptRefused, FrameRefused, NotBuilt}
+use Rattle.w4_program.specs.declared.status.Status.{Status}
+use Rattle.w4_program.specs.declared.status.Status.TheVariants.{Done, Usage, ReadFault, WriteFault, OutOfMemory, CartRefused, RecordingRefused, FontRefused, ScriptRefused, FrameRefused, NotBuilt}
 use Rattle.w4_program.specs.Forms.{Form, form_of}
 use Rattle.w4_program.specs.Output.{CartFile, Output, ◌>>=◌, JudgedCart, OverFile, OutputsForm, cart_word, output_of}
 use Rattle.w4_program.specs.OneOutput.{AtMostOneOutput}
@@ -41,7 +42,7 @@ no_profile : (found : Option ProfileRefusal) (r : ProfileRefusal) → found ≡ 
 no_profile found r none some = cc
 
 -- no bytes are both
-never_both : AtMostOneModule → (bytes : List ℕ) (m : WasmModule) (kind : CartKind) → IsCart bytes m
+pub never_both : AtMostOneModule → (bytes : List ℕ) (m : WasmModule) (kind : CartKind) → IsCart bytes m
     → IsRefused bytes kind → ⊥
 never_both unique bytes m TooLarge cart refused = let short = cart.0 in omega arith
 never_both unique bytes m Malformed cart refused = refused.1 m cart.1
@@ -90,7 +91,7 @@ same_cart cart other code digest =
     ap (λ (m : WasmModule). record { code = m; digest = cart.digest }) code
     ∙ ap (λ (d : List ℕ). record { code = other.code; digest = d }) digest
 
-judged_once : AtMostOneModule → (found : Result (List ℕ) Refusal) (cart other : Result CartFile Refusal)
+judged_once : AtMostOneModule → (found : Result (List ℕ) Status) (cart other : Result CartFile Status)
     → JudgedCart found cart → JudgedCart found other → cart ≡ other
 judged_once unique (Err refusal) cart other one two = one ∙ sym two
 judged_once unique (Ok bytes) (Ok cart) (Ok other) one two =
@@ -99,7 +100,10 @@ judged_once unique (Ok bytes) (Ok cart) (Ok other) one two =
 judged_once unique (Ok bytes) (Ok cart) (Err (CartRefused l)) one two =
     absurd (never_both unique bytes cart.code l one.0 two)
 judged_once unique (Ok bytes) (Ok cart) (Err Usage) one two = absurd two
-judged_once unique (Ok bytes) (Ok cart) (Err NoFile) one two = absurd two
+judged_once unique (Ok bytes) (Ok cart) (Err Done) one two = absurd two
+judged_once unique (Ok bytes) (Ok cart) (Err WriteFault) one two = absurd two
+judged_once unique (Ok bytes) (Ok cart) (Err OutOfMemory) one two = absurd two
+judged_once unique (Ok bytes) (Ok cart) (Err ReadFault) one two = absurd two
 judged_once unique (Ok bytes) (Ok cart) (Err (RecordingRefused kind)) one two = absurd two
 judged_once unique (Ok bytes) (Ok cart) (Err FontRefused) one two = absurd two
 judged_once unique (Ok bytes) (Ok cart) (Err (ScriptRefused kind)) one two = absurd two
@@ -110,36 +114,41 @@ judged_once unique (Ok bytes) (Err (CartRefused k)) (Ok cart) one two =
 judged_once unique (Ok bytes) (Err (CartRefused k)) (Err (CartRefused l)) one two =
     ap (λ kind. Err (CartRefused kind)) (refused_once unique bytes k l one two)
 judged_once unique (Ok bytes) (Err (CartRefused k)) (Err Usage) one two = absurd two
-judged_once unique (Ok bytes) (Err (CartRefused k)) (Err NoFile) one two = absurd two
+judged_once unique (Ok bytes) (Err (CartRefused k)) (Err Done) one two = absurd two
+judged_once unique (Ok bytes) (Err (CartRefused k)) (Err WriteFault) one two = absurd two
+judged_once unique (Ok bytes) (Err (CartRefused k)) (Err OutOfMemory) one two = absurd two
+judged_once unique (Ok bytes) (Err (CartRefused k)) (Err ReadFault) one two = absurd two
 judged_once unique (Ok bytes) (Err (CartRefused k)) (Err (RecordingRefused kind)) one two = absurd two
 judged_once unique (Ok bytes) (Err (CartRefused k)) (Err FontRefused) one two = absurd two
 judged_once unique (Ok bytes) (Err (CartRefused k)) (Err (ScriptRefused kind)) one two = absurd two
 judged_once unique (Ok bytes) (Err (CartRefused k)) (Err (FrameRefused number n)) one two = absurd two
 judged_once unique (Ok bytes) (Err (CartRefused k)) (Err NotBuilt) one two = absurd two
 judged_once unique (Ok bytes) (Err Usage) other one two = absurd one
-judged_once unique (Ok bytes) (Err NoFile) other one two = absurd one
+judged_once unique (Ok bytes) (Err Done) other one two = absurd one
+judged_once unique (Ok bytes) (Err WriteFault) other one two = absurd one
+judged_once unique (Ok bytes) (Err OutOfMemory) other one two = absurd one
+judged_once unique (Ok bytes) (Err ReadFault) other one two = absurd one
 judged_once unique (Ok bytes) (Err (RecordingRefused kind)) other one two = absurd one
 judged_once unique (Ok bytes) (Err FontRefused) other one two = absurd one
 judged_once unique (Ok bytes) (Err (ScriptRefused kind)) other one two = absurd one
 judged_once unique (Ok bytes) (Err (FrameRefused number n)) other one two = absurd one
 judged_once unique (Ok bytes) (Err NotBuilt) other one two = absurd one
 
-over_once : AtMostOneModule
-    → (word : Option (List ℕ)) (make : CartFile → Files → Result Output Refusal) (files : Files)
-    (made other : Result Output Refusal)
-    → OverFile word make files made → OverFile word make files other → made ≡ other
-over_once unique None make files made other one two = one ∙ sym two
-over_once unique (Some name) make files made other (cart, judged, e) (again, rejudged, d) =
+over_once : AtMostOneModule → (word : Option (List ℕ)) (form : Form) (files : Files)
+    (made other : Result Output Status)
+    → OverFile word form files made → OverFile word form files other → made ≡ other
+over_once unique None form files made other one two = sym one ∙ two
+over_once unique (Some name) form files made other (cart, judged, e) (again, rejudged, d) =
     sym e
-    ∙ ap (λ (c : Result CartFile Refusal). c >>= λ x. make x files)
+    ∙ ap (λ (c : Result CartFile Status). c >>= λ x. output_of form x files)
     (judged_once unique _ cart again judged rejudged)
     ∙ d
 
-form_once : AtMostOneModule → (form : Option Form) (files : Files) (made other : Result Output Refusal)
+form_once : AtMostOneModule → (form : Option Form) (files : Files) (made other : Result Output Status)
     → OutputsForm form files made → OutputsForm form files other → made ≡ other
 form_once unique None files made other one two = one ∙ sym two
 form_once unique (Some form) files made other one two =
-    over_once unique (cart_word form) (output_of form) files made other one two
+    over_once unique (cart_word form) form files made other one two
 
 pub one_output : AtMostOneModule → AtMostOneOutput
 one_output unique words files made other one two = form_once unique (form_of words) files made other one two

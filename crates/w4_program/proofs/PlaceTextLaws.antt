@@ -19,7 +19,8 @@ texts-begins first now text written from to le h e =
     (ap (λ bytes. bytes ++ place_texts text (from + 1) (to - from)) (sym e)
     ∙ sym (texts-first text from to le))
 
-pub texts-goes_on : (first now next : World) (text : ℕ → List ℕ) (written whole : List ℕ) (at to : ℕ) → at < to
+pub texts-goes_on : (first now next : World) (text : ℕ → List ℕ) (written whole : List ℕ) (at to : ℕ)
+    → at < to
     → Appends now.out next.out written → text (at + 1) ≡ written
     → Owes first now (place_texts text (at + 1) (to - at)) whole
     → Owes first next (place_texts text (at + 1 + 1) (to - (at + 1))) whole

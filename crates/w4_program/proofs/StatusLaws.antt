@@ -7,11 +7,11 @@ use Rattle.w4_program.specs.declared.status.RecordingKind.{RecordingKind}
 use Rattle.w4_program.specs.declared.status.ScriptKind.{ScriptKind}
 use Rattle.w4_program.specs.declared.status.Status.{Status}
 use Rattle.w4_program.specs.declared.status.Status.TheVariants as status
-use Rattle.w4_program.specs.Refusals.{Refusal, Usage, NoFile, CartRefused, RecordingRefused, FontRefused, ScriptRefused, FrameRefused, NotBuilt, manner_of}
+use Rattle.w4_program.specs.Endings.{manner_of}
 use Rattle.w4_program.specs.Output.{Output}
 use Rattle.w4_program.specs.Causes.{ReadFails, Refuses, LeavesOutputs, Ends, IsExact, IsRefusal, Reports, LeavesErr}
 
-pub done : (old new : World) (result : Status) (step : Files → Result Output Refusal → Type 0)
+pub done : (old new : World) (result : Status) (step : Files → Result Output Status → Type 0)
     (Means : Files → Type 0)
     → Ends old new (manner_of result) step → ((files : Files) → Means files) → result ≡ status.Done
     → ForSome old.files
@@ -21,46 +21,47 @@ done old new result step Means h means e = λ files texts.
     let made = subst (λ s. Ends old new (manner_of s) step) e h files texts in
     (made.0, made.1, made.2.0, made.2.1, means files)
 
-pub write_fault : (old new : World) (result : Status) (step : Files → Result Output Refusal → Type 0)
+pub write_fault : (old new : World) (result : Status) (step : Files → Result Output Status → Type 0)
     → Ends old new (manner_of result) step → result ≡ status.WriteFault
     → Rises old.write_faults new.write_faults
     × ForSome old.files (λ files. (made : Output) × step files (Ok made))
 write_fault old new result step h e = subst (λ s. Ends old new (manner_of s) step) e h
 
-pub read_fault : (old new : World) (result : Status) (step : Files → Result Output Refusal → Type 0)
+pub read_fault : (old new : World) (result : Status) (step : Files → Result Output Status → Type 0)
     → Ends old new (manner_of result) step → result ≡ status.ReadFault → ReadFails old new step
 read_fault old new result step h e = (subst (λ s. Ends old new (manner_of s) step) e h).0
 
-pub cart_refused : (old new : World) (result : Status) (step : Files → Result Output Refusal → Type 0)
+pub cart_refused : (old new : World) (result : Status) (step : Files → Result Output Status → Type 0)
     → Ends old new (manner_of result) step
-    → (kind : CartKind) → result ≡ status.CartRefused kind → Refuses old (CartRefused kind) step
+    → (kind : CartKind) → result ≡ status.CartRefused kind → Refuses old (status.CartRefused kind) step
 cart_refused old new result step h kind e = (subst (λ s. Ends old new (manner_of s) step) e h).0
 
-pub recording_refused : (old new : World) (result : Status) (step : Files → Result Output Refusal → Type 0)
+pub recording_refused : (old new : World) (result : Status) (step : Files → Result Output Status → Type 0)
     → Ends old new (manner_of result) step
-    → (kind : RecordingKind) → result ≡ status.RecordingRefused kind → Refuses old (RecordingRefused kind) step
+    → (kind : RecordingKind) → result ≡ status.RecordingRefused kind
+    → Refuses old (status.RecordingRefused kind) step
 recording_refused old new result step h kind e = (subst (λ s. Ends old new (manner_of s) step) e h).0
 
-pub font_refused : (old new : World) (result : Status) (step : Files → Result Output Refusal → Type 0)
+pub font_refused : (old new : World) (result : Status) (step : Files → Result Output Status → Type 0)
     → Ends old new (manner_of result) step
-    → result ≡ status.FontRefused → Refuses old FontRefused step
+    → result ≡ status.FontRefused → Refuses old status.FontRefused step
 font_refused old new result step h e = (subst (λ s. Ends old new (manner_of s) step) e h).0
 
-pub script_refused : (old new : World) (result : Status) (step : Files → Result Output Refusal → Type 0)
+pub script_refused : (old new : World) (result : Status) (step : Files → Result Output Status → Type 0)
     → Ends old new (manner_of result) step
-    → (kind : ScriptKind) → result ≡ status.ScriptRefused kind → Refuses old (ScriptRefused kind) step
+    → (kind : ScriptKind) → result ≡ status.ScriptRefused kind → Refuses old (status.ScriptRefused kind) step
 script_refused old new result step h kind e = (subst (λ s. Ends old new (manner_of s) step) e h).0
 
-pub frame_refused : (old new : World) (result : Status) (step : Files → Result Output Refusal → Type 0)
+pub frame_refused : (old new : World) (result : Status) (step : Files → Result Output Status → Type 0)
     → Ends old new (manner_of result) step
-    → (number n : ℕ) → result ≡ status.FrameRefused number n → Refuses old (FrameRefused number n) step
+    → (number n : ℕ) → result ≡ status.FrameRefused number n → Refuses old (status.FrameRefused number n) step
 frame_refused old new result step h number n e = (subst (λ s. Ends old new (manner_of s) step) e h).0
 
-pub not_built : (old new : World) (result : Status) (step : Files → Result Output Refusal → Type 0)
-    → Ends old new (manner_of result) step → result ≡ status.NotBuilt → Refuses old NotBuilt step
+pub not_built : (old new : World) (result : Status) (step : Files → Result Output Status → Type 0)
+    → Ends old new (manner_of result) step → result ≡ status.NotBuilt → Refuses old status.NotBuilt step
 not_built old new result step h e = (subst (λ s. Ends old new (manner_of s) step) e h).0
 
-pub refused : (old new : World) (result : Status) (step : Files → Result Output Refusal → Type 0)
+pub refused : (old new : World) (result : Status) (step : Files → Result Output Status → Type 0)
     → Ends old new (manner_of result) step → IsRefusal result → LeavesOutputs old new
 refused old new status.Done step h r = absurd r
 refused old new status.Usage step h r = h.1
@@ -90,33 +91,40 @@ some_is : (a b : Files) → some_files a ≡ some_files b → a ≡ b
 some_is a b e = cc
 
 -- where no count has risen, the status is that of what the step allows, or memory ran out
-pub exact : (old new : World) (result : Status) (step : Files → Result Output Refusal → Type 0)
+pub exact : (old new : World) (result : Status) (step : Files → Result Output Status → Type 0)
     → Ends old new (manner_of result) step
     → ForSome old.files
     (λ files. ¬ Rises old.read_faults new.read_faults → ¬ Rises old.write_faults new.write_faults
     → IsExact result (λ made. step files made))
 exact old new status.Done step h =
     λ files texts reads writes. let made = h files texts in inr (Ok made.0, made.1, refl)
-exact old new status.Usage step h = λ files texts reads writes. inr (Err Usage, h.0 files texts, refl)
+exact old new status.Usage step h = λ files texts reads writes. inr (Err status.Usage, h.0 files texts, refl)
 exact old new (status.CartRefused kind) step h =
-    λ files texts reads writes. inr (Err (CartRefused kind), h.0 files texts, refl)
+    λ files texts reads writes. inr (Err (status.CartRefused kind), h.0 files texts, refl)
 exact old new (status.RecordingRefused kind) step h =
-    λ files texts reads writes. inr (Err (RecordingRefused kind), h.0 files texts, refl)
+    λ files texts reads writes. inr (Err (status.RecordingRefused kind), h.0 files texts, refl)
 exact old new status.FontRefused step h =
-    λ files texts reads writes. inr (Err FontRefused, h.0 files texts, refl)
+    λ files texts reads writes. inr (Err status.FontRefused, h.0 files texts, refl)
 exact old new (status.ScriptRefused kind) step h =
-    λ files texts reads writes. inr (Err (ScriptRefused kind), h.0 files texts, refl)
+    λ files texts reads writes. inr (Err (status.ScriptRefused kind), h.0 files texts, refl)
 exact old new status.ReadFault step (inl rise, same) = λ files texts reads writes. absurd (reads rise)
 exact old new status.ReadFault step (inr (found, known, absent), same) = λ files texts reads writes.
-    inr (Err NoFile, subst (λ fs. step fs (Err NoFile)) (some_is found files (sym known ∙ texts)) absent, refl)
+    inr (
+      Err status.ReadFault,
+      subst (λ fs. step fs (Err status.ReadFault))
+          (some_is found files (sym known ∙ texts)) absent,
+      refl,
+    )
 exact old new status.WriteFault step h = λ files texts reads writes. absurd (writes h.0)
 exact old new status.OutOfMemory step h = λ files texts reads writes. inl refl
 exact old new (status.FrameRefused number n) step h =
-    λ files texts reads writes. inr (Err (FrameRefused number n), h.0 files texts, refl)
-exact old new status.NotBuilt step h = λ files texts reads writes. inr (Err NotBuilt, h.0 files texts, refl)
+    λ files texts reads writes. inr (Err (status.FrameRefused number n), h.0 files texts, refl)
+exact old new status.NotBuilt step h =
+    λ files texts reads writes. inr (Err status.NotBuilt, h.0 files texts, refl)
 
 -- a status that stands, or memory that ran out while it was reported
-pub texts_or_memory : (texts why result : Status) → texts ≡ why → (result ≡ texts) ⊎ (result ≡ status.OutOfMemory)
+pub texts_or_memory : (texts why result : Status) → texts ≡ why → (result ≡ texts)
+    ⊎ (result ≡ status.OutOfMemory)
     → (result ≡ why) ⊎ (result ≡ status.OutOfMemory)
 texts_or_memory texts why result e (inl same) = inl (same ∙ e)
 texts_or_memory texts why result e (inr memory) = inr memory

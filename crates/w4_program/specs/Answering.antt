@@ -1,55 +1,141 @@
--- The answers of a script's orders (project rule). An accepted `set` changes one input and writes nothing. An
--- accepted `show P` writes the image of place P of a run from reset of the inputs as they are then. Input K
--- is there where K is less than the number of inputs, place P where P is at most this number. An accepted
--- `state P` writes the line of the state there, place 0 being the one kept place. A refused order writes
--- `refused no frame` and changes nothing.
-use Rattle.std.specs.Prelude.{ℕ, List, [], ◌∷◌, ◌++◌, length, slice_set, nat_lt, nat_le, codes, if◌then◌else◌}
+-- The answers of a script's orders (project rule). Each answer tells of the recording as the edits so far
+-- leave it, as a run from reset has it: an accepted `show P` writes the image of place P, `film A B W` the
+-- images of places A to B, `disk`, `state`, `tones` and `traces` their texts. An accepted edit, `keep`,
+-- `keep-every`, `drop` or `settle` writes nothing. A refused order writes one line and changes nothing.
+use Rattle.std.specs.Prelude.{◌≡◌, ℕ, ◌+◌, ◌-◌, false, List, [], ◌∷◌, ◌++◌, length, replicate, nat_lt, nat_le, pos, codes, Result, Ok, Err, if◌then◌else◌, refl}
 use Rattle.w4_defs.specs.declared.console.Input.{Input}
+use Rattle.w4_defs.specs.declared.editing.EditRefusal.{EditRefusal}
+use Rattle.w4_defs.specs.declared.editing.EditRefusal.TheVariants as edit
 use Rattle.w4_defs.specs.declared.order.Order.{Order}
-use Rattle.w4_defs.specs.declared.order.Order.TheVariants.{Set, Show, StateAt}
+use Rattle.w4_defs.specs.declared.order.Order.TheVariants as order
+use Rattle.w4_defs.specs.FrameTexts.{line_end}
 use Rattle.w4_defs.specs.Reset.{Setup}
 use Rattle.w4_defs.specs.Run.{run}
-use Rattle.w4_program.specs.Texts.{picture, state_text}
+use Rattle.w4_defs.specs.Session.{Session, places_alone, new_session, set_input, insert_input, delete_input, undo, redo, keep, keep_every, drop_kept}
+use Rattle.w4_program.specs.declared.place_text.PlaceText.{PlaceText}
+use Rattle.w4_program.specs.declared.place_text.PlaceText.TheVariants.{Image, Schedule, Traces, DiskBytes}
+use Rattle.w4_program.specs.Texts.{state_text, place_text, place_texts}
 
--- what was written, and the inputs that are left
+-- what was written, and the session that is left
 pub record Answered : Type 0 where
   pub out : List ℕ
-  pub inputs : List Input
+  pub session : Session ℕ
 
-abbrev pub no_output : List Input → Answered
-no_output inputs = record { out = []; inputs = inputs }
+-- ---- refusals
+
+abbrev pub refused_line : List ℕ → List ℕ
+refused_line words = codes "refused " ++ words ++ line_end
+
+-- nothing is promised of an order for which memory runs out
+abbrev pub refusal_words : EditRefusal → List ℕ
+refusal_words edit.NoFrame = codes "no frame"
+refusal_words edit.FullRecording = codes "full"
+refusal_words edit.NothingToUndo = codes "nothing to undo"
+refusal_words edit.NothingToRedo = codes "nothing to redo"
+refusal_words edit.Kept = codes "kept"
+refusal_words edit.NotKept = codes "not kept"
+refusal_words edit.FullSnapshots = codes "full"
+refusal_words edit.OutOfMemory = []
 
 abbrev pub no_frame : List ℕ
-no_frame = codes "refused no frame" ++ 10 ∷ []
+no_frame = refused_line (refusal_words edit.NoFrame)
 
-abbrev pub refused : List Input → Answered
-refused inputs = record { out = no_frame; inputs = inputs }
+-- a film has at most 600 images
+abbrev pub too_long : List ℕ
+too_long = refused_line (codes "too long")
 
-unfoldable pub answer_set : List Input → ℕ → Input → Answered
-answer_set inputs k input =
-    if nat_lt k (length inputs) then no_output (slice_set inputs k input) else refused inputs
+-- ---- answers
 
-unfoldable pub answer_show : Setup → List ℕ → List Input → ℕ → Answered
-answer_show setup disk inputs p = if nat_le p (length inputs)
-    then record { out = picture (run setup disk inputs p); inputs = inputs }
-    else refused inputs
+-- a change of the session, or the line that refuses it
+abbrev pub answer_change : Session ℕ → Result (Session ℕ) EditRefusal → Answered
+answer_change session (Ok after) = record { out = []; session = after }
+answer_change session (Err refusal) = record { out = refused_line (refusal_words refusal); session = session }
 
-unfoldable pub answer_state : Setup → List ℕ → List Input → ℕ → Answered
-answer_state setup disk inputs p = if nat_le p (length inputs)
-    then record { out = state_text p (length inputs) (run setup disk inputs p); inputs = inputs }
-    else refused inputs
+-- what is told of places up to this one, where the recording has it
+abbrev pub if_place : Session ℕ → ℕ → List ℕ → List ℕ
+if_place session last out = if nat_le last (length session.current.inputs) then out else no_frame
 
--- the answer of one order, over the inputs as they are; one that isn't built is never given, and does nothing
-abbrev pub answer : Setup → List ℕ → List Input → Order → Answered
-answer setup disk inputs (Set k input) = answer_set inputs k input
-answer setup disk inputs (Show p) = answer_show setup disk inputs p
-answer setup disk inputs (StateAt p) = answer_state setup disk inputs p
-answer setup disk inputs order = no_output inputs
+abbrev pub answer_text : Session ℕ → List ℕ → Answered
+answer_text session out = record { out = out; session = session }
+
+-- the text of place P of the recording as it is, and those of places A to B one after another
+abbrev pub one_text : Setup → List ℕ → Session ℕ → PlaceText → ℕ → List ℕ
+one_text setup disk session wanted p = place_text wanted p (run setup disk session.current.inputs p)
+
+abbrev pub range_text : Setup → List ℕ → Session ℕ → PlaceText → ℕ → ℕ → List ℕ
+range_text setup disk session wanted a b = place_texts (one_text setup disk session wanted) a (b + 1 - a)
+
+abbrev pub film_text : Setup → List ℕ → Session ℕ → ℕ → ℕ → List ℕ
+film_text setup disk session a b =
+    if nat_lt 600 (b + 1 - a) then too_long else range_text setup disk session Image a b
+
+-- the line of the state at a place, with the kept places
+abbrev pub state_answer : Setup → List ℕ → Session ℕ → ℕ → List ℕ
+state_answer setup disk session p =
+    state_text p (length session.current.inputs) (run setup disk session.current.inputs p)
+    session.current.kept
+
+-- the answer of one order. How many workers a `film` or `settle` has doesn't matter
+abbrev pub answer : Setup → List ℕ → Session ℕ → Order → Answered
+answer setup disk s (order.Set k input) = answer_change s (set_input places_alone k input s)
+answer setup disk s (order.Insert k input) = answer_change s (insert_input places_alone k input s)
+answer setup disk s (order.Delete k) = answer_change s (delete_input places_alone k s)
+answer setup disk s order.Undo = answer_change s (undo s)
+answer setup disk s order.Redo = answer_change s (redo s)
+answer setup disk s (order.Keep p) = answer_change s (keep places_alone p s)
+answer setup disk s (order.KeepEvery every) = answer_change s (keep_every every s)
+answer setup disk s (order.DropKept p) = answer_change s (drop_kept places_alone p s)
+answer setup disk s (order.Settle workers) = answer_text s []
+answer setup disk s (order.Show p) = answer_text s (if_place s p (one_text setup disk s Image p))
+answer setup disk s (order.Film a b workers) = answer_text s (if_place s b (film_text setup disk s a b))
+answer setup disk s (order.Tones a b) = answer_text s (if_place s b (range_text setup disk s Schedule a b))
+answer setup disk s (order.Traces a b) = answer_text s (if_place s b (range_text setup disk s Traces a b))
+answer setup disk s (order.DiskAt p) = answer_text s (if_place s p (one_text setup disk s DiskBytes p))
+answer setup disk s (order.StateAt p) = answer_text s (if_place s p (state_answer setup disk s p))
 
 -- all answers in order
-unfoldable pub answers : Setup → List ℕ → List Input → List Order → Answered
-answers setup disk inputs [] = no_output inputs
-answers setup disk inputs (order ∷ orders) =
-    let first = answer setup disk inputs order in
-    let rest = answers setup disk first.inputs orders in
-    record { out = first.out ++ rest.out; inputs = rest.inputs }
+unfoldable pub answers : Setup → List ℕ → Session ℕ → List Order → Answered
+answers setup disk session [] = answer_text session []
+answers setup disk session (order ∷ orders) =
+    let first = answer setup disk session order in
+    let rest = answers setup disk first.session orders in
+    record { out = first.out ++ rest.out; session = rest.session }
+
+-- those of a script over a recording of these inputs, whose place 0 alone is kept
+abbrev pub script_answers : Setup → List ℕ → List Input → List Order → Answered
+script_answers setup disk inputs orders = answers setup disk (new_session inputs 0) orders
+
+-- Worked cases, over any cart and a recording of two inputs: places that aren't there; what is kept; the
+-- history's ends; an edit that is undone and made again; films, also one of 601 images.
+abbrev worked_input : ℕ → Input
+worked_input pad =
+    record { pads = pad ∷ 0 ∷ 0 ∷ 0 ∷ []; mouse_x = pos 0; mouse_y = pos 0; buttons = 0; reset = false }
+
+abbrev worked_answers : Setup → ℕ → List Order → Answered
+worked_answers setup count orders = script_answers setup [] (replicate count (worked_input 0)) orders
+
+abbrev pub AnswerCases : Type 0
+AnswerCases = (setup : Setup) →
+    ((worked_answers setup 2 (order.Show 3 ∷ order.Tones 0 3 ∷ order.Delete 2 ∷ order.Keep 3 ∷ [])).out
+    ≡ codes "refused no frame\nrefused no frame\nrefused no frame\nrefused no frame\n")
+    × ((worked_answers setup 2 (order.Keep 2 ∷ order.Keep 2 ∷ order.DropKept 0 ∷ order.DropKept 1 ∷ [])).out
+    ≡ codes "refused kept\nrefused not kept\nrefused not kept\n")
+    × ((worked_answers setup 2 (order.Undo ∷ order.Redo ∷ [])).out
+    ≡ codes "refused nothing to undo\nrefused nothing to redo\n")
+    × ((worked_answers setup 2 (order.Set 1 (worked_input 5) ∷ order.Undo ∷ order.Redo ∷ order.Redo ∷ []))
+    ≡ record {
+      out = codes "refused nothing to redo\n";
+      session = record {
+        current = record { inputs = worked_input 0 ∷ worked_input 5 ∷ []; kept = 0 ∷ [] };
+        older = record { inputs = worked_input 0 ∷ worked_input 0 ∷ []; kept = 0 ∷ [] } ∷ [];
+        newer = [];
+      };
+    })
+    × ((worked_answers setup 5 (order.KeepEvery 2 ∷ order.Delete 3 ∷ [])).session.current.kept ≡ 0 ∷ 2 ∷ 3
+    ∷ [])
+    × ((worked_answers setup 2 (order.Film 0 3 1 ∷ order.Settle 9 ∷ [])).out ≡ codes "refused no frame\n")
+    × ((worked_answers setup 600 (order.Film 0 600 16 ∷ [])).out ≡ codes "refused too long\n")
+
+pub answer-cases : AnswerCases
+unfolding answers
+answer-cases setup = (refl, refl, refl, refl, refl, refl, refl)

@@ -5,26 +5,26 @@ use Rattle.std.specs.Option.{ForSome}
 use Rattle.w4_house.specs.World.{Files, World, Rises, Appends, AppendsFront, Puts}
 use Rattle.w4_program.specs.declared.status.Status.{Status}
 use Rattle.w4_program.specs.declared.status.Status.TheVariants as status
-use Rattle.w4_program.specs.Refusals.{Refusal, Usage, NoFile, Manner, Finished, Formless, ReadFailed, WriteFailed, NoMemory, Refused, manner_of, status_of_refusal}
+use Rattle.w4_program.specs.Endings.{Manner, AllWritten, NoCommand, ReadFailed, WriteFailed, NoMemory, Refused, manner_of}
 use Rattle.w4_program.specs.Output.{Output}
 
 -- a step that is a function of the files
-abbrev pub ResultsIn : {Y : Type 0} → (Files → Result Y Refusal) → Files → Result Y Refusal → Type 0
+abbrev pub ResultsIn : {Y : Type 0} → (Files → Result Y Status) → Files → Result Y Status → Type 0
 ResultsIn step files result = step files ≡ result
 
 -- a read failed, or a file whose turn came isn't among those that the house tells
-abbrev pub ReadFails : {Y : Type 0} → World → World → (Files → Result Y Refusal → Type 0) → Type 0
+abbrev pub ReadFails : {Y : Type 0} → World → World → (Files → Result Y Status → Type 0) → Type 0
 ReadFails old new step = Rises old.read_faults new.read_faults
-    ⊎ ((files : Files) × (old.files ≡ Some files) × step files (Err NoFile))
+    ⊎ ((files : Files) × (old.files ≡ Some files) × step files (Err status.ReadFault))
 
 -- where the house tells its files, the step is refused so
-abbrev pub Refuses : {Y : Type 0} → World → Refusal → (Files → Result Y Refusal → Type 0) → Type 0
+abbrev pub Refuses : {Y : Type 0} → World → Status → (Files → Result Y Status → Type 0) → Type 0
 Refuses old refusal step = ForSome old.files (λ files. step files (Err refusal))
 
 -- why a step that only reads stopped
-abbrev pub Stops : {Y : Type 0} → World → World → Manner → (Files → Result Y Refusal → Type 0) → Type 0
-Stops old new Finished step = ⊥
-Stops old new Formless step = ⊥
+abbrev pub Stops : {Y : Type 0} → World → World → Manner → (Files → Result Y Status → Type 0) → Type 0
+Stops old new AllWritten step = ⊥
+Stops old new NoCommand step = ⊥
 Stops old new ReadFailed step = ReadFails old new step
 Stops old new WriteFailed step = ⊥
 Stops old new NoMemory step = ⊤
@@ -32,14 +32,14 @@ Stops old new (Refused refusal) step = Refuses old refusal step
 
 -- what such a step gave
 abbrev pub StepGives : {X Y : Type 0} → World → World → (X → Y) → Result X Status
-    → (Files → Result Y Refusal → Type 0) → Type 0
+    → (Files → Result Y Status → Type 0) → Type 0
 StepGives old new view (Ok x) step = ForSome old.files (λ files. step files (Ok (view x)))
 StepGives old new view (Err why) step = Stops old new (manner_of why) step
 
 -- why a step that only writes stopped
 abbrev pub StopsWriting : World → World → Manner → Type 0
-StopsWriting old new Finished = ⊥
-StopsWriting old new Formless = ⊥
+StopsWriting old new AllWritten = ⊥
+StopsWriting old new NoCommand = ⊥
 StopsWriting old new ReadFailed = ⊥
 StopsWriting old new WriteFailed = Rises old.write_faults new.write_faults
 StopsWriting old new NoMemory = ⊤
@@ -54,10 +54,10 @@ abbrev pub Writes : World → World → Output → Type 0
 Writes old new made = Appends old.out new.out made.out × (new.files ≡ Some made.files)
 
 -- how a whole step ended
-abbrev pub Ends : World → World → Manner → (Files → Result Output Refusal → Type 0) → Type 0
-Ends old new Finished step =
+abbrev pub Ends : World → World → Manner → (Files → Result Output Status → Type 0) → Type 0
+Ends old new AllWritten step =
     ForSome old.files (λ files. (made : Output) × step files (Ok made) × Writes old new made)
-Ends old new Formless step = Refuses old Usage step × LeavesOutputs old new
+Ends old new NoCommand step = Refuses old status.Usage step × LeavesOutputs old new
 Ends old new ReadFailed step = ReadFails old new step × LeavesOutputs old new
 Ends old new WriteFailed step =
     Rises old.write_faults new.write_faults
@@ -84,14 +84,14 @@ Reports old new line = Appends old.err new.err line
     ⊎ (Rises old.err_faults new.err_faults × AppendsFront old.err new.err line)
 
 -- the status of what the program makes
-abbrev pub status_of : Result Output Refusal → Status
+abbrev pub status_of : Result Output Status → Status
 status_of (Ok made) = status.Done
-status_of (Err refusal) = status_of_refusal refusal
+status_of (Err refusal) = refusal
 
 -- memory ran out, or the status is that of a result which the step allows
-abbrev pub IsExact : Status → (Result Output Refusal → Type 0) → Type 0
+abbrev pub IsExact : Status → (Result Output Status → Type 0) → Type 0
 IsExact result step =
-    (result ≡ status.OutOfMemory) ⊎ ((made : Result Output Refusal) × step made × (result ≡ status_of made))
+    (result ≡ status.OutOfMemory) ⊎ ((made : Result Output Status) × step made × (result ≡ status_of made))
 
 -- nothing was written to standard error
 abbrev pub LeavesErr : World → World → Type 0
@@ -99,8 +99,8 @@ LeavesErr old new = (new.err ≡ old.err) × (new.err_faults ≡ old.err_faults)
 
 -- how work that only writes ended: standard output gets these bytes, and the file of this name those
 abbrev pub Carries : World → World → Manner → List ℕ → List ℕ → List ℕ → Type 0
-Carries old new Finished out name bytes = Appends old.out new.out out × Puts old.files new.files name bytes
-Carries old new Formless out name bytes = ⊥
+Carries old new AllWritten out name bytes = Appends old.out new.out out × Puts old.files new.files name bytes
+Carries old new NoCommand out name bytes = ⊥
 Carries old new ReadFailed out name bytes = ⊥
 Carries old new WriteFailed out name bytes = Rises old.write_faults new.write_faults
 Carries old new NoMemory out name bytes = ⊤
@@ -108,8 +108,8 @@ Carries old new (Refused refusal) out name bytes = ⊥
 
 -- how work that only writes to standard output ended
 abbrev pub Prints : World → World → Manner → List ℕ → Type 0
-Prints old new Finished out = Appends old.out new.out out
-Prints old new Formless out = ⊥
+Prints old new AllWritten out = Appends old.out new.out out
+Prints old new NoCommand out = ⊥
 Prints old new ReadFailed out = ⊥
 Prints old new WriteFailed out = Rises old.write_faults new.write_faults
 Prints old new NoMemory out = ⊤

@@ -1,11 +1,17 @@
 -- What the program promises, from its words and files to its answers and statuses.
-pub mod Refusals
+pub mod Endings
 pub mod Lines
 pub mod Forms
 pub mod Reads
 pub mod Texts
 pub mod Answering
+pub mod BuiltOrders
 pub mod Output
+pub mod NetSessions
+pub mod RamAnswers
+pub mod NameLists
+pub mod FurtherForms
+pub mod FurtherCommands
 pub mod OneOutput
 pub mod CartRuns
 pub mod Causes

@@ -2,9 +2,9 @@
 -- refused for one cause, and never both.
 use Rattle.std.specs.Prelude.{◌≡◌, ℕ, List, Result}
 use Rattle.w4_house.specs.World.{Files}
-use Rattle.w4_program.specs.Refusals.{Refusal}
+use Rattle.w4_program.specs.declared.status.Status.{Status}
 use Rattle.w4_program.specs.Output.{Output, Outputs}
 
 abbrev pub AtMostOneOutput : Type 0
-AtMostOneOutput = (words : List (List ℕ)) (files : Files) (made other : Result Output Refusal)
+AtMostOneOutput = (words : List (List ℕ)) (files : Files) (made other : Result Output Status)
     → Outputs words files made → Outputs words files other → made ≡ other

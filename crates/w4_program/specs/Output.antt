@@ -1,17 +1,19 @@
 -- What the program makes of its words and of the files that it finds, or the first refusal (project rule).
--- The words are judged first, then the cart, the recording, whether it is the cart's, the font and the script,
+-- The words are judged first, then the cart, the recording, whether it is the cart's, the font and the
+-- script,
 -- each file before the next is read, and last the places that the words name. A file is judged by its first
 -- bytes, one more than its limit: 65,536 of a cart, 361,071 of a recording, 1,792 of a font, 1,048,576 of a
 -- script. What a cart's bytes are is a relation; all that follows is a function of the cart.
-use Rattle.std.specs.Prelude.{◌≡◌, ℕ, ◌+◌, ◌-◌, ◌==◌, Bool, true, false, nat_le, List, [], ◌∷◌, ◌++◌, codes, length, Option, Some, None, Result, Ok, Err, if◌then◌else◌}
+use Rattle.std.specs.Prelude.{◌≡◌, ℕ, ◌+◌, ◌-◌, ◌==◌, nat_le, List, [], ◌∷◌, ◌++◌, codes, length, unwrap_or, Option, Some, None, Result, Ok, Err, if◌then◌else◌}
 use Rattle.std.specs.FinMap.{insert}
 use Rattle.std.specs.List.{list_all}
 use Rattle.std.specs.Str.{bytes_eq}
 use Rattle.sha2.specs.Sha256.{sha256}
 use Rattle.w4_defs.specs.declared.order.Order.{Order}
-use Rattle.w4_defs.specs.declared.order.Order.TheVariants.{Set, Show, StateAt}
 use Rattle.w4_defs.specs.Module.{WasmModule}
 use Rattle.w4_defs.specs.Cart.{IsCart, IsRefused}
+use Rattle.w4_defs.specs.Generator.{made_module}
+use Rattle.w4_defs.specs.MadeSummary.{made_summary}
 use Rattle.w4_defs.specs.Recording.{Recording, recording_of, encoding}
 use Rattle.w4_defs.specs.OrderFile.{ScriptFault, TooLong, BadLine}
 use Rattle.w4_defs.specs.Script.{script_of}
@@ -19,15 +21,18 @@ use Rattle.w4_defs.specs.Board.{console_setup}
 use Rattle.w4_defs.specs.Reset.{Setup}
 use Rattle.w4_defs.specs.Run.{run}
 use Rattle.w4_defs.specs.State.{Moment}
+use Rattle.wasm_write.specs.EncodeModule.{module_bytes}
 use Rattle.w4_house.specs.World.{Files, front_of}
 use Rattle.w4_program.specs.declared.place_text.PlaceText.{PlaceText}
 use Rattle.w4_program.specs.declared.place_text.PlaceText.TheVariants.{Image, Schedule, Traces, DiskBytes}
 use Rattle.w4_program.specs.declared.status.RecordingKind.TheVariants.{Bad, WrongCart}
 use Rattle.w4_program.specs.declared.status.ScriptKind.TheVariants as script
-use Rattle.w4_program.specs.Refusals.{Refusal, Usage, NoFile, CartRefused, RecordingRefused, FontRefused, ScriptRefused, FrameRefused, NotBuilt}
+use Rattle.w4_program.specs.declared.status.Status.{Status}
+use Rattle.w4_program.specs.declared.status.Status.TheVariants.{Usage, ReadFault, CartRefused, RecordingRefused, FontRefused, ScriptRefused, FrameRefused, NotBuilt}
 use Rattle.w4_program.specs.Forms.{RunWords, EditWords, Form, Check, Blank, Frames, Tones, Trace, Disk, Edit, Make, form_of}
 use Rattle.w4_program.specs.Texts.{place_text, place_texts}
-use Rattle.w4_program.specs.Answering.{Answered, answers}
+use Rattle.w4_program.specs.Answering.{Answered, script_answers}
+use Rattle.w4_program.specs.BuiltOrders.{is_built}
 
 -- what standard output gets, and all files afterwards
 pub record Output : Type 0 where
@@ -35,17 +40,17 @@ pub record Output : Type 0 where
   pub files : Files
 
 infixl 10 ◌>>=◌
-abbrev pub ◌>>=◌ : {A B : Type 0} → Result A Refusal → (A → Result B Refusal) → Result B Refusal
+abbrev pub ◌>>=◌ : {A B : Type 0} → Result A Status → (A → Result B Status) → Result B Status
 (Ok x) >>= f = f x
 (Err refusal) >>= f = Err refusal
 
-abbrev pub or_refuse : {A : Type 0} → Refusal → Option A → Result A Refusal
+abbrev pub or_refuse : {A : Type 0} → Status → Option A → Result A Status
 or_refuse refusal (Some x) = Ok x
 or_refuse refusal None = Err refusal
 
 -- the first `most` bytes of a file, or all
-abbrev pub reading : Files → List ℕ → ℕ → Result (List ℕ) Refusal
-reading files name most = or_refuse NoFile (front_of files name most)
+abbrev pub reading : Files → List ℕ → ℕ → Result (List ℕ) Status
+reading files name most = or_refuse ReadFault (front_of files name most)
 
 -- a cart, as the module of its code, and the SHA-256 of its bytes
 pub record CartFile : Type 0 where
@@ -53,52 +58,45 @@ pub record CartFile : Type 0 where
   pub digest : List ℕ
 
 -- what the bytes of a cart's file are: a cart, or a refusal with the first cause that holds
-abbrev pub JudgedCart : Result (List ℕ) Refusal → Result CartFile Refusal → Type 0
+abbrev pub JudgedCart : Result (List ℕ) Status → Result CartFile Status → Type 0
 JudgedCart (Err refusal) cart = cart ≡ Err refusal
 JudgedCart (Ok bytes) (Ok cart) = IsCart bytes cart.code × (cart.digest ≡ sha256 bytes)
 JudgedCart (Ok bytes) (Err (CartRefused kind)) = IsRefused bytes kind
 JudgedCart (Ok bytes) (Err refusal) = ⊥
 
-abbrev pub CartIn : List ℕ → Files → Result CartFile Refusal → Type 0
+abbrev pub CartIn : List ℕ → Files → Result CartFile Status → Type 0
 CartIn name files cart = JudgedCart (reading files name 65537) cart
 
 -- what is made of a file of at most `limit` bytes
-abbrev pub judged : {A : Type 0} → ℕ → (List ℕ → Result A Refusal) → Files → List ℕ → Result A Refusal
+abbrev pub judged : {A : Type 0} → ℕ → (List ℕ → Result A Status) → Files → List ℕ → Result A Status
 judged limit judge files name = reading files name (limit + 1) >>= judge
 
 -- a recording is the cart's if and only if it has the cart's digest
-abbrev pub of_cart : List ℕ → Recording → Result Recording Refusal
+abbrev pub of_cart : List ℕ → Recording → Result Recording Status
 of_cart digest r = if bytes_eq r.digest digest then Ok r else Err (RecordingRefused WrongCart)
 
-unfoldable pub cart_recording : List ℕ → List ℕ → Result Recording Refusal
+unfoldable pub cart_recording : List ℕ → List ℕ → Result Recording Status
 cart_recording digest bytes = or_refuse (RecordingRefused Bad) (recording_of bytes) >>= of_cart digest
 
-unfoldable pub recording_in : List ℕ → Files → List ℕ → Result Recording Refusal
+unfoldable pub recording_in : List ℕ → Files → List ℕ → Result Recording Status
 recording_in digest = judged 361071 (cart_recording digest)
 
-abbrev pub font_of : List ℕ → Result (List ℕ) Refusal
+abbrev pub font_of : List ℕ → Result (List ℕ) Status
 font_of bytes = if length bytes == 1792 then Ok bytes else Err FontRefused
 
-unfoldable pub font_in : Files → List ℕ → Result (List ℕ) Refusal
+unfoldable pub font_in : Files → List ℕ → Result (List ℕ) Status
 font_in = judged 1792 font_of
 
--- the orders that are built
-abbrev pub is_built : Order → Bool
-is_built (Set k input) = true
-is_built (Show p) = true
-is_built (StateAt p) = true
-is_built order = false
-
 -- A script's grammar is judged first. A script that keeps it, and has an order that isn't built, isn't built.
-abbrev pub built_orders : Result (List Order) ScriptFault → Result (List Order) Refusal
+abbrev pub built_orders : Result (List Order) ScriptFault → Result (List Order) Status
 built_orders (Ok orders) = if list_all is_built orders then Ok orders else Err NotBuilt
 built_orders (Err TooLong) = Err (ScriptRefused script.TooLong)
 built_orders (Err (BadLine number)) = Err (ScriptRefused (script.BadLine number))
 
-unfoldable pub orders_of : List ℕ → Result (List Order) Refusal
+unfoldable pub orders_of : List ℕ → Result (List Order) Status
 orders_of bytes = built_orders (script_of bytes)
 
-unfoldable pub orders_in : Files → List ℕ → Result (List Order) Refusal
+unfoldable pub orders_in : Files → List ℕ → Result (List Order) Status
 orders_in = judged 1048576 orders_of
 
 -- what a run is made of besides the cart
@@ -106,14 +104,14 @@ pub record Played : Type 0 where
   pub recording : Recording
   pub font : List ℕ
 
-unfoldable pub run_files : List ℕ → RunWords → Files → Result Played Refusal
+unfoldable pub run_files : List ℕ → RunWords → Files → Result Played Status
 run_files digest words files = do
   recording ← recording_in digest files words.recording
   font ← font_in files words.font
   Ok (record { recording = recording; font = font })
 
 -- where it has this place
-unfoldable pub run_files_to : List ℕ → RunWords → ℕ → Files → Result Played Refusal
+unfoldable pub run_files_to : List ℕ → RunWords → ℕ → Files → Result Played Status
 run_files_to digest words place files = do
   p ← run_files digest words files
   if nat_le place (length p.recording.frames) then Ok p
@@ -123,7 +121,7 @@ pub record Loaded : Type 0 where
   pub run : Played
   pub orders : List Order
 
-unfoldable pub edit_files : List ℕ → EditWords → Files → Result Loaded Refusal
+unfoldable pub edit_files : List ℕ → EditWords → Files → Result Loaded Status
 edit_files digest words files = do
   run ← run_files digest words.run files
   orders ← orders_in files words.script
@@ -138,41 +136,43 @@ moment_at m p place = run (setup_of m p) p.recording.disk p.recording.frames pla
 
 -- what is told of places one after another
 abbrev pub place_texts_from : PlaceText → WasmModule → Played → ℕ → ℕ → List ℕ
-place_texts_from wanted m p from count = place_texts (λ place. place_text wanted place (moment_at m p place)) from count
+place_texts_from wanted m p from count =
+    place_texts (λ place. place_text wanted place (moment_at m p place)) from count
 
 -- the answers of all orders
 abbrev pub edit_answers : WasmModule → Loaded → Answered
-edit_answers m l = answers (setup_of m l.run) l.run.recording.disk l.run.recording.frames l.orders
+edit_answers m l = script_answers (setup_of m l.run) l.run.recording.disk l.run.recording.frames l.orders
 
 -- the recording left
 abbrev pub edited_recording : WasmModule → Loaded → Recording
-edited_recording m l = record l.run.recording { frames = (edit_answers m l).inputs }
+edited_recording m l = record l.run.recording { frames = (edit_answers m l).session.current.inputs }
 
 -- bytes on standard output, and no file changed
 abbrev pub only_printed : List ℕ → Files → Output
 only_printed out files = record { out = out; files = files }
 
 abbrev pub edit_result : WasmModule → Loaded → List ℕ → Files → Output
-edit_result m l name files = record { out = (edit_answers m l).out; files = insert files name (encoding 2 (edited_recording m l)) }
+edit_result m l name files =
+    record { out = (edit_answers m l).out; files = insert files name (encoding 2 (edited_recording m l)) }
 
-unfoldable pub edit_output : EditWords → CartFile → Files → Result Output Refusal
+unfoldable pub edit_output : EditWords → CartFile → Files → Result Output Status
 edit_output words cart files = do
   l ← edit_files cart.digest words files
   Ok (edit_result cart.code l words.out files)
 
 -- the images of places FROM to TO
-unfoldable pub images_output : RunWords → ℕ → ℕ → CartFile → Files → Result Output Refusal
+unfoldable pub images_output : RunWords → ℕ → ℕ → CartFile → Files → Result Output Status
 images_output words from to cart files = do
   p ← run_files_to cart.digest words to files
   Ok (only_printed (place_texts_from Image cart.code p from (to + 1 - from)) files)
 
 -- the texts of all places, or the disk of one
-unfoldable pub texts_output : PlaceText → RunWords → CartFile → Files → Result Output Refusal
+unfoldable pub texts_output : PlaceText → RunWords → CartFile → Files → Result Output Status
 texts_output wanted words cart files = do
   p ← run_files cart.digest words files
   Ok (only_printed (place_texts_from wanted cart.code p 0 (length p.recording.frames + 1)) files)
 
-unfoldable pub disk_output : RunWords → ℕ → CartFile → Files → Result Output Refusal
+unfoldable pub disk_output : RunWords → ℕ → CartFile → Files → Result Output Status
 disk_output words place cart files = do
   p ← run_files_to cart.digest words place files
   Ok (only_printed (place_texts_from DiskBytes cart.code p place 1) files)
@@ -180,10 +180,25 @@ disk_output words place cart files = do
 abbrev pub checked : List ℕ
 checked = codes "ok" ++ 10 ∷ []
 
--- the file that is judged as a cart, of the forms that are built
+-- the recording of a cart with a budget, no disk and no frames
+abbrev pub blank_recording : List ℕ → ℕ → Recording
+blank_recording digest budget = record { digest = digest; budget = budget; disk = []; frames = [] }
+
+abbrev pub blank_output : ℕ → CartFile → Files → Result Output Status
+blank_output budget cart files = Ok (only_printed (encoding 2 (blank_recording cart.digest budget)) files)
+
+-- the five lines of the cart that a number makes: it is accepted, so that its run has a meaning at every
+-- place
+abbrev pub made_text : ℕ → List ℕ
+made_text number = unwrap_or (made_summary sha256 number (length (module_bytes (made_module number)))) []
+
+abbrev pub make_output : ℕ → Files → Result Output Status
+make_output number files = Ok (only_printed (made_text number) files)
+
+-- the file that is judged as a cart, where the form names one
 abbrev pub cart_word : Form → Option (List ℕ)
 cart_word (Check cart) = Some cart
-cart_word (Blank cart budget) = None
+cart_word (Blank cart budget) = Some cart
 cart_word (Frames words from to) = Some words.cart
 cart_word (Tones words) = Some words.cart
 cart_word (Trace words) = Some words.cart
@@ -192,31 +207,35 @@ cart_word (Edit words) = Some words.run.cart
 cart_word (Make number) = None
 
 -- what is made of a cart and of the files
-abbrev pub output_of : Form → CartFile → Files → Result Output Refusal
+abbrev pub output_of : Form → CartFile → Files → Result Output Status
 output_of (Check name) cart files = Ok (only_printed checked files)
-output_of (Blank name budget) cart files = Err NotBuilt
+output_of (Blank name budget) cart files = blank_output budget cart files
 output_of (Frames words from to) cart files = images_output words from to cart files
 output_of (Tones words) cart files = texts_output Schedule words cart files
 output_of (Trace words) cart files = texts_output Traces words cart files
 output_of (Disk words place) cart files = disk_output words place cart files
 output_of (Edit words) cart files = edit_output words cart files
-output_of (Make number) cart files = Err NotBuilt
+output_of (Make number) cart files = make_output number files
+
+-- what is made by a form that names no cart, which is `make` alone
+abbrev pub output_alone : Form → Files → Result Output Status
+output_alone (Make number) files = make_output number files
+output_alone form files = Err NotBuilt
 
 -- the cart is judged, and then the rest
-abbrev pub OverCart : List ℕ → (CartFile → Files → Result Output Refusal) → Files → Result Output Refusal
+abbrev pub OverCart : List ℕ → (CartFile → Files → Result Output Status) → Files → Result Output Status
     → Type 0
 OverCart name make files made =
-    (cart : Result CartFile Refusal) × CartIn name files cart × ((cart >>= λ c. make c files) ≡ made)
+    (cart : Result CartFile Status) × CartIn name files cart × ((cart >>= λ c. make c files) ≡ made)
 
-abbrev pub OverFile : Option (List ℕ) → (CartFile → Files → Result Output Refusal) → Files
-    → Result Output Refusal → Type 0
-OverFile (Some name) make files made = OverCart name make files made
-OverFile None make files made = made ≡ Err NotBuilt
+abbrev pub OverFile : Option (List ℕ) → Form → Files → Result Output Status → Type 0
+OverFile (Some name) form files made = OverCart name (output_of form) files made
+OverFile None form files made = output_alone form files ≡ made
 
-abbrev pub OutputsForm : Option Form → Files → Result Output Refusal → Type 0
+abbrev pub OutputsForm : Option Form → Files → Result Output Status → Type 0
 OutputsForm None files made = made ≡ Err Usage
-OutputsForm (Some form) files made = OverFile (cart_word form) (output_of form) files made
+OutputsForm (Some form) files made = OverFile (cart_word form) form files made
 
 -- what the program makes of these words and files
-abbrev pub Outputs : List (List ℕ) → Files → Result Output Refusal → Type 0
+abbrev pub Outputs : List (List ℕ) → Files → Result Output Status → Type 0
 Outputs words files made = OutputsForm (form_of words) files made

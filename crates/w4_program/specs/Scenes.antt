@@ -4,8 +4,8 @@ use Rattle.w4_defs.specs.declared.console.Input.{Input}
 use Rattle.w4_defs.specs.Reset.{Setup}
 use Rattle.w4_defs.specs.Board.{console_setup}
 use Rattle.w4_defs.specs.Run.{run}
-use Rattle.w4_defs.specs.State.{Moment}
-use Rattle.w4_console.specs.UnderWay.{HasGlobals, moment}
+use Rattle.w4_defs.specs.State.{Moment, HasGlobals}
+use Rattle.w4_console.specs.ConsoleCalls.{moment}
 use Rattle.w4_program.specs.declared.scene.Scene.{Scene}
 use Rattle.w4_program.specs.declared.stage.Stage.{Stage}
 

@@ -1,20 +1,16 @@
 -- What is written of a place of a run: its image, its schedule of tones, its trace lines, its disk, or the
 -- line of its state (project rule). A run of an accepted cart always comes to a moment.
-use Rattle.std.specs.Prelude.{ℕ, zero, suc, ◌+◌, List, [], ◌∷◌, ◌++◌, Option, Some, None}
+use Rattle.std.specs.Prelude.{ℕ, zero, suc, ◌+◌, List, [], ◌++◌, Option, Some, None}
 use Rattle.w4_defs.specs.Image.{image}
 use Rattle.w4_defs.specs.FrameTexts.{schedule_text, trace_text, state_line}
 use Rattle.w4_defs.specs.State.{Moment}
 use Rattle.w4_program.specs.declared.place_text.PlaceText.{PlaceText}
 use Rattle.w4_program.specs.declared.place_text.PlaceText.TheVariants.{Image, Schedule, Traces, DiskBytes}
 
-abbrev pub picture : Option Moment → List ℕ
-picture (Some moment) = image moment.state.page
-picture None = []
-
--- place 0 is the one kept place
-abbrev pub state_text : ℕ → ℕ → Option Moment → List ℕ
-state_text place count (Some moment) = state_line place count moment.state (0 ∷ [])
-state_text place count None = []
+-- the line of the state, with the kept places
+abbrev pub state_text : ℕ → ℕ → Option Moment → List ℕ → List ℕ
+state_text place count (Some moment) kept = state_line place count moment.state kept
+state_text place count None kept = []
 
 abbrev pub moment_text : PlaceText → ℕ → Moment → List ℕ
 moment_text Image place moment = image moment.state.page

@@ -17,7 +17,7 @@ edit_view n = record { run = run_view n.run; script = n.script.now; out = n.out.
 
 abbrev pub form_view : Named → Form
 form_view (named.Check cart) = Check cart.now
-form_view (named.Blank cart budget) = Blank cart.now budget
+form_view (named.Blank cart budget) = Blank cart.now budget.units
 form_view (named.Frames names places) = Frames (run_view names) places.from places.to
 form_view (named.Tones names) = Tones (run_view names)
 form_view (named.Trace names) = Trace (run_view names)

@@ -9,16 +9,18 @@ ghost use Rattle.std.specs.Prelude.{
   vec_len,
 };
 ghost use Rattle.w4_defs.specs.Recording.{encoding};
-ghost use Rattle.w4_console.specs.UnderWay.{HasGlobals};
+ghost use Rattle.w4_defs.specs.State.{HasGlobals};
 ghost use Rattle.w4_house.specs.World.{Appends, Puts, LeavesPrinting, LeavesSaving};
-ghost use Rattle.w4_program.specs.Answering.{
-  answer,
+ghost use Rattle.w4_program.specs.Answering.{script_answers};
+ghost use Rattle.w4_program.specs.BuiltOrders.{
+  AreBuilt,
   answer_set,
   answer_show,
   answer_state,
-  answers,
+  built_answer,
+  built_answers,
 };
-ghost use Rattle.w4_program.specs.Refusals.{manner_of};
+ghost use Rattle.w4_program.specs.Endings.{manner_of};
 ghost use Rattle.w4_program.specs.Output.{edit_answers, edited_recording};
 ghost use Rattle.w4_program.specs.Causes.{StopsWriting, Carries, LeavesErr};
 ghost use Rattle.w4_program.specs.Scenes.{scene_setup};
@@ -52,7 +54,7 @@ fn save<H: House>(alloc: Global, house: &mut H, name: &str, bytes: &[u8]) -> Res
 }
 
 /// The image of a place on standard output, or that there is no such place.
-#[tactic(auto, unfolding(crate::specs::Answering::answer_show))]
+#[tactic(auto, unfolding(crate::specs::BuiltOrders::answer_show))]
 fn show<H: House>(
     alloc: Global,
     house: &mut H,
@@ -80,7 +82,7 @@ fn show<H: House>(
 }
 
 /// The line of the state at a place, or that there is no such place.
-#[tactic(auto, unfolding(crate::specs::Answering::answer_state))]
+#[tactic(auto, unfolding(crate::specs::BuiltOrders::answer_state))]
 fn tell<H: House>(
     alloc: Global,
     house: &mut H,
@@ -109,7 +111,7 @@ fn tell<H: House>(
 }
 
 /// Another input in the place of one, or that there is no such input.
-#[tactic(auto, unfolding(crate::specs::Answering::answer_set))]
+#[tactic(auto, unfolding(crate::specs::BuiltOrders::answer_set))]
 fn set<H: House>(
     alloc: Global,
     house: &mut H,
@@ -147,9 +149,9 @@ fn obey_order<H: House>(
     requires budget { 1 ≤ scene.now.budget }
     requires globals { HasGlobals scene.now.cart.now stage.old.console }
     ensures out { OnOk result (Appends (H.world house.old).out (H.world house.new).out
-        (answer (scene_setup scene.now) scene.now.disk.now inputs.old.items order.now).out) }
+        (built_answer (scene_setup scene.now) scene.now.disk.now inputs.old.items order.now).out) }
     ensures inputs { OnOk result (inputs.new.items
-        ≡ (answer (scene_setup scene.now) scene.now.disk.now inputs.old.items order.now).inputs) }
+        ≡ (built_answer (scene_setup scene.now) scene.now.disk.now inputs.old.items order.now).inputs) }
     ensures len { vec_len inputs.new ≡ vec_len inputs.old }
     ensures globals { HasGlobals scene.now.cart.now stage.new.console }
     ensures stops { IfErr result (λ why.
@@ -177,9 +179,9 @@ fn obey_all<H: House>(
     requires budget { 1 ≤ scene.now.budget }
     requires globals { HasGlobals scene.now.cart.now stage.old.console }
     ensures out { OnOk result (Appends (H.world house.old).out (H.world house.new).out
-        (answers (scene_setup scene.now) scene.now.disk.now inputs.old.items orders.now).out) }
+        (built_answers (scene_setup scene.now) scene.now.disk.now inputs.old.items orders.now).out) }
     ensures inputs { OnOk result (inputs.new.items
-        ≡ (answers (scene_setup scene.now) scene.now.disk.now inputs.old.items orders.now).inputs) }
+        ≡ (built_answers (scene_setup scene.now) scene.now.disk.now inputs.old.items orders.now).inputs) }
     ensures len { vec_len inputs.new ≡ vec_len inputs.old }
     ensures stops { IfErr result (λ why.
         StopsWriting (H.world house.old) (H.world house.new) (manner_of why)) }
@@ -191,6 +193,31 @@ fn obey_all<H: House>(
     Ok(())
 }
 
+/// Carries out the orders of a script, all of which are built. Place 0 alone is kept.
+fn obey_script<H: House>(
+    alloc: Global,
+    house: &mut H,
+    stage: &mut Stage,
+    scene: &Scene<'_>,
+    inputs: &mut Vec<Input>,
+    orders: &[Order],
+) -> Result<(), Status>
+    requires disk { length scene.now.disk.now ≤ 1024 }
+    requires budget { 1 ≤ scene.now.budget }
+    requires globals { HasGlobals scene.now.cart.now stage.old.console }
+    requires built { AreBuilt orders.now }
+    ensures out { OnOk result (Appends (H.world house.old).out (H.world house.new).out
+        (script_answers (scene_setup scene.now) scene.now.disk.now inputs.old.items orders.now).out) }
+    ensures inputs { OnOk result (inputs.new.items ≡ (script_answers (scene_setup scene.now)
+        scene.now.disk.now inputs.old.items orders.now).session.current.inputs) }
+    ensures len { vec_len inputs.new ≡ vec_len inputs.old }
+    ensures stops { IfErr result (λ why.
+        StopsWriting (H.world house.old) (H.world house.new) (manner_of why)) }
+    ensures rest { LeavesPrinting (H.world house.old) (H.world house.new) }
+{
+    obey_all(alloc, house, stage, scene, inputs, orders)
+}
+
 /// Carries out all orders and saves the recording left.
 fn work<H: House>(
     alloc: Global,
@@ -199,6 +226,7 @@ fn work<H: House>(
     loaded: Loaded,
     name: &str,
 ) -> Result<(), Status>
+    requires built { AreBuilt loaded.orders.items }
     ensures out { OnOk result (Appends (H.world house.old).out (H.world house.new).out
         (edit_answers cart.now (loaded_view loaded)).out) }
     ensures saved { OnOk result (Puts (H.world house.old).files (H.world house.new).files
@@ -222,7 +250,7 @@ fn work<H: House>(
         disk: disk.as_slice(),
         budget,
     };
-    obey_all(
+    obey_script(
         alloc,
         house,
         &mut stage,
@@ -243,6 +271,7 @@ pub fn carry_out<H: House>(
     loaded: Loaded,
     name: &str,
 ) -> Status
+    requires built { AreBuilt loaded.orders.items }
     ensures ends { Carries (H.world house.old) (H.world house.new) (manner_of result)
         (edit_answers cart.now (loaded_view loaded)).out name.now
         (encoding 2 (edited_recording cart.now (loaded_view loaded))) }

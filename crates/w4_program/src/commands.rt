@@ -1,16 +1,20 @@
 //! The commands, each over a cart that is judged first.
 
 ghost use Rattle.std.specs.Prelude.{◌≡◌, ◌+◌, ◌-◌, ◌≤◌, length, option_map, IfErr, OnOk, Ok, Some};
+ghost use Rattle.w4_defs.specs.Recording.{encoding};
 ghost use Rattle.w4_house.specs.World.{Appends, LeavesPrinting};
-ghost use Rattle.w4_program.specs.Refusals.{manner_of};
+ghost use Rattle.w4_program.specs.Endings.{manner_of};
 ghost use Rattle.w4_program.specs.Output.{
   OutputsForm,
   OverCart,
+  blank_output,
+  blank_recording,
   cart_word,
   checked,
   disk_output,
   edit_output,
   images_output,
+  output_alone,
   output_of,
   only_printed,
   texts_output,
@@ -19,9 +23,11 @@ ghost use Rattle.w4_program.specs.Output.{
 ghost use Rattle.w4_program.specs.Causes.{Ends, LeavesErr, Prints, ResultsIn, StopsWriting};
 ghost use Rattle.w4_program.specs.Views.{cart_view, edit_view, form_view, played_view, run_view};
 
+use crate::budget::Budget;
 use crate::carry::carry_out;
 use crate::cart::CartFile;
 use crate::load::{Played, frame_count, load_cart, load_edit, load_run, load_run_to};
+use crate::made::make_cart;
 use crate::place_text::{PlaceText, write_places};
 use crate::places::Places;
 use crate::printing::print;
@@ -31,7 +37,7 @@ use crate::status::Status;
 use crate::words::{EditNames, Form, RunNames};
 use std::alloc::Global;
 use w4_house::House;
-use w4_record::Recording;
+use w4_record::{Recording, write_recording};
 use wasm_valid::Cart;
 
 /// Does what a form asks for. Nothing is written to standard error.
@@ -43,17 +49,30 @@ pub fn run_form<H: House>(alloc: Global, house: &mut H, form: Form<'_>) -> Statu
 {
     match cart_name(form) {
         Some(name) => over_cart(alloc, house, name, form),
-        None => Status::NotBuilt,
+        None => alone(alloc, house, form),
     }
 }
 
-/// The file that is judged as a cart, of the forms that are built.
+/// Does what a form asks for that names no cart.
+fn alone<H: House>(alloc: Global, house: &mut H, form: Form<'_>) -> Status
+    ensures ends { Ends (H.world house.old) (H.world house.new) (manner_of result)
+        (ResultsIn (λ files. output_alone (form_view form.entry) files)) }
+    ensures formed { result ≡ Status.Usage → ⊥ }
+    ensures err { LeavesErr (H.world house.old) (H.world house.new) }
+{
+    match form {
+        Form::Make(number) => make_cart(alloc, house, number),
+        _ => Status::NotBuilt,
+    }
+}
+
+/// The file that is judged as a cart, where the form names one.
 fn cart_name(form: Form<'_>) -> Option<&str>
     ensures { option_map (λ name. name.now) result ≡ cart_word (form_view form.entry) }
 {
     match form {
         Form::Check(cart) => Some(cart),
-        Form::Blank(_, _) => None,
+        Form::Blank(cart, _) => Some(cart),
         Form::Frames(names, _) => Some(names.cart),
         Form::Tones(names) => Some(names.cart),
         Form::Trace(names) => Some(names.cart),
@@ -85,13 +104,13 @@ fn make<H: House>(alloc: Global, house: &mut H, file: &CartFile, form: Form<'_>)
 {
     match form {
         Form::Check(_) => check(alloc, house),
-        Form::Blank(_, _) => Status::NotBuilt,
+        Form::Blank(_, budget) => blank(alloc, house, file, budget),
         Form::Frames(names, places) => frames(alloc, house, file, names, places),
         Form::Tones(names) => texts(alloc, house, file, names, PlaceText::Schedule),
         Form::Trace(names) => texts(alloc, house, file, names, PlaceText::Traces),
         Form::Disk(names, place) => disk(alloc, house, file, names, place),
         Form::Edit(names) => edit(alloc, house, file, names),
-        Form::Make(_) => Status::NotBuilt,
+        Form::Make(number) => make_cart(alloc, house, number),
     }
 }
 
@@ -108,6 +127,37 @@ fn check<H: House>(alloc: Global, house: &mut H) -> Status
     }
 }
 
+/// `blank CART BUDGET`: the recording of this cart with this budget, no disk and no frames.
+fn blank<H: House>(alloc: Global, house: &mut H, file: &CartFile, budget: Budget) -> Status
+    ensures ends { Ends (H.world house.old) (H.world house.new) (manner_of result)
+        (ResultsIn (λ files. blank_output budget.units (cart_view file.now) files)) }
+    ensures formed { result ≡ Status.Usage → ⊥ }
+    ensures err { LeavesErr (H.world house.old) (H.world house.new) }
+{
+    match print_blank(alloc, house, &file.digest, budget) {
+        Ok(()) => Status::Done,
+        Err(status) => status,
+    }
+}
+
+/// Writes the recording without frames, or gives the status that ends the run.
+fn print_blank<H: House>(
+    alloc: Global,
+    house: &mut H,
+    digest: &[u8; 32],
+    budget: Budget,
+) -> Result<(), Status>
+    ensures out { OnOk result (Appends (H.world house.old).out (H.world house.new).out
+        (encoding 2 (blank_recording digest.now budget.units))) }
+    ensures stops { IfErr result (λ why.
+        StopsWriting (H.world house.old) (H.world house.new) (manner_of why)) }
+    ensures rest { LeavesPrinting (H.world house.old) (H.world house.new) }
+{
+    let recording = Recording::new(*digest, budget.units, Vec::new(alloc), Vec::new(alloc));
+    let bytes = write_recording(alloc, &recording)?;
+    print(alloc, house, bytes.as_slice())
+}
+
 /// `frames CART REC FONT FROM TO`.
 #[tactic(auto, unfolding(crate::specs::Output::images_output))]
 fn frames<H: House>(
@@ -118,7 +168,8 @@ fn frames<H: House>(
     places: Places,
 ) -> Status
     ensures ends { Ends (H.world house.old) (H.world house.new) (manner_of result)
-        (ResultsIn (λ files. images_output (run_view names.entry) places.from places.to (cart_view file.now) files)) }
+        (ResultsIn (λ files.
+        images_output (run_view names.entry) places.from places.to (cart_view file.now) files)) }
     ensures formed { result ≡ Status.Usage → ⊥ }
     ensures err { LeavesErr (H.world house.old) (H.world house.new) }
 {

@@ -10,7 +10,6 @@ ghost use Rattle.w4_program.specs.Output.{
   edit_files,
   font_in,
   font_of,
-  is_built,
   orders_in,
   orders_of,
   reading,
@@ -18,6 +17,7 @@ ghost use Rattle.w4_program.specs.Output.{
   run_files,
   run_files_to,
 };
+ghost use Rattle.w4_program.specs.BuiltOrders.{AreBuilt, is_built};
 ghost use Rattle.w4_program.specs.Reads.{GivesValue};
 ghost use Rattle.w4_program.specs.Causes.{ResultsIn, StepGives};
 ghost use Rattle.w4_program.specs.Views.{cart_view, edit_view, loaded_view, played_view, run_view};
@@ -139,7 +139,8 @@ fn are_built(orders: &[Order]) -> bool
 /// The orders of a script, which have to be built.
 #[tactic(auto, unfolding(crate::specs::Output::orders_of))]
 fn judge_script(alloc: Global, bytes: &[u8]) -> Result<Vec<Order>, Status>
-    ensures { GivesValue (λ orders. orders.items) result (orders_of bytes.now) }
+    ensures gives { GivesValue (λ orders. orders.items) result (orders_of bytes.now) }
+    ensures built { IfOk result (λ orders. AreBuilt orders.items) }
 {
     let orders = match read_script(alloc, bytes) {
         Ok(orders) => orders,
@@ -184,6 +185,7 @@ fn load_font<H: House>(alloc: Global, house: &mut H, name: &str) -> Result<Font,
 fn load_orders<H: House>(alloc: Global, house: &mut H, name: &str) -> Result<Vec<Order>, Status>
     ensures gives { StepGives (H.world house.old) (H.world house.new) (λ orders. orders.items) result
         (ResultsIn (λ files. orders_in files name.now)) }
+    ensures built { IfOk result (λ orders. AreBuilt orders.items) }
     ensures rest { LeavesReading (H.world house.old) (H.world house.new) }
 {
     let bytes = read_file(alloc, house, name, 1_048_577)?;
@@ -239,6 +241,7 @@ pub fn load_edit<H: House>(
 ) -> Result<Loaded, Status>
     ensures gives { StepGives (H.world house.old) (H.world house.new) loaded_view result
         (ResultsIn (λ files. edit_files digest.now (edit_view names.entry) files)) }
+    ensures built { IfOk result (λ loaded. AreBuilt loaded.orders.items) }
     ensures rest { LeavesReading (H.world house.old) (H.world house.new) }
 {
     let run = load_run(alloc, house, digest, names.run)?;

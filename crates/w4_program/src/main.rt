@@ -4,11 +4,13 @@
 //! the system's. What it makes of words and files is said by the definitions of `specs/`.
 #![tactic(auto)]
 
+mod budget;
 mod carry;
 mod cart;
 mod commands;
 mod line;
 mod load;
+mod made;
 mod place_text;
 mod places;
 mod printing;
@@ -17,6 +19,7 @@ mod scene;
 mod stage;
 mod state_line;
 mod status;
+mod summary;
 #[cfg(test)]
 mod tests;
 mod text;

@@ -3,9 +3,9 @@
 ghost use Rattle.std.specs.Prelude.{◌≡◌, ◌+◌, ◌-◌, ◌≤◌, length, OnOk, IfErr};
 ghost use Rattle.w4_defs.specs.Run.{run};
 ghost use Rattle.w4_house.specs.World.{Appends, LeavesPrinting};
-ghost use Rattle.w4_console.specs.UnderWay.{HasGlobals};
+ghost use Rattle.w4_defs.specs.State.{HasGlobals};
 ghost use Rattle.w4_program.specs.Causes.{StopsWriting};
-ghost use Rattle.w4_program.specs.Refusals.{manner_of};
+ghost use Rattle.w4_program.specs.Endings.{manner_of};
 ghost use Rattle.w4_program.specs.Scenes.{scene_setup, stage_moment};
 ghost use Rattle.w4_program.specs.Texts.{moment_text, place_text, place_texts};
 

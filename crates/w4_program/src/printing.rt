@@ -3,7 +3,7 @@
 ghost use Rattle.std.specs.Prelude.{OnOk, IfErr};
 ghost use Rattle.w4_house.specs.World.{Appends, LeavesPrinting};
 ghost use Rattle.w4_program.specs.Causes.{StopsWriting};
-ghost use Rattle.w4_program.specs.Refusals.{manner_of};
+ghost use Rattle.w4_program.specs.Endings.{manner_of};
 
 use crate::status::Status;
 use std::alloc::Global;

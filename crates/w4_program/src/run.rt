@@ -17,15 +17,7 @@ ghost use Rattle.w4_program.specs.Lines.{status_line};
 ghost use Rattle.w4_program.specs.Forms.{form_of};
 ghost use Rattle.w4_program.specs.declared.status.RecordingKind.{RecordingKind};
 ghost use Rattle.w4_program.specs.declared.status.ScriptKind.{ScriptKind};
-ghost use Rattle.w4_program.specs.Refusals.{
-  CartRefused,
-  RecordingRefused,
-  FontRefused,
-  ScriptRefused,
-  FrameRefused,
-  NotBuilt,
-  manner_of,
-};
+ghost use Rattle.w4_program.specs.Endings.{manner_of};
 ghost use Rattle.w4_program.specs.Output.{Output, Outputs};
 ghost use Rattle.w4_program.specs.OneOutput.{AtMostOneOutput};
 ghost use Rattle.w4_program.specs.CartRuns.{CartRunsHaveMeaning};
@@ -60,7 +52,8 @@ pub fn w4_run<R: Threads + Sync, H: House>(
     house: &mut H,
 ) -> Status
     // Where it is done, standard output has got exactly the definition's bytes, and the files are the
-    // definition's: OUT is the recording left, and no other file has changed. Each run of the cart has a meaning.
+    // definition's: OUT is the recording left, and no other file has changed. Each run of the cart has a
+    // meaning.
     ensures done { result ≡ Status.Done → ForSome (H.world house.old).files (λ files.
         (made : Output) × Outputs (map string_bytes words.now) files (Ok made)
         × Appends (H.world house.old).out (H.world house.new).out made.out
@@ -73,22 +66,22 @@ pub fn w4_run<R: Threads + Sync, H: House>(
         (result ≡ Status.Usage) ⊎ (result ≡ Status.OutOfMemory) }
     ensures cart_refused { (kind : CartKind) → result ≡ Status.CartRefused kind →
         ForSome (H.world house.old).files (λ files.
-        Outputs (map string_bytes words.now) files (Err (CartRefused kind))) }
+        Outputs (map string_bytes words.now) files (Err (Status.CartRefused kind))) }
     ensures recording_refused { (kind : RecordingKind) → result ≡ Status.RecordingRefused kind →
         ForSome (H.world house.old).files (λ files.
-        Outputs (map string_bytes words.now) files (Err (RecordingRefused kind))) }
+        Outputs (map string_bytes words.now) files (Err (Status.RecordingRefused kind))) }
     ensures font_refused { result ≡ Status.FontRefused →
         ForSome (H.world house.old).files (λ files.
-        Outputs (map string_bytes words.now) files (Err FontRefused)) }
+        Outputs (map string_bytes words.now) files (Err Status.FontRefused)) }
     ensures script_refused { (kind : ScriptKind) → result ≡ Status.ScriptRefused kind →
         ForSome (H.world house.old).files (λ files.
-        Outputs (map string_bytes words.now) files (Err (ScriptRefused kind))) }
+        Outputs (map string_bytes words.now) files (Err (Status.ScriptRefused kind))) }
     ensures frame_refused { (number n : ℕ) → result ≡ Status.FrameRefused number n →
         ForSome (H.world house.old).files (λ files.
-        Outputs (map string_bytes words.now) files (Err (FrameRefused number n))) }
+        Outputs (map string_bytes words.now) files (Err (Status.FrameRefused number n))) }
     ensures not_built { result ≡ Status.NotBuilt →
         ForSome (H.world house.old).files (λ files.
-        Outputs (map string_bytes words.now) files (Err NotBuilt)) }
+        Outputs (map string_bytes words.now) files (Err Status.NotBuilt)) }
     // A read failed, or a file whose turn came is absent.
     ensures read_fault { result ≡ Status.ReadFault → ReadFails (H.world house.old) (H.world house.new)
         (λ files made. Outputs (map string_bytes words.now) files made) }

@@ -1,20 +1,22 @@
 //! A console, the record of its last frame, and the buffer of its image.
 
 ghost use Rattle.std.specs.Prelude.{◌≡◌, ◌+◌, ◌≤◌, ◌<◌, ◌∷◌, [], Some, length, IfOk};
-ghost use Rattle.w4_console.specs.UnderWay.{HasGlobals};
+ghost use Rattle.w4_defs.specs.State.{HasGlobals};
 ghost use Rattle.w4_defs.specs.Frame.{frame};
 ghost use Rattle.w4_program.specs.Scenes.{IsAtPlace, scene_setup, stage_moment};
 ghost use Rattle.w4_defs.specs.FrameTexts.{schedule_text, state_line, trace_text};
 ghost use Rattle.w4_defs.specs.Image.{image};
+ghost use Rattle.w4_defs.specs.MadeSummary.{lit_pixels};
 
 use crate::scene::Scene;
 use crate::state_line::state_line;
+use crate::summary::lit_pixels;
 use std::alloc::Global;
 use std::marker::Brand;
 use std::sync::ledger::{Blank, Ledger};
 use w4_console::Console;
 use w4_defs::console_laws::runs_in_parts;
-use w4_defs::{Input, OutOfMemory, Steps};
+use w4_defs::{Halt, Input, OutOfMemory, Steps};
 use w4_devices::{FrameRecord, schedule_text, trace_text};
 use w4_image::{IMAGE_LEN, ppm_into};
 use wasm_valid::Cart;
@@ -61,7 +63,8 @@ fn play<L: Ledger>(stage: &mut Stage, scene: &Scene<'_>, input: &Input, blank: B
     requires some { 0 < L.parts }
     requires budget { 1 ≤ scene.now.budget }
     requires globals { HasGlobals scene.now.cart.now stage.old.console }
-    ensures frame { frame (scene_setup scene.now) stage.old.console input.now ≡ Some (stage_moment stage.new) }
+    ensures frame { frame (scene_setup scene.now) stage.old.console input.now
+        ≡ Some (stage_moment stage.new) }
     ensures globals { HasGlobals scene.now.cart.now stage.new.console }
 {
     let mut steps: Steps<L> = Steps::new(blank);
@@ -122,6 +125,20 @@ pub fn disk(stage: &Stage) -> &[u8]
     ensures { result.now ≡ stage.now.console.disk }
 {
     stage.console.state().disk.bytes()
+}
+
+/// Whether the cart still runs.
+pub fn halt(stage: &Stage) -> Halt
+    ensures { result ≡ stage.now.console.halt }
+{
+    stage.console.state().halt
+}
+
+/// How many pixels of the image don't have palette index 0.
+pub fn lit(stage: &Stage) -> u32
+    ensures { result ≡ lit_pixels stage.now.console.page }
+{
+    lit_pixels(stage.console.state().page.bytes())
 }
 
 /// The schedule of the frame that led to this place.

@@ -30,7 +30,8 @@ fn add_trap(text: &mut Vec<u8>, cause: Cause) -> Result<(), OutOfMemory>
     add_cause(text, cause)
 }
 
-fn add_halt(text: &mut Vec<u8>, halt: Halt) -> Result<(), OutOfMemory>
+/// Adds the words of a halt.
+pub fn add_halt(text: &mut Vec<u8>, halt: Halt) -> Result<(), OutOfMemory>
     ensures { OnOk result (text.new.items ≡ text.old.items ++ halt_words halt) }
 {
     match halt {

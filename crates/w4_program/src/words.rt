@@ -15,6 +15,7 @@ ghost use Rattle.w4_program.specs.Forms.{
 };
 ghost use Rattle.w4_program.specs.Views.{form_view, run_view};
 
+use crate::budget::Budget;
 use crate::places::Places;
 use w4_script::number_of;
 
@@ -39,8 +40,8 @@ pub struct EditNames<'a> {
 pub enum Form<'a> {
     /// `check CART`
     Check(&'a str),
-    /// `blank CART BUDGET`, of at least 1 unit
-    Blank(&'a str, u32),
+    /// `blank CART BUDGET`
+    Blank(&'a str, Budget),
     /// `frames CART REC FONT FROM TO`
     Frames(RunNames<'a>, Places),
     /// `tones CART REC FONT`
@@ -83,11 +84,11 @@ fn blank(words: &[String]) -> Option<Form<'_>>
     let [cart, budget] = words else {
         return None;
     };
-    let budget = number_of(budget.as_bytes())?;
-    if budget < 1 {
+    let units = number_of(budget.as_bytes())?;
+    if units < 1 {
         return None;
     }
-    Some(Form::Blank(cart.as_str(), budget))
+    Some(Form::Blank(cart.as_str(), Budget { units }))
 }
 
 #[tactic(auto, unfolding(crate::specs::Forms::frames_form))]

@@ -4,6 +4,7 @@ ghost use Rattle.std.specs.Prelude.{◌≡◌, ◌≤◌, vec_len};
 
 use crate::ranges::{bytes_are_in_range, inputs_are_in_range};
 use std::marker::Model;
+use std::mem;
 use w4_defs::Input;
 
 /// What a run is given. Contracts see it as the record of w4_defs, and its limits hold of every value.
@@ -61,5 +62,20 @@ impl Recording {
             disk,
             frames,
         }
+    }
+
+    /// Puts other inputs in the place of those of the recording, and returns the latter. Takes no memory.
+    pub fn replace_frames(&mut self, frames: Vec<Input>) -> Vec<Input>
+        requires { vec_len frames ≤ 36000 }
+        ensures before { result.items ≡ self.old.frames }
+        ensures after { self.new ≡ record {
+          digest = self.old.digest;
+          budget = self.old.budget;
+          disk = self.old.disk;
+          frames = frames.items;
+        } }
+    {
+        inputs_are_in_range(frames.as_slice());
+        mem::replace(&mut self.frames, frames)
     }
 }

@@ -7,7 +7,8 @@ use Rattle.w4_defs.specs.Lines.{at_most, digits_after}
 use Rattle.w4_script.specs.DigitValue.{digit_value}
 
 -- digits never make a value smaller
-pub too_large : (n : ℕ) (digits : List ℕ) → 4294967295 < n → (digits_after n digits >>= at_most 4294967295) ≡ None
+pub too_large : (n : ℕ) (digits : List ℕ) → 4294967295 < n
+    → (digits_after n digits >>= at_most 4294967295) ≡ None
 too_large n [] lt = rw (lt-leb n 4294967295 lt) refl
 too_large n (d ∷ ds) lt =
     elim (leb 48 d && leb d 57) as

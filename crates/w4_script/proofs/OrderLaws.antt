@@ -3,20 +3,23 @@ use Rattle.std.proofs.Common.{◌≡◌, ◌≤◌, ℕ, length, List, [], ◌�
 use Rattle.std.proofs.lemmas.Bool.{le-leb}
 use Rattle.std.proofs.lemmas.List.{append-nil}
 use Rattle.w4_defs.specs.Lines.{Line, lines_of}
-use Rattle.w4_defs.specs.OrderFile.{ScriptFault, BadLine, Reader, file_of, orders_in, with_order}
+use Rattle.w4_defs.specs.OrderFile.{ScriptFault, BadLine, OrderReader, file_of, orders_in, with_order}
 
 -- the orders that were read before, and what those of the lines that are left come to
-abbrev pub with_orders : {Order : Type 0} → List Order → Result (List Order) ScriptFault → Result (List Order) ScriptFault
+abbrev pub with_orders : {Order : Type 0} → List Order → Result (List Order) ScriptFault
+    → Result (List Order) ScriptFault
 with_orders before (Ok orders) = Ok (before ++ orders)
 with_orders before (Err fault) = Err fault
 
-regroup : {Order : Type 0} (before : List Order) (number : ℕ) (order : Order) (more : Result (List Order) ScriptFault)
+regroup : {Order : Type 0} (before : List Order) (number : ℕ) (order : Order)
+    (more : Result (List Order) ScriptFault)
     → with_orders before (with_order number (Some order) more) ≡ with_orders (before ++ order ∷ []) more
 regroup before number order (Ok more) = ap (λ orders. Ok orders) (sym (append_assoc before (order ∷ []) more))
 regroup before number order (Err fault) = refl
 
 -- one more line, whose order is read
-pub one_order : {Order : Type 0} (order_of : Reader Order) (before : List Order) (all left : List Line) (line : Line) (order : Order)
+pub one_order : {Order : Type 0} (order_of : OrderReader Order) (before : List Order) (all left : List Line)
+    (line : Line) (order : Order)
     (whole : Result (List Order) ScriptFault) → all ≡ line ∷ left → order_of line.words ≡ Some order
     → with_orders before (orders_in order_of all) ≡ whole
     → with_orders (before ++ order ∷ []) (orders_in order_of left) ≡ whole
@@ -28,16 +31,18 @@ one_order order_of before all left line order whole first read so_far =
     sym one ∙ so_far
 
 -- a bad line
-pub bad_line : {Order : Type 0} (order_of : Reader Order) (before : List Order) (all left : List Line) (line : Line)
+pub bad_line : {Order : Type 0} (order_of : OrderReader Order) (before : List Order) (all left : List Line)
+    (line : Line)
     (whole : Result (List Order) ScriptFault) → all ≡ line ∷ left → order_of line.words ≡ None
     → with_orders before (orders_in order_of all) ≡ whole → whole ≡ Err (BadLine line.number)
 unfolding orders_in
 bad_line order_of before all left line whole first bad so_far =
-    let one : with_orders before (orders_in order_of all) ≡ Err (BadLine line.number) = rw (first, bad) refl in
+    let one : with_orders before (orders_in order_of all) ≡ Err (BadLine line.number) =
+    rw (first, bad) refl in
     sym so_far ∙ one
 
 -- no line is left
-pub no_line : {Order : Type 0} (order_of : Reader Order) (before : List Order) (all : List Line)
+pub no_line : {Order : Type 0} (order_of : OrderReader Order) (before : List Order) (all : List Line)
     (whole : Result (List Order) ScriptFault) → all ≡ []
     → with_orders before (orders_in order_of all) ≡ whole → whole ≡ Ok before
 unfolding orders_in
@@ -47,6 +52,6 @@ no_line order_of before all whole none so_far =
     sym so_far ∙ one
 
 -- a file that isn't too long
-pub short_file : {Order : Type 0} (order_of : Reader Order) (bytes : List ℕ) → length bytes ≤ 1048576
+pub short_file : {Order : Type 0} (order_of : OrderReader Order) (bytes : List ℕ) → length bytes ≤ 1048576
     → file_of order_of bytes ≡ orders_in order_of (lines_of bytes)
 short_file order_of bytes short = rw (le-leb (length bytes) 1048576 short) refl

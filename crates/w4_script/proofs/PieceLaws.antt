@@ -10,13 +10,15 @@ abbrev pub before_mark : ℕ → List ℕ → ℕ
 before_mark mark bytes = position_or_len (λ b. b == mark) bytes
 
 one_more : (mark b n m : ℕ) (bytes : List ℕ) → m ≡ suc n →
-    (b ∷ take n bytes) ∷ pieces mark (drop (n + 1) bytes) ≡ take m (b ∷ bytes) ∷ pieces mark (drop (m + 1) (b ∷ bytes))
+    (b ∷ take n bytes) ∷ pieces mark (drop (n + 1) bytes) ≡ take m (b ∷ bytes) ∷ pieces mark
+    (drop (m + 1) (b ∷ bytes))
 one_more mark b n m bytes e = let after : m + 1 ≡ suc (n + 1) = omega arith in rw (after, e) refl
 
 -- the first piece ends before the first mark, or with the bytes
 pub first_piece_at : (mark b : ℕ) (bytes : List ℕ) →
     pieces mark (b ∷ bytes)
-    ≡ take (before_mark mark (b ∷ bytes)) (b ∷ bytes) ∷ pieces mark (drop (before_mark mark (b ∷ bytes) + 1) (b ∷ bytes))
+    ≡ take (before_mark mark (b ∷ bytes)) (b ∷ bytes) ∷ pieces mark
+    (drop (before_mark mark (b ∷ bytes) + 1) (b ∷ bytes))
 first_piece_at mark b [] = elim (b == mark) as
     (λ t. cond t ([] ∷ []) ((b ∷ []) ∷ [])
     ≡ take (cond (not t) 1 0) (b ∷ []) ∷ pieces mark (drop (cond (not t) 1 0 + 1) (b ∷ []))) [
@@ -49,7 +51,8 @@ piece_at_mark mark [] at found = absurd cc
 piece_at_mark mark (b ∷ bytes) at found =
     let all : List ℕ = b ∷ bytes in
     let same = place_is (ltb (before_mark mark all) (length all)) (before_mark mark all) at found in
-    subst (λ n. pieces mark all ≡ take n all ∷ pieces mark (drop (n + 1) all)) same (first_piece_at mark b bytes)
+    subst (λ n. pieces mark all ≡ take n all ∷ pieces mark (drop (n + 1) all)) same
+    (first_piece_at mark b bytes)
 
 pub piece_to_end : (mark : ℕ) (bytes : List ℕ) → 0 < length bytes → position (λ b. b == mark) bytes ≡ None →
     pieces mark bytes ≡ bytes ∷ []

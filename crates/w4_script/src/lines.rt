@@ -10,8 +10,8 @@ use crate::words::Words;
 use std::alloc::Global;
 use w4_defs::OutOfMemory;
 
-/// A line that isn't skipped: its number in the text, counted from 1, skipped lines too, and its words. There is
-/// at least one word, and none is empty.
+/// A line that isn't skipped: its number in the text, counted from 1, skipped lines too, and its words. There
+/// is at least one word, and none is empty.
 #[derive(PartialEq, Eq, Debug, Drop)]
 pub struct Line {
     pub number: u32,

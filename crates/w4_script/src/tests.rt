@@ -47,7 +47,7 @@ const INPUT: Input = Input {
 };
 
 #[test]
-fn orders_are_read(rt: HostRuntime) -> Result<(), Fail> {
+fn edits_are_read(rt: HostRuntime) -> Result<(), Fail> {
     let edits =
         b"set 0 27 0 0 255 -5 -0 4\n# again\ninsert 7 27 0 0 255 -5 0 4 reset\r\ndelete 3\nundo\nredo";
     let orders = read_script(rt.alloc(), edits)?;
@@ -69,16 +69,28 @@ fn orders_are_read(rt: HostRuntime) -> Result<(), Fail> {
             .as_slice(),
         "edits"
     );
-    let others =
-        b"keep 9\nkeep-every 60\ndrop 0\nsettle 16\nshow 1\nfilm 2 2 1\ntones 0 9\ntraces 9 9\ndisk 5\nstate 6\n";
-    let orders = read_script(rt.alloc(), others)?;
+    Ok(())
+}
+
+#[test]
+fn orders_on_places_are_read(rt: HostRuntime) -> Result<(), Fail> {
+    let kept = read_script(rt.alloc(), b"keep 9\nkeep-every 60\ndrop 0\nsettle 16\n")?;
+    let told = b"show 1\nfilm 2 2 1\ntones 0 9\ntraces 9 9\ndisk 5\nstate 6\n";
+    let orders = read_script(rt.alloc(), told)?;
     assert!(rt;
-        orders.as_slice()
+        kept.as_slice()
             == [
                 Order::Keep { p: 9 },
                 Order::KeepEvery { every: 60 },
                 Order::DropKept { p: 0 },
                 Order::Settle { workers: 16 },
+            ]
+            .as_slice(),
+        "kept places"
+    );
+    assert!(rt;
+        orders.as_slice()
+            == [
                 Order::Show { p: 1 },
                 Order::Film {
                     a: 2,
@@ -91,7 +103,7 @@ fn orders_are_read(rt: HostRuntime) -> Result<(), Fail> {
                 Order::StateAt { p: 6 },
             ]
             .as_slice(),
-        "orders on places"
+        "answers"
     );
     Ok(())
 }

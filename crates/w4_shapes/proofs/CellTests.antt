@@ -33,7 +33,8 @@ before z0 z1 u h = grind (arith, ints)
 after : (z0 z1 : ℤ) (u : ℕ) → z1 ≤ℤ pos u → (int_le z0 (pos u) && int_lt (pos u) z1) ≡ false
 after z0 z1 u h = grind (arith, ints)
 
-pub is_cell : (x0 x1 y0 y1 : ℤ) (u v : ℕ) → x0 ≤ℤ pos u → pos u <ℤ x1 → y0 ≤ℤ pos v → pos v <ℤ y1 → is_inside x0 x1 y0 y1 u v ≡ true
+pub is_cell : (x0 x1 y0 y1 : ℤ) (u v : ℕ) → x0 ≤ℤ pos u → pos u <ℤ x1 → y0 ≤ℤ pos v → pos v <ℤ y1
+    → is_inside x0 x1 y0 y1 u v ≡ true
 is_cell x0 x1 y0 y1 u v a b c d = both _ _ (within x0 x1 u a b) (within y0 y1 v c d)
 
 pub is_left : (x0 x1 y0 y1 : ℤ) (u v : ℕ) → pos u <ℤ x0 → is_inside x0 x1 y0 y1 u v ≡ false

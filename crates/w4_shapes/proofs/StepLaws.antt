@@ -10,13 +10,15 @@ use Rattle.w4_shapes.specs.Painted.{steps_painter}
 use Rattle.w4_shapes.proofs.BoxTests.{union}
 
 -- tests that agree on a range
-any_ext : (p q : ℕ → Bool) (a n : ℕ) → ((t : ℕ) → a ≤ t → t < a + n → p t ≡ q t) → list_any p (range_with_len a n) ≡ list_any q (range_with_len a n)
+any_ext : (p q : ℕ → Bool) (a n : ℕ) → ((t : ℕ) → a ≤ t → t < a + n → p t ≡ q t)
+    → list_any p (range_with_len a n) ≡ list_any q (range_with_len a n)
 any_ext p q a zero same = refl
 any_ext p q a (suc n) same =
     ap (λ b. b || list_any p (range_with_len (a + 1) n)) (same a (omega arith) (omega arith))
     ∙ ap (λ b. q a || b) (any_ext p q (a + 1) n (λ t low high. same t (omega arith) (omega arith)))
 
-any_none : (p : ℕ → Bool) (a n : ℕ) → ((t : ℕ) → a ≤ t → t < a + n → p t ≡ false) → list_any p (range_with_len a n) ≡ false
+any_none : (p : ℕ → Bool) (a n : ℕ) → ((t : ℕ) → a ≤ t → t < a + n → p t ≡ false)
+    → list_any p (range_with_len a n) ≡ false
 any_none p a zero off = refl
 any_none p a (suc n) off =
     ap (λ b. b || list_any p (range_with_len (a + 1) n)) (off a (omega arith) (omega arith))
@@ -37,10 +39,12 @@ or_turned false true = refl
 or_turned false false = refl
 
 -- one more number
-any_more : (p : ℕ → Bool) (a n b : ℕ) → a + n ≡ b → list_any p (range_with_len a (suc n)) ≡ (list_any p (range_with_len a n) || p b)
+any_more : (p : ℕ → Bool) (a n b : ℕ) → a + n ≡ b
+    → list_any p (range_with_len a (suc n)) ≡ (list_any p (range_with_len a n) || p b)
 any_more p a zero b e = or_none (p a) ∙ ap p (omega arith)
 any_more p a (suc n) b e =
-    ap (λ t. p a || t) (any_more p (a + 1) n b (omega arith)) ∙ or_more (p a) (list_any p (range_with_len (a + 1) n)) (p b)
+    ap (λ t. p a || t) (any_more p (a + 1) n b (omega arith))
+    ∙ or_more (p a) (list_any p (range_with_len (a + 1) n)) (p b)
 
 -- numbers past the last that passes
 any_past : (p : ℕ → Bool) (end more : ℕ) → ((t : ℕ) → end ≤ t → t < end + more → p t ≡ false)
@@ -64,13 +68,17 @@ and_fails true b e = absurd (cc)
 and_fails false b e = refl
 
 -- no step
-pub steps_none : (xs ys : ℕ → ℤ) (first u v : ℕ) (index : Option ℕ) → steps_painter xs ys first first index u v ≡ None
+pub steps_none : (xs ys : ℕ → ℤ) (first u v : ℕ) (index : Option ℕ)
+    → steps_painter xs ys first first index u v ≡ None
 steps_none xs ys first u v index = ap (λ b. only_if b index)
-    (any_none (λ t. nat_le first t && (is_at (xs t) u && is_at (ys t) v)) 0 first (λ t low high. and_fails (nat_le first t) (is_at (xs t) u && is_at (ys t) v) (grind (arith, nat_tests))))
+    (any_none (λ t. nat_le first t && (is_at (xs t) u && is_at (ys t) v)) 0 first
+    (λ t low high. and_fails (nat_le first t) (is_at (xs t) u && is_at (ys t) v)
+    (grind (arith, nat_tests))))
 
 -- one more step
 pub steps_more : (xs ys : ℕ → ℤ) (first step u v : ℕ) (index : Option ℕ) → first ≤ step
-    → option_or (point_painter (xs step) (ys step) index u v) (steps_painter xs ys first step index u v) ≡ steps_painter xs ys first (step + 1) index u v
+    → option_or (point_painter (xs step) (ys step) index u v) (steps_painter xs ys first step index u v)
+    ≡ steps_painter xs ys first (step + 1) index u v
 steps_more xs ys first step u v index h =
     let here : ℕ → Bool = λ t. is_at (xs t) u && is_at (ys t) v in
     let p : ℕ → Bool = λ t. nat_le first t && here t in
@@ -78,7 +86,8 @@ steps_more xs ys first step u v index h =
     let before : Bool = list_any p (range_with_len 0 step) in
     let size : suc step ≡ step + 1 = omega arith in
     union (here step) before index ∙ ap (λ b. only_if b index)
-    (or_turned (here step) before ∙ sym (ap (λ b. before || b) now) ∙ sym (any_more p 0 step step (omega arith)) ∙ ap (λ n. list_any p (range_with_len 0 n)) size)
+    (or_turned (here step) before ∙ sym (ap (λ b. before || b) now)
+    ∙ sym (any_more p 0 step step (omega arith)) ∙ ap (λ n. list_any p (range_with_len 0 n)) size)
 
 -- the steps left out are none of the screen's
 pub steps_all : (xs ys : ℕ → ℤ) (first end n u v : ℕ) (index : Option ℕ) → end ≤ n
@@ -89,7 +98,8 @@ steps_all xs ys first end n u v index h off =
     let p : ℕ → Bool = λ t. nat_le first t && here t in
     let size : end + (n - end) ≡ n = omega arith in
     let same : (t : ℕ) → 0 ≤ t → t < 0 + end → p t ≡ here t = λ t low high. elim (cases_lt t first) [
-      | inl below ↦ and_fails (nat_le first t) (here t) (grind (arith, nat_tests)) ∙ sym (off t (inl below) (omega arith))
+      | inl below ↦ and_fails (nat_le first t) (here t) (grind (arith, nat_tests))
+          ∙ sym (off t (inl below) (omega arith))
       | inr above ↦ and_holds (nat_le first t) (here t) (grind (arith, nat_tests))
     ] in
     ap (λ b. only_if b index)
@@ -110,9 +120,13 @@ no_other false b e = refl
 
 -- where it is off the screen, so is the line
 pub wide_off : (x1 x2 y1 y2 : ℤ) (t u v : ℕ) → apart y1 y2 ≤ apart x1 x2 → is_at (toward x1 x2 t) u ≡ false
-    → (is_at (toward x1 x2 (moved (apart x1 x2) (apart y1 y2) t)) u && is_at (toward y1 y2 (moved (apart y1 y2) (apart x1 x2) t)) v) ≡ false
-wide_off x1 x2 y1 y2 t u v h off = and_fails _ _ (ap (λ k. is_at (toward x1 x2 k) u) (each_step (apart x1 x2) (apart y1 y2) t h) ∙ off)
+    → (is_at (toward x1 x2 (moved (apart x1 x2) (apart y1 y2) t)) u
+    && is_at (toward y1 y2 (moved (apart y1 y2) (apart x1 x2) t)) v) ≡ false
+wide_off x1 x2 y1 y2 t u v h off =
+    and_fails _ _ (ap (λ k. is_at (toward x1 x2 k) u) (each_step (apart x1 x2) (apart y1 y2) t h) ∙ off)
 
 pub high_off : (x1 x2 y1 y2 : ℤ) (t u v : ℕ) → apart x1 x2 ≤ apart y1 y2 → is_at (toward y1 y2 t) v ≡ false
-    → (is_at (toward x1 x2 (moved (apart x1 x2) (apart y1 y2) t)) u && is_at (toward y1 y2 (moved (apart y1 y2) (apart x1 x2) t)) v) ≡ false
-high_off x1 x2 y1 y2 t u v h off = no_other _ _ (ap (λ k. is_at (toward y1 y2 k) v) (each_step (apart y1 y2) (apart x1 x2) t h) ∙ off)
+    → (is_at (toward x1 x2 (moved (apart x1 x2) (apart y1 y2) t)) u
+    && is_at (toward y1 y2 (moved (apart y1 y2) (apart x1 x2) t)) v) ≡ false
+high_off x1 x2 y1 y2 t u v h off =
+    no_other _ _ (ap (λ k. is_at (toward y1 y2 k) v) (each_step (apart y1 y2) (apart x1 x2) t h) ∙ off)

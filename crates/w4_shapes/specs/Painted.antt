@@ -12,9 +12,11 @@ rows_painter left right top bottom index u v =
 -- the pixel is the point of a line that starts at its first end after t steps
 abbrev pub is_point : ℤ → ℤ → ℤ → ℤ → ℕ → ℕ → ℕ → Bool
 is_point x1 y1 x2 y2 t u v =
-    is_at (toward x1 x2 (moved (apart x1 x2) (apart y1 y2) t)) u && is_at (toward y1 y2 (moved (apart y1 y2) (apart x1 x2) t)) v
+    is_at (toward x1 x2 (moved (apart x1 x2) (apart y1 y2) t)) u
+    && is_at (toward y1 y2 (moved (apart y1 y2) (apart x1 x2) t)) v
 
 -- those of a line's points that it has after the steps from `first` up to `end`
 abbrev pub steps_painter : (ℕ → ℤ) → (ℕ → ℤ) → ℕ → ℕ → Option ℕ → Painter
 steps_painter xs ys first end index u v =
-    only_if (list_any (λ t. nat_le first t && (is_at (xs t) u && is_at (ys t) v)) (range_with_len 0 end)) index
+    only_if (list_any (λ t. nat_le first t && (is_at (xs t) u && is_at (ys t) v))
+    (range_with_len 0 end)) index

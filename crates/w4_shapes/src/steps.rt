@@ -29,7 +29,8 @@ fn axis_steps(a: i32, b: i32, most: u64) -> (u64, u64)
     ensures order { result.0 ≤ result.1 }
     ensures bound { result.1 ≤ most + 1 }
     ensures few { result.1 ≤ result.0 + 160 }
-    ensures off { (t u : ℕ) → u < 160 → (t < result.0) ⊎ (result.1 ≤ t) → t < most + 1 → is_at (toward a b t) u ≡ false }
+    ensures off { (t u : ℕ) → u < 160 → (t < result.0) ⊎ (result.1 ≤ t) → t < most + 1
+        → is_at (toward a b t) u ≡ false }
 {
     part(first_step(a, b), most)
 }
@@ -39,7 +40,8 @@ fn axis_steps(a: i32, b: i32, most: u64) -> (u64, u64)
 fn first_step(a: i32, b: i32) -> i64
     ensures low { negsuc 4294967296 ≤ℤ result }
     ensures high { result ≤ℤ pos 4294967296 }
-    ensures off { (t u : ℕ) → u < 160 → (pos t <ℤ result) ⊎ ((result +ℤ pos 160) ≤ℤ pos t) → is_at (toward a b t) u ≡ false }
+    ensures off { (t u : ℕ) → u < 160 → (pos t <ℤ result) ⊎ ((result +ℤ pos 160) ≤ℤ pos t)
+        → is_at (toward a b t) u ≡ false }
 {
     if a <= b {
         -i64::from(a)

@@ -9,28 +9,40 @@ use Rattle.w4_defs.specs.declared.console.Tone.{Tone}
 use Rattle.w4_defs.specs.declared.console.Voice.{Voice}
 
 -- a test that decides equality decides that of options
-pub options_decide : {T : Type 0} {E : T → T → Bool} → ((a b : T) → Decides (E a b) (a ≡ b)) → (a b : Option T) → Decides (option_eq E a b) (a ≡ b)
+pub options_decide : {T : Type 0} {E : T → T → Bool} → ((a b : T) → Decides (E a b) (a ≡ b))
+    → (a b : Option T) → Decides (option_eq E a b) (a ≡ b)
 options_decide decides None None = ((λ _. refl), (λ _. refl))
 options_decide decides None (Some b) = ((λ h. cc), (λ h. cc))
 options_decide decides (Some a) None = ((λ h. cc), (λ h. cc))
-options_decide decides (Some a) (Some b) = ((λ h. ap (λ x. Some x) ((decides a b).0 h)), (λ h. (decides a b).1 (cc)))
+options_decide decides (Some a) (Some b) =
+    ((λ h. ap (λ x. Some x) ((decides a b).0 h)), (λ h. (decides a b).1 (cc)))
 
 -- a tone is its fields, and so is a voice
 abbrev tone_test : Tone → Tone → Bool
-tone_test a b = a.channel == b.channel && (a.first == b.first && (a.second == b.second && (a.attack == b.attack && (a.decay == b.decay
-    && (a.sustain == b.sustain && (a.release == b.release && (a.peak == b.peak && (a.level == b.level && (a.duty == b.duty
+tone_test a b = a.channel == b.channel
+    && (a.first == b.first && (a.second == b.second && (a.attack == b.attack && (a.decay == b.decay
+    && (a.sustain == b.sustain
+    && (a.release == b.release && (a.peak == b.peak && (a.level == b.level && (a.duty == b.duty
     && (a.pan == b.pan && beq a.note b.note))))))))))
 
 abbrev IsSameTone : Tone → Tone → Type 0
-IsSameTone a b = (a.channel ≡ b.channel) × ((a.first ≡ b.first) × ((a.second ≡ b.second) × ((a.attack ≡ b.attack) × ((a.decay ≡ b.decay)
-    × ((a.sustain ≡ b.sustain) × ((a.release ≡ b.release) × ((a.peak ≡ b.peak) × ((a.level ≡ b.level) × ((a.duty ≡ b.duty)
+IsSameTone a b = (a.channel ≡ b.channel)
+    × ((a.first ≡ b.first) × ((a.second ≡ b.second) × ((a.attack ≡ b.attack) × ((a.decay ≡ b.decay)
+    × ((a.sustain ≡ b.sustain)
+    × ((a.release ≡ b.release) × ((a.peak ≡ b.peak) × ((a.level ≡ b.level) × ((a.duty ≡ b.duty)
     × ((a.pan ≡ b.pan) × (a.note ≡ b.note)))))))))))
 
 tone_parts : (a b : Tone) → Decides (tone_test a b) (IsSameTone a b)
 tone_parts a b =
-    Decides-and _ _ (Decides-eqb _ _) (Decides-and _ _ (Decides-eqb _ _) (Decides-and _ _ (Decides-eqb _ _) (Decides-and _ _ (Decides-eqb _ _)
-    (Decides-and _ _ (Decides-eqb _ _) (Decides-and _ _ (Decides-eqb _ _) (Decides-and _ _ (Decides-eqb _ _) (Decides-and _ _ (Decides-eqb _ _)
-    (Decides-and _ _ (Decides-eqb _ _) (Decides-and _ _ (Decides-eqb _ _) (Decides-and _ _ (Decides-eqb _ _) (booleans_Decides _ _)))))))))))
+    Decides-and _ _ (Decides-eqb _ _)
+    (Decides-and _ _ (Decides-eqb _ _)
+    (Decides-and _ _ (Decides-eqb _ _) (Decides-and _ _ (Decides-eqb _ _)
+    (Decides-and _ _ (Decides-eqb _ _)
+    (Decides-and _ _ (Decides-eqb _ _)
+    (Decides-and _ _ (Decides-eqb _ _) (Decides-and _ _ (Decides-eqb _ _)
+    (Decides-and _ _ (Decides-eqb _ _)
+    (Decides-and _ _ (Decides-eqb _ _)
+    (Decides-and _ _ (Decides-eqb _ _) (booleans_Decides _ _)))))))))))
 
 whole_tone : (a : Tone) → a ≡ record {
   channel = a.channel;

@@ -45,7 +45,8 @@ impl SharedPage {
         steps: &mut Steps<L>,
     ) -> Result<(SharedPage, u32), OutOfMemory>
         ensures page { IfOk result (λ r. r.0 ≡ page.now) }
-        ensures copied { IfOk result (λ r. r.1 ≡ copied_among (option_map (λ p. p.now) before.entry) page.now 64) }
+        ensures copied { IfOk result
+            (λ r. r.1 ≡ copied_among (option_map (λ p. p.now) before.entry) page.now 64) }
         ensures ticks { IfOk result (λ r. steps.new ≡ steps.old + r.1) }
     {
         let mut chunks = Vec::with_capacity(alloc, CHUNKS)?;

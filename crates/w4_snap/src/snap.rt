@@ -28,7 +28,13 @@ impl Model for Snap {
 
     ghost Value = { State };
 
-    ghost view = { λ s. record { page = s.page; globals = s.globals.items; channels = s.channels; disk = s.disk; halt = s.halt } };
+    ghost view = { λ s. record {
+      page = s.page;
+      globals = s.globals.items;
+      channels = s.channels;
+      disk = s.disk;
+      halt = s.halt;
+    } };
 }
 
 /// A snapshot of a state, and how many of the page's 64 chunks were copied: those that differ from the

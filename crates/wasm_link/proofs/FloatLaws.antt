@@ -32,65 +32,94 @@ leaf_float (If r other m) h = absurd h
 leaf_float op h = refl
 
 floats_append : (xs ys : List Mark) → floats (xs ++ ys) ≡ (floats xs || floats ys)
-floats_append xs ys = ap (list_any is_float_entry) (map-append (λ m. m.0) xs ys) ∙ list_any-append is_float_entry (operations_of xs) (operations_of ys)
+floats_append xs ys = ap (list_any is_float_entry) (map-append (λ m. m.0) xs ys)
+    ∙ list_any-append is_float_entry (operations_of xs) (operations_of ys)
 
 -- a list that opens with an entry, and what follows it
-opened : (x : Mark) (xs ys : List Mark) (first inner rest : Bool) → is_float_entry x.0 ≡ first → floats xs ≡ inner → floats ys ≡ rest → floats ((x ∷ xs) ++ ys) ≡ (first || inner || rest)
+opened : (x : Mark) (xs ys : List Mark) (first inner rest : Bool) → is_float_entry x.0 ≡ first
+    → floats xs ≡ inner → floats ys ≡ rest → floats ((x ∷ xs) ++ ys) ≡ (first || inner || rest)
 opened x xs ys first inner rest ex exs eys =
-    floats_append (x ∷ xs) ys ∙ ap (λ b. (b || floats xs) || floats ys) ex ∙ ap (λ b. (first || b) || floats ys) exs ∙ ap (λ b. (first || inner) || b) eys
+    floats_append (x ∷ xs) ys ∙ ap (λ b. (b || floats xs) || floats ys) ex
+    ∙ ap (λ b. (first || b) || floats ys) exs ∙ ap (λ b. (first || inner) || b) eys
 
-pub flat_floats : (close : Op) → is_float_entry close ≡ false → (at : ℕ) (e : Expr) → IsProper e → floats (flat_at close at e) ≡ has_float e
+pub flat_floats : (close : Op) → is_float_entry close ≡ false → (at : ℕ) (e : Expr) → IsProper e
+    → floats (flat_at close at e) ≡ has_float e
 flat_floats close c at done p = ap (λ b. b || false) c
 flat_floats close c at (plain m rest) p =
-    ap (λ b. b || floats (flat_at close (at + 1) rest)) (leaf_float m.0 p.0) ∙ ap (λ b. is_float_operation m.0 || b) (flat_floats close c (at + 1) rest p.1)
+    ap (λ b. b || floats (flat_at close (at + 1) rest)) (leaf_float m.0 p.0)
+    ∙ ap (λ b. is_float_operation m.0 || b) (flat_floats close c (at + 1) rest p.1)
 flat_floats close c at (block r inner rest) p =
-    opened (mark (Block r (at + 1 + span inner))) (flat_at End (at + 1) inner) (flat_at close (at + 1 + span inner + 1) rest) _ _ _ refl (flat_floats End refl (at + 1) inner p.0) (flat_floats close c (at + 1 + span inner + 1) rest p.1)
+    opened (mark (Block r (at + 1 + span inner))) (flat_at End (at + 1) inner)
+    (flat_at close (at + 1 + span inner + 1) rest) _ _ _ refl
+    (flat_floats End refl (at + 1) inner p.0) (flat_floats close c (at + 1 + span inner + 1) rest p.1)
 flat_floats close c at (loop r inner rest) p =
-    opened (mark (Loop r (at + 1 + span inner))) (flat_at End (at + 1) inner) (flat_at close (at + 1 + span inner + 1) rest) _ _ _ refl (flat_floats End refl (at + 1) inner p.0) (flat_floats close c (at + 1 + span inner + 1) rest p.1)
+    opened (mark (Loop r (at + 1 + span inner))) (flat_at End (at + 1) inner)
+    (flat_at close (at + 1 + span inner + 1) rest) _ _ _ refl
+    (flat_floats End refl (at + 1) inner p.0) (flat_floats close c (at + 1 + span inner + 1) rest p.1)
 flat_floats close c at (if_then r taken rest) p =
-    opened (mark (If r None (at + 1 + span taken))) (flat_at End (at + 1) taken) (flat_at close (at + 1 + span taken + 1) rest) _ _ _ refl (flat_floats End refl (at + 1) taken p.0) (flat_floats close c (at + 1 + span taken + 1) rest p.1)
+    opened (mark (If r None (at + 1 + span taken))) (flat_at End (at + 1) taken)
+    (flat_at close (at + 1 + span taken + 1) rest) _ _ _ refl
+    (flat_floats End refl (at + 1) taken p.0) (flat_floats close c (at + 1 + span taken + 1) rest p.1)
 flat_floats close c at (if_else r taken other rest) p =
     let middle : ℕ = at + 1 + span taken in
     let end : ℕ = middle + 1 + span other in
-    let front : List Mark = (mark (If r (Some middle) end) ∷ flat_at Else (at + 1) taken) ++ flat_at End (middle + 1) other in
+    let front : List Mark = (mark (If r (Some middle) end) ∷ flat_at Else (at + 1) taken)
+    ++ flat_at End (middle + 1) other in
     let first : floats front ≡ (is_float_result r || has_float taken || has_float other) =
-    opened (mark (If r (Some middle) end)) (flat_at Else (at + 1) taken) (flat_at End (middle + 1) other) _ _ _ refl (flat_floats Else refl (at + 1) taken p.0) (flat_floats End refl (middle + 1) other p.1) in
-    floats_append front (flat_at close (end + 1) rest) ∙ ap (λ b. b || floats (flat_at close (end + 1) rest)) first
-    ∙ ap (λ b. (is_float_result r || has_float taken || has_float other) || b) (flat_floats close c (end + 1) rest p.2)
+    opened (mark (If r (Some middle) end)) (flat_at Else (at + 1) taken) (flat_at End (middle + 1) other) _ _
+    _ refl (flat_floats Else refl (at + 1) taken p.0) (flat_floats End refl (middle + 1) other p.1) in
+    floats_append front (flat_at close (end + 1) rest) ∙ ap (λ b. b || floats (flat_at close (end + 1) rest))
+    first
+    ∙ ap (λ b. (is_float_result r || has_float taken || has_float other) || b)
+    (flat_floats close c (end + 1) rest p.2)
 
-pub expression_floats : (e : Expr) (ops : List Op) → ops ≡ operations_of (flat e) → IsProper e → list_any is_float_entry ops ≡ has_float e
+pub expression_floats : (e : Expr) (ops : List Op) → ops ≡ operations_of (flat e) → IsProper e
+    → list_any is_float_entry ops ≡ has_float e
 expression_floats e ops is p = ap (list_any is_float_entry) is ∙ flat_floats End refl 0 e p
 
 -- one body
-body_floats : (b : Function) (runs : List Locals) (ops : List Op) → b.runs ≡ runs → IsBody (Some b) ops → IsProper b.list
+body_floats : (b : Function) (runs : List Locals) (ops : List Op) → b.runs ≡ runs → IsBody (Some b) ops
+    → IsProper b.list
     → (list_any (λ run. is_float run.kind) runs || list_any is_float_entry ops) ≡ function_has_float b
 body_floats b runs ops er is p =
     ap (λ rs. list_any (λ run. is_float run.kind) rs || list_any is_float_entry ops) (sym er)
-    ∙ ap (λ x. list_any (λ run. is_float run.kind) b.runs || x) (ap (list_any is_float_entry) is.1 ∙ flat_floats End refl is.0 b.list p)
+    ∙ ap (λ x. list_any (λ run. is_float run.kind) b.runs || x)
+    (ap (list_any is_float_entry) is.1 ∙ flat_floats End refl is.0 b.list p)
 
-pub body_flag : (b : Option Function) (runs : List Locals) (ops : List Op) → option_map (λ f. f.runs) b ≡ Some runs → IsBody b ops → IfSome b (λ f. IsProper f.list)
-    → option_map function_has_float b ≡ Some (list_any (λ run. is_float run.kind) runs || list_any is_float_entry ops)
+pub body_flag : (b : Option Function) (runs : List Locals) (ops : List Op)
+    → option_map (λ f. f.runs) b ≡ Some runs → IsBody b ops → IfSome b (λ f. IsProper f.list)
+    → option_map function_has_float b
+    ≡ Some (list_any (λ run. is_float run.kind) runs || list_any is_float_entry ops)
 body_flag None runs ops er is p = absurd is
 body_flag (Some b) runs ops er is p = ap Some (sym (body_floats b runs ops (same_Some _ _ er) is p))
 
-kind_float : (k : ImportKind) (others : List GlobalType) → list_any (λ g. is_float g.value) (cons_option (imported_global k) others) ≡ (imports_float k || list_any (λ g. is_float g.value) others)
+kind_float : (k : ImportKind) (others : List GlobalType)
+    → list_any (λ g. is_float g.value) (cons_option (imported_global k) others)
+    ≡ (imports_float k || list_any (λ g. is_float g.value) others)
 kind_float (kind.Func index) others = refl
 kind_float (kind.Table limits) others = refl
 kind_float (kind.Memory limits) others = refl
 kind_float (kind.Global global) others = refl
 
-imported_floats : (is : List Imported) → list_any (λ g. is_float g.value) (filter_map (λ i. imported_global i.kind) is) ≡ list_any (λ i. imports_float i.kind) is
+imported_floats : (is : List Imported)
+    → list_any (λ g. is_float g.value) (filter_map (λ i. imported_global i.kind) is)
+    ≡ list_any (λ i. imports_float i.kind) is
 imported_floats [] = refl
-imported_floats (i ∷ is) = kind_float i.kind (filter_map (λ j. imported_global j.kind) is) ∙ ap (λ b. imports_float i.kind || b) (imported_floats is)
+imported_floats (i ∷ is) = kind_float i.kind (filter_map (λ j. imported_global j.kind) is)
+    ∙ ap (λ b. imports_float i.kind || b) (imported_floats is)
 
-own_floats : (gs : List Global) → list_any (λ g. is_float g.value) (map (λ g. g.global) gs) ≡ list_any (λ g. is_float g.global.value) gs
+own_floats : (gs : List Global)
+    → list_any (λ g. is_float g.value) (map (λ g. g.global) gs) ≡ list_any (λ g. is_float g.global.value)
+    gs
 own_floats [] = refl
 own_floats (g ∷ gs) = ap (λ b. is_float g.global.value || b) (own_floats gs)
 
 -- imported globals and own ones
-pub global_floats : (is : List Imported) (gs : List Global) → (list_any (λ i. imports_float i.kind) is || list_any (λ g. is_float g.global.value) gs)
+pub global_floats : (is : List Imported) (gs : List Global)
+    → (list_any (λ i. imports_float i.kind) is || list_any (λ g. is_float g.global.value) gs)
     ≡ list_any (λ g. is_float g.value) (filter_map (λ i. imported_global i.kind) is ++ map (λ g. g.global) gs)
 global_floats is gs =
-    sym (list_any-append (λ g. is_float g.value) (filter_map (λ i. imported_global i.kind) is) (map (λ g. g.global) gs)
+    sym (list_any-append (λ g. is_float g.value) (filter_map (λ i. imported_global i.kind) is)
+    (map (λ g. g.global) gs)
     ∙ ap (λ b. b || list_any (λ g. is_float g.value) (map (λ g. g.global) gs)) (imported_floats is)
     ∙ ap (λ b. list_any (λ i. imports_float i.kind) is || b) (own_floats gs))

@@ -22,7 +22,8 @@ pub fn has_many_locals(code: &Code) -> bool
 
 fn is_large(code: &Code, func: usize) -> bool
     requires { func < length code.now.bodies }
-    ensures { option_map (has_many_locals code.now) (slice_get (zip code.now.functions code.now.bodies) func) ≡ Some result }
+    ensures { option_map (has_many_locals code.now) (slice_get (zip code.now.functions code.now.bodies) func)
+        ≡ Some result }
 {
     let functions = code.functions();
     exceeds(param_count(code, functions[func]), code.runs(func))

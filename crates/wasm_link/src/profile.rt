@@ -17,7 +17,8 @@ use wasm_tree::Code;
 ///
 /// Ok if and only if none of the nine causes holds; the refusal is that of the first that does.
 pub fn check_profile(code: &Code) -> Result<(), ProfileRefusal>
-    ensures { MatchResult result (λ _. profile_refusal code.now ≡ None) (λ refusal. profile_refusal code.now ≡ Some refusal) }
+    ensures { MatchResult result (λ _. profile_refusal code.now ≡ None)
+        (λ refusal. profile_refusal code.now ≡ Some refusal) }
 {
     match refusal(code) {
         Some(refusal) => Err(refusal),

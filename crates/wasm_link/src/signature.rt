@@ -40,14 +40,16 @@ fn are_i32(kinds: &[ValType], count: usize) -> bool
 
 /// Whether the signature has so many parameters and results, all of them i32.
 pub fn has_numbers(signature: &FuncType, numbers: Numbers) -> bool
-    ensures { result ≡ same_signature signature.now (record { params = replicate numbers.params I32; results = replicate numbers.results I32 }) }
+    ensures { result ≡ same_signature signature.now
+        (record { params = replicate numbers.params I32; results = replicate numbers.results I32 }) }
 {
     are_i32(&signature.params, numbers.params) && are_i32(&signature.results, numbers.results)
 }
 
 /// The numbers of an import's parameters and results.
 pub fn import_numbers(name: Import) -> Numbers
-    ensures { import_type name ≡ record { params = replicate result.params I32; results = replicate result.results I32 } }
+    ensures { import_type name
+        ≡ record { params = replicate result.params I32; results = replicate result.results I32 } }
 {
     match name {
         Import::Blit => takes(6),

@@ -21,7 +21,7 @@ use Rattle.wasm_machine.specs.declared.flow.Flow.{Flow}
 use Rattle.wasm_machine.specs.declared.flow.Flow.TheVariants as flow
 use Rattle.wasm_machine.specs.TypeNumbers.{type_number_of}
 use Rattle.wasm_machine.specs.Tie.{Ties, IsUnderWay, Goes, store_with}
-use Rattle.wasm_machine.specs.UnderWay.{Reach}
+use Rattle.wasm_machine.specs.Transfers.{Reach}
 use Rattle.wasm_machine.specs.Calling.{IsCallUnderWay, Calls}
 use Rattle.wasm_machine.proofs.StraightLaws.{OpAt}
 use Rattle.wasm_machine.proofs.CallIndirectLaws.{direct, indirect, outside_table, empty_entry, full_entry, typed_call, named_there, named_within}
@@ -39,23 +39,28 @@ item : {A : Type 0} (xs : List A) (i : ℕ) (d : A) (x : A) → slice_get xs i �
     ≡ Some (get_or xs i d)
 item xs i d x e = slice_get-get_or xs i d (slice_get_within xs i x e)
 
-module _ {H : Type 0} (out : HostFunctions H) (m : WasmModule) (place b : ℕ) (activation : Activation) (labels : List Label)
+module _ {H : Type 0} (imports : HostFunctions H) (m : WasmModule) (place b : ℕ) (activation : Activation)
+    (labels : List Label)
     (page : List ℕ) (host : H) where
   -- a call through the table
   pub indirect_top : (globals : List Val) (t table : ℕ) (slots : List ℕ)
       → OpAt (entries m) place (op.CallIndirect t table)
-      → IsUnderWay (program m out) (entries m) place activation labels slots (store_with page globals host) (b + 1)
+      → IsUnderWay (program m imports) (entries m) place activation labels slots
+      (store_with page globals host) (b + 1)
       → 0 < length slots
   indirect_top globals t table slots at g =
-      (indirect g.whole (program m out) (entries m) activation labels (store_with page globals host) g.meant place t
+      (indirect g.whole (program m imports) (entries m) activation labels (store_with page globals host)
+      g.meant place t
       table slots b at g.ties).0
 
   pub indirect_type : (globals : List Val) (t table : ℕ) (slots : List ℕ)
       → OpAt (entries m) place (op.CallIndirect t table)
-      → IsUnderWay (program m out) (entries m) place activation labels slots (store_with page globals host) (b + 1)
+      → IsUnderWay (program m imports) (entries m) place activation labels slots
+      (store_with page globals host) (b + 1)
       → (numbers : List ℕ) → numbers ≡ type_numbers m → t < length numbers
   indirect_type globals t table slots at g numbers is =
-      let r = indirect g.whole (program m out) (entries m) activation labels (store_with page globals host) g.meant
+      let r = indirect g.whole (program m imports) (entries m) activation labels
+      (store_with page globals host) g.meant
       place t table slots b at g.ties in
       let within : t < length m.types = slice_get_within m.types t r.1 r.2 in
       let long : length numbers ≡ length m.types = ap length is
@@ -66,13 +71,16 @@ module _ {H : Type 0} (out : HostFunctions H) (m : WasmModule) (place b : ℕ) (
       → OpAt (entries m) place (op.CallIndirect t table)
       → slots ≡ index ∷ slots' → (functions : List (Option ℕ)) → functions ≡ table_of m
       → length functions ≤ index
-      → Goes (program m out) (entries m) place activation labels slots (store_with page globals host) (b + 1)
+      → Goes (program m imports) (entries m) place activation labels slots (store_with page globals host)
+      (b + 1)
       (flow.Trap cause.Table) activation labels slots' (store_with page globals host) b
   table_trap globals t table index slots slots' at top functions is past = record {
     by = λ whole meant h.
-        let r = indirect whole (program m out) (entries m) activation labels (store_with page globals host) meant place
+        let r = indirect whole (program m imports) (entries m) activation labels
+        (store_with page globals host) meant place
         t table slots b at h in
-        outside_table whole (program m out) (entries m) activation labels (store_with page globals host) r.1 index
+        outside_table whole (program m imports) (entries m) activation labels (store_with page globals host)
+        r.1 index
         (place + 1) slots' b (r.3 index slots' top)
         (ap (λ l. slice_get l index) (sym is) ∙ slice_get_past functions index past);
   }
@@ -81,37 +89,46 @@ module _ {H : Type 0} (out : HostFunctions H) (m : WasmModule) (place b : ℕ) (
       → OpAt (entries m) place (op.CallIndirect t table)
       → slots ≡ index ∷ slots' → (functions : List (Option ℕ)) → functions ≡ table_of m
       → index < length functions → (z : Option ℕ) → get_or functions index z ≡ None
-      → Goes (program m out) (entries m) place activation labels slots (store_with page globals host) (b + 1)
+      → Goes (program m imports) (entries m) place activation labels slots (store_with page globals host)
+      (b + 1)
       (flow.Trap cause.EmptyEntry) activation labels slots' (store_with page globals host) b
   empty_trap globals t table index slots slots' at top functions is within z none = record {
     by = λ whole meant h.
-        let r = indirect whole (program m out) (entries m) activation labels (store_with page globals host) meant place
+        let r = indirect whole (program m imports) (entries m) activation labels
+        (store_with page globals host) meant place
         t table slots b at h in
-        empty_entry whole (program m out) (entries m) activation labels (store_with page globals host) r.1 index
+        empty_entry whole (program m imports) (entries m) activation labels (store_with page globals host)
+        r.1 index
         (place + 1) slots' b (r.3 index slots' top)
         (ap (λ l. slice_get l index) (sym is) ∙ slice_get-get_or functions index z within ∙ ap Some none);
   }
 
-module _ {H : Type 0} (out : HostFunctions H) (m : WasmModule) (place b : ℕ) (activation : Activation) (labels : List Label)
+module _ {H : Type 0} (imports : HostFunctions H) (m : WasmModule) (place b : ℕ) (activation : Activation)
+    (labels : List Label)
     (page : List ℕ) (host : H)
     (calls : List Call) (zip : AreCalls m (callees m) calls) (d : Call) where
   -- a call
   pub direct_within : (globals : List Val) (f : ℕ) (slots : List ℕ) → OpAt (entries m) place (op.Call f)
-      → IsUnderWay (program m out) (entries m) place activation labels slots (store_with page globals host) (b + 1)
+      → IsUnderWay (program m imports) (entries m) place activation labels slots
+      (store_with page globals host) (b + 1)
       → f < length calls
   direct_within globals f slots at g =
-      let r = direct g.whole (program m out) (entries m) activation labels (store_with page globals host) g.meant place
+      let r = direct g.whole (program m imports) (entries m) activation labels (store_with page globals host)
+      g.meant place
       f slots b at g.ties in
       named_within m calls f r.0 zip r.1
 
   direct_named : (globals : List Val) (f : ℕ) (slots : List ℕ) → OpAt (entries m) place (op.Call f)
       → (whole : Outcome H) → whole ≢ Stuck
-      → Ties whole (program m out) (entries m) place activation labels slots (store_with page globals host) (b + 1)
+      → Ties whole (program m imports) (entries m) place activation labels slots
+      (store_with page globals host) (b + 1)
       → (c : Callee) × IsCall m c (get_or calls f d)
-      × Reach whole (program m out) (entries m) c (place + 1) activation labels slots (store_with page globals host)
+      × Reach whole (program m imports) (entries m) c (place + 1) activation labels slots
+      (store_with page globals host)
       b
   direct_named globals f slots at whole meant t =
-      let r = direct whole (program m out) (entries m) activation labels (store_with page globals host) meant place f
+      let r = direct whole (program m imports) (entries m) activation labels (store_with page globals host)
+      meant place f
       slots b at t in (
         r.0,
         named_there m calls f r.0 (get_or calls f d) zip r.1
@@ -120,8 +137,9 @@ module _ {H : Type 0} (out : HostFunctions H) (m : WasmModule) (place b : ℕ) (
       )
 
   pub direct_calling : (globals : List Val) (f : ℕ) (slots : List ℕ) → OpAt (entries m) place (op.Call f)
-      → IsUnderWay (program m out) (entries m) place activation labels slots (store_with page globals host) (b + 1)
-      → IsCallUnderWay out (get_or calls f d) (place + 1) activation labels slots page host b
+      → IsUnderWay (program m imports) (entries m) place activation labels slots
+      (store_with page globals host) (b + 1)
+      → IsCallUnderWay imports (get_or calls f d) (place + 1) activation labels slots page host b
   direct_calling globals f slots at g =
       let r = direct_named globals f slots at g.whole g.meant g.ties in
       record {
@@ -135,9 +153,11 @@ module _ {H : Type 0} (out : HostFunctions H) (m : WasmModule) (place b : ℕ) (
 
   pub direct_goes : (globals : List Val) (f : ℕ) (slots : List ℕ) → OpAt (entries m) place (op.Call f)
       → (answer : Flow) (activation' : Activation) (labels' : List Label) (slots' page' : List ℕ) (host' : H)
-      → Calls out (get_or calls f d) (place + 1) activation labels slots page host b answer activation' labels' slots'
+      → Calls imports (get_or calls f d) (place + 1) activation labels slots page host b answer activation'
+      labels' slots'
       page' host'
-      → Goes (program m out) (entries m) place activation labels slots (store_with page globals host) (b + 1) answer
+      → Goes (program m imports) (entries m) place activation labels slots (store_with page globals host)
+      (b + 1) answer
       activation' labels' slots' (store_with page' globals host') b
   direct_goes globals f slots at answer activation' labels' slots' page' host' c = record {
     by = λ whole meant t.
@@ -153,7 +173,7 @@ module _ {H : Type 0} (out : HostFunctions H) (m : WasmModule) (place b : ℕ) (
     pub there : slice_get (callees m) f ≡ Some callee
     pub named : IsCall m callee (get_or calls f d)
     pub same : type_number_of (get_or calls f d) ≡ number_of_type m.types signature
-        → Reach whole (program m out) (entries m) callee (place + 1) activation labels slots'
+        → Reach whole (program m imports) (entries m) callee (place + 1) activation labels slots'
         (store_with page globals host) b
     pub other : type_number_of (get_or calls f d) ≢ number_of_type m.types signature → whole
         ≡ Trap cause.Type_ (store_with page globals host)
@@ -163,18 +183,21 @@ module _ {H : Type 0} (out : HostFunctions H) (m : WasmModule) (place b : ℕ) (
       → slots ≡ index ∷ slots' → (functions : List (Option ℕ)) → functions ≡ table_of m
       → index < length functions → (z : Option ℕ) → get_or functions index z ≡ Some f
       → (whole : Outcome H) → whole ≢ Stuck
-      → Ties whole (program m out) (entries m) place activation labels slots (store_with page globals host) (b + 1)
+      → Ties whole (program m imports) (entries m) place activation labels slots
+      (store_with page globals host) (b + 1)
       → Typed globals whole t f slots'
   typed_entry globals t table index f slots slots' at top functions is within z full whole meant h =
       let st : Store H = store_with page globals host in
-      let r = indirect whole (program m out) (entries m) activation labels st meant place t table slots b at h in
-      let w = full_entry whole (program m out) (entries m) activation labels st meant r.1 index f (place + 1)
+      let r = indirect whole (program m imports) (entries m) activation labels st meant place t table slots b
+      at h in
+      let w = full_entry whole (program m imports) (entries m) activation labels st meant r.1 index f
+      (place + 1)
       slots' b (r.3 index slots' top)
       (ap (λ l. slice_get l index) (sym is) ∙ slice_get-get_or functions index z within ∙ ap Some full) in
       let named : IsCall m w.0 (get_or calls f d) =
       named_there m calls f w.0 (get_or calls f d) zip w.1
       (slice_get-get_or calls f d (named_within m calls f w.0 zip w.1)) in
-      let k = typed_call whole (program m out) (entries m) activation labels st meant m t r.1 w.0
+      let k = typed_call whole (program m imports) (entries m) activation labels st meant m t r.1 w.0
       (get_or calls f d) (place + 1) slots' b r.2 named w.2 in
       record {
         signature = r.1;
@@ -197,7 +220,8 @@ module _ {H : Type 0} (out : HostFunctions H) (m : WasmModule) (place b : ℕ) (
       → OpAt (entries m) place (op.CallIndirect t table)
       → slots ≡ index ∷ slots' → (functions : List (Option ℕ)) → functions ≡ table_of m
       → index < length functions → (z : Option ℕ) → get_or functions index z ≡ Some f
-      → IsUnderWay (program m out) (entries m) place activation labels slots (store_with page globals host) (b + 1)
+      → IsUnderWay (program m imports) (entries m) place activation labels slots
+      (store_with page globals host) (b + 1)
       → f < length calls
   indirect_within globals t table index f slots slots' at top functions is within z full g =
       let w = typed_entry globals t table index f slots slots' at top functions is within z full g.whole
@@ -209,22 +233,26 @@ module _ {H : Type 0} (out : HostFunctions H) (m : WasmModule) (place b : ℕ) (
       → slots ≡ index ∷ slots' → (functions : List (Option ℕ)) → functions ≡ table_of m
       → index < length functions → (z : Option ℕ) → get_or functions index z ≡ Some f
       → (numbers : List ℕ) → numbers ≡ type_numbers m → type_number_of (get_or calls f d) ≢ get_or numbers t 0
-      → Goes (program m out) (entries m) place activation labels slots (store_with page globals host) (b + 1)
+      → Goes (program m imports) (entries m) place activation labels slots (store_with page globals host)
+      (b + 1)
       (flow.Trap cause.Type_) activation labels slots' (store_with page globals host) b
-  type_trap globals t table index f slots slots' at top functions is within z full numbers are other = record {
-    by = λ whole meant h.
-        let w = typed_entry globals t table index f slots slots' at top functions is within z full whole meant
-        h in
-        w.other (λ e. other (e ∙ sym (number_there t w.signature numbers w.typed are)));
-  }
+  type_trap globals t table index f slots slots' at top functions is within z full numbers are other =
+      record {
+        by = λ whole meant h.
+            let w = typed_entry globals t table index f slots slots' at top functions is within z full whole
+            meant
+            h in
+            w.other (λ e. other (e ∙ sym (number_there t w.signature numbers w.typed are)));
+      }
 
   pub indirect_calling : (globals : List Val) (t table index f : ℕ) (slots slots' : List ℕ)
       → OpAt (entries m) place (op.CallIndirect t table)
       → slots ≡ index ∷ slots' → (functions : List (Option ℕ)) → functions ≡ table_of m
       → index < length functions → (z : Option ℕ) → get_or functions index z ≡ Some f
       → (numbers : List ℕ) → numbers ≡ type_numbers m → type_number_of (get_or calls f d) ≡ get_or numbers t 0
-      → IsUnderWay (program m out) (entries m) place activation labels slots (store_with page globals host) (b + 1)
-      → IsCallUnderWay out (get_or calls f d) (place + 1) activation labels slots' page host b
+      → IsUnderWay (program m imports) (entries m) place activation labels slots
+      (store_with page globals host) (b + 1)
+      → IsCallUnderWay imports (get_or calls f d) (place + 1) activation labels slots' page host b
   indirect_calling globals t table index f slots slots' at top functions is within z full numbers are same g =
       let w = typed_entry globals t table index f slots slots' at top functions is within z full g.whole
       g.meant g.ties in
@@ -246,9 +274,11 @@ module _ {H : Type 0} (out : HostFunctions H) (m : WasmModule) (place b : ℕ) (
       → index < length functions → (z : Option ℕ) → get_or functions index z ≡ Some f
       → (numbers : List ℕ) → numbers ≡ type_numbers m → type_number_of (get_or calls f d) ≡ get_or numbers t 0
       → (answer : Flow) (activation' : Activation) (labels' : List Label) (slots'' page' : List ℕ) (host' : H)
-      → Calls out (get_or calls f d) (place + 1) activation labels slots' page host b answer activation' labels' slots''
+      → Calls imports (get_or calls f d) (place + 1) activation labels slots' page host b answer activation'
+      labels' slots''
       page' host'
-      → Goes (program m out) (entries m) place activation labels slots (store_with page globals host) (b + 1) answer
+      → Goes (program m imports) (entries m) place activation labels slots (store_with page globals host)
+      (b + 1) answer
       activation' labels' slots'' (store_with page' globals host') b
   indirect_goes globals t table index f slots slots' at top functions is within z full numbers are same answer
       activation' labels' slots'' page' host' c = record {

@@ -11,22 +11,24 @@ use Rattle.wasm_machine.specs.declared.label.Label.{Label}
 use Rattle.wasm_machine.specs.declared.activation.Activation.{Activation}
 use Rattle.wasm_machine.specs.declared.flow.Flow.{Flow}
 use Rattle.wasm_machine.specs.Tie.{store_with}
-use Rattle.wasm_machine.specs.UnderWay.{Reaching, Reaches}
+use Rattle.wasm_machine.specs.Transfers.{Reaching, Reaches}
 
-pub record IsCallUnderWay {H : Type 0} (out : HostFunctions H) (call : Call) (back : ℕ) (activation : Activation)
-    (labels : List Label) (slots page : List ℕ) (host : H) (budget : ℕ) : Type 0 where
+pub record IsCallUnderWay {H : Type 0} (imports : HostFunctions H) (call : Call) (back : ℕ)
+    (activation : Activation) (labels : List Label) (slots page : List ℕ) (host : H) (budget : ℕ)
+    : Type 0 where
   pub cart : WasmModule
   pub callee : Callee
   pub globals : List Val
   pub named : IsCall cart callee call
-  pub reaching : Reaching (program cart out) (entries cart) callee back activation labels slots
+  pub reaching : Reaching (program cart imports) (entries cart) callee back activation labels slots
       (store_with page globals host) budget
 
 -- of any such call, whatever the globals, which it leaves
-pub record Calls {H : Type 0} (out : HostFunctions H) (call : Call) (back : ℕ) (activation : Activation) (labels : List Label)
-    (slots page : List ℕ) (host : H) (budget : ℕ)
-    (answer : Flow) (activation' : Activation) (labels' : List Label) (slots' page' : List ℕ) (host' : H) : Type 0 where
+pub record Calls {H : Type 0} (imports : HostFunctions H) (call : Call) (back : ℕ) (activation : Activation)
+    (labels : List Label) (slots page : List ℕ) (host : H) (budget : ℕ) (answer : Flow)
+    (activation' : Activation) (labels' : List Label) (slots' page' : List ℕ) (host' : H) : Type 0 where
   pub by : (cart : WasmModule) (callee : Callee) (globals : List Val) → IsCall cart callee call
-      → Reaches (program cart out) (entries cart) callee back activation labels slots (store_with page globals host)
+      → Reaches (program cart imports) (entries cart) callee back activation labels slots
+      (store_with page globals host)
       budget
       answer activation' labels' slots' (store_with page' globals host')

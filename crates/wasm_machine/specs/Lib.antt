@@ -6,7 +6,7 @@ pub mod Standing
 pub mod Stack
 pub mod OpenLabels
 pub mod Tie
-pub mod UnderWay
+pub mod Transfers
 pub mod HostCalls
 pub mod Meeting
 pub mod Entering

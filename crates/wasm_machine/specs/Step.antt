@@ -15,22 +15,24 @@ use Rattle.wasm_machine.specs.Tie.{store_with, IsUnderWay, Goes, Runs}
 -- before a step: some run stands there that doesn't end without meaning
 abbrev pub IsBeforeStep : {H : Type 0} → HostFunctions H → WasmModule → (place : ℕ) → Activation → List Label
     → (slots page : List ℕ) → List Val → H → (budget : ℕ) → Type 0
-IsBeforeStep out cart place activation labels slots page globals host budget =
-    IsUnderWay (program cart out) (entries cart) place activation labels slots (store_with page globals host) budget
+IsBeforeStep imports cart place activation labels slots page globals host budget =
+    IsUnderWay (program cart imports) (entries cart) place activation labels slots
+    (store_with page globals host) budget
 
 -- after it: its answer and what it leaves are right for each such run
 abbrev pub IsAfterStep : {H : Type 0} → HostFunctions H → WasmModule → (place : ℕ) → Activation → List Label
     → (slots page : List ℕ) → List Val → H → (budget : ℕ)
     → Flow → Activation → List Label → (slots' page' : List ℕ) → List Val → H → (rest : ℕ) → Type 0
-IsAfterStep out cart place activation labels slots page globals host budget answer activation' labels' slots' page' globals'
-    host' rest =
-    Goes (program cart out) (entries cart) place activation labels slots (store_with page globals host) budget
+IsAfterStep imports cart place activation labels slots page globals host budget
+    answer activation' labels' slots' page' globals' host' rest =
+    Goes (program cart imports) (entries cart) place activation labels slots
+    (store_with page globals host) budget
     answer activation' labels' slots' (store_with page' globals' host') rest
 
 -- after a run
 abbrev pub IsAfterRun : {H : Type 0} → HostFunctions H → WasmModule → (place : ℕ) → Activation → List Label
     → (slots page : List ℕ) → List Val → H → (budget : ℕ)
     → Ending → (page' : List ℕ) → List Val → H → Type 0
-IsAfterRun out cart place activation labels slots page globals host budget ending page' globals' host' =
-    Runs (program cart out) (entries cart) place activation labels slots (store_with page globals host) budget ending
-    (store_with page' globals' host')
+IsAfterRun imports cart place activation labels slots page globals host budget ending page' globals' host' =
+    Runs (program cart imports) (entries cart) place activation labels slots
+    (store_with page globals host) budget ending (store_with page' globals' host')

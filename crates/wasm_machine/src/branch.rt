@@ -101,7 +101,8 @@ pub(crate) fn branch(
 ) -> Flow
     requires label { label ≤ length labels.old }
     requires lands { CanLand (drop label labels.old) slots.old activation.old }
-    ensures { Lands (drop label labels.old) slots.old activation.old rest result labels.new slots.new activation.new }
+    ensures { Lands (drop label labels.old) slots.old activation.old rest result labels.new slots.new
+        activation.new }
 {
     labels.leave(label);
     land(rest, activation, labels, slots)
@@ -140,7 +141,8 @@ pub(crate) fn close(
 ) -> Flow
     requires place { place < 4294967296 }
     requires closes { CanClose labels.old slots.old activation.old }
-    ensures { Closes place labels.old slots.old activation.old rest result labels.new slots.new activation.new }
+    ensures { Closes place labels.old slots.old activation.old rest result labels.new slots.new
+        activation.new }
 {
     match labels.top() {
         None => Flow::Done { rest },

@@ -34,10 +34,12 @@ pub(crate) fn call<H: Host>(
     page: &mut Page,
     host: &mut H,
 ) -> Flow
-    requires calling { IsCallUnderWay (host_functions H.weight H.effect) callee back activation.old labels.old slots.old
+    requires calling { IsCallUnderWay (host_functions H.weight H.effect) callee back activation.old
+        labels.old slots.old
         page.old host.old budget }
     requires back { back < 4294967296 }
-    ensures calls { Calls (host_functions H.weight H.effect) callee back activation.old labels.old slots.old page.old
+    ensures calls { Calls (host_functions H.weight H.effect) callee back activation.old labels.old slots.old
+        page.old
         host.old budget
         result activation.new labels.new slots.new page.new host.new }
     ensures grows { length labels.new ≤ length labels.old + 1 }
@@ -83,11 +85,13 @@ pub(crate) fn call_direct<H: Host>(
     page: &mut Page,
     host: &mut H,
 ) -> Flow
-    requires going { (globals : List Val) × IsBeforeStep (host_functions H.weight H.effect) cart.now place activation.old
+    requires going { (globals : List Val)
+        × IsBeforeStep (host_functions H.weight H.effect) cart.now place activation.old
         labels.old slots.old page.old globals host.old (budget + 1) }
     requires op { slice_get (operations_of (entries cart.now)) place ≡ Some (op.Call func) }
     requires bound { length (entries cart.now) < 4294967296 }
-    ensures goes { (globals : List Val) → IsAfterStep (host_functions H.weight H.effect) cart.now place activation.old
+    ensures goes { (globals : List Val)
+        → IsAfterStep (host_functions H.weight H.effect) cart.now place activation.old
         labels.old slots.old page.old globals host.old (budget + 1)
         result activation.new labels.new slots.new page.new globals host.new budget }
     ensures grows { length labels.new ≤ length labels.old + 1 }
@@ -130,12 +134,14 @@ pub(crate) fn call_indirect<H: Host>(
     page: &mut Page,
     host: &mut H,
 ) -> Flow
-    requires going { (globals : List Val) × IsBeforeStep (host_functions H.weight H.effect) cart.now place activation.old
+    requires going { (globals : List Val)
+        × IsBeforeStep (host_functions H.weight H.effect) cart.now place activation.old
         labels.old slots.old page.old globals host.old (budget + 1) }
     requires op { slice_get (operations_of (entries cart.now)) place
         ≡ Some (op.CallIndirect type_index table_index) }
     requires bound { length (entries cart.now) < 4294967296 }
-    ensures goes { (globals : List Val) → IsAfterStep (host_functions H.weight H.effect) cart.now place activation.old
+    ensures goes { (globals : List Val)
+        → IsAfterStep (host_functions H.weight H.effect) cart.now place activation.old
         labels.old slots.old page.old globals host.old (budget + 1)
         result activation.new labels.new slots.new page.new globals host.new budget }
     ensures grows { length labels.new ≤ length labels.old + 1 }

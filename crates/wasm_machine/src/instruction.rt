@@ -36,12 +36,14 @@ pub(crate) fn execute<H: Host>(
     globals: &mut [Val],
     host: &mut H,
 ) -> Flow
-    requires going { IsBeforeStep (host_functions H.weight H.effect) cart.now place activation.old labels.old slots.old
+    requires going { IsBeforeStep (host_functions H.weight H.effect) cart.now place activation.old labels.old
+        slots.old
         page.old globals.old host.old (rest + 1) }
     requires op { slice_get (operations_of (entries cart.now)) place ≡ Some op.now }
     requires end { (op.now ≢ Op.End) × (op.now ≢ Op.Else) }
     requires bound { length (entries cart.now) < 4294967296 }
-    ensures goes { IsAfterStep (host_functions H.weight H.effect) cart.now place activation.old labels.old slots.old
+    ensures goes { IsAfterStep (host_functions H.weight H.effect) cart.now place activation.old labels.old
+        slots.old
         page.old globals.old host.old (rest + 1)
         result activation.new labels.new slots.new page.new globals.new host.new rest }
     ensures grows { length labels.new ≤ length labels.old + 1 }

@@ -1,4 +1,5 @@
-//! The plain instructions: those that work on operands, locals and page alone (Core Specification, section 4.4).
+//! The plain instructions: those that work on operands, locals and page alone (Core Specification, section
+//! 4.4).
 
 ghost use Rattle.std.specs.Prelude.{◌≡◌, ◌+◌, ◌<◌, ◌≤◌, length};
 ghost use Rattle.w4_defs.specs.Effects.{effect, push_value};

@@ -34,11 +34,13 @@ fn step<H: Host>(
     globals: &mut [Val],
     host: &mut H,
 ) -> Flow
-    requires going { IsBeforeStep (host_functions H.weight H.effect) cart.now place activation.old labels.old slots.old
+    requires going { IsBeforeStep (host_functions H.weight H.effect) cart.now place activation.old labels.old
+        slots.old
         page.old globals.old host.old rest }
     requires op { slice_get (operations_of (entries cart.now)) place ≡ Some op.now }
     requires bound { length (entries cart.now) < 4294967296 }
-    ensures goes { IsAfterStep (host_functions H.weight H.effect) cart.now place activation.old labels.old slots.old
+    ensures goes { IsAfterStep (host_functions H.weight H.effect) cart.now place activation.old labels.old
+        slots.old
         page.old globals.old host.old rest
         result activation.new labels.new slots.new page.new globals.new host.new rest }
     ensures progress { Progress result rest labels.old labels.new }
@@ -78,9 +80,11 @@ pub(crate) fn run<H: Host>(
     globals: &mut [Val],
     host: &mut H,
 ) -> Ending
-    requires going { IsBeforeStep (host_functions H.weight H.effect) cart.now start activation.old labels.old slots.old
+    requires going { IsBeforeStep (host_functions H.weight H.effect) cart.now start activation.old labels.old
+        slots.old
         page.old globals.old host.old budget }
-    ensures { IsAfterRun (host_functions H.weight H.effect) cart.now start activation.old labels.old slots.old page.old
+    ensures { IsAfterRun (host_functions H.weight H.effect) cart.now start activation.old labels.old
+        slots.old page.old
         globals.old host.old budget
         result page.new globals.new host.new }
 {

@@ -25,7 +25,8 @@ by_zero w ShrU a b = grind arith
 by_zero w Rotl a b = grind arith
 by_zero w Rotr a b = grind arith
 
-overflow : (w : ℕ) → 0 < w → (op : Binary) (a b : ℕ) → (binary w op a b ≡ Err Overflow) ↔ ((op ≡ DivS) × (a ≡ 2 ^ (w - 1)) × (b ≡ 2 ^ w - 1))
+overflow : (w : ℕ) → 0 < w → (op : Binary) (a b : ℕ) → (binary w op a b ≡ Err Overflow)
+    ↔ ((op ≡ DivS) × (a ≡ 2 ^ (w - 1)) × (b ≡ 2 ^ w - 1))
 overflow w some Add a b = grind arith
 overflow w some Sub a b = grind arith
 overflow w some Mul a b = grind arith
@@ -44,7 +45,8 @@ overflow w some ShrU a b = grind arith
 overflow w some Rotl a b = grind arith
 overflow w some Rotr a b = grind arith
 
-no_other : (w : ℕ) (op : Binary) (a b : ℕ) (cause : Cause) → binary w op a b ≡ Err cause → (cause ≡ DivideByZero) ⊎ (cause ≡ Overflow)
+no_other : (w : ℕ) (op : Binary) (a b : ℕ) (cause : Cause) → binary w op a b ≡ Err cause
+    → (cause ≡ DivideByZero) ⊎ (cause ≡ Overflow)
 no_other w Add a b cause h = grind (arith, h)
 no_other w Sub a b cause h = grind (arith, h)
 no_other w Mul a b cause h = grind (arith, h)

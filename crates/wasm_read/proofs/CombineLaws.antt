@@ -15,24 +15,29 @@ use Rattle.wasm_read.proofs.Basics.{bind_some, split_if, if_some, same_read, mov
 use Rattle.wasm_read.proofs.NumberLaws.{unsigned_reads}
 
 -- one text and then another, taken from the front
-joined_takes : {A B : Type 0} (P : A → Texts) (Q : B → Texts) (bytes : List ℕ) (x : A) (mid : List ℕ) (y : B) (rest : List ℕ)
+joined_takes : {A B : Type 0} (P : A → Texts) (Q : B → Texts) (bytes : List ℕ) (x : A) (mid : List ℕ) (y : B)
+    (rest : List ℕ)
     → Takes P bytes x mid → Takes Q mid y rest → Takes (λ (z : A × B). P z.0 then Q z.1) bytes (x, y) rest
 joined_takes P Q bytes x mid y rest p q =
     (p.0 ++ q.0, p.1 ∙ ap (λ m. p.0 ++ m) q.1 ∙ sym (append_assoc p.0 q.0 rest), (p.0, q.0, refl, p.2, q.2))
 
-pub both_reads : {A B : Type 0} (P : A → Texts) (Q : B → Texts) (p : Reader A) (q : Reader B) → Reads P p → Reads Q q → Reads (λ (x : A × B). P x.0 then Q x.1) (both_at p q)
+pub both_reads : {A B : Type 0} (P : A → Texts) (Q : B → Texts) (p : Reader A) (q : Reader B) → Reads P p
+    → Reads Q q → Reads (λ (x : A × B). P x.0 then Q x.1) (both_at p q)
 both_reads {A} {B} P Q p q rp rq = record {
   sound = λ bytes x rest e.
       let f = bind_some (p bytes) (λ (a : A × List ℕ). q a.1 >>= λ b. read_as (a.0, b.0) b.1) (x, rest) e in
       let s = bind_some (q f.0.1) (λ (b : B × List ℕ). read_as (f.0.0, b.0) b.1) (x, rest) f.2 in
       moved (λ (z : A × B). P z.0 then Q z.1) bytes (f.0.0, s.0.0) x s.0.1 rest
-      (joined_takes P Q bytes f.0.0 f.0.1 s.0.0 s.0.1 (rp.sound bytes f.0.0 f.0.1 f.1) (rq.sound f.0.1 s.0.0 s.0.1 s.1)) s.2;
+      (joined_takes P Q bytes f.0.0 f.0.1 s.0.0 s.0.1 (rp.sound bytes f.0.0 f.0.1 f.1)
+      (rq.sound f.0.1 s.0.0 s.0.1 s.1)) s.2;
   complete = λ text rest x h.
       ap (both_at p q) (ap (λ t. t ++ rest) h.2 ∙ append_assoc h.0 h.1 rest)
-      ∙ (let e = rp.complete h.0 (h.1 ++ rest) x.0 h.3 in let e2 = rq.complete h.1 rest x.1 h.4 in rw (e, e2) refl);
+      ∙ (let e = rp.complete h.0 (h.1 ++ rest) x.0 h.3 in let e2 = rq.complete h.1 rest x.1 h.4 in
+      rw (e, e2) refl);
 }
 
-pub mapped_reads : {A B : Type 0} (P : A → Texts) (p : Reader A) (f : A → B) (g : B → A) → ((a : A) → g (f a) ≡ a) → ((b : B) → f (g b) ≡ b)
+pub mapped_reads : {A B : Type 0} (P : A → Texts) (p : Reader A) (f : A → B) (g : B → A)
+    → ((a : A) → g (f a) ≡ a) → ((b : B) → f (g b) ≡ b)
     → Reads P p → Reads (λ b. P (g b)) (mapped_at f p)
 mapped_reads {A} {B} P p f g there back r = record {
   sound = λ bytes y rest e.
@@ -45,49 +50,59 @@ mapped_reads {A} {B} P p f g there back r = record {
       rw e (ap (λ b. read_as b rest) (back y));
 }
 
-pub tested_reads : {A : Type 0} (P : A → Texts) (p : Reader A) (C : A → Type 0) (test : A → Bool) → ((a : A) → Decides (test a) (C a))
+pub tested_reads : {A : Type 0} (P : A → Texts) (p : Reader A) (C : A → Type 0) (test : A → Bool)
+    → ((a : A) → Decides (test a) (C a))
     → Reads P p → Reads (λ a. provided (C a) (P a)) (tested_at test p)
 tested_reads {A} P p C test decides r = record {
   sound = λ bytes x rest e.
       let s = bind_some (p bytes) (λ (a : A × List ℕ). if test a.0 then Some a else None) (x, rest) e in
       let i = if_some (test s.0.0) (Some s.0) (x, rest) s.2 in
       let t = r.sound bytes s.0.0 s.0.1 s.1 in
-      moved (λ (a : A). provided (C a) (P a)) bytes s.0.0 x s.0.1 rest (t.0, t.1, ((decides s.0.0).0 i.0, t.2)) i.1;
+      moved (λ (a : A). provided (C a) (P a)) bytes s.0.0 x s.0.1 rest
+      (t.0, t.1, ((decides s.0.0).0 i.0, t.2)) i.1;
   complete = λ text rest x h.
       let e = r.complete text rest x h.1 in
       let c = (decides x).1 h.0 in
       rw (e, c) refl;
 }
 
-head_taken : {A : Type 0} (P : A → Texts) (code b : ℕ) (bs : List ℕ) (x : A) (rest : List ℕ) → b ≡ code → Takes P bs x rest → Takes (λ z. byte code then P z) (b ∷ bs) x rest
-head_taken P code b bs x rest e t = (code ∷ t.0, ap (λ k. k ∷ bs) e ∙ ap (λ xs. code ∷ xs) t.1, (code ∷ [], t.0, refl, refl, t.2))
+head_taken : {A : Type 0} (P : A → Texts) (code b : ℕ) (bs : List ℕ) (x : A) (rest : List ℕ) → b ≡ code
+    → Takes P bs x rest → Takes (λ z. byte code then P z) (b ∷ bs) x rest
+head_taken P code b bs x rest e t =
+    (code ∷ t.0, ap (λ k. k ∷ bs) e ∙ ap (λ xs. code ∷ xs) t.1, (code ∷ [], t.0, refl, refl, t.2))
 
-headed_sound : {A : Type 0} (P : A → Texts) (p : Reader A) (code : ℕ) → Reads P p → (bytes : List ℕ) (x : A) (rest : List ℕ)
+headed_sound : {A : Type 0} (P : A → Texts) (p : Reader A) (code : ℕ) → Reads P p
+    → (bytes : List ℕ) (x : A) (rest : List ℕ)
     → headed_at code p bytes ≡ Some (x, rest) → Takes (λ z. byte code then P z) bytes x rest
 headed_sound P p code r [] x rest e = absurd cc
 headed_sound P p code r (b ∷ bs) x rest e =
     let i = if_some (eqb b code) (p bs) (x, rest) e in
     head_taken P code b bs x rest (eqb-true b code i.0) (r.sound bs x rest i.1)
 
-headed_complete : {A : Type 0} (P : A → Texts) (p : Reader A) (code : ℕ) → Reads P p → (text rest : List ℕ) (x : A)
+headed_complete : {A : Type 0} (P : A → Texts) (p : Reader A) (code : ℕ) → Reads P p
+    → (text rest : List ℕ) (x : A)
     → (byte code then P x) text → headed_at code p (text ++ rest) ≡ Some (x, rest)
 headed_complete P p code r text rest x h =
     let same : text ≡ code ∷ h.1 = h.2 ∙ ap (λ a. a ++ h.1) h.3 in
     let test : eqb code code ≡ true = eq-eqb code code refl in
     ap (λ t. headed_at code p (t ++ rest)) same ∙ (rw test (r.complete h.1 rest x h.4))
 
-pub headed_reads : {A : Type 0} (P : A → Texts) (p : Reader A) (code : ℕ) → Reads P p → Reads (λ x. byte code then P x) (headed_at code p)
+pub headed_reads : {A : Type 0} (P : A → Texts) (p : Reader A) (code : ℕ) → Reads P p
+    → Reads (λ x. byte code then P x) (headed_at code p)
 headed_reads P p code r = record { sound = headed_sound P p code r; complete = headed_complete P p code r }
 
 -- so many items
-items_sound : {A : Type 0} (P : A → Texts) (p : Reader A) → Reads P p → (n : ℕ) (bytes : List ℕ) (xs : List A) (rest : List ℕ)
+items_sound : {A : Type 0} (P : A → Texts) (p : Reader A) → Reads P p
+    → (n : ℕ) (bytes : List ℕ) (xs : List A) (rest : List ℕ)
     → items_at p n bytes ≡ Some (xs, rest) → (length xs ≡ n) × Takes (items P) bytes xs rest
 items_sound {A} P p r zero bytes xs rest e =
     let same = same_read [] xs bytes rest e in
     (ap (λ ys. length ys) (sym same.0), moved (items P) bytes [] xs bytes rest ([], refl, refl) e)
 items_sound {A} P p r (suc n) bytes xs rest e =
-    let f = bind_some (p bytes) (λ (a : A × List ℕ). items_at p n a.1 >>= λ b. read_as (a.0 ∷ b.0) b.1) (xs, rest) e in
-    let s = bind_some (items_at p n f.0.1) (λ (b : List A × List ℕ). read_as (f.0.0 ∷ b.0) b.1) (xs, rest) f.2 in
+    let f = bind_some (p bytes) (λ (a : A × List ℕ). items_at p n a.1 >>= λ b. read_as (a.0 ∷ b.0) b.1)
+    (xs, rest) e in
+    let s = bind_some (items_at p n f.0.1) (λ (b : List A × List ℕ). read_as (f.0.0 ∷ b.0) b.1) (xs, rest)
+    f.2 in
     let others = items_sound P p r n f.0.1 s.0.0 s.0.1 s.1 in
     let front = r.sound bytes f.0.0 f.0.1 f.1 in
     let pair = joined_takes P (items P) bytes f.0.0 f.0.1 s.0.0 s.0.1 front others.1 in
@@ -102,7 +117,8 @@ items_complete P p r [] text rest h = ap (λ t. read_as [] (t ++ rest)) h
 items_complete P p r (x ∷ xs) text rest h =
     let e = r.complete h.0 (h.1 ++ rest) x h.3 in
     let e2 = items_complete P p r xs h.1 rest h.4 in
-    ap (λ t. items_at p (length (x ∷ xs)) t) (ap (λ t. t ++ rest) h.2 ∙ append_assoc h.0 h.1 rest) ∙ rw (e, e2) refl
+    ap (λ t. items_at p (length (x ∷ xs)) t) (ap (λ t. t ++ rest) h.2 ∙ append_assoc h.0 h.1 rest)
+    ∙ rw (e, e2) refl
 
 pub vector_reads : {A : Type 0} (P : A → Texts) (p : Reader A) → Reads P p → Reads (vector P) (vector_at p)
 unfolding vector_at
@@ -140,14 +156,19 @@ whole_reads {A} P p r = record {
       rw e refl;
 }
 
-front_taken : (n : ℕ) (bytes : List ℕ) (front rest : List ℕ) → front_at n bytes ≡ Some (front, rest) → (length front ≡ n) × (bytes ≡ front ++ rest)
+front_taken : (n : ℕ) (bytes : List ℕ) (front rest : List ℕ) → front_at n bytes ≡ Some (front, rest)
+    → (length front ≡ n) × (bytes ≡ front ++ rest)
 front_taken n bytes front rest e =
-    elim (split_if (ltb (length bytes) n) None (read_as (take n bytes) (drop n bytes)) (read_as front rest) e) [
+    elim (split_if (ltb (length bytes) n) None (read_as (take n bytes) (drop n bytes)) (read_as front rest)
+    e) [
       | inl h ↦ absurd cc
       | inr h ↦
           let same = same_read (take n bytes) front (drop n bytes) rest h.1 in
-          let long : n ≤ length bytes = grind (arith, nat_tests) in
-          (ap (λ xs. length xs) (sym same.0) ∙ length-take-le n bytes long, sym (take-append-drop n bytes) ∙ ap (λ f. f ++ drop n bytes) same.0 ∙ ap (λ r. front ++ r) same.1)
+          let long : n ≤ length bytes = grind (arith, nat_tests) in (
+            ap (λ xs. length xs) (sym same.0) ∙ length-take-le n bytes long,
+            sym (take-append-drop n bytes)
+                ∙ ap (λ f. f ++ drop n bytes) same.0 ∙ ap (λ r. front ++ r) same.1,
+          )
     ]
 
 pub cut_reads : Reads bytes sized_bytes_at
@@ -165,14 +186,17 @@ cut_reads = record {
   complete = λ text rest x h.
       let e = (unsigned_reads 32).complete h.0 (h.1 ++ rest) (length h.1) h.3 in
       let e2 = front_again h.1 rest (length h.1) refl in
-      ap sized_bytes_at (ap (λ t. t ++ rest) h.2 ∙ append_assoc h.0 h.1 rest) ∙ (rw (e, e2) refl) ∙ ap (λ m. read_as m rest) h.4;
+      ap sized_bytes_at (ap (λ t. t ++ rest) h.2 ∙ append_assoc h.0 h.1 rest) ∙ (rw (e, e2) refl)
+      ∙ ap (λ m. read_as m rest) h.4;
 }
 
-pub sized_reads : {A : Type 0} (P : A → Texts) (whole : List ℕ → Option A) → ReadsWhole P whole → Reads (sized P) (sized_at whole)
+pub sized_reads : {A : Type 0} (P : A → Texts) (whole : List ℕ → Option A) → ReadsWhole P whole
+    → Reads (sized P) (sized_at whole)
 unfolding sized_at
 sized_reads {A} P whole r = record {
   sound = λ text x rest e.
-      let f = bind_some (sized_bytes_at text) (λ (g : List ℕ × List ℕ). whole g.0 >>= λ y. read_as y g.1) (x, rest) e in
+      let f = bind_some (sized_bytes_at text) (λ (g : List ℕ × List ℕ). whole g.0 >>= λ y. read_as y g.1)
+      (x, rest) e in
       let w = bind_some (whole f.0.0) (λ y. read_as y f.0.1) (x, rest) f.2 in
       let t = cut_reads.sound text f.0.0 f.0.1 f.1 in
       let c = t.2 in
@@ -190,7 +214,8 @@ abbrev pub AllCoded : {A : Type 0} → (A → Texts) → List (ℕ × A) → Typ
 AllCoded P [] = Unit {0}
 AllCoded P (row ∷ rows) = P row.1 (row.0 ∷ []) × AllCoded P rows
 
-row_coded : {A : Type 0} (P : A → Texts) (rows : List (ℕ × A)) (b : ℕ) (x : A) → AllCoded P rows → row_of rows b ≡ Some x → P x (b ∷ [])
+row_coded : {A : Type 0} (P : A → Texts) (rows : List (ℕ × A)) (b : ℕ) (x : A) → AllCoded P rows
+    → row_of rows b ≡ Some x → P x (b ∷ [])
 row_coded P [] b x all e = absurd cc
 row_coded {A} P (row ∷ rows) b x all e =
     elim (split_if (eqb b row.0) (Some row.1) (row_of rows b) (Some x) e) [
@@ -203,7 +228,8 @@ row_coded {A} P (row ∷ rows) b x all e =
       | inr h ↦ row_coded P rows b x all.1 h.1
     ]
 
-coded_sound : {A : Type 0} (P : A → Texts) (rows : List (ℕ × A)) → AllCoded P rows → (bytes : List ℕ) (x : A) (rest : List ℕ)
+coded_sound : {A : Type 0} (P : A → Texts) (rows : List (ℕ × A)) → AllCoded P rows
+    → (bytes : List ℕ) (x : A) (rest : List ℕ)
     → coded_at rows bytes ≡ Some (x, rest) → Takes P bytes x rest
 coded_sound P rows all [] x rest e = absurd cc
 coded_sound P rows all (b ∷ bs) x rest e =
@@ -211,7 +237,8 @@ coded_sound P rows all (b ∷ bs) x rest e =
     moved P (b ∷ bs) s.0 x bs rest (b ∷ [], refl, row_coded P rows b s.0 all s.1) s.2
 
 pub coded_reads : {A : Type 0} (P : A → Texts) (rows : List (ℕ × A)) → AllCoded P rows
-    → ((x : A) (text : List ℕ) → P x text → (b : ℕ) × (text ≡ b ∷ []) × (row_of rows b ≡ Some x)) → Reads P (coded_at rows)
+    → ((x : A) (text : List ℕ) → P x text → (b : ℕ) × (text ≡ b ∷ []) × (row_of rows b ≡ Some x))
+    → Reads P (coded_at rows)
 coded_reads P rows all found = record {
   sound = coded_sound P rows all;
   complete = λ text rest x h.

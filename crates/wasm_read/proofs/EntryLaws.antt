@@ -27,7 +27,8 @@ use Rattle.wasm_read.proofs.OperationLaws.{operation_reads}
 abbrev pub entry_of : Op → List ℕ → Texts
 entry_of (Block r end) labels = provided ((labels ≡ []) × (end ≡ 0)) (byte 0x02 then block_type r)
 entry_of (Loop r end) labels = provided ((labels ≡ []) × (end ≡ 0)) (byte 0x03 then block_type r)
-entry_of (If r other end) labels = provided ((labels ≡ []) × (other ≡ None) × (end ≡ 0)) (byte 0x04 then block_type r)
+entry_of (If r other end) labels =
+    provided ((labels ≡ []) × (other ≡ None) × (end ≡ 0)) (byte 0x04 then block_type r)
 entry_of Else labels = provided (labels ≡ []) (byte 0x05)
 entry_of End labels = provided (labels ≡ []) (byte 0x0b)
 entry_of op labels = with_labels op labels
@@ -35,7 +36,8 @@ entry_of op labels = with_labels op labels
 abbrev pub entry : Mark → Texts
 entry m = entry_of m.0 m.1
 
-first_cases : {A : Type 0} (o other : Option A) (x : A) → first_some o other ≡ Some x → (o ≡ Some x) ⊎ ((o ≡ None) × (other ≡ Some x))
+first_cases : {A : Type 0} (o other : Option A) (x : A) → first_some o other ≡ Some x → (o ≡ Some x)
+    ⊎ ((o ≡ None) × (other ≡ Some x))
 first_cases (Some y) other x e = inl e
 first_cases None other x e = inr (refl, e)
 
@@ -48,7 +50,8 @@ operation_entry End text h = absurd h
 operation_entry BrTable text h = absurd h
 operation_entry op text h = (refl, h)
 
-pub instruction_entry : (op : Op) (labels text : List ℕ) → with_labels op labels text → entry_of op labels text
+pub instruction_entry : (op : Op) (labels text : List ℕ) → with_labels op labels text
+    → entry_of op labels text
 instruction_entry (Block r end) labels text h = absurd h.1
 instruction_entry (Loop r end) labels text h = absurd h.1
 instruction_entry (If r other end) labels text h = absurd h.1
@@ -68,17 +71,24 @@ instruction_leaf op labels text h = tt
 abbrev Unlabelled : Op → Texts
 Unlabelled op text = entry_of op [] text
 
-opener_sound : (f : Option ValType → Op) (code : ℕ) → ((r : Option ValType) (text : List ℕ) → block_type r text → Unlabelled (f r) (code ∷ text))
-    → (b : ℕ) (bs : List ℕ) (op : Op) (rest : List ℕ) → b ≡ code → mapped_at f block_type_at bs ≡ Some (op, rest) → Takes Unlabelled (b ∷ bs) op rest
+opener_sound : (f : Option ValType → Op) (code : ℕ)
+    → ((r : Option ValType) (text : List ℕ) → block_type r text → Unlabelled (f r) (code ∷ text))
+    → (b : ℕ) (bs : List ℕ) (op : Op) (rest : List ℕ) → b ≡ code
+    → mapped_at f block_type_at bs ≡ Some (op, rest) → Takes Unlabelled (b ∷ bs) op rest
 opener_sound f code spelled b bs op rest same e =
-    let s = bind_some (block_type_at bs) (λ (r : Option ValType × List ℕ). read_as (f r.0) r.1) (op, rest) e in
+    let s = bind_some (block_type_at bs) (λ (r : Option ValType × List ℕ). read_as (f r.0) r.1) (op, rest) e
+    in
     let t = block_type_reads.sound bs s.0.0 s.0.1 s.1 in
-    moved Unlabelled (b ∷ bs) (f s.0.0) op s.0.1 rest (code ∷ t.0, ap (λ k. k ∷ bs) same ∙ ap (λ xs. code ∷ xs) t.1, spelled s.0.0 t.0 t.2) s.2
+    moved Unlabelled (b ∷ bs) (f s.0.0) op s.0.1 rest
+    (code ∷ t.0, ap (λ k. k ∷ bs) same ∙ ap (λ xs. code ∷ xs) t.1, spelled s.0.0 t.0 t.2) s.2
 
-byte_sound : (x : Op) (code : ℕ) → Unlabelled x (code ∷ []) → (b : ℕ) (bs : List ℕ) (op : Op) (rest : List ℕ) → b ≡ code → read_as x bs ≡ Some (op, rest) → Takes Unlabelled (b ∷ bs) op rest
-byte_sound x code h b bs op rest same e = moved Unlabelled (b ∷ bs) x op bs rest (code ∷ [], ap (λ k. k ∷ bs) same, h) e
+byte_sound : (x : Op) (code : ℕ) → Unlabelled x (code ∷ []) → (b : ℕ) (bs : List ℕ) (op : Op) (rest : List ℕ)
+    → b ≡ code → read_as x bs ≡ Some (op, rest) → Takes Unlabelled (b ∷ bs) op rest
+byte_sound x code h b bs op rest same e =
+    moved Unlabelled (b ∷ bs) x op bs rest (code ∷ [], ap (λ k. k ∷ bs) same, h) e
 
-bracket_sound : (bytes : List ℕ) (op : Op) (rest : List ℕ) → bracket_at bytes ≡ Some (op, rest) → Takes Unlabelled bytes op rest
+bracket_sound : (bytes : List ℕ) (op : Op) (rest : List ℕ) → bracket_at bytes ≡ Some (op, rest)
+    → Takes Unlabelled bytes op rest
 bracket_sound [] op rest e = absurd cc
 bracket_sound (b ∷ bs) op rest e =
     let fourth : Option (Op × List ℕ) = if eqb b 0x0b then read_as End bs else None in
@@ -86,22 +96,30 @@ bracket_sound (b ∷ bs) op rest e =
     let second : Option (Op × List ℕ) = if eqb b 0x04 then mapped_at if_of block_type_at bs else third in
     let first : Option (Op × List ℕ) = if eqb b 0x03 then mapped_at loop_of block_type_at bs else second in
     elim (split_if (eqb b 0x02) (mapped_at block_of block_type_at bs) first (read_as op rest) e) [
-      | inl h ↦ opener_sound block_of 0x02 (λ r text p. ((refl, refl), (0x02 ∷ [], text, refl, refl, p))) b bs op rest (eqb-true b 0x02 h.0) h.1
-      | inr h ↦ elim (split_if (eqb b 0x03) (mapped_at loop_of block_type_at bs) second (read_as op rest) h.1) [
-        | inl k ↦ opener_sound loop_of 0x03 (λ r text p. ((refl, refl), (0x03 ∷ [], text, refl, refl, p))) b bs op rest (eqb-true b 0x03 k.0) k.1
-        | inr k ↦ elim (split_if (eqb b 0x04) (mapped_at if_of block_type_at bs) third (read_as op rest) k.1) [
-          | inl m ↦ opener_sound if_of 0x04 (λ r text p. ((refl, refl, refl), (0x04 ∷ [], text, refl, refl, p))) b bs op rest (eqb-true b 0x04 m.0) m.1
-          | inr m ↦ elim (split_if (eqb b 0x05) (read_as Else bs) fourth (read_as op rest) m.1) [
-            | inl p ↦ byte_sound Else 0x05 (refl, refl) b bs op rest (eqb-true b 0x05 p.0) p.1
-            | inr p ↦
-                let i = if_some (eqb b 0x0b) (read_as End bs) (op, rest) p.1 in
-                byte_sound End 0x0b (refl, refl) b bs op rest (eqb-true b 0x0b i.0) i.1
+      | inl h ↦ opener_sound block_of 0x02 (λ r text p. ((refl, refl), (0x02 ∷ [], text, refl, refl, p))) b
+          bs op rest (eqb-true b 0x02 h.0) h.1
+      | inr h ↦ elim (split_if (eqb b 0x03) (mapped_at loop_of block_type_at bs) second (read_as op rest)
+          h.1) [
+            | inl k ↦ opener_sound loop_of 0x03
+                (λ r text p. ((refl, refl), (0x03 ∷ [], text, refl, refl, p))) b
+                bs op rest (eqb-true b 0x03 k.0) k.1
+            | inr k ↦ elim (split_if (eqb b 0x04) (mapped_at if_of block_type_at bs) third (read_as op rest)
+                k.1) [
+                  | inl m ↦ opener_sound if_of 0x04
+                      (λ r text p. ((refl, refl, refl), (0x04 ∷ [], text, refl, refl, p))) b bs op rest
+                      (eqb-true b 0x04 m.0) m.1
+                  | inr m ↦ elim (split_if (eqb b 0x05) (read_as Else bs) fourth (read_as op rest) m.1) [
+                    | inl p ↦ byte_sound Else 0x05 (refl, refl) b bs op rest (eqb-true b 0x05 p.0) p.1
+                    | inr p ↦
+                        let i = if_some (eqb b 0x0b) (read_as End bs) (op, rest) p.1 in
+                        byte_sound End 0x0b (refl, refl) b bs op rest (eqb-true b 0x0b i.0) i.1
+                  ]
+                ]
           ]
-        ]
-      ]
     ]
 
-unlabelled_sound : (bytes : List ℕ) (op : Op) (rest : List ℕ) → unlabelled_at bytes ≡ Some (op, rest) → Takes Unlabelled bytes op rest
+unlabelled_sound : (bytes : List ℕ) (op : Op) (rest : List ℕ) → unlabelled_at bytes ≡ Some (op, rest)
+    → Takes Unlabelled bytes op rest
 unfolding unlabelled_at
 unlabelled_sound bytes op rest e =
     elim (first_cases (operation_at bytes) (bracket_at bytes) (op, rest) e) [
@@ -111,8 +129,10 @@ unlabelled_sound bytes op rest e =
       | inr h ↦ bracket_sound bytes op rest h.1
     ]
 
-labels_reads : Reads (λ (x : List ℕ × ℕ). vector (unsigned 32) x.0 then unsigned 32 x.1) (both_at (vector_at (unsigned_at 32)) (unsigned_at 32))
-labels_reads = both_reads (vector (unsigned 32)) (unsigned 32) (vector_at (unsigned_at 32)) (unsigned_at 32) (vector_reads (unsigned 32) (unsigned_at 32) (unsigned_reads 32)) (unsigned_reads 32)
+labels_reads : Reads (λ (x : List ℕ × ℕ). vector (unsigned 32) x.0 then unsigned 32 x.1)
+    (both_at (vector_at (unsigned_at 32)) (unsigned_at 32))
+labels_reads = both_reads (vector (unsigned 32)) (unsigned 32) (vector_at (unsigned_at 32)) (unsigned_at 32)
+    (vector_reads (unsigned 32) (unsigned_at 32) (unsigned_reads 32)) (unsigned_reads 32)
 
 -- a br_table whose labels these bytes encode
 table_taken : (b : ℕ) (bs : List ℕ) (x : List ℕ × ℕ) (after labels rest : List ℕ) → b ≡ 0x0e
@@ -126,15 +146,20 @@ table_taken b bs x after labels rest same t e =
       (0x0e ∷ [], t.0, refl, refl, (x.0, x.1, refl, t.2)),
     ) e
 
-table_sound : (bytes labels rest : List ℕ) → table_at bytes ≡ Some (labels, rest) → Takes (λ ls. entry_of BrTable ls) bytes labels rest
+table_sound : (bytes labels rest : List ℕ) → table_at bytes ≡ Some (labels, rest)
+    → Takes (λ ls. entry_of BrTable ls) bytes labels rest
 unfolding table_at
 table_sound [] labels rest e = absurd cc
 table_sound (b ∷ bs) labels rest e =
-    let i = if_some (eqb b 0x0e) (mapped_at with_last (both_at (vector_at (unsigned_at 32)) (unsigned_at 32)) bs) (labels, rest) e in
-    let s = bind_some (both_at (vector_at (unsigned_at 32)) (unsigned_at 32) bs) (λ (x : (List ℕ × ℕ) × List ℕ). read_as (with_last x.0) x.1) (labels, rest) i.1 in
+    let i = if_some (eqb b 0x0e)
+    (mapped_at with_last (both_at (vector_at (unsigned_at 32)) (unsigned_at 32)) bs) (labels, rest) e
+    in
+    let s = bind_some (both_at (vector_at (unsigned_at 32)) (unsigned_at 32) bs)
+    (λ (x : (List ℕ × ℕ) × List ℕ). read_as (with_last x.0) x.1) (labels, rest) i.1 in
     table_taken b bs s.0.0 s.0.1 labels rest (eqb-true b 0x0e i.0) (labels_reads.sound bs s.0.0 s.0.1 s.1) s.2
 
-entry_sound : (bytes : List ℕ) (m : Mark) (rest : List ℕ) → entry_at bytes ≡ Some (m, rest) → Takes entry bytes m rest
+entry_sound : (bytes : List ℕ) (m : Mark) (rest : List ℕ) → entry_at bytes ≡ Some (m, rest)
+    → Takes entry bytes m rest
 unfolding entry_at
 entry_sound bytes m rest e =
     elim (first_cases (mapped_at mark unlabelled_at bytes) (mapped_at table_mark table_at bytes) (m, rest) e) [
@@ -142,13 +167,17 @@ entry_sound bytes m rest e =
           let s = bind_some (unlabelled_at bytes) (λ (x : Op × List ℕ). read_as (mark x.0) x.1) (m, rest) h in
           moved entry bytes (mark s.0.0) m s.0.1 rest (unlabelled_sound bytes s.0.0 s.0.1 s.1) s.2
       | inr h ↦
-          let s = bind_some (table_at bytes) (λ (x : List ℕ × List ℕ). read_as (table_mark x.0) x.1) (m, rest) h.1 in
+          let s = bind_some (table_at bytes) (λ (x : List ℕ × List ℕ). read_as (table_mark x.0) x.1)
+          (m, rest) h.1 in
           moved entry bytes (table_mark s.0.0) m s.0.1 rest (table_sound bytes s.0.0 s.0.1 s.1) s.2
     ]
 
 -- the other way
-opener_found : (f : Option ValType → Op) (code : ℕ) → ((bs : List ℕ) → entry_at (code ∷ bs) ≡ first_some (mapped_at mark (mapped_at f block_type_at) bs) (mapped_at table_mark table_at (code ∷ bs)))
-    → (r : Option ValType) (text rest : List ℕ) → (byte code then block_type r) text → entry_at (text ++ rest) ≡ Some (mark (f r), rest)
+opener_found : (f : Option ValType → Op) (code : ℕ)
+    → ((bs : List ℕ) → entry_at (code ∷ bs) ≡ first_some (mapped_at mark (mapped_at f block_type_at) bs)
+    (mapped_at table_mark table_at (code ∷ bs)))
+    → (r : Option ValType) (text rest : List ℕ) → (byte code then block_type r) text
+    → entry_at (text ++ rest) ≡ Some (mark (f r), rest)
 opener_found f code goes r text rest h =
     let e = block_type_reads.complete h.1 rest r h.4 in
     ap (λ t. entry_at (t ++ rest)) (h.2 ∙ ap (λ a. a ++ h.1) h.3) ∙ goes (h.1 ++ rest) ∙ (rw e refl)
@@ -159,28 +188,37 @@ mark_as op labels rest = Some ((op, labels), rest)
 marked_as : (x y : Op) (ks ls rest : List ℕ) → x ≡ y → ks ≡ ls → mark_as x ks rest ≡ mark_as y ls rest
 marked_as x y ks ls rest e f = ap (λ o. mark_as o ks rest) e ∙ ap (λ k. mark_as y k rest) f
 
-operation_marked : (op : Op) (labels text rest : List ℕ) → labels ≡ [] → operation op text → entry_at (text ++ rest) ≡ Some ((op, labels), rest)
+operation_marked : (op : Op) (labels text rest : List ℕ) → labels ≡ [] → operation op text
+    → entry_at (text ++ rest) ≡ Some ((op, labels), rest)
 unfolding entry_at unlabelled_at
 operation_marked op labels text rest none h =
     let e = operation_reads.complete text rest op h in
     (rw e refl) ∙ ap (λ k. mark_as op k rest) (sym none)
 
-table_found : (labels text rest : List ℕ) → (byte 0x0e then table_labels labels) text → entry_at (text ++ rest) ≡ Some ((BrTable, labels), rest)
+table_found : (labels text rest : List ℕ) → (byte 0x0e then table_labels labels) text
+    → entry_at (text ++ rest) ≡ Some ((BrTable, labels), rest)
 unfolding entry_at unlabelled_at table_at operation_at
 table_found labels text rest h =
     let t = h.4 in
     let e = labels_reads.complete h.1 rest (t.0, t.1) t.3 in
-    ap (λ t. entry_at (t ++ rest)) (h.2 ∙ ap (λ a. a ++ h.1) h.3) ∙ (rw e refl) ∙ ap (λ k. mark_as BrTable k rest) (sym t.2)
+    ap (λ t. entry_at (t ++ rest)) (h.2 ∙ ap (λ a. a ++ h.1) h.3) ∙ (rw e refl)
+    ∙ ap (λ k. mark_as BrTable k rest) (sym t.2)
 
-pub entry_found : (op : Op) (labels text rest : List ℕ) → entry_of op labels text → entry_at (text ++ rest) ≡ Some ((op, labels), rest)
+pub entry_found : (op : Op) (labels text rest : List ℕ) → entry_of op labels text
+    → entry_at (text ++ rest) ≡ Some ((op, labels), rest)
 unfolding entry_at unlabelled_at operation_at
-entry_found (Block r end) labels text rest h = opener_found block_of 0x02 (λ bs. refl) r text rest h.1 ∙ marked_as (Block r 0) (Block r end) [] labels rest (ap (λ k. Block r k) (sym h.0.1)) (sym h.0.0)
-entry_found (Loop r end) labels text rest h = opener_found loop_of 0x03 (λ bs. refl) r text rest h.1 ∙ marked_as (Loop r 0) (Loop r end) [] labels rest (ap (λ k. Loop r k) (sym h.0.1)) (sym h.0.0)
+entry_found (Block r end) labels text rest h = opener_found block_of 0x02 (λ bs. refl) r text rest h.1
+    ∙ marked_as (Block r 0) (Block r end) [] labels rest (ap (λ k. Block r k) (sym h.0.1)) (sym h.0.0)
+entry_found (Loop r end) labels text rest h = opener_found loop_of 0x03 (λ bs. refl) r text rest h.1
+    ∙ marked_as (Loop r 0) (Loop r end) [] labels rest (ap (λ k. Loop r k) (sym h.0.1)) (sym h.0.0)
 entry_found (If r other end) labels text rest h =
     opener_found if_of 0x04 (λ bs. refl) r text rest h.1
-    ∙ marked_as (If r None 0) (If r other end) [] labels rest (ap (λ k. If r None k) (sym h.0.2) ∙ ap (λ o. If r o end) (sym h.0.1)) (sym h.0.0)
-entry_found Else labels text rest h = ap (λ t. entry_at (t ++ rest)) h.1 ∙ ap (λ k. mark_as Else k rest) (sym h.0)
-entry_found End labels text rest h = ap (λ t. entry_at (t ++ rest)) h.1 ∙ ap (λ k. mark_as End k rest) (sym h.0)
+    ∙ marked_as (If r None 0) (If r other end) [] labels rest
+    (ap (λ k. If r None k) (sym h.0.2) ∙ ap (λ o. If r o end) (sym h.0.1)) (sym h.0.0)
+entry_found Else labels text rest h = ap (λ t. entry_at (t ++ rest)) h.1
+    ∙ ap (λ k. mark_as Else k rest) (sym h.0)
+entry_found End labels text rest h = ap (λ t. entry_at (t ++ rest)) h.1
+    ∙ ap (λ k. mark_as End k rest) (sym h.0)
 entry_found BrTable labels text rest h = table_found labels text rest h
 entry_found op labels text rest h = operation_marked op labels text rest h.0 h.1
 
@@ -190,10 +228,17 @@ entry_reads = record { sound = entry_sound; complete = λ text rest m h. entry_f
 -- an entry has a byte
 pub entry_long : (op : Op) (labels text : List ℕ) → entry_of op labels text → 1 ≤ length text
 unfolding entry_at unlabelled_at operation_at table_at
-entry_long op labels [] h = let e : mark_as op labels [] ≡ None = sym (entry_found op labels [] [] h) in absurd cc
+entry_long op labels [] h = let e : mark_as op labels [] ≡ None = sym (entry_found op labels [] [] h) in
+    absurd cc
 entry_long op labels (b ∷ text) h = omega arith
 
 pub entries_long : (ms : List Mark) (text : List ℕ) → items entry ms text → length ms ≤ length text
 entries_long [] text h = omega arith
 entries_long (m ∷ ms) text h =
-    omega (arith, ap (λ t. length t) h.2, length-append h.0 h.1, entry_long m.0 m.1 h.0 h.3, entries_long ms h.1 h.4)
+    omega (
+      arith,
+      ap (λ t. length t) h.2,
+      length-append h.0 h.1,
+      entry_long m.0 m.1 h.0 h.3,
+      entries_long ms h.1 h.4,
+    )

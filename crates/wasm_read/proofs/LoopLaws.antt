@@ -32,13 +32,18 @@ after_more : {A : Type 0} (xs : List A) (x : A) (o : Option (List A × List ℕ)
 after_more xs x None = refl
 after_more xs x (Some y) = ap (λ zs. read_as zs y.1) (sym (append_assoc xs (x ∷ []) y.0))
 
-pub items_more : {A : Type 0} (p : Reader A) (xs : List A) (x : A) (n m : ℕ) (bytes after : List ℕ) (all : Option (List A × List ℕ))
-    → after_items xs (items_at p n bytes) ≡ all → n ≡ suc m → p bytes ≡ Some (x, after) → after_items (xs ++ x ∷ []) (items_at p m after) ≡ all
+pub items_more : {A : Type 0} (p : Reader A) (xs : List A) (x : A) (n m : ℕ) (bytes after : List ℕ)
+    (all : Option (List A × List ℕ))
+    → after_items xs (items_at p n bytes) ≡ all → n ≡ suc m → p bytes ≡ Some (x, after)
+    → after_items (xs ++ x ∷ []) (items_at p m after) ≡ all
 items_more {A} p xs x n m bytes after all inv e h =
-    let step : after_items xs (items_at p (suc m) bytes) ≡ after_items xs (items_at p m after >>= λ y. read_as (x ∷ y.0) y.1) = rw h refl in
-    sym (after_more xs x (items_at p m after)) ∙ sym step ∙ ap (λ k. after_items xs (items_at p k bytes)) (sym e) ∙ inv
+    let step : after_items xs (items_at p (suc m) bytes) ≡ after_items xs
+    (items_at p m after >>= λ y. read_as (x ∷ y.0) y.1) = rw h refl in
+    sym (after_more xs x (items_at p m after)) ∙ sym step
+    ∙ ap (λ k. after_items xs (items_at p k bytes)) (sym e) ∙ inv
 
-pub items_none : {A : Type 0} (p : Reader A) (xs : List A) (n m : ℕ) (bytes : List ℕ) (all : Option (List A × List ℕ))
+pub items_none : {A : Type 0} (p : Reader A) (xs : List A) (n m : ℕ) (bytes : List ℕ)
+    (all : Option (List A × List ℕ))
     → after_items xs (items_at p n bytes) ≡ all → n ≡ suc m → p bytes ≡ None → all ≡ None
 items_none p xs n m bytes all inv e h =
     let step : after_items xs (items_at p (suc m) bytes) ≡ None = rw h refl in
@@ -52,20 +57,27 @@ depth_at_most (If r other end) depth = omega arith
 depth_at_most End depth = omega arith
 depth_at_most op depth = omega arith
 
-pub entries_more : (ms : List Mark) (m : Mark) (depth n k : ℕ) (bytes after : List ℕ) (all : Option (List Mark × List ℕ))
-    → after_items ms (entries_at n depth bytes) ≡ all → n ≡ suc k → entry_at bytes ≡ Some (m, after) → depth_after m.0 depth ≢ 0
+pub entries_more : (ms : List Mark) (m : Mark) (depth n k : ℕ) (bytes after : List ℕ)
+    (all : Option (List Mark × List ℕ))
+    → after_items ms (entries_at n depth bytes) ≡ all → n ≡ suc k → entry_at bytes ≡ Some (m, after)
+    → depth_after m.0 depth ≢ 0
     → after_items (ms ++ m ∷ []) (entries_at k (depth_after m.0 depth) after) ≡ all
 entries_more ms m depth n k bytes after all inv e h open_left =
     let test : eqb (depth_after m.0 depth) 0 ≡ false = differs_tested (depth_after m.0 depth) 0 open_left in
-    let step : after_items ms (entries_at (suc k) depth bytes) ≡ after_items ms (entries_at k (depth_after m.0 depth) after >>= λ y. read_as (m ∷ y.0) y.1) = rw (h, test) refl in
-    sym (after_more ms m (entries_at k (depth_after m.0 depth) after)) ∙ sym step ∙ ap (λ i. after_items ms (entries_at i depth bytes)) (sym e) ∙ inv
+    let step : after_items ms (entries_at (suc k) depth bytes) ≡ after_items ms
+    (entries_at k (depth_after m.0 depth) after >>= λ y. read_as (m ∷ y.0) y.1) = rw (h, test) refl in
+    sym (after_more ms m (entries_at k (depth_after m.0 depth) after)) ∙ sym step
+    ∙ ap (λ i. after_items ms (entries_at i depth bytes)) (sym e) ∙ inv
 
-pub entries_last : (ms : List Mark) (m : Mark) (depth n k : ℕ) (bytes after : List ℕ) (all : Option (List Mark × List ℕ))
-    → after_items ms (entries_at n depth bytes) ≡ all → n ≡ suc k → entry_at bytes ≡ Some (m, after) → depth_after m.0 depth ≡ 0
+pub entries_last : (ms : List Mark) (m : Mark) (depth n k : ℕ) (bytes after : List ℕ)
+    (all : Option (List Mark × List ℕ))
+    → after_items ms (entries_at n depth bytes) ≡ all → n ≡ suc k → entry_at bytes ≡ Some (m, after)
+    → depth_after m.0 depth ≡ 0
     → all ≡ read_as (ms ++ m ∷ []) after
 entries_last ms m depth n k bytes after all inv e h closed =
     let test : eqb (depth_after m.0 depth) 0 ≡ true = eq-eqb (depth_after m.0 depth) 0 closed in
-    let step : after_items ms (entries_at (suc k) depth bytes) ≡ read_as (ms ++ m ∷ []) after = rw (h, test) refl in
+    let step : after_items ms (entries_at (suc k) depth bytes) ≡ read_as (ms ++ m ∷ []) after =
+    rw (h, test) refl in
     sym inv ∙ ap (λ i. after_items ms (entries_at i depth bytes)) e ∙ step
 
 pub entries_none : (ms : List Mark) (depth n k : ℕ) (bytes : List ℕ) (all : Option (List Mark × List ℕ))
@@ -87,33 +99,45 @@ take_fewer (suc i) (x ∷ xs) = ap (λ ys. x ∷ ys) (take_fewer i xs)
 before_less : (i : ℕ) (xs ys : List Mark) → take (suc i) xs ≡ take (suc i) ys → take i xs ≡ take i ys
 before_less i xs ys e = sym (take_fewer i xs) ∙ ap (λ zs. take i zs) e ∙ take_fewer i ys
 
-same_entry : (i : ℕ) (xs ys : List Mark) (d : Mark) → take (suc i) xs ≡ take (suc i) ys → get_or xs i d ≡ get_or ys i d
+same_entry : (i : ℕ) (xs ys : List Mark) (d : Mark) → take (suc i) xs ≡ take (suc i) ys
+    → get_or xs i d ≡ get_or ys i d
 same_entry i xs ys d e =
     let low : i < suc i = omega arith in
     sym (get_or-take (suc i) xs i d low) ∙ ap (λ zs. get_or zs i d) e ∙ get_or-take (suc i) ys i d low
 
 -- the entry at place i, when those after it are filled
-entry_filled : (i : ℕ) (start : List Mark) (m d : Mark) (after : List Mark) (cs : List Close) → i < length start → get_or start i d ≡ m
+entry_filled : (i : ℕ) (start : List Mark) (m d : Mark) (after : List Mark) (cs : List Close)
+    → i < length start → get_or start i d ≡ m
     → entries_with_places (i + 1) (drop (suc i) start) ≡ filled_as after cs
-    → entries_with_places i (drop i start) ≡ (entry_with_places i m.0 cs >>= λ p. filled_as ((p.0, m.1) ∷ after) p.1)
+    → entries_with_places i (drop i start)
+    ≡ (entry_with_places i m.0 cs >>= λ p. filled_as ((p.0, m.1) ∷ after) p.1)
 entry_filled i start m d after cs low e f =
-    let split : drop i start ≡ m ∷ drop (suc i) start = drop-cons start i d low ∙ ap (λ x. x ∷ drop (suc i) start) e in
+    let split : drop i start ≡ m ∷ drop (suc i) start = drop-cons start i d low
+    ∙ ap (λ x. x ∷ drop (suc i) start) e in
     ap (λ xs. entries_with_places i xs) split ∙ (rw f refl)
 
-known_before : (i at : ℕ) (start ms : List Mark) → at ≡ suc i → take at ms ≡ take at start → take (suc i) ms ≡ take (suc i) start
+known_before : (i at : ℕ) (start ms : List Mark) → at ≡ suc i → take at ms ≡ take at start
+    → take (suc i) ms ≡ take (suc i) start
 known_before i at start ms e h =
     let P : ℕ → Type 0 = λ k. take k ms ≡ take k start in
     subst P e h
 
-known_after : (i at : ℕ) (start ms : List Mark) (cs : List Close) → at ≡ suc i → entries_with_places at (drop at start) ≡ filled_as (drop at ms) cs
+known_after : (i at : ℕ) (start ms : List Mark) (cs : List Close) → at ≡ suc i
+    → entries_with_places at (drop at start) ≡ filled_as (drop at ms) cs
     → entries_with_places (i + 1) (drop (suc i) start) ≡ filled_as (drop (suc i) ms) cs
 known_after i at start ms cs e h =
     let next : i + 1 ≡ at = omega arith in
-    ap (λ k. entries_with_places k (drop (suc i) start)) next ∙ ap (λ k. entries_with_places at (drop k start)) (sym e) ∙ h ∙ ap (λ k. filled_as (drop k ms) cs) e
+    ap (λ k. entries_with_places k (drop (suc i) start)) next
+    ∙ ap (λ k. entries_with_places at (drop k start)) (sym e) ∙ h
+    ∙ ap (λ k. filled_as (drop k ms) cs) e
 
-fill_more : (i : ℕ) (start ms ns : List Mark) (cs ds : List Close) (was op : Op) → i < length ms → length ms ≡ length start → take (suc i) ms ≡ take (suc i) start
-    → entries_with_places (i + 1) (drop (suc i) start) ≡ filled_as (drop (suc i) ms) cs → option_map (λ (m : Mark). m.0) (slice_get ms i) ≡ Some was → entry_with_places i was cs ≡ placed_as op ds
-    → ns ≡ slice_set ms i (op, (get_or ms i (op, [])).1) → entries_with_places i (drop i start) ≡ filled_as (drop i ns) ds
+fill_more : (i : ℕ) (start ms ns : List Mark) (cs ds : List Close) (was op : Op) → i < length ms
+    → length ms ≡ length start → take (suc i) ms ≡ take (suc i) start
+    → entries_with_places (i + 1) (drop (suc i) start) ≡ filled_as (drop (suc i) ms) cs
+    → option_map (λ (m : Mark). m.0) (slice_get ms i) ≡ Some was
+    → entry_with_places i was cs ≡ placed_as op ds
+    → ns ≡ slice_set ms i (op, (get_or ms i (op, [])).1)
+    → entries_with_places i (drop i start) ≡ filled_as (drop i ns) ds
 fill_more i start ms ns cs ds was op low long before f read p e =
     let d : Mark = (op, []) in
     let m : Mark = get_or ms i d in
@@ -129,9 +153,13 @@ fill_more i start ms ns cs ds was op low long before f read p e =
     first ∙ ap (λ q. q >>= λ r. filled_as ((r.0, m.1) ∷ drop (suc i) ms) r.1) placing
     ∙ ap (λ xs. filled_as xs ds) (ap (λ xs. new ∷ xs) (sym last) ∙ sym tail)
 
-pub turn_filled : (i at : ℕ) (start ms ns : List Mark) (cs ds : List Close) (was op : Op) → at ≡ suc i → i < length ms → length ms ≡ length start → take at ms ≡ take at start
-    → entries_with_places at (drop at start) ≡ filled_as (drop at ms) cs → option_map (λ (m : Mark). m.0) (slice_get ms i) ≡ Some was → entry_with_places i was cs ≡ placed_as op ds
-    → ns ≡ slice_set ms i (op, (get_or ms i (op, [])).1) → (length ns ≡ length start) × (take i ns ≡ take i start) × (entries_with_places i (drop i start) ≡ filled_as (drop i ns) ds)
+pub turn_filled : (i at : ℕ) (start ms ns : List Mark) (cs ds : List Close) (was op : Op) → at ≡ suc i
+    → i < length ms → length ms ≡ length start → take at ms ≡ take at start
+    → entries_with_places at (drop at start) ≡ filled_as (drop at ms) cs
+    → option_map (λ (m : Mark). m.0) (slice_get ms i) ≡ Some was
+    → entry_with_places i was cs ≡ placed_as op ds
+    → ns ≡ slice_set ms i (op, (get_or ms i (op, [])).1) → (length ns ≡ length start)
+    × (take i ns ≡ take i start) × (entries_with_places i (drop i start) ≡ filled_as (drop i ns) ds)
 turn_filled i at start ms ns cs ds was op there low long before f read p e =
     let new : Mark = (op, (get_or ms i (op, [])).1) in
     let earlier = known_before i at start ms there before in (
@@ -154,14 +182,18 @@ one_end_reversed (c ∷ (d ∷ cs)) =
     let count : length (reverse (c ∷ (d ∷ cs))) ≡ length (c ∷ (d ∷ cs)) = length-reverse (c ∷ (d ∷ cs)) in
     several (reverse (c ∷ (d ∷ cs))) (omega (arith, count)) ∙ sym (several (c ∷ (d ∷ cs)) (omega arith))
 
-pub unmatched_left : (at : ℕ) (start ms : List Mark) (cs : List Close) → at ≡ 0 → entries_with_places at (drop at start) ≡ filled_as (drop at ms) (reverse cs) → is_one_end cs ≡ false → matched start ≡ None
+pub unmatched_left : (at : ℕ) (start ms : List Mark) (cs : List Close) → at ≡ 0
+    → entries_with_places at (drop at start) ≡ filled_as (drop at ms) (reverse cs)
+    → is_one_end cs ≡ false → matched start ≡ None
 unmatched_left at start ms cs e f h =
     let all : entries_with_places 0 start ≡ filled_as ms (reverse cs) =
-    ap (λ k. entries_with_places k (drop k start)) (sym e) ∙ f ∙ ap (λ k. filled_as (drop k ms) (reverse cs)) e in
+    ap (λ k. entries_with_places k (drop k start)) (sym e) ∙ f
+    ∙ ap (λ k. filled_as (drop k ms) (reverse cs)) e in
     let test : is_one_end (reverse cs) ≡ false = one_end_reversed cs ∙ h in
     rw (all, test) refl
 
-fill_none : (before : List Mark) (at n : ℕ) (after : List Mark) → n ≡ at + length before → entries_with_places n after ≡ None → entries_with_places at (before ++ after) ≡ None
+fill_none : (before : List Mark) (at n : ℕ) (after : List Mark) → n ≡ at + length before
+    → entries_with_places n after ≡ None → entries_with_places at (before ++ after) ≡ None
 fill_none [] at n after e h =
     let same : at ≡ n = omega arith in
     ap (λ k. entries_with_places k after) same ∙ h
@@ -172,8 +204,11 @@ fill_none (m ∷ ms) at n after e h =
 taken_count : (i : ℕ) (xs : List Mark) → i ≤ length xs → i ≡ 0 + length (take i xs)
 taken_count i xs low = let e = length-take-le i xs low in omega (arith, e)
 
-fill_stopped : (i : ℕ) (start ms : List Mark) (cs : List Close) (was : Op) → i < length ms → length ms ≡ length start → take (suc i) ms ≡ take (suc i) start
-    → entries_with_places (i + 1) (drop (suc i) start) ≡ filled_as (drop (suc i) ms) cs → option_map (λ (m : Mark). m.0) (slice_get ms i) ≡ Some was → entry_with_places i was cs ≡ None → matched start ≡ None
+fill_stopped : (i : ℕ) (start ms : List Mark) (cs : List Close) (was : Op) → i < length ms
+    → length ms ≡ length start → take (suc i) ms ≡ take (suc i) start
+    → entries_with_places (i + 1) (drop (suc i) start) ≡ filled_as (drop (suc i) ms) cs
+    → option_map (λ (m : Mark). m.0) (slice_get ms i) ≡ Some was → entry_with_places i was cs ≡ None
+    → matched start ≡ None
 fill_stopped i start ms cs was low long before f read p =
     let d : Mark = (was, []) in
     let m : Mark = get_or ms i d in
@@ -187,15 +222,21 @@ fill_stopped i start ms cs was low long before f read p =
     ∙ ap (λ q. q >>= λ r. filled_as ((r.0, m.1) ∷ drop (suc i) ms) r.1) p in
     let count : i ≡ 0 + length (take i start) = taken_count i start (omega arith) in
     let all = fill_none (take i start) 0 i (drop i start) count none in
-    ap (λ o. o >>= λ g. if is_one_end g.1 then Some g.0 else None) (ap (λ xs. entries_with_places 0 xs) (sym (take-append-drop i start)) ∙ all)
+    ap (λ o. o >>= λ g. if is_one_end g.1 then Some g.0 else None)
+    (ap (λ xs. entries_with_places 0 xs) (sym (take-append-drop i start)) ∙ all)
 
-pub turn_stopped : (i at : ℕ) (start ms : List Mark) (cs : List Close) (was : Op) → at ≡ suc i → i < length ms → length ms ≡ length start → take at ms ≡ take at start
-    → entries_with_places at (drop at start) ≡ filled_as (drop at ms) cs → option_map (λ (m : Mark). m.0) (slice_get ms i) ≡ Some was → entry_with_places i was cs ≡ None → matched start ≡ None
+pub turn_stopped : (i at : ℕ) (start ms : List Mark) (cs : List Close) (was : Op) → at ≡ suc i
+    → i < length ms → length ms ≡ length start → take at ms ≡ take at start
+    → entries_with_places at (drop at start) ≡ filled_as (drop at ms) cs
+    → option_map (λ (m : Mark). m.0) (slice_get ms i) ≡ Some was → entry_with_places i was cs ≡ None
+    → matched start ≡ None
 turn_stopped i at start ms cs was there low long before f read p =
-    fill_stopped i start ms cs was low long (known_before i at start ms there before) (known_after i at start ms cs there f) read p
+    fill_stopped i start ms cs was low long (known_before i at start ms there before)
+    (known_after i at start ms cs there f) read p
 
 -- the sum of all runs
-pub all_counted : (runs : List Locals) (at sum : ℕ) → sum + local_count (drop at runs) ≡ local_count runs → length runs ≤ at → sum < 2 ^ 32 → true ≡ nat_lt (local_count runs) (2 ^ 32)
+pub all_counted : (runs : List Locals) (at sum : ℕ) → sum + local_count (drop at runs) ≡ local_count runs
+    → length runs ≤ at → sum < 2 ^ 32 → true ≡ nat_lt (local_count runs) (2 ^ 32)
 all_counted runs at sum e past few =
     let none : drop at runs ≡ [] = drop_of_length-le runs past in
     let zero_left : local_count (drop at runs) ≡ 0 = ap (λ xs. local_count xs) none in

@@ -13,7 +13,8 @@ unread : (bytes : List ℕ) → length bytes ≤ 65536 → module_at bytes ≡ N
 unread bytes small none = (small, λ m spelled. no_module bytes m none (module_complete bytes m spelled))
 
 pub malformed_cases : MalformedCases
-unfolding module_at sections_at section_at sized_bytes_at unsigned_at rank_after collected front_sections vector_at
+unfolding module_at sections_at section_at sized_bytes_at unsigned_at rank_after collected front_sections
+    vector_at
 malformed_cases = (
   unread size_too_long (omega arith) refl,
   unread last_byte_wrong (omega arith) refl,

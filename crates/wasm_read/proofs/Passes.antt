@@ -43,7 +43,8 @@ list_proper k (if_else r taken other rest) text h =
     let u = t.4 in
     (list_proper 0x05 taken t.0 t.3, list_proper 0x0b other u.0 u.3, list_proper k rest u.1 u.4)
 
-items_joined : (xs ys : List Mark) (a b : List ℕ) → items entry xs a → items entry ys b → items entry (xs ++ ys) (a ++ b)
+items_joined : (xs ys : List Mark) (a b : List ℕ) → items entry xs a → items entry ys b
+    → items entry (xs ++ ys) (a ++ b)
 items_joined [] ys a b h k =
     let P : List ℕ → Type 0 = λ t. items entry ys (t ++ b) in
     subst P (sym h) k
@@ -51,8 +52,10 @@ items_joined (x ∷ xs) ys a b h k =
     (h.0, h.1 ++ b, ap (λ t. t ++ b) h.2 ∙ append_assoc h.0 h.1 b, h.3, items_joined xs ys h.1 b h.4 k)
 
 -- an entry that opens a list, and the entries after it
-opened : (x : Op) (code : ℕ) (P Q : Texts) (others : List Mark) → ((t : List ℕ) → (byte code then P) t → entry_of x [] t)
-    → ((t : List ℕ) → Q t → items entry others t) → (text : List ℕ) → (byte code then P then Q) text → items entry (mark x ∷ others) text
+opened : (x : Op) (code : ℕ) (P Q : Texts) (others : List Mark)
+    → ((t : List ℕ) → (byte code then P) t → entry_of x [] t)
+    → ((t : List ℕ) → Q t → items entry others t) → (text : List ℕ) → (byte code then P then Q) text
+    → items entry (mark x ∷ others) text
 opened x code P Q others spelled next text h =
     let t = h.4 in (
       h.0 ++ t.0,
@@ -62,7 +65,8 @@ opened x code P Q others spelled next text h =
       next t.1 t.4,
     )
 
-two_joined : (P Q : Texts) (xs ys : List Mark) → ((t : List ℕ) → P t → items entry xs t) → ((t : List ℕ) → Q t → items entry ys t)
+two_joined : (P Q : Texts) (xs ys : List Mark) → ((t : List ℕ) → P t → items entry xs t)
+    → ((t : List ℕ) → Q t → items entry ys t)
     → (text : List ℕ) → (P then Q) text → items entry (xs ++ ys) text
 two_joined P Q xs ys p q text h =
     let R : List ℕ → Type 0 = λ t. items entry (xs ++ ys) t in
@@ -75,28 +79,40 @@ else_spelled : (t : List ℕ) → byte 0x05 t → entry_of Else [] t
 else_spelled t h = (refl, h)
 
 -- a text of the tree is one of its entries
-pub raw_spelled : (k : ℕ) (close : Op) → ((t : List ℕ) → byte k t → entry_of close [] t) → (e : Expr) (text : List ℕ) → list k e text → items entry (raw close e) text
+pub raw_spelled : (k : ℕ) (close : Op) → ((t : List ℕ) → byte k t → entry_of close [] t)
+    → (e : Expr) (text : List ℕ) → list k e text → items entry (raw close e) text
 raw_spelled k close c done text h = (text, [], sym (append-nil text), c text h, refl)
-raw_spelled k close c (plain m rest) text h = (h.0, h.1, h.2, instruction_entry m.0 m.1 h.0 h.3, raw_spelled k close c rest h.1 h.4)
+raw_spelled k close c (plain m rest) text h =
+    (h.0, h.1, h.2, instruction_entry m.0 m.1 h.0 h.3, raw_spelled k close c rest h.1 h.4)
 raw_spelled k close c (block r inner rest) text h =
-    opened (Block r 0) 0x02 (block_type r) (list 0x0b inner then list k rest) (raw End inner ++ raw close rest) (λ t p. ((refl, refl), p))
-    (two_joined (list 0x0b inner) (list k rest) (raw End inner) (raw close rest) (raw_spelled 0x0b End end_spelled inner) (raw_spelled k close c rest)) text h
+    opened (Block r 0) 0x02 (block_type r) (list 0x0b inner then list k rest)
+    (raw End inner ++ raw close rest) (λ t p. ((refl, refl), p))
+    (two_joined (list 0x0b inner) (list k rest) (raw End inner) (raw close rest)
+    (raw_spelled 0x0b End end_spelled inner) (raw_spelled k close c rest)) text h
 raw_spelled k close c (loop r inner rest) text h =
-    opened (Loop r 0) 0x03 (block_type r) (list 0x0b inner then list k rest) (raw End inner ++ raw close rest) (λ t p. ((refl, refl), p))
-    (two_joined (list 0x0b inner) (list k rest) (raw End inner) (raw close rest) (raw_spelled 0x0b End end_spelled inner) (raw_spelled k close c rest)) text h
+    opened (Loop r 0) 0x03 (block_type r) (list 0x0b inner then list k rest)
+    (raw End inner ++ raw close rest) (λ t p. ((refl, refl), p))
+    (two_joined (list 0x0b inner) (list k rest) (raw End inner) (raw close rest)
+    (raw_spelled 0x0b End end_spelled inner) (raw_spelled k close c rest)) text h
 raw_spelled k close c (if_then r taken rest) text h =
-    opened (If r None 0) 0x04 (block_type r) (list 0x0b taken then list k rest) (raw End taken ++ raw close rest) (λ t p. ((refl, refl, refl), p))
-    (two_joined (list 0x0b taken) (list k rest) (raw End taken) (raw close rest) (raw_spelled 0x0b End end_spelled taken) (raw_spelled k close c rest)) text h
+    opened (If r None 0) 0x04 (block_type r) (list 0x0b taken then list k rest)
+    (raw End taken ++ raw close rest) (λ t p. ((refl, refl, refl), p))
+    (two_joined (list 0x0b taken) (list k rest) (raw End taken) (raw close rest)
+    (raw_spelled 0x0b End end_spelled taken) (raw_spelled k close c rest)) text h
 raw_spelled k close c (if_else r taken other rest) text h =
-    opened (If r None 0) 0x04 (block_type r) (list 0x05 taken then list 0x0b other then list k rest) (raw Else taken ++ (raw End other ++ raw close rest)) (λ t p. ((refl, refl, refl), p))
-    (two_joined (list 0x05 taken) (list 0x0b other then list k rest) (raw Else taken) (raw End other ++ raw close rest) (raw_spelled 0x05 Else else_spelled taken)
-    (two_joined (list 0x0b other) (list k rest) (raw End other) (raw close rest) (raw_spelled 0x0b End end_spelled other) (raw_spelled k close c rest))) text h
+    opened (If r None 0) 0x04 (block_type r) (list 0x05 taken then list 0x0b other then list k rest)
+    (raw Else taken ++ (raw End other ++ raw close rest)) (λ t p. ((refl, refl, refl), p))
+    (two_joined (list 0x05 taken) (list 0x0b other then list k rest) (raw Else taken)
+    (raw End other ++ raw close rest) (raw_spelled 0x05 Else else_spelled taken)
+    (two_joined (list 0x0b other) (list k rest) (raw End other) (raw close rest)
+    (raw_spelled 0x0b End end_spelled other) (raw_spelled k close c rest))) text h
 
 -- these entries leave no list open just at their end
 abbrev Walks : ℕ → List Mark → Type 0
 Walks depth [] = ⊥
 Walks depth (m ∷ ms) =
-    ((depth_after m.0 depth ≡ 0) × (ms ≡ [])) ⊎ ((depth_after m.0 depth ≢ 0) × Walks (depth_after m.0 depth) ms)
+    ((depth_after m.0 depth ≡ 0) × (ms ≡ []))
+    ⊎ ((depth_after m.0 depth ≢ 0) × Walks (depth_after m.0 depth) ms)
 
 leaf_depth : (op : Op) (depth : ℕ) → IsLeaf op → depth_after op depth ≡ depth
 leaf_depth (Block r end) depth h = absurd h
@@ -117,33 +133,61 @@ walk_regrouped depth a b c w =
     subst P (sym (append_assoc a b c)) w
 
 -- after a list in another one
-end_walks : (depth : ℕ) (others : List Mark) → Walks (depth + 1) others → Walks (depth + 1 + 1) (mark End ∷ others)
+end_walks : (depth : ℕ) (others : List Mark) → Walks (depth + 1) others
+    → Walks (depth + 1 + 1) (mark End ∷ others)
 end_walks depth others w =
     let same : depth + 1 + 1 - 1 ≡ depth + 1 = omega arith in
     inr (omega arith, walks_at (depth + 1 + 1 - 1) (depth + 1) others same w)
 
-else_walks : (depth : ℕ) (others : List Mark) → Walks (depth + 1 + 1) others → Walks (depth + 1 + 1) (mark Else ∷ others)
+else_walks : (depth : ℕ) (others : List Mark) → Walks (depth + 1 + 1) others
+    → Walks (depth + 1 + 1) (mark Else ∷ others)
 else_walks depth others w = inr (omega arith, w)
 
-walks : (close : Op) (depth : ℕ) (more : List Mark) → Walks (depth + 1) (mark close ∷ more) → (e : Expr) → IsProper e → Walks (depth + 1) (raw close e ++ more)
+walks : (close : Op) (depth : ℕ) (more : List Mark) → Walks (depth + 1) (mark close ∷ more) → (e : Expr)
+    → IsProper e → Walks (depth + 1) (raw close e ++ more)
 walks close depth more base done h = base
 walks close depth more base (plain m rest) h =
     let same = leaf_depth m.0 (depth + 1) h.0 in
-    inr (omega (arith, same), walks_at (depth_after m.0 (depth + 1)) (depth + 1) (raw close rest ++ more) same (walks close depth more base rest h.1))
+    inr (
+      omega (arith, same),
+      walks_at (depth_after m.0 (depth + 1)) (depth + 1) (raw close rest ++ more)
+          same (walks close depth more base rest h.1),
+    )
 walks close depth more base (block r inner rest) h =
     let others : List Mark = raw close rest ++ more in
-    inr (omega arith, walk_regrouped (depth + 1 + 1) (raw End inner) (raw close rest) more (walks End (depth + 1) others (end_walks depth others (walks close depth more base rest h.1)) inner h.0))
+    inr (
+      omega arith,
+      walk_regrouped (depth + 1 + 1) (raw End inner) (raw close rest) more
+          (walks End (depth + 1) others (end_walks depth others (walks close depth more base rest h.1))
+          inner h.0),
+    )
 walks close depth more base (loop r inner rest) h =
     let others : List Mark = raw close rest ++ more in
-    inr (omega arith, walk_regrouped (depth + 1 + 1) (raw End inner) (raw close rest) more (walks End (depth + 1) others (end_walks depth others (walks close depth more base rest h.1)) inner h.0))
+    inr (
+      omega arith,
+      walk_regrouped (depth + 1 + 1) (raw End inner) (raw close rest) more
+          (walks End (depth + 1) others (end_walks depth others (walks close depth more base rest h.1))
+          inner h.0),
+    )
 walks close depth more base (if_then r inner rest) h =
     let others : List Mark = raw close rest ++ more in
-    inr (omega arith, walk_regrouped (depth + 1 + 1) (raw End inner) (raw close rest) more (walks End (depth + 1) others (end_walks depth others (walks close depth more base rest h.1)) inner h.0))
+    inr (
+      omega arith,
+      walk_regrouped (depth + 1 + 1) (raw End inner) (raw close rest) more
+          (walks End (depth + 1) others (end_walks depth others (walks close depth more base rest h.1))
+          inner h.0),
+    )
 walks close depth more base (if_else r taken other rest) h =
     let last : List Mark = raw close rest ++ more in
     let others : List Mark = (raw End other ++ raw close rest) ++ more in
-    let second = walk_regrouped (depth + 1 + 1) (raw End other) (raw close rest) more (walks End (depth + 1) last (end_walks depth last (walks close depth more base rest h.2)) other h.1) in
-    inr (omega arith, walk_regrouped (depth + 1 + 1) (raw Else taken) (raw End other ++ raw close rest) more (walks Else (depth + 1) others (else_walks depth others second) taken h.0))
+    let second = walk_regrouped (depth + 1 + 1) (raw End other) (raw close rest) more
+    (walks End (depth + 1) last (end_walks depth last (walks close depth more base rest h.2)) other
+    h.1) in
+    inr (
+      omega arith,
+      walk_regrouped (depth + 1 + 1) (raw Else taken) (raw End other ++ raw close rest) more
+          (walks Else (depth + 1) others (else_walks depth others second) taken h.0),
+    )
 
 pub whole_walks : (e : Expr) → IsProper e → Walks 1 (raw End e)
 whole_walks e h =
@@ -160,7 +204,8 @@ abbrev all_read : List Mark → List ℕ → Option (List Mark × List ℕ)
 all_read ms rest = Some (ms, rest)
 
 -- the first pass reads them
-pub entries_found : (turns depth : ℕ) (ms : List Mark) (text rest : List ℕ) → items entry ms text → Walks depth ms → length ms ≤ turns
+pub entries_found : (turns depth : ℕ) (ms : List Mark) (text rest : List ℕ) → items entry ms text
+    → Walks depth ms → length ms ≤ turns
     → entries_at turns depth (text ++ rest) ≡ Some (ms, rest)
 entries_found zero depth [] text rest h w few = absurd w
 entries_found (suc turns) depth [] text rest h w few = absurd w
@@ -176,25 +221,39 @@ entries_found (suc turns) depth (m ∷ ms) text rest h (inr (open_left, w)) few 
     let e = entry_reads.complete h.0 (h.1 ++ rest) m h.3 in
     let test : eqb (depth_after m.0 depth) 0 ≡ false = differs_tested (depth_after m.0 depth) 0 open_left in
     let others = entries_found turns (depth_after m.0 depth) ms h.1 rest h.4 w (omega arith) in
-    ap (entries_at (suc turns) depth) (ap (λ t. t ++ rest) h.2 ∙ append_assoc h.0 h.1 rest) ∙ (rw (e, test, others) refl)
+    ap (entries_at (suc turns) depth) (ap (λ t. t ++ rest) h.2 ∙ append_assoc h.0 h.1 rest)
+    ∙ (rw (e, test, others) refl)
 
 -- what the first pass reads is encoded
-pub entries_sound : (turns depth : ℕ) (bytes : List ℕ) (ms : List Mark) (rest : List ℕ) → entries_at turns depth bytes ≡ Some (ms, rest) → Takes (items entry) bytes ms rest
+pub entries_sound : (turns depth : ℕ) (bytes : List ℕ) (ms : List Mark) (rest : List ℕ)
+    → entries_at turns depth bytes ≡ Some (ms, rest) → Takes (items entry) bytes ms rest
 entries_sound zero depth bytes ms rest e = absurd cc
 entries_sound (suc turns) depth bytes ms rest e =
-    let x = bind_some (entry_at bytes) (λ (x : Mark × List ℕ). if eqb (depth_after x.0.0 depth) 0 then only_as x.0 x.1 else (entries_at turns (depth_after x.0.0 depth) x.1 >>= λ y. all_as x.0 y.0 y.1)) (ms, rest) e in
+    let x = bind_some (entry_at bytes)
+    (λ (x : Mark × List ℕ). if eqb (depth_after x.0.0 depth) 0 then only_as x.0 x.1
+    else (entries_at turns (depth_after x.0.0 depth) x.1 >>= λ y. all_as x.0 y.0 y.1)) (ms, rest) e in
     let front = entry_reads.sound bytes x.0.0 x.0.1 x.1 in
-    elim (split_if (eqb (depth_after x.0.0.0 depth) 0) (only_as x.0.0 x.0.1) (entries_at turns (depth_after x.0.0.0 depth) x.0.1 >>= λ y. all_as x.0.0 y.0 y.1) (all_read ms rest) x.2) [
-      | inl h ↦ moved (items entry) bytes (x.0.0 ∷ []) ms x.0.1 rest (front.0, front.1, (front.0, [], sym (append-nil front.0), front.2, refl)) h.1
+    elim (split_if (eqb (depth_after x.0.0.0 depth) 0) (only_as x.0.0 x.0.1)
+    (entries_at turns (depth_after x.0.0.0 depth) x.0.1 >>= λ y. all_as x.0.0 y.0 y.1)
+    (all_read ms rest) x.2) [
+      | inl h ↦ moved (items entry) bytes (x.0.0 ∷ []) ms x.0.1 rest
+          (front.0, front.1, (front.0, [], sym (append-nil front.0), front.2, refl)) h.1
       | inr h ↦
-          let y = bind_some (entries_at turns (depth_after x.0.0.0 depth) x.0.1) (λ (y : List Mark × List ℕ). all_as x.0.0 y.0 y.1) (ms, rest) h.1 in
+          let y = bind_some (entries_at turns (depth_after x.0.0.0 depth) x.0.1)
+          (λ (y : List Mark × List ℕ). all_as x.0.0 y.0 y.1) (ms, rest) h.1 in
           let others = entries_sound turns (depth_after x.0.0.0 depth) x.0.1 y.0.0 y.0.1 y.1 in
-          moved (items entry) bytes (x.0.0 ∷ y.0.0) ms y.0.1 rest
-          (front.0 ++ others.0, front.1 ∙ ap (λ m. front.0 ++ m) others.1 ∙ sym (append_assoc front.0 others.0 y.0.1), (front.0, others.0, refl, front.2, others.2)) y.2
+          moved (items entry) bytes (x.0.0 ∷ y.0.0) ms y.0.1 rest (
+            front.0 ++ others.0,
+            front.1 ∙ ap (λ m. front.0 ++ m) others.1
+                ∙ sym (append_assoc front.0 others.0 y.0.1),
+            (front.0, others.0, refl, front.2, others.2),
+          )
+          y.2
     ]
 
 -- the second pass
-leaf_placed : (at : ℕ) (op : Op) (c : Close) (cs : List Close) → IsLeaf op → entry_with_places at op (c ∷ cs) ≡ Some (op, c ∷ cs)
+leaf_placed : (at : ℕ) (op : Op) (c : Close) (cs : List Close) → IsLeaf op
+    → entry_with_places at op (c ∷ cs) ≡ Some (op, c ∷ cs)
 leaf_placed at (Block r end) c cs h = absurd h
 leaf_placed at (Loop r end) c cs h = absurd h
 leaf_placed at (If r other end) c cs h = absurd h
@@ -206,15 +265,19 @@ abbrev pub filled_as : List Mark → List Close → Option (List Mark × List Cl
 filled_as ms cs = Some (ms, cs)
 
 abbrev Closing : Op → (ℕ → Close) → Type 0
-Closing close closing = (at : ℕ) (cs : List Close) → entry_with_places at close cs ≡ Some (close, closing at ∷ cs)
+Closing close closing = (at : ℕ) (cs : List Close)
+    → entry_with_places at close cs ≡ Some (close, closing at ∷ cs)
 
-pub filled_raw : (close : Op) (closing : ℕ → Close) → Closing close closing → (e : Expr) → IsProper e → (at n k : ℕ) → n ≡ at + span e + 1 → k ≡ at + span e
-    → (more : List Mark) (after : List Mark) (cs : List Close) → entries_with_places n more ≡ filled_as after cs
+pub filled_raw : (close : Op) (closing : ℕ → Close) → Closing close closing → (e : Expr) → IsProper e
+    → (at n k : ℕ) → n ≡ at + span e + 1 → k ≡ at + span e
+    → (more : List Mark) (after : List Mark) (cs : List Close)
+    → entries_with_places n more ≡ filled_as after cs
     → entries_with_places at (raw close e ++ more) ≡ filled_as (flat_at close at e ++ after) (closing k ∷ cs)
 filled_raw close closing c done h at n k en ek more after cs f =
     let same : at + 1 ≡ n = omega arith in
     let there : at ≡ k = omega arith in
-    let e : entries_with_places (at + 1) more ≡ filled_as after cs = ap (λ i. entries_with_places i more) same ∙ f in
+    let e : entries_with_places (at + 1) more ≡ filled_as after cs =
+    ap (λ i. entries_with_places i more) same ∙ f in
     let p = c at cs in
     (rw (e, p) refl) ∙ ap (λ i. filled_as (mark close ∷ after) (closing i ∷ cs)) there
 filled_raw close closing c (plain m rest) h at n k en ek more after cs f =
@@ -225,27 +288,36 @@ filled_raw close closing c (block r inner rest) h at n k en ek more after cs f =
     let end : ℕ = at + 1 + span inner in
     let back : List Mark = flat_at close (end + 1) rest in
     let front : List Mark = flat_at End (at + 1) inner in
-    let last = filled_raw close closing c rest h.1 (end + 1) n k (omega arith) (omega arith) more after cs f in
-    let first = filled_raw End Ends (λ i ds. refl) inner h.0 (at + 1) (end + 1) end refl refl (raw close rest ++ more) (back ++ after) (closing k ∷ cs) last in
-    ap (λ ms. entries_with_places at (mark (Block r 0) ∷ ms)) (append_assoc (raw End inner) (raw close rest) more)
+    let last = filled_raw close closing c rest h.1 (end + 1) n k (omega arith) (omega arith) more after cs f
+    in
+    let first = filled_raw End Ends (λ i ds. refl) inner h.0 (at + 1) (end + 1) end refl refl
+    (raw close rest ++ more) (back ++ after) (closing k ∷ cs) last in
+    ap (λ ms. entries_with_places at (mark (Block r 0) ∷ ms))
+    (append_assoc (raw End inner) (raw close rest) more)
     ∙ (rw first refl)
     ∙ ap (λ ms. filled_as (mark (Block r end) ∷ ms) (closing k ∷ cs)) (sym (append_assoc front back after))
 filled_raw close closing c (loop r inner rest) h at n k en ek more after cs f =
     let end : ℕ = at + 1 + span inner in
     let back : List Mark = flat_at close (end + 1) rest in
     let front : List Mark = flat_at End (at + 1) inner in
-    let last = filled_raw close closing c rest h.1 (end + 1) n k (omega arith) (omega arith) more after cs f in
-    let first = filled_raw End Ends (λ i ds. refl) inner h.0 (at + 1) (end + 1) end refl refl (raw close rest ++ more) (back ++ after) (closing k ∷ cs) last in
-    ap (λ ms. entries_with_places at (mark (Loop r 0) ∷ ms)) (append_assoc (raw End inner) (raw close rest) more)
+    let last = filled_raw close closing c rest h.1 (end + 1) n k (omega arith) (omega arith) more after cs f
+    in
+    let first = filled_raw End Ends (λ i ds. refl) inner h.0 (at + 1) (end + 1) end refl refl
+    (raw close rest ++ more) (back ++ after) (closing k ∷ cs) last in
+    ap (λ ms. entries_with_places at (mark (Loop r 0) ∷ ms))
+    (append_assoc (raw End inner) (raw close rest) more)
     ∙ (rw first refl)
     ∙ ap (λ ms. filled_as (mark (Loop r end) ∷ ms) (closing k ∷ cs)) (sym (append_assoc front back after))
 filled_raw close closing c (if_then r inner rest) h at n k en ek more after cs f =
     let end : ℕ = at + 1 + span inner in
     let back : List Mark = flat_at close (end + 1) rest in
     let front : List Mark = flat_at End (at + 1) inner in
-    let last = filled_raw close closing c rest h.1 (end + 1) n k (omega arith) (omega arith) more after cs f in
-    let first = filled_raw End Ends (λ i ds. refl) inner h.0 (at + 1) (end + 1) end refl refl (raw close rest ++ more) (back ++ after) (closing k ∷ cs) last in
-    ap (λ ms. entries_with_places at (mark (If r None 0) ∷ ms)) (append_assoc (raw End inner) (raw close rest) more)
+    let last = filled_raw close closing c rest h.1 (end + 1) n k (omega arith) (omega arith) more after cs f
+    in
+    let first = filled_raw End Ends (λ i ds. refl) inner h.0 (at + 1) (end + 1) end refl refl
+    (raw close rest ++ more) (back ++ after) (closing k ∷ cs) last in
+    ap (λ ms. entries_with_places at (mark (If r None 0) ∷ ms))
+    (append_assoc (raw End inner) (raw close rest) more)
     ∙ (rw first refl)
     ∙ ap (λ ms. filled_as (mark (If r None end) ∷ ms) (closing k ∷ cs)) (sym (append_assoc front back after))
 filled_raw close closing c (if_else r taken other rest) h at n k en ek more after cs f =
@@ -254,10 +326,18 @@ filled_raw close closing c (if_else r taken other rest) h at n k en ek more afte
     let back : List Mark = flat_at close (end + 1) rest in
     let second : List Mark = flat_at End (middle + 1) other in
     let front : List Mark = flat_at Else (at + 1) taken in
-    let last = filled_raw close closing c rest h.2 (end + 1) n k (omega arith) (omega arith) more after cs f in
-    let mid = filled_raw End Ends (λ i ds. refl) other h.1 (middle + 1) (end + 1) end refl refl (raw close rest ++ more) (back ++ after) (closing k ∷ cs) last in
-    let first = filled_raw Else Parts (λ i ds. refl) taken h.0 (at + 1) (middle + 1) middle refl refl (raw End other ++ (raw close rest ++ more)) (second ++ (back ++ after)) (Ends end ∷ closing k ∷ cs) mid in
-    ap (λ ms. entries_with_places at (mark (If r None 0) ∷ ms)) (append_assoc (raw Else taken) (raw End other ++ raw close rest) more ∙ ap (λ ms. raw Else taken ++ ms) (append_assoc (raw End other) (raw close rest) more))
+    let last = filled_raw close closing c rest h.2 (end + 1) n k (omega arith) (omega arith) more after cs f
+    in
+    let mid = filled_raw End Ends (λ i ds. refl) other h.1 (middle + 1) (end + 1) end refl refl
+    (raw close rest ++ more) (back ++ after) (closing k ∷ cs) last in
+    let first = filled_raw Else Parts (λ i ds. refl) taken h.0 (at + 1) (middle + 1) middle refl refl
+    (raw End other ++ (raw close rest ++ more)) (second ++ (back ++ after))
+    (Ends end ∷ closing k ∷ cs) mid in
+    ap (λ ms. entries_with_places at (mark (If r None 0) ∷ ms))
+    (append_assoc (raw Else taken) (raw End other ++ raw close rest) more
+    ∙ ap (λ ms. raw Else taken ++ ms) (append_assoc (raw End other) (raw close rest) more))
     ∙ (rw first refl)
     ∙ ap (λ ms. filled_as (mark (If r (Some middle) end) ∷ ms) (closing k ∷ cs))
-    (ap (λ ms. front ++ ms) (sym (append_assoc second back after)) ∙ sym (append_assoc front (second ++ back) after) ∙ ap (λ ms. ms ++ after) (sym (append_assoc front second back)))
+    (ap (λ ms. front ++ ms) (sym (append_assoc second back after))
+    ∙ sym (append_assoc front (second ++ back) after)
+    ∙ ap (λ ms. ms ++ after) (sym (append_assoc front second back)))

@@ -43,14 +43,16 @@ section_long : (s : Section) (text : List ℕ) → section s text → 1 ≤ leng
 section_long s text h = omega (arith, ap (λ t. length t) h.2, length-append h.0 h.1, ap (λ t. length t) h.3)
 
 -- loops
-pub contents_more : (n m id found : ℕ) (bs contents after : List ℕ) (all : Option (List ℕ)) → contents_at n id bs ≡ all → n ≡ suc m
+pub contents_more : (n m id found : ℕ) (bs contents after : List ℕ) (all : Option (List ℕ))
+    → contents_at n id bs ≡ all → n ≡ suc m
     → section_at bs ≡ Some ((found, contents), after) → found ≢ id → contents_at m id after ≡ all
 contents_more n m id found bs contents after all inv e h other =
     let test : eqb found id ≡ false = grind (arith, nat_tests) in
     let step : contents_at (suc m) id bs ≡ contents_at m id after = rw (h, test) refl in
     sym step ∙ ap (λ k. contents_at k id bs) (sym e) ∙ inv
 
-pub ordered_more : (n m last r : ℕ) (bs after : List ℕ) (s : Section) (all : Option ℕ) → ordered_at n last bs ≡ all → n ≡ suc m → 0 < length bs
+pub ordered_more : (n m last r : ℕ) (bs after : List ℕ) (s : Section) (all : Option ℕ)
+    → ordered_at n last bs ≡ all → n ≡ suc m → 0 < length bs
     → section_at bs ≡ Some (s, after) → rank_after last s ≡ Some r → ordered_at m r after ≡ all
 ordered_more n m last r [] after s all inv e some h k = absurd (omega arith)
 ordered_more n m last r (b ∷ bs) after s all inv e some h k =
@@ -60,7 +62,8 @@ ordered_more n m last r (b ∷ bs) after s all inv e some h k =
 -- one more section
 abbrev Next : ℕ → Section → ℕ → Type 0
 Next last s r =
-    ((s.0 ≡ 0) × BeginsWithName s.1 × (r ≡ last)) ⊎ ((s.0 ≢ 0) × (s.0 ≤ 12) × (last < rank s.0) × (r ≡ rank s.0))
+    ((s.0 ≡ 0) × BeginsWithName s.1 × (r ≡ last))
+    ⊎ ((s.0 ≢ 0) × (s.0 ≤ 12) × (last < rank s.0) × (r ≡ rank s.0))
 
 rank_sound : (last : ℕ) (s : Section) (r : ℕ) → rank_after last s ≡ Some r → Next last s r
 unfolding rank_after
@@ -81,7 +84,8 @@ rank_sound last s r e =
           inr (other, leb-true s.0 12 i.0, ltb-true last (rank s.0) j.0, same)
     ]
 
-rises_more : (last : ℕ) (s : Section) (r : ℕ) (ss : List Section) → Next last s r → RanksRise r ss → RanksRise last (s ∷ ss)
+rises_more : (last : ℕ) (s : Section) (r : ℕ) (ss : List Section) → Next last s r → RanksRise r ss
+    → RanksRise last (s ∷ ss)
 rises_more last s r ss (inl (zero_id, named, same)) h =
     let P : ℕ → Type 0 = λ k. RanksRise k ss in
     inl (zero_id, named, subst P same h)
@@ -89,24 +93,31 @@ rises_more last s r ss (inr (other, low, above, same)) h =
     let P : ℕ → Type 0 = λ k. RanksRise k ss in
     inr (other, low, above, subst P same h)
 
-pub ordered_sound : (turns last : ℕ) (bs : List ℕ) (r : ℕ) → ordered_at turns last bs ≡ Some r → (ss : List Section) × items section ss bs × RanksRise last ss
+pub ordered_sound : (turns last : ℕ) (bs : List ℕ) (r : ℕ) → ordered_at turns last bs ≡ Some r
+    → (ss : List Section) × items section ss bs × RanksRise last ss
 ordered_sound turns last [] r e = ([], refl, tt)
 ordered_sound zero last (b ∷ bs) r e = absurd cc
 ordered_sound (suc turns) last (b ∷ bs) r e =
-    let s = bind_some (section_at (b ∷ bs)) (λ (x : Section × List ℕ). rank_after last x.0 >>= λ k. ordered_at turns k x.1) r e in
+    let s = bind_some (section_at (b ∷ bs))
+    (λ (x : Section × List ℕ). rank_after last x.0 >>= λ k. ordered_at turns k x.1) r e in
     let k = bind_some (rank_after last s.0.0) (λ k. ordered_at turns k s.0.1) r s.2 in
     let t = section_reads.sound (b ∷ bs) s.0.0 s.0.1 s.1 in
-    let others = ordered_sound turns k.0 s.0.1 r k.2 in
-    (s.0.0 ∷ others.0, (t.0, s.0.1, t.1, t.2, others.1), rises_more last s.0.0 k.0 others.0 (rank_sound last s.0.0 k.0 k.1) others.2)
+    let others = ordered_sound turns k.0 s.0.1 r k.2 in (
+      s.0.0 ∷ others.0,
+      (t.0, s.0.1, t.1, t.2, others.1),
+      rises_more last s.0.0 k.0 others.0 (rank_sound last s.0.0 k.0 k.1) others.2,
+    )
 
 rank_complete_custom : (last : ℕ) (s : Section) → s.0 ≡ 0 → BeginsWithName s.1 → rank_after last s ≡ Some last
 unfolding rank_after
 rank_complete_custom last s zero_id named =
     let test : eqb s.0 0 ≡ true = eq-eqb s.0 0 zero_id in
-    let e : name_at s.1 ≡ read_as named.0 named.2 = ap name_at named.3 ∙ name_reads.complete named.1 named.2 named.0 named.4 in
+    let e : name_at s.1 ≡ read_as named.0 named.2 = ap name_at named.3
+    ∙ name_reads.complete named.1 named.2 named.0 named.4 in
     rw (test, e) refl
 
-rank_complete : (last : ℕ) (s : Section) → s.0 ≢ 0 → s.0 ≤ 12 → last < rank s.0 → rank_after last s ≡ Some (rank s.0)
+rank_complete : (last : ℕ) (s : Section) → s.0 ≢ 0 → s.0 ≤ 12 → last < rank s.0
+    → rank_after last s ≡ Some (rank s.0)
 unfolding rank_after
 rank_complete last s other low above =
     let test : eqb s.0 0 ≡ false = grind (arith, nat_tests) in
@@ -115,19 +126,24 @@ rank_complete last s other low above =
     rw (test, second, third) refl
 
 -- one section is read where fuel is left
-section_first : (s : Section) (turns : ℕ) (a b bs : List ℕ) → bs ≡ a ++ b → section s a → length bs ≤ suc turns → (section_at bs ≡ Some (s, b)) × (length b ≤ turns)
-section_first s turns a b bs e h few =
-    (ap section_at e ∙ section_reads.complete a b s h, omega (arith, ap (λ t. length t) e, length-append a b, section_long s a h))
+section_first : (s : Section) (turns : ℕ) (a b bs : List ℕ) → bs ≡ a ++ b → section s a
+    → length bs ≤ suc turns → (section_at bs ≡ Some (s, b)) × (length b ≤ turns)
+section_first s turns a b bs e h few = (
+  ap section_at e ∙ section_reads.complete a b s h,
+  omega (arith, ap (λ t. length t) e, length-append a b, section_long s a h),
+)
 
 -- the rank after a section that may stand there
-rank_next : (last : ℕ) (s : Section) (ss : List Section) → RanksRise last (s ∷ ss) → (r : ℕ) × (rank_after last s ≡ Some r) × RanksRise r ss
+rank_next : (last : ℕ) (s : Section) (ss : List Section) → RanksRise last (s ∷ ss) → (r : ℕ)
+    × (rank_after last s ≡ Some r) × RanksRise r ss
 rank_next last s ss (inl (zero_id, named, h)) = (last, rank_complete_custom last s zero_id named, h)
 rank_next last s ss (inr (other, low, above, h)) = (rank s.0, rank_complete last s other low above, h)
 
 no_sections : (s : Section) (ss : List Section) → items section (s ∷ ss) [] → ⊥
 no_sections s ss h = omega (arith, ap (λ t. length t) h.2, length-append h.0 h.1, section_long s h.0 h.3)
 
-pub ordered_complete : (ss : List Section) (turns last : ℕ) (bs : List ℕ) → items section ss bs → RanksRise last ss → length bs ≤ turns → (r : ℕ) × (ordered_at turns last bs ≡ Some r)
+pub ordered_complete : (ss : List Section) (turns last : ℕ) (bs : List ℕ) → items section ss bs
+    → RanksRise last ss → length bs ≤ turns → (r : ℕ) × (ordered_at turns last bs ≡ Some r)
 ordered_complete [] zero last bs h rises few = (last, ap (λ t. ordered_at zero last t) h)
 ordered_complete [] (suc turns) last bs h rises few = (last, ap (λ t. ordered_at (suc turns) last t) h)
 ordered_complete (s ∷ ss) turns last [] h rises few = absurd (no_sections s ss h)
@@ -145,11 +161,13 @@ unfolding section_at
 contents_none zero id = refl
 contents_none (suc turns) id = refl
 
-contents_step : (c : Bool) (x : List ℕ) (o p : Option (List ℕ)) → o ≡ p → (if c then Some x else o) ≡ (if c then Some x else p)
+contents_step : (c : Bool) (x : List ℕ) (o p : Option (List ℕ)) → o ≡ p
+    → (if c then Some x else o) ≡ (if c then Some x else p)
 contents_step true x o p e = refl
 contents_step false x o p e = e
 
-pub contents_found : (ss : List Section) (turns id : ℕ) (bs : List ℕ) → items section ss bs → length bs ≤ turns → contents_at turns id bs ≡ contents id ss
+pub contents_found : (ss : List Section) (turns id : ℕ) (bs : List ℕ) → items section ss bs
+    → length bs ≤ turns → contents_at turns id bs ≡ contents id ss
 contents_found [] turns id bs h few = ap (λ t. contents_at turns id t) h ∙ contents_none turns id
 contents_found (s ∷ ss) zero id [] h few = absurd (no_sections s ss h)
 contents_found (s ∷ ss) (suc turns) id [] h few = absurd (no_sections s ss h)

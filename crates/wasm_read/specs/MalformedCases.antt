@@ -9,7 +9,8 @@ use Rattle.w4_defs.specs.Cart.{IsRefused}
 
 -- six bytes for a u32, which has at most five
 abbrev pub size_too_long : List ℕ
-size_too_long = empty_cart_head ++ 0x0a ∷ 0x84 ∷ 0x80 ∷ 0x80 ∷ 0x80 ∷ 0x80 ∷ 0x00 ∷ 0x01 ∷ 0x02 ∷ 0x00 ∷ 0x0b ∷ []
+size_too_long =
+    empty_cart_head ++ 0x0a ∷ 0x84 ∷ 0x80 ∷ 0x80 ∷ 0x80 ∷ 0x80 ∷ 0x00 ∷ 0x01 ∷ 0x02 ∷ 0x00 ∷ 0x0b ∷ []
 
 -- a bit past the 32nd in the fifth byte
 abbrev pub last_byte_wrong : List ℕ
@@ -20,4 +21,5 @@ section_past_the_end = preamble ++ 0x01 ∷ 0x05 ∷ 0xff ∷ 0xff ∷ 0xff ∷ 
 
 abbrev pub MalformedCases : Type 0
 MalformedCases =
-    IsRefused size_too_long Malformed × IsRefused last_byte_wrong Malformed × IsRefused section_past_the_end Malformed
+    IsRefused size_too_long Malformed × IsRefused last_byte_wrong Malformed
+    × IsRefused section_past_the_end Malformed

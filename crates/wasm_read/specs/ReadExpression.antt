@@ -96,7 +96,8 @@ entry_with_places at op (c ∷ closes) = Some (op, c ∷ closes)
 abbrev pub entries_with_places : ℕ → List Mark → Option (List Mark × List Close)
 entries_with_places at [] = Some ([], [])
 entries_with_places at (m ∷ ms) =
-    entries_with_places (at + 1) ms >>= λ after. entry_with_places at m.0 after.1 >>= λ p. Some ((p.0, m.1) ∷ after.0, p.1)
+    entries_with_places (at + 1) ms >>= λ after. entry_with_places at m.0 after.1
+    >>= λ p. Some ((p.0, m.1) ∷ after.0, p.1)
 
 abbrev pub is_one_end : List Close → Bool
 is_one_end (Ends place ∷ []) = true

@@ -26,7 +26,9 @@ Front = List Signature × (List Imported × (List ℕ × List Limits))
 
 unfoldable pub front_sections : Contents → Option Front
 front_sections c =
-    both_some (part_at func_type_at (c 1)) (both_some (part_at import_at (c 2)) (both_some (part_at (unsigned_at 32) (c 3)) (part_at table_type_at (c 4))))
+    both_some (part_at func_type_at (c 1))
+    (both_some (part_at import_at (c 2))
+    (both_some (part_at (unsigned_at 32) (c 3)) (part_at table_type_at (c 4))))
 
 -- memories, globals, exports and the start function
 abbrev pub Middle : Type 0
@@ -34,24 +36,40 @@ Middle = List Limits × (List Global × (List Exported × Option ℕ))
 
 unfoldable pub middle_sections : Contents → Option Middle
 middle_sections c =
-    both_some (part_at limits_at (c 5)) (both_some (part_at global_at (c 6)) (both_some (part_at export_at (c 7)) (alone_at (unsigned_at 32) (c 8))))
+    both_some (part_at limits_at (c 5))
+    (both_some (part_at global_at (c 6))
+    (both_some (part_at export_at (c 7)) (alone_at (unsigned_at 32) (c 8))))
 
 -- elements, bodies and data segments
 abbrev pub Back : Type 0
 Back = List ElementSegment × (List Function × List DataSegment)
 
 unfoldable pub back_sections : Contents → Option Back
-back_sections c = both_some (part_at element_at (c 9)) (both_some (part_at body_at (c 10)) (part_at segment_at (c 11)))
+back_sections c =
+    both_some (part_at element_at (c 9)) (both_some (part_at body_at (c 10)) (part_at segment_at (c 11)))
 
 abbrev pub module_of : Front → Middle → Back → WasmModule
 module_of f m b =
-    record { types = f.0; imports = f.1.0; functions = f.1.1.0; tables = f.1.1.1; memories = m.0; globals = m.1.0; exports = m.1.1.0; start = m.1.1.1; elements = b.0; bodies = b.1.0; segments = b.1.1 }
+    record {
+      types = f.0;
+      imports = f.1.0;
+      functions = f.1.1.0;
+      tables = f.1.1.1;
+      memories = m.0;
+      globals = m.1.0;
+      exports = m.1.1.0;
+      start = m.1.1.1;
+      elements = b.0;
+      bodies = b.1.0;
+      segments = b.1.1;
+    }
 
 -- the module that these contents make, where its counts agree
 unfoldable pub collected : Contents → Option WasmModule
 collected c =
     front_sections c >>= λ f. middle_sections c >>= λ m. back_sections c
-    >>= λ b. if (length f.1.1.0 == length b.1.0) && is_counted (c 12) (length b.1.1) then Some (module_of f m b) else None
+    >>= λ b. if (length f.1.1.0 == length b.1.0) && is_counted (c 12) (length b.1.1)
+    then Some (module_of f m b) else None
 
 abbrev pub contents_in : List ℕ → Contents
 contents_in bytes id = contents_at (length bytes) id bytes

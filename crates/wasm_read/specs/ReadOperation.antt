@@ -24,17 +24,23 @@ is_between low high code = nat_le low code && nat_le code high
 
 abbrev pub is_float_code : ℕ → Bool
 is_float_code code =
-    is_between 0x5b 0x66 code || (is_between 0x8b 0xa6 code || (is_between 0xa8 0xab code || is_between 0xae 0xbf code))
+    is_between 0x5b 0x66 code
+    || (is_between 0x8b 0xa6 code || (is_between 0xa8 0xab code || is_between 0xae 0xbf code))
 
 abbrev pub has_index : ℕ → Bool
 has_index code = (code == 0x0c) || ((code == 0x0d) || ((code == 0x10) || is_between 0x20 0x24 code))
 
 abbrev pub plain_of : ℕ → Option Op
 plain_of code =
-    first_some (row_of control_rows code) (first_some (row_of compare32_rows code) (first_some (row_of compare64_rows code) (first_some (row_of arith32_rows code) (first_some (row_of arith64_rows code) (row_of convert_rows code)))))
+    first_some (row_of control_rows code)
+    (first_some (row_of compare32_rows code)
+    (first_some (row_of compare64_rows code)
+    (first_some (row_of arith32_rows code)
+    (first_some (row_of arith64_rows code) (row_of convert_rows code)))))
 
 abbrev pub access_of : ℕ → ℕ → ℕ → Option Op
-access_of code align offset = first_some (row_of (load_rows align offset) code) (row_of (store_rows align offset) code)
+access_of code align offset =
+    first_some (row_of (load_rows align offset) code) (row_of (store_rows align offset) code)
 
 abbrev pub indexed_at : ℕ → Reader Op
 indexed_at code bs = unsigned_at 32 bs >>= λ n. row_of (index_rows n.0) code >>= λ op. Some (op, n.1)
@@ -52,7 +58,8 @@ abbrev pub constant_at : ℕ → Reader Op
 constant_at code bs =
     if code == 0x41 then mapped_at I32Const (signed_at 32) bs
     else (if code == 0x42 then mapped_at I64Const (signed_at 64) bs
-    else (if code == 0x43 then mapped_at F32Const (little_endian_at w32) bs else mapped_at F64Const (little_endian_at w64) bs))
+    else (if code == 0x43 then mapped_at F32Const (little_endian_at w32) bs
+    else mapped_at F64Const (little_endian_at w64) bs))
 
 abbrev pub prefixed_of : ℕ → Reader Op
 prefixed_of n bs =

@@ -55,7 +55,8 @@ abbrev pub element_of : ℕ × (Expr × List ℕ) → ElementSegment
 element_of x = record { table = x.0; offset = x.1.0; functions = x.1.1 }
 
 unfoldable pub element_at : Reader ElementSegment
-element_at = mapped_at element_of (both_at (unsigned_at 32) (both_at expression_at (vector_at (unsigned_at 32))))
+element_at =
+    mapped_at element_of (both_at (unsigned_at 32) (both_at expression_at (vector_at (unsigned_at 32))))
 
 abbrev pub locals_of : ℕ × ValType → Locals
 locals_of x = record { count = x.0; kind = x.1 }
@@ -68,7 +69,8 @@ function_of x = record { runs = x.0; list = x.1 }
 
 unfoldable pub function_at : Reader Function
 function_at =
-    tested_at (λ f. nat_lt (local_count f.runs) (2 ^ 32)) (mapped_at function_of (both_at (vector_at run_at) expression_at))
+    tested_at (λ f. nat_lt (local_count f.runs) (2 ^ 32))
+    (mapped_at function_of (both_at (vector_at run_at) expression_at))
 
 unfoldable pub body_at : Reader Function
 body_at = sized_at (whole_at function_at)

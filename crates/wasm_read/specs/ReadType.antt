@@ -23,7 +23,8 @@ abbrev pub value_type_at : Reader ValType
 value_type_at = coded_at value_type_codes
 
 abbrev pub block_type_codes : List (ℕ × Option ValType)
-block_type_codes = (0x40, None) ∷ (0x7f, Some I32) ∷ (0x7e, Some I64) ∷ (0x7d, Some F32) ∷ (0x7c, Some F64) ∷ []
+block_type_codes =
+    (0x40, None) ∷ (0x7f, Some I32) ∷ (0x7e, Some I64) ∷ (0x7d, Some F32) ∷ (0x7c, Some F64) ∷ []
 
 abbrev pub block_type_at : Reader (Option ValType)
 block_type_at = coded_at block_type_codes
@@ -57,4 +58,5 @@ func_type_of s = record { params = s.0; results = s.1 }
 
 abbrev pub func_type_at : Reader Signature
 func_type_at =
-    tested_at (λ s. nat_le (length s.results) 1) (mapped_at func_type_of (headed_at 0x60 (both_at (vector_at value_type_at) (vector_at value_type_at))))
+    tested_at (λ s. nat_le (length s.results) 1)
+    (mapped_at func_type_of (headed_at 0x60 (both_at (vector_at value_type_at) (vector_at value_type_at))))

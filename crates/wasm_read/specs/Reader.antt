@@ -18,7 +18,8 @@ abbrev pub Takes : {A : Type 0} → (A → Texts) → List ℕ → A → List �
 Takes spelled bytes x rest = (text : List ℕ) × (bytes ≡ text ++ rest) × spelled x text
 
 pub record Reads {A : Type 0} (spelled : A → Texts) (read : Reader A) : Type 0 where
-  pub sound : (bytes : List ℕ) (x : A) (rest : List ℕ) → read bytes ≡ Some (x, rest) → Takes spelled bytes x rest
+  pub sound : (bytes : List ℕ) (x : A) (rest : List ℕ) → read bytes ≡ Some (x, rest)
+      → Takes spelled bytes x rest
   pub complete : (text rest : List ℕ) (x : A) → spelled x text → read (text ++ rest) ≡ Some (x, rest)
 
 -- a reader of whole texts is exact

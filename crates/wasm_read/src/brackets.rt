@@ -21,7 +21,8 @@ pub enum Close {
 
 /// The place of the `end` that stands next, where another list is still to be closed after it.
 fn ended_by(closes: &mut Vec<Close>) -> Result<usize, ReadRefusal>
-    ensures { Answers (λ place. ended_by (reverse closes.old.items) ≡ Some (place, reverse closes.new.items)) (ended_by (reverse closes.old.items) ≡ None) result }
+    ensures { Answers (λ place. ended_by (reverse closes.old.items) ≡ Some (place, reverse closes.new.items))
+        (ended_by (reverse closes.old.items) ≡ None) result }
 {
     let Some(Close::Ends(place)) = closes.pop() else {
         return Err(ReadRefusal::Malformed);
@@ -35,7 +36,9 @@ fn ended_by(closes: &mut Vec<Close>) -> Result<usize, ReadRefusal>
 /// The entry with its places; `closes` has the closing entries after it that aren't matched, the next
 /// one last.
 fn placed(closes: &mut Vec<Close>, at: usize, op: Op) -> Result<Op, ReadRefusal>
-    ensures { Answers (λ p. entry_with_places at op (reverse closes.old.items) ≡ Some (p, reverse closes.new.items)) (entry_with_places at op (reverse closes.old.items) ≡ None) result }
+    ensures { Answers (λ p. entry_with_places at op (reverse closes.old.items)
+        ≡ Some (p, reverse closes.new.items)) (entry_with_places at op (reverse closes.old.items) ≡ None)
+        result }
 {
     match op {
         Op::End => {

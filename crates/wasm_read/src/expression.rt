@@ -70,7 +70,8 @@ fn unlabelled_at(bytes: &[u8]) -> Option<(Op, &[u8])>
 /// The labels of a br_table, the default last.
 #[tactic(auto, unfolding(crate::specs::ReadExpression::table_at))]
 fn table_at(alloc: Global, bytes: &[u8]) -> Result<(Vec<u32>, &[u8]), ReadRefusal>
-    ensures { Answers (λ x. table_at bytes.now ≡ Some (x.0.items, x.1.now)) (table_at bytes.now ≡ None) result }
+    ensures { Answers (λ x. table_at bytes.now ≡ Some (x.0.items, x.1.now)) (table_at bytes.now ≡ None)
+        result }
 {
     let [0x0e, rest @ ..] = bytes else {
         return Err(ReadRefusal::Malformed);
@@ -84,7 +85,8 @@ fn table_at(alloc: Global, bytes: &[u8]) -> Result<(Vec<u32>, &[u8]), ReadRefusa
 /// The entries with one more, this entry's operation, and the bytes after it.
 #[tactic(auto, unfolding(crate::specs::ReadExpression::entry_at))]
 fn entry_at(alloc: Global, marks: Marks, bytes: &[u8]) -> Result<(Marks, Op, &[u8]), ReadRefusal>
-    ensures { Answers (λ x. (labels : List ℕ) × (entry_at bytes.now ≡ Some ((x.1, labels), x.2.now)) × (x.0 ≡ marks ++ (x.1, labels) ∷ [])) (entry_at bytes.now ≡ None) result }
+    ensures { Answers (λ x. (labels : List ℕ) × (entry_at bytes.now ≡ Some ((x.1, labels), x.2.now))
+        × (x.0 ≡ marks ++ (x.1, labels) ∷ [])) (entry_at bytes.now ≡ None) result }
 {
     if let Some((op, rest)) = unlabelled_at(bytes) {
         return Ok((marks.with(op, &[])?, op, rest));
@@ -107,7 +109,8 @@ fn depth_after(op: Op, depth: usize) -> usize
 
 /// The entries of one list of instructions with its closing `end`, and the bytes after them.
 fn entries_at(alloc: Global, bytes: &[u8]) -> Result<(Marks, &[u8]), ReadRefusal>
-    ensures { Answers (λ x. entries_at (length bytes.now) 1 bytes.now ≡ Some (x.0, x.1.now)) (entries_at (length bytes.now) 1 bytes.now ≡ None) result }
+    ensures { Answers (λ x. entries_at (length bytes.now) 1 bytes.now ≡ Some (x.0, x.1.now))
+        (entries_at (length bytes.now) 1 bytes.now ≡ None) result }
 {
     let mut marks = Marks::new(alloc)?;
     let mut rest = bytes;
@@ -127,7 +130,8 @@ fn entries_at(alloc: Global, bytes: &[u8]) -> Result<(Marks, &[u8]), ReadRefusal
 /// An expression, and the bytes after it.
 #[tactic(auto, unfolding(crate::specs::ReadExpression::expression_at))]
 pub fn expression_at(alloc: Global, bytes: &[u8]) -> Result<(FlatExpression, &[u8]), ReadRefusal>
-    ensures { Answers (λ x. expression_at bytes.now ≡ Some (x.0, x.1.now)) (expression_at bytes.now ≡ None) result }
+    ensures { Answers (λ x. expression_at bytes.now ≡ Some (x.0, x.1.now)) (expression_at bytes.now ≡ None)
+        result }
 {
     let (marks, rest) = entries_at(alloc, bytes)?;
     let marks = matched(alloc, marks)?;

@@ -20,7 +20,8 @@ pub trait Item: Drop {
 /// A count and that many items. Memory is taken for items that are there, not by the count.
 #[tactic(auto, unfolding(crate::specs::Combine::vector_at))]
 pub fn vector_at<T: Item>(alloc: Global, bytes: &[u8]) -> Result<(Vec<T>, &[u8]), ReadRefusal>
-    ensures { Answers (λ x. vector_at T.reads bytes.now ≡ Some (x.0.items, x.1.now)) (vector_at T.reads bytes.now ≡ None) result }
+    ensures { Answers (λ x. vector_at T.reads bytes.now ≡ Some (x.0.items, x.1.now))
+        (vector_at T.reads bytes.now ≡ None) result }
 {
     let (count, rest) = index_at(bytes).ok_or(ReadRefusal::Malformed)?;
     items_at(alloc, count, rest)
@@ -31,7 +32,8 @@ fn items_at<T: Item>(
     count: u32,
     bytes: &[u8],
 ) -> Result<(Vec<T>, &[u8]), ReadRefusal>
-    ensures { Answers (λ x. items_at T.reads count bytes.now ≡ Some (x.0.items, x.1.now)) (items_at T.reads count bytes.now ≡ None) result }
+    ensures { Answers (λ x. items_at T.reads count bytes.now ≡ Some (x.0.items, x.1.now))
+        (items_at T.reads count bytes.now ≡ None) result }
 {
     let mut items = Vec::new(alloc);
     let mut rest = bytes;

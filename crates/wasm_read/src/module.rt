@@ -21,7 +21,8 @@ use wasm_tree::{Bodies, Code, FlatBody, FlatElement, FlatGlobal, FlatSegment};
 
 /// The entries of a section, none where it is absent.
 fn part_of<T: Item>(alloc: Global, contents: Option<&[u8]>) -> Result<Vec<T>, ReadRefusal>
-    ensures { Answers (λ xs. part_at T.reads (option_map (λ c. c.now) contents.entry) ≡ Some xs.items) (part_at T.reads (option_map (λ c. c.now) contents.entry) ≡ None) result }
+    ensures { Answers (λ xs. part_at T.reads (option_map (λ c. c.now) contents.entry) ≡ Some xs.items)
+        (part_at T.reads (option_map (λ c. c.now) contents.entry) ≡ None) result }
 {
     let Some(contents) = contents else {
         return Ok(Vec::new(alloc));
@@ -36,7 +37,8 @@ fn part_of<T: Item>(alloc: Global, contents: Option<&[u8]>) -> Result<Vec<T>, Re
 
 /// The start function, if its section is there.
 fn start_of(contents: Option<&[u8]>) -> Result<Option<u32>, ReadRefusal>
-    ensures { Answers (λ x. alone_at (unsigned_at 32) (option_map (λ c. c.now) contents.entry) ≡ Some x) (alone_at (unsigned_at 32) (option_map (λ c. c.now) contents.entry) ≡ None) result }
+    ensures { Answers (λ x. alone_at (unsigned_at 32) (option_map (λ c. c.now) contents.entry) ≡ Some x)
+        (alone_at (unsigned_at 32) (option_map (λ c. c.now) contents.entry) ≡ None) result }
 {
     let Some(contents) = contents else {
         return Ok(None);
@@ -96,7 +98,9 @@ struct Front {
 
 #[tactic(auto, unfolding(crate::specs::ReadModule::front_sections))]
 fn front_of(alloc: Global, bytes: &[u8]) -> Result<Front, ReadRefusal>
-    ensures { Answers (λ x. front_sections (contents_in bytes.now) ≡ Some (x.types.items, (x.imports.items, (x.functions.items, x.tables.items)))) (front_sections (contents_in bytes.now) ≡ None) result }
+    ensures { Answers (λ x. front_sections (contents_in bytes.now)
+        ≡ Some (x.types.items, (x.imports.items, (x.functions.items, x.tables.items))))
+        (front_sections (contents_in bytes.now) ≡ None) result }
 {
     let types = part_of(alloc, contents_of(bytes, 1))?;
     let imports = part_of(alloc, contents_of(bytes, 2))?;
@@ -122,7 +126,9 @@ struct Middle {
 
 #[tactic(auto, unfolding(crate::specs::ReadModule::middle_sections))]
 fn middle_of(alloc: Global, bytes: &[u8]) -> Result<Middle, ReadRefusal>
-    ensures { Answers (λ x. middle_sections (contents_in bytes.now) ≡ Some (x.memories.items, (x.globals.items, (x.exports.items, x.start)))) (middle_sections (contents_in bytes.now) ≡ None) result }
+    ensures { Answers (λ x. middle_sections (contents_in bytes.now)
+        ≡ Some (x.memories.items, (x.globals.items, (x.exports.items, x.start))))
+        (middle_sections (contents_in bytes.now) ≡ None) result }
 {
     let memories = part_of(alloc, contents_of(bytes, 5))?;
     let globals = part_of(alloc, contents_of(bytes, 6))?;
@@ -146,7 +152,9 @@ struct Back {
 
 #[tactic(auto, unfolding(crate::specs::ReadModule::back_sections))]
 fn back_of(alloc: Global, bytes: &[u8]) -> Result<Back, ReadRefusal>
-    ensures { Answers (λ x. back_sections (contents_in bytes.now) ≡ Some (x.elements.items, (x.bodies, x.segments.items))) (back_sections (contents_in bytes.now) ≡ None) result }
+    ensures { Answers (λ x. back_sections (contents_in bytes.now)
+        ≡ Some (x.elements.items, (x.bodies, x.segments.items)))
+        (back_sections (contents_in bytes.now) ≡ None) result }
 {
     let elements = part_of(alloc, contents_of(bytes, 9))?;
     let bodies = part_of(alloc, contents_of(bytes, 10))?;
@@ -162,7 +170,8 @@ fn back_of(alloc: Global, bytes: &[u8]) -> Result<Back, ReadRefusal>
 /// The module of sections that stand in order.
 #[tactic(auto, unfolding(crate::specs::ReadModule::collected))]
 fn collected(alloc: Global, bytes: &[u8]) -> Result<Code, ReadRefusal>
-    ensures { Answers (λ c. collected (contents_in bytes.now) ≡ Some c) (collected (contents_in bytes.now) ≡ None) result }
+    ensures { Answers (λ c. collected (contents_in bytes.now) ≡ Some c)
+        (collected (contents_in bytes.now) ≡ None) result }
 {
     let front = front_of(alloc, bytes)?;
     let middle = middle_of(alloc, bytes)?;
@@ -210,7 +219,8 @@ fn module_at(alloc: Global, bytes: &[u8]) -> Result<Code, ReadRefusal>
 /// The module that the whole of the bytes encodes. It takes memory for what stands in the bytes and never
 /// by a count that it has read. Errors: Malformed if and only if the bytes encode no module, OutOfMemory.
 pub fn read_module(alloc: Global, bytes: &[u8]) -> Result<Code, ReadRefusal>
-    ensures { Answers (λ c. SpellsModule bytes.now c) ((m : WasmModule) → SpellsModule bytes.now m → ⊥) result }
+    ensures { Answers (λ c. SpellsModule bytes.now c) ((m : WasmModule) → SpellsModule bytes.now m → ⊥)
+        result }
 {
     module_at(alloc, bytes)
 }

@@ -216,7 +216,8 @@ fn are_countable(runs: &[Locals]) -> bool
 /// A function's code that is all of the bytes.
 #[tactic(auto, unfolding(crate::specs::ReadPart::function_at))]
 fn function_of(alloc: Global, bytes: &[u8]) -> Result<FlatBody, ReadRefusal>
-    ensures { Answers (λ f. whole_at function_at bytes.now ≡ Some f) (whole_at function_at bytes.now ≡ None) result }
+    ensures { Answers (λ f. whole_at function_at bytes.now ≡ Some f) (whole_at function_at bytes.now ≡ None)
+        result }
 {
     let (runs, rest) = vector_at(alloc, bytes)?;
     let (list, rest) = expression_at(alloc, rest)?;

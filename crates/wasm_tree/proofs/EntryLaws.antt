@@ -43,53 +43,89 @@ pub record Stands (ms : List Mark) (start place : ℕ) (entry : Option Mark) : T
   pub among : slice_get ms (start + place) ≡ Some (shifted_entry start itself)
   pub within : start + place < length ms
 
-stands : (ms : List Mark) (start place : ℕ) (f : Option Function) → StandsAt ms start f → IfSome f (λ g. IsProper g.list) → place < size_with f
+stands : (ms : List Mark) (start place : ℕ) (f : Option Function) → StandsAt ms start f
+    → IfSome f (λ g. IsProper g.list) → place < size_with f
     → Stands ms start place (entry_of f place)
 stands ms start place None h p small = absurd h
 stands ms start place (Some f) h p small =
     let m = got_within (flat f.list) place small in
-    let there : drop start ms ≡ map (shifted_entry start) (flat f.list) ++ h.0 = h.1 ∙ ap (λ xs. xs ++ h.0) (flattening_shifted start f.list p) in
-    let long : length (map (shifted_entry start) (flat f.list)) ≡ length (flat f.list) = length-map (flat f.list) (shifted_entry start) in
+    let there : drop start ms ≡ map (shifted_entry start) (flat f.list) ++ h.0 =
+    h.1 ∙ ap (λ xs. xs ++ h.0) (flattening_shifted start f.list p) in
+    let long : length (map (shifted_entry start) (flat f.list)) ≡ length (flat f.list) =
+    length-map (flat f.list) (shifted_entry start) in
     record {
       itself = m.0;
       is = m.1;
       among = sym (got_after start place (start + place) ms refl) ∙ ap (λ xs. slice_get xs place) there
           ∙ got_first (map (shifted_entry start) (flat f.list)) h.0 place (omega (arith, small, long))
-          ∙ slice_get-map (shifted_entry start) (flat f.list) place ∙ ap (option_map (shifted_entry start)) m.1;
-      within = omega (arith, small, long, ap length there, length-append (map (shifted_entry start) (flat f.list)) h.0, length-drop start ms);
+          ∙ slice_get-map (shifted_entry start) (flat f.list) place
+          ∙ ap (option_map (shifted_entry start)) m.1;
+      within = omega (
+        arith,
+        small,
+        long,
+        ap length there,
+        length-append (map (shifted_entry start) (flat f.list)) h.0,
+        length-drop start ms,
+      );
     }
 
 -- the entry of the body with this index
-pub stands_in : (ms : List Mark) (fs : List Function) (func start place : ℕ) → StandsAt ms start (slice_get fs func) → All (λ f. IsProper f.list) fs → place < size_with (slice_get fs func)
+pub stands_in : (ms : List Mark) (fs : List Function) (func start place : ℕ)
+    → StandsAt ms start (slice_get fs func) → All (λ f. IsProper f.list) fs
+    → place < size_with (slice_get fs func)
     → Stands ms start place (entry_of (slice_get fs func) place)
-stands_in ms fs func start place h p small = stands ms start place (slice_get fs func) h (got_all (λ f. IsProper f.list) fs func p) small
+stands_in ms fs func start place h p small =
+    stands ms start place (slice_get fs func) h (got_all (λ f. IsProper f.list) fs func p) small
 
-pub op_found : (ms : List Mark) (start place : ℕ) (entry : Option Mark) (s : Stands ms start place entry) (op op' : Op)
-    → option_map (λ m. m.0) (slice_get ms (start + place)) ≡ Some op → op' ≡ op_within start op → option_map (λ m. m.0) entry ≡ Some op'
+pub op_found : (ms : List Mark) (start place : ℕ) (entry : Option Mark) (s : Stands ms start place entry)
+    (op op' : Op)
+    → option_map (λ m. m.0) (slice_get ms (start + place)) ≡ Some op → op' ≡ op_within start op
+    → option_map (λ m. m.0) entry ≡ Some op'
 op_found ms start place entry s op op' h e =
-    let same : op_after start s.itself.0 ≡ op = same_Some _ _ (sym (ap (option_map (λ m. m.0)) s.among) ∙ h) in
-    ap (option_map (λ m. m.0)) s.is ∙ ap Some (sym (e ∙ ap (op_within start) (sym same) ∙ op_back start s.itself.0))
+    let same : op_after start s.itself.0 ≡ op =
+    same_Some _ _ (sym (ap (option_map (λ m. m.0)) s.among) ∙ h) in
+    ap (option_map (λ m. m.0)) s.is
+    ∙ ap Some (sym (e ∙ ap (op_within start) (sym same) ∙ op_back start s.itself.0))
 
-pub labels_found : (ms : List Mark) (start place : ℕ) (entry : Option Mark) (s : Stands ms start place entry) (labels : List ℕ)
-    → option_map (λ m. m.1) (slice_get ms (start + place)) ≡ Some labels → option_map (λ m. m.1) entry ≡ Some labels
+pub labels_found : (ms : List Mark) (start place : ℕ) (entry : Option Mark) (s : Stands ms start place entry)
+    (labels : List ℕ)
+    → option_map (λ m. m.1) (slice_get ms (start + place)) ≡ Some labels
+    → option_map (λ m. m.1) entry ≡ Some labels
 labels_found ms start place entry s labels h =
     ap (option_map (λ m. m.1)) s.is ∙ sym (ap (option_map (λ m. m.1)) s.among) ∙ h
 
-pub index_small : (fs : List Function) (func place : ℕ) → place < size_with (slice_get fs func) → func < length fs
+pub index_small : (fs : List Function) (func place : ℕ) → place < size_with (slice_get fs func)
+    → func < length fs
 index_small [] func place h = absurd (omega (arith, h))
 index_small (f ∷ fs) zero place h = omega arith
 index_small (f ∷ fs) (suc func) place h = omega (arith, index_small fs func place h)
 
 -- a body's operations are the part of all that its place names
-pub body_part : (ms : List Mark) (ops part : List Op) (start count : ℕ) (f : Option Function) → ops ≡ operations_of ms → StandsAt ms start f
-    → option_map (λ g. length (flat g.list)) f ≡ Some count → (start + count ≤ length ops) × (part ≡ take count (drop start ops) → IsBody f part)
+pub body_part : (ms : List Mark) (ops part : List Op) (start count : ℕ) (f : Option Function)
+    → ops ≡ operations_of ms → StandsAt ms start f
+    → option_map (λ g. length (flat g.list)) f ≡ Some count → (start + count ≤ length ops)
+    × (part ≡ take count (drop start ops) → IsBody f part)
 body_part ms ops part start count None e h n = absurd h
 body_part ms ops part start count (Some f) e h n =
     let front : List Mark = flat_at End start f.list in
     let some : count ≡ span f.list + 1 = sym (same_Some _ _ n) ∙ length_flat End 0 f.list in
-    let size : count ≡ length (operations_of front) = some ∙ sym (length_flat End start f.list) ∙ sym (length-map front (λ m. m.0)) in
+    let size : count ≡ length (operations_of front) = some ∙ sym (length_flat End start f.list)
+    ∙ sym (length-map front (λ m. m.0)) in
     let there : drop start ops ≡ operations_of front ++ operations_of h.0 =
-    ap (drop start) e ∙ drop-map (λ m. m.0) start ms ∙ ap operations_of h.1 ∙ map-append (λ m. m.0) front h.0 in (
-      omega (arith, some, size, ap length there, length-append (operations_of front) (operations_of h.0), length-drop start ops),
-      λ is. (start, is ∙ ap (take count) there ∙ ap (λ k. take k (operations_of front ++ operations_of h.0)) size ∙ take-append_seam (operations_of front) (operations_of h.0)),
+    ap (drop start) e ∙ drop-map (λ m. m.0) start ms ∙ ap operations_of h.1
+    ∙ map-append (λ m. m.0) front h.0 in (
+      omega (
+        arith,
+        some,
+        size,
+        ap length there,
+        length-append (operations_of front) (operations_of h.0),
+        length-drop start ops,
+      ),
+      λ is. (
+        start,
+        is ∙ ap (take count) there ∙ ap (λ k. take k (operations_of front ++ operations_of h.0))
+            size ∙ take-append_seam (operations_of front) (operations_of h.0),
+      ),
     )

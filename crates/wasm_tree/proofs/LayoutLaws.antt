@@ -13,9 +13,11 @@ use Rattle.wasm_tree.specs.Layout.{Placed, entry_count, laid_from, placed_from, 
 use Rattle.wasm_tree.proofs.ShiftLaws.{flattening_shifted, all_back, length_flat}
 
 -- where one list stands between two others
-part : (front xs back : List Mark) (at count : ℕ) → at ≡ length front → count ≡ length xs → take count (drop at (front ++ (xs ++ back))) ≡ xs
+part : (front xs back : List Mark) (at count : ℕ) → at ≡ length front → count ≡ length xs
+    → take count (drop at (front ++ (xs ++ back))) ≡ xs
 part front xs back at count ea ec =
-    ap (λ k. take count (drop k (front ++ (xs ++ back)))) ea ∙ ap (λ ys. take count ys) (drop-append_seam front (xs ++ back))
+    ap (λ k. take count (drop k (front ++ (xs ++ back)))) ea
+    ∙ ap (λ ys. take count ys) (drop-append_seam front (xs ++ back))
     ∙ ap (λ k. take k (xs ++ back)) ec ∙ take-append_seam xs back
 
 -- a body's tree, from its entries among all
@@ -29,31 +31,45 @@ size_right : (at : ℕ) (f : Function) → entry_count f ≡ length (flat_at End
 size_right at f = sym (length_flat End at f.list)
 
 one_back : (front back : List Mark) (at : ℕ) → at ≡ length front → (f : Function) → IsProper f.list
-    → placed_function (front ++ (flat_at End at f.list ++ back)) (record { start = at; count = entry_count f; runs = f.runs }) ≡ f
+    → placed_function (front ++ (flat_at End at f.list ++ back))
+    (record { start = at; count = entry_count f; runs = f.runs }) ≡ f
 one_back front back at e f p =
-    ap (λ ms. record { runs = f.runs; list = read_flat (map (within at) ms) }) (part front (flat_at End at f.list) back at (entry_count f) e (size_right at f))
+    ap (λ ms. record { runs = f.runs; list = read_flat (map (within at) ms) })
+    (part front (flat_at End at f.list) back at (entry_count f) e (size_right at f))
     ∙ ap (λ x. record { runs = f.runs; list = x }) (read_within at f.list p)
 
-back_from : (front : List Mark) (at : ℕ) → at ≡ length front → (fs : List Function) → AreProper fs → functions_of (front ++ laid_from at fs) (placed_from at fs) ≡ fs
+back_from : (front : List Mark) (at : ℕ) → at ≡ length front → (fs : List Function) → AreProper fs
+    → functions_of (front ++ laid_from at fs) (placed_from at fs) ≡ fs
 back_from front at e [] p = refl
 back_from front at e (f ∷ fs) p =
     let here : List Mark = flat_at End at f.list in
     let back : List Mark = laid_from (at + entry_count f) fs in
-    let next : at + entry_count f ≡ length (front ++ here) = omega (arith, length-append front here, size_right at f) in
-    ap (λ g. g ∷ functions_of (front ++ (here ++ back)) (placed_from (at + entry_count f) fs)) (one_back front back at e f (p 0 f (omega arith)))
-    ∙ ap (λ gs. f ∷ gs) (ap (λ ms. functions_of ms (placed_from (at + entry_count f) fs)) (sym (append_assoc front here back)) ∙ back_from (front ++ here) (at + entry_count f) next fs (All-tail (λ g. IsProper g.list) f fs p))
+    let next : at + entry_count f ≡ length (front ++ here) =
+    omega (arith, length-append front here, size_right at f) in
+    ap (λ g. g ∷ functions_of (front ++ (here ++ back)) (placed_from (at + entry_count f) fs))
+    (one_back front back at e f (p 0 f (omega arith)))
+    ∙ ap (λ gs. f ∷ gs)
+    (ap (λ ms. functions_of ms (placed_from (at + entry_count f) fs))
+    (sym (append_assoc front here back)) ∙ back_from (front ++ here) (at + entry_count f) next fs
+    (All-tail (λ g. IsProper g.list) f fs p))
 
 pub laid : (ms : List Mark) (ps : List Placed) (h : AreLaid ms ps) → functions_of ms ps ≡ h.0
-laid ms ps h = ap (λ xs. functions_of xs ps) h.2 ∙ ap (λ xs. functions_of (laid_from 0 h.0) xs) h.3 ∙ back_from [] 0 refl h.0 h.1
+laid ms ps h = ap (λ xs. functions_of xs ps) h.2 ∙ ap (λ xs. functions_of (laid_from 0 h.0) xs) h.3
+    ∙ back_from [] 0 refl h.0 h.1
 
 -- the two lists, by the functions that they show
 pub shown : (ms : List Mark) (ps : List Placed) (fs : List Function) → AreLaid ms ps → functions_of ms ps ≡ fs
     → AreProper fs × (ms ≡ laid_from 0 fs) × (ps ≡ placed_from 0 fs)
 shown ms ps fs h e =
-    let same : h.0 ≡ fs = sym (laid ms ps h) ∙ e in
-    (subst (λ (gs : List Function). AreProper gs) same h.1, h.2 ∙ ap (λ gs. laid_from 0 gs) same, h.3 ∙ ap (λ gs. placed_from 0 gs) same)
+    let same : h.0 ≡ fs = sym (laid ms ps h) ∙ e in (
+      subst (λ (gs : List Function). AreProper gs) same h.1,
+      h.2 ∙ ap (λ gs. laid_from 0 gs) same,
+      h.3
+          ∙ ap (λ gs. placed_from 0 gs) same,
+    )
 
-pub lays : (ms : List Mark) (ps : List Placed) (fs : List Function) → AreProper fs → ms ≡ laid_from 0 fs → ps ≡ placed_from 0 fs → functions_of ms ps ≡ fs
+pub lays : (ms : List Mark) (ps : List Placed) (fs : List Function) → AreProper fs → ms ≡ laid_from 0 fs
+    → ps ≡ placed_from 0 fs → functions_of ms ps ≡ fs
 lays ms ps fs p em ep = laid ms ps (fs, p, em, ep)
 
 -- one more body
@@ -62,27 +78,48 @@ laid_more : (at : ℕ) (fs : List Function) (f : Function) (start : ℕ) → sta
 laid_more at [] f start e =
     append-nil (flat_at End at f.list) ∙ ap (λ n. flat_at End n f.list) (omega (arith, e))
 laid_more at (g ∷ fs) f start e =
-    ap (λ ms. flat_at End at g.list ++ ms) (laid_more (at + entry_count g) fs f start (omega (arith, e, length-append (flat_at End at g.list) (laid_from (at + entry_count g) fs), size_right at g)))
-    ∙ sym (append_assoc (flat_at End at g.list) (laid_from (at + entry_count g) fs) (flat_at End start f.list))
+    ap (λ ms. flat_at End at g.list ++ ms)
+    (laid_more (at + entry_count g) fs f start
+    (omega (
+      arith,
+      e,
+      length-append (flat_at End at g.list) (laid_from (at + entry_count g) fs),
+      size_right at g,
+    )))
+    ∙ sym (append_assoc (flat_at End at g.list) (laid_from (at + entry_count g) fs)
+    (flat_at End start f.list))
 
 placed_more : (at : ℕ) (fs : List Function) (f : Function) (start : ℕ) → start ≡ at + length (laid_from at fs)
-    → placed_from at (fs ++ f ∷ []) ≡ placed_from at fs ++ record { start = start; count = entry_count f; runs = f.runs } ∷ []
-placed_more at [] f start e = ap (λ n. record { start = n; count = entry_count f; runs = f.runs } ∷ []) (omega (arith, e))
+    → placed_from at (fs ++ f ∷ []) ≡ placed_from at fs
+    ++ record { start = start; count = entry_count f; runs = f.runs } ∷ []
+placed_more at [] f start e = ap (λ n. record { start = n; count = entry_count f; runs = f.runs } ∷ [])
+    (omega (arith, e))
 placed_more at (g ∷ fs) f start e =
     ap (λ ps. record { start = at; count = entry_count g; runs = g.runs } ∷ ps)
-    (placed_more (at + entry_count g) fs f start (omega (arith, e, length-append (flat_at End at g.list) (laid_from (at + entry_count g) fs), size_right at g)))
+    (placed_more (at + entry_count g) fs f start
+    (omega (
+      arith,
+      e,
+      length-append (flat_at End at g.list) (laid_from (at + entry_count g) fs),
+      size_right at g,
+    )))
 
 pub more : (ms ms' : List Mark) (ps ps' : List Placed) (fs : List Function) (f : Function) (start count : ℕ)
     → AreProper fs × (ms ≡ laid_from 0 fs) × (ps ≡ placed_from 0 fs) → IsProper f.list
-    → start ≡ length ms → count ≡ length (flat f.list) → ms' ≡ ms ++ map (shifted_entry (length ms)) (flat f.list)
+    → start ≡ length ms → count ≡ length (flat f.list)
+    → ms' ≡ ms ++ map (shifted_entry (length ms)) (flat f.list)
     → ps' ≡ ps ++ record { start = start; count = count; runs = f.runs } ∷ []
     → AreProper (fs ++ f ∷ []) × (ms' ≡ laid_from 0 (fs ++ f ∷ [])) × (ps' ≡ placed_from 0 (fs ++ f ∷ []))
 more ms ms' ps ps' fs f start count h p es ec em ep =
     let here : start ≡ 0 + length (laid_from 0 fs) = omega (arith, es, ap length h.1) in
     let size : count ≡ entry_count f = ec ∙ sym (size_right 0 f) in (
       All-push (λ g. IsProper g.list) fs f h.0 p,
-      em ∙ ap (λ n. ms ++ map (shifted_entry n) (flat f.list)) (sym es) ∙ ap (λ xs. ms ++ xs) (sym (flattening_shifted start f.list p)) ∙ ap (λ xs. xs ++ flat_at End start f.list) h.1 ∙ sym (laid_more 0 fs f start here),
-      ep ∙ ap (λ n. ps ++ record { start = start; count = n; runs = f.runs } ∷ []) size ∙ ap (λ xs. xs ++ record { start = start; count = entry_count f; runs = f.runs } ∷ []) h.2 ∙ sym (placed_more 0 fs f start here),
+      em ∙ ap (λ n. ms ++ map (shifted_entry n) (flat f.list)) (sym es)
+          ∙ ap (λ xs. ms ++ xs) (sym (flattening_shifted start f.list p))
+          ∙ ap (λ xs. xs ++ flat_at End start f.list) h.1 ∙ sym (laid_more 0 fs f start here),
+      ep ∙ ap (λ n. ps ++ record { start = start; count = n; runs = f.runs } ∷ []) size
+          ∙ ap (λ xs. xs ++ record { start = start; count = entry_count f; runs = f.runs } ∷ []) h.2
+          ∙ sym (placed_more 0 fs f start here),
     )
 
 -- what the place of one body says of it
@@ -92,25 +129,33 @@ pub record FactsFrom (ms : List Mark) (at : ℕ) (fs : List Function) (func : �
   pub count : option_map (λ f. length (flat f.list)) (slice_get fs func) ≡ Some p.count
   pub runs : option_map (λ f. f.runs) (slice_get fs func) ≡ Some p.runs
 
-facts_from : (front : List Mark) (at : ℕ) → at ≡ length front → (fs : List Function) (func : ℕ) (d : Placed) → func < length fs
+facts_from : (front : List Mark) (at : ℕ) → at ≡ length front → (fs : List Function) (func : ℕ) (d : Placed)
+    → func < length fs
     → FactsFrom (front ++ laid_from at fs) at fs func (get_or (placed_from at fs) func d)
 facts_from front at e [] func d h = absurd (omega arith)
 facts_from front at e (f ∷ fs) zero d h = record {
   start = refl;
-  stands = (laid_from (at + entry_count f) fs, ap (λ k. drop k (front ++ (flat_at End at f.list ++ laid_from (at + entry_count f) fs))) e ∙ drop-append_seam front (flat_at End at f.list ++ laid_from (at + entry_count f) fs));
+  stands = (
+    laid_from (at + entry_count f) fs,
+    ap (λ k. drop k (front ++ (flat_at End at f.list ++ laid_from (at + entry_count f) fs))) e
+        ∙ drop-append_seam front (flat_at End at f.list ++ laid_from (at + entry_count f) fs),
+  );
   count = ap Some (sym (size_right 0 f));
   runs = refl;
 }
 facts_from front at e (f ∷ fs) (suc func) d h =
     let here : List Mark = flat_at End at f.list in
     let back : List Mark = laid_from (at + entry_count f) fs in
-    let next : at + entry_count f ≡ length (front ++ here) = omega (arith, length-append front here, size_right at f) in
+    let next : at + entry_count f ≡ length (front ++ here) =
+    omega (arith, length-append front here, size_right at f) in
     let p : Placed = get_or (placed_from (at + entry_count f) fs) func d in
     let s : FactsFrom (front ++ (here ++ back)) (at + entry_count f) fs func p =
-    subst (λ (ms : List Mark). FactsFrom ms (at + entry_count f) fs func p) (append_assoc front here back) (facts_from (front ++ here) (at + entry_count f) next fs func d (omega arith)) in
+    subst (λ (ms : List Mark). FactsFrom ms (at + entry_count f) fs func p) (append_assoc front here back)
+    (facts_from (front ++ here) (at + entry_count f) next fs func d (omega arith)) in
     record { start = s.start; stands = s.stands; count = s.count; runs = s.runs }
 
-pub facts : (fs : List Function) (func : ℕ) (d : Placed) → func < length fs → FactsFrom (laid_from 0 fs) 0 fs func (get_or (placed_from 0 fs) func d)
+pub facts : (fs : List Function) (func : ℕ) (d : Placed) → func < length fs
+    → FactsFrom (laid_from 0 fs) 0 fs func (get_or (placed_from 0 fs) func d)
 facts fs func d h = facts_from [] 0 refl fs func d h
 
 pub placed_length : (at : ℕ) (fs : List Function) → length (placed_from at fs) ≡ length fs

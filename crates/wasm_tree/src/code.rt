@@ -40,7 +40,19 @@ impl Model for Code {
 
     ghost use Rattle.wasm_tree.specs.Layout.{IsCode};
 
-    ghost view = { λ c. record { types = c.types.items; imports = c.imports.items; functions = c.functions.items; tables = c.tables.items; memories = c.memories.items; globals = c.globals.items; exports = c.exports.items; start = c.start; elements = c.elements.items; bodies = c.bodies; segments = c.segments.items } };
+    ghost view = { λ c. record {
+      types = c.types.items;
+      imports = c.imports.items;
+      functions = c.functions.items;
+      tables = c.tables.items;
+      memories = c.memories.items;
+      globals = c.globals.items;
+      exports = c.exports.items;
+      start = c.start;
+      elements = c.elements.items;
+      bodies = c.bodies;
+      segments = c.segments.items;
+    } };
 
     ghost invariant = { λ c. IsCode c.functions.items c.bodies c.types.items };
 }
@@ -70,7 +82,7 @@ impl Code {
     /// The type indices of own functions; there are as many as bodies.
     pub fn functions(&self) -> &[u32]
         ensures value { result.now ≡ self.now.functions }
-        ensures even { length self.now.functions ≡ length self.now.bodies }
+        ensures as_many_bodies { length self.now.functions ≡ length self.now.bodies }
     {
         &self.functions
     }
@@ -127,7 +139,8 @@ impl Code {
     /// The flattening of the first value.
     pub fn global_first(&self, i: usize) -> &[Op]
         requires { i < length self.now.globals }
-        ensures value { option_map (λ g. operations_of (flat g.first)) (slice_get self.now.globals i) ≡ Some result.now }
+        ensures value { option_map (λ g. operations_of (flat g.first)) (slice_get self.now.globals i)
+            ≡ Some result.now }
         ensures proper { IfSome (slice_get self.now.globals i) (λ g. IsProper g.first) }
     {
         self.globals[i].first.ops()
@@ -159,7 +172,8 @@ impl Code {
     /// The flattening of the offset.
     pub fn element_offset(&self, i: usize) -> &[Op]
         requires { i < length self.now.elements }
-        ensures value { option_map (λ s. operations_of (flat s.offset)) (slice_get self.now.elements i) ≡ Some result.now }
+        ensures value { option_map (λ s. operations_of (flat s.offset)) (slice_get self.now.elements i)
+            ≡ Some result.now }
         ensures proper { IfSome (slice_get self.now.elements i) (λ s. IsProper s.offset) }
     {
         self.elements[i].offset.ops()
@@ -199,7 +213,8 @@ impl Code {
     /// The flattening of the offset.
     pub fn segment_offset(&self, i: usize) -> &[Op]
         requires { i < length self.now.segments }
-        ensures value { option_map (λ s. operations_of (flat s.offset)) (slice_get self.now.segments i) ≡ Some result.now }
+        ensures value { option_map (λ s. operations_of (flat s.offset)) (slice_get self.now.segments i)
+            ≡ Some result.now }
         ensures proper { IfSome (slice_get self.now.segments i) (λ s. IsProper s.offset) }
     {
         self.segments[i].offset.ops()

@@ -31,5 +31,6 @@ pub trait Host {
         ensures answers { IsSome result ↔ (length (import_type name).results ≡ 1) };
 
     /// An import returns a number if and only if its type has a result, whatever the arguments and the page.
-    ghost answers_by_type: { (host : Self) (name : Import) (args page : List ℕ) → IsSome (effect host name args page).answer ↔ (length (import_type name).results ≡ 1) };
+    ghost answers_by_type: { (host : Self) (name : Import) (args page : List ℕ)
+        → IsSome (effect host name args page).answer ↔ (length (import_type name).results ≡ 1) };
 }

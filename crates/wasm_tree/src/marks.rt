@@ -113,7 +113,8 @@ fn stretch<'a>(pool: &'a [u32], begins: &[usize], place: usize) -> &'a [u32]
     requires next { place + 1 < length begins.now }
     requires rises { slice_index begins.now place ≤ slice_index begins.now (place + 1) }
     requires within { slice_index begins.now (place + 1) ≤ length pool.now }
-    ensures { result.now ≡ slice_range pool.now (slice_index begins.now place) (slice_index begins.now (place + 1)) }
+    ensures { result.now ≡ slice_range pool.now (slice_index begins.now place)
+        (slice_index begins.now (place + 1)) }
 {
     &pool[begins[place]..begins[place + 1]]
 }

@@ -6,7 +6,8 @@ use Rattle.w4_defs.specs.declared.value.ValType.{ValType}
 use Rattle.w4_defs.specs.declared.value.ValType.TheVariants.{I32}
 use Rattle.w4_defs.specs.Tree.{Expr, done, plain, block, loop, if_then, if_else}
 use Rattle.w4_defs.specs.Floats.{has_float, is_float_result, is_float_operation}
-use Rattle.w4_defs.specs.Typing.{Context, with_label, result_types, HasType, AreInt}
+use Rattle.w4_defs.specs.Typing.{Context, with_label, HasType, AreInt}
+use Rattle.w4_defs.specs.ValueTypes.{result_types}
 use Rattle.w4_defs.specs.AbstractStack.{AbstractStack, agree, empty, stands, stands_in, taken, given, step, stack_after}
 use Rattle.wasm_valid.specs.AbstractStackLaw.{HasNoFloat, AreIntOperands, LeadsFrom, StackDecides, StackDecidesFrom}
 use Rattle.wasm_valid.proofs.IntLaws.{joined_int, left_int, result_int, inside}
@@ -19,17 +20,20 @@ stands_through : (g : AbstractStack → Option AbstractStack) (o : Option Abstra
 stands_through g None outs h = absurd (cc h)
 stands_through g (Some s) outs h = (s, refl, h)
 
-through_stands : (g : AbstractStack → Option AbstractStack) (o : Option AbstractStack) (s : AbstractStack) (outs : List ValType) → o ≡ Some s
+through_stands : (g : AbstractStack → Option AbstractStack) (o : Option AbstractStack) (s : AbstractStack)
+    (outs : List ValType) → o ≡ Some s
     → stands_in (g s) outs ≡ true
     → stands_in (option_and_then g o) outs ≡ true
 through_stands g o s outs e h = ap (λ x. stands_in (option_and_then g x) outs) e ∙ h
 
-stands_where : (b : Bool) (o : Option AbstractStack) (outs : List ValType) → stands_in (cond b o None) outs ≡ true
+stands_where : (b : Bool) (o : Option AbstractStack) (outs : List ValType)
+    → stands_in (cond b o None) outs ≡ true
     → (b ≡ true) × (stands_in o outs ≡ true)
 stands_where true o outs h = (refl, h)
 stands_where false o outs h = absurd (cc h)
 
-where_stands : (b : Bool) (o : Option AbstractStack) (outs : List ValType) → b ≡ true → stands_in o outs ≡ true
+where_stands : (b : Bool) (o : Option AbstractStack) (outs : List ValType) → b ≡ true
+    → stands_in o outs ≡ true
     → stands_in (cond b o None) outs ≡ true
 where_stands b o outs e h = ap (λ x. stands_in (cond x o None) outs) e ∙ h
 
@@ -61,12 +65,14 @@ under_int outs ts us h i = left_int ts us (subst AreInt h i)
 else_led : (c : Context) (r : Option ValType) (inner other rest : Expr) (ts outs : List ValType)
     → HasType (with_label (result_types r) c) inner [] (result_types r)
     → HasType (with_label (result_types r) c) other [] (result_types r)
-    → HasType c rest (ts ++ result_types r) outs → HasType c (if_else r inner other rest) (ts ++ I32 ∷ []) outs
+    → HasType c rest (ts ++ result_types r) outs
+    → HasType c (if_else r inner other rest) (ts ++ I32 ∷ []) outs
 else_led c r inner other rest ts outs held held_other t = (ts, refl, held, held_other, t)
 
 -- what the abstract stack after a list stands for, the list leads to from types for which the abstract stack
 -- before it stands
-pub begins : (c : Context) (e : Expr) (s : AbstractStack) (outs : List ValType) → HasNoFloat c → has_float e ≡ false
+pub begins : (c : Context) (e : Expr) (s : AbstractStack) (outs : List ValType) → HasNoFloat c
+    → has_float e ≡ false
     → AreIntOperands s.operands → AreInt outs
     → stands_in (stack_after c e s) outs ≡ true → LeadsFrom c e s outs
 begins c done s outs n f k i h = (outs, i, h, refl)
@@ -138,7 +144,8 @@ begins c (if_else r inner other rest) s outs n f k i h =
     let p =
     stands_where (stands_in (stack_after label inner empty) (result_types r)
     && stands_in (stack_after label other empty) (result_types r))
-    (option_and_then (λ below. stack_after c rest (given (result_types r) below)) (taken (I32 ∷ []) s)) outs h in
+    (option_and_then (λ below. stack_after c rest (given (result_types r) below)) (taken (I32 ∷ []) s)) outs
+    h in
     let both =
     and_parts (stands_in (stack_after label inner empty) (result_types r))
     (stands_in (stack_after label other empty) (result_types r)) p.0 in
@@ -149,7 +156,8 @@ begins c (if_else r inner other rest) s outs n f k i h =
     from_nothing label other (result_types r)
     (begins label other empty (result_types r) there free.2 tt ints both.1) in
     let m =
-    stands_through (λ below. stack_after c rest (given (result_types r) below)) (taken (I32 ∷ []) s) outs p.1 in
+    stands_through (λ below. stack_after c rest (given (result_types r) below)) (taken (I32 ∷ []) s) outs p.1
+    in
     let q =
     begins c rest (given (result_types r) m.0) outs n first.1
     (given_int (result_types r) m.0 ints (taken_int (I32 ∷ []) s m.0 k m.1)) i m.2 in
@@ -197,7 +205,8 @@ follows c (if_else r inner other rest) s ins outs h (ts, e, held, held_other, t)
     (stands_in (stack_after label other empty) (result_types r))
     (follows label inner empty [] (result_types r) refl held)
     (follows label other empty [] (result_types r) refl held_other))
-    (through_stands (λ below. stack_after c rest (given (result_types r) below)) (taken (I32 ∷ []) s) m.0 outs m.1
+    (through_stands (λ below. stack_after c rest (given (result_types r) below)) (taken (I32 ∷ []) s) m.0
+    outs m.1
     (follows c rest (given (result_types r) m.0) (ts ++ result_types r) outs
     (given_stands (result_types r) m.0 ts m.2) t))
 

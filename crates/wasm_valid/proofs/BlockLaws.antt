@@ -15,7 +15,8 @@ none_left (Some ks) = is_nil ks
 -- the results are taken where the topmost operand type agrees or not
 agreed : (ts : List ValType) (unreachable : Bool) (ks : List OperandType) (b : Bool)
     → agree ks unreachable ts ≡ none_left (below_all ts unreachable ks)
-    → (b && agree ks unreachable ts) ≡ none_left (option_and_then (below_all ts unreachable) (cond b (Some ks) None))
+    → (b && agree ks unreachable ts)
+    ≡ none_left (option_and_then (below_all ts unreachable) (cond b (Some ks) None))
 agreed ts unreachable ks true h = h
 agreed ts unreachable ks false h = refl
 
@@ -37,7 +38,8 @@ left_stack : (o : OpenBlock) (os : List OpenBlock) (x : Option (List OperandType
 left_stack o os None = refl
 left_stack o os (Some ks) = refl
 
-pub finished : (old : List OpenBlock) (ts : List ValType) → Some ts ≡ option_map (λ o. o.result) (slice_get old 0)
+pub finished : (old : List OpenBlock) (ts : List ValType)
+    → Some ts ≡ option_map (λ o. o.result) (slice_get old 0)
     → finishes old ≡ bare_left (at_top (taken ts) old)
 finished [] ts h = absurd (cc h)
 finished (o ∷ os) ts h =

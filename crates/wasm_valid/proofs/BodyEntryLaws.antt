@@ -57,7 +57,8 @@ pub as_many : (o : Option Function) (ops : List Op) → IsBody o ops → IfSome 
 as_many None ops h p = absurd h
 as_many (Some f) ops h p =
     let marks : List Mark = map (shifted_entry h.0) (flat f.list) in
-    ap length (shifted h.0 f ops p h.1) ∙ length-map marks (λ m. m.0) ∙ length-map (flat f.list) (shifted_entry h.0)
+    ap length (shifted h.0 f ops p h.1) ∙ length-map marks (λ m. m.0)
+    ∙ length-map (flat f.list) (shifted_entry h.0)
 
 entry_at : (c : Context) (start : ℕ) (ms : List Mark) (ops : List Op) (place : ℕ) (d : Op) (labels : List ℕ)
     (old : List OpenBlock) → ops ≡ operations_of (map (shifted_entry start) ms) → place < length ms
@@ -73,7 +74,8 @@ entry_at c start ms ops place d labels old h small hl =
     ∙ ap (option_map (λ x. x.0))
     (slice_get-map (shifted_entry start) ms place ∙ ap (option_map (shifted_entry start)) there) in
     ap (λ xs. blocks_after c xs old) (cut ms place m there) ∙ run_more c m (drop (suc place) ms) old
-    ∙ ap (λ k. option_and_then (blocks_after c (drop k ms)) (after_entry c m.0 m.1 old)) {x = suc place} (omega arith)
+    ∙ ap (λ k. option_and_then (blocks_after c (drop k ms)) (after_entry c m.0 m.1 old)) {x = suc place}
+    (omega arith)
     ∙ ap (λ ls. option_and_then (blocks_after c (drop (place + 1) ms)) (after_entry c m.0 ls old)) same
     ∙ ap (option_and_then (blocks_after c (drop (place + 1) ms))) (sym (same_step c start m.0 labels old))
     ∙ ap (λ x. option_and_then (blocks_after c (drop (place + 1) ms)) (after_entry c x labels old))
@@ -81,7 +83,8 @@ entry_at c start ms ops place d labels old h small hl =
 
 -- one more entry
 pub entry_next : (c : Context) (o : Option Function) (ops : List Op) (place : ℕ) (d : Op) (labels : List ℕ)
-    (old new : List OpenBlock) (went : Bool) → IsBody o ops → IfSome o (λ f. IsProper f.list) → place < length ops
+    (old new : List OpenBlock) (went : Bool) → IsBody o ops → IfSome o (λ f. IsProper f.list)
+    → place < length ops
     → option_map (λ m. m.1) (entry_of o place) ≡ Some labels
     → after_entry c (get_or ops place d) labels old ≡ cond went (Some new) None
     → blocks_after c (drop place (entries_with o)) old
@@ -95,7 +98,8 @@ entry_next c (Some f) ops place d labels old new went h p small hl t =
 pub entry_stop : (c : Context) (ms rest : List Mark) (now new : List OpenBlock) (went : Bool)
     → blocks_after c ms now ≡ option_and_then (blocks_after c rest) (cond went (Some new) None) → went ≡ false
     → blocks_after c ms now ≡ None
-entry_stop c ms rest now new went h e = h ∙ ap (λ b. option_and_then (blocks_after c rest) (cond b (Some new) None)) e
+entry_stop c ms rest now new went h e =
+    h ∙ ap (λ b. option_and_then (blocks_after c rest) (cond b (Some new) None)) e
 
 pub entry_on : (c : Context) (ms rest : List Mark) (now new : List OpenBlock) (went : Bool)
     → blocks_after c ms now ≡ option_and_then (blocks_after c rest) (cond went (Some new) None) → went ≡ true
@@ -117,15 +121,19 @@ nothing_from [] (suc k) h = refl
 nothing_from (x ∷ xs) zero h = absurd (omega (arith, h))
 nothing_from (x ∷ xs) (suc k) h = nothing_from xs k (omega (arith, h))
 
-pub past_all : (c : Context) (o : Option Function) (ops : List Op) (place : ℕ) (os : List OpenBlock) → IsBody o ops
-    → IfSome o (λ f. IsProper f.list) → length ops ≤ place → blocks_after c (drop place (entries_with o)) os ≡ Some os
+pub past_all : (c : Context) (o : Option Function) (ops : List Op) (place : ℕ) (os : List OpenBlock)
+    → IsBody o ops
+    → IfSome o (λ f. IsProper f.list) → length ops ≤ place
+    → blocks_after c (drop place (entries_with o)) os ≡ Some os
 past_all c None ops place os h p e = absurd h
 past_all c (Some f) ops place os h p e =
-    ap (λ ms. blocks_after c ms os) (nothing_from (flat f.list) place (omega (arith, e, as_many (Some f) ops h p)))
+    ap (λ ms. blocks_after c ms os)
+    (nothing_from (flat f.list) place (omega (arith, e, as_many (Some f) ops h p)))
 
 -- ---- what the pass decides
 
-same_answer : (r b : Bool) (x : Option (List OpenBlock)) → x ≡ cond b (Some []) None → IsTrue r ↔ (x ≡ Some [])
+same_answer : (r b : Bool) (x : Option (List OpenBlock)) → x ≡ cond b (Some []) None → IsTrue r
+    ↔ (x ≡ Some [])
     → b ≡ r
 same_answer true true x e h = refl
 same_answer true false x e h = absurd (cc (sym e ∙ h.0 refl))

@@ -109,7 +109,8 @@ import_right m i x none e =
 -- the one callee of a function import
 pub import_callee : (m : WasmModule) (x : Imported) (index : ℕ) (name : Import) (call : Call)
     → x.kind ≡ Func index → import_named x.module_name x.name ≡ Some name
-    → slice_get m.types index ≡ Some (import_type name) → IsCall m (host_function (import_type name) name) call
+    → slice_get m.types index ≡ Some (import_type name)
+    → IsCall m (host_function (import_type name) name) call
     → AreCalls m (imported_callees m.types (x ∷ [])) (call ∷ [])
 import_callee m x index name call ek en et h =
     let list : host_function (import_type name) name ∷ [] ≡ imported_callees m.types (x ∷ []) =
@@ -206,10 +207,12 @@ few_runs m func s runs none t er = few_at m func s (slice_get m.bodies func) run
 
 -- the call of an own function, from what its readers give
 -- a type of flat code has at most one result
-pub few_results : (m : WasmModule) (func : ℕ) (s : Signature) → All (λ t. length t.results ≤ 1) m.types → IsTypeAt m func s
+pub few_results : (m : WasmModule) (func : ℕ) (s : Signature) → All (λ t. length t.results ≤ 1) m.types
+    → IsTypeAt m func s
     → length s.results ≤ 1
 few_results m func s all t =
-    subst (λ (o : Option Signature). IfSome o (λ t. length t.results ≤ 1)) t.typed (got_all (λ t. length t.results ≤ 1) m.types t.index all)
+    subst (λ (o : Option Signature). IfSome o (λ t. length t.results ≤ 1)) t.typed
+    (got_all (λ t. length t.results ≤ 1) m.types t.index all)
 
 -- so that whether it has none says how many it has
 pub gives_of : (empty : Bool) (n : ℕ) → empty ≡ nat_eq n 0 → n ≤ 1 → result_count (not empty) ≡ n

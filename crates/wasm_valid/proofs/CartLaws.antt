@@ -50,17 +50,17 @@ number_is op e = refl
 -- an offset that is a single i32.const, by the first operation of its flattening
 pub offset_number : (e : Expr) (ops : List Op) → IsConstant I32 e → ops ≡ operations_of (flat e)
     → first_number32 ops ≡ constant_of e
-offset_number done ops h is = absurd h
+offset_number done ops h is = absurd (cc h)
 offset_number (plain m done) ops h is = ap first_number32 is ∙ number_is m.0 h
-offset_number (plain m (plain n rest)) ops h is = absurd h
-offset_number (plain m (block r inner rest)) ops h is = absurd h
-offset_number (plain m (loop r inner rest)) ops h is = absurd h
-offset_number (plain m (if_then r taken rest)) ops h is = absurd h
-offset_number (plain m (if_else r taken other rest)) ops h is = absurd h
-offset_number (block r inner rest) ops h is = absurd h
-offset_number (loop r inner rest) ops h is = absurd h
-offset_number (if_then r taken rest) ops h is = absurd h
-offset_number (if_else r taken other rest) ops h is = absurd h
+offset_number (plain m (plain n rest)) ops h is = absurd (cc h)
+offset_number (plain m (block r inner rest)) ops h is = absurd (cc h)
+offset_number (plain m (loop r inner rest)) ops h is = absurd (cc h)
+offset_number (plain m (if_then r taken rest)) ops h is = absurd (cc h)
+offset_number (plain m (if_else r taken other rest)) ops h is = absurd (cc h)
+offset_number (block r inner rest) ops h is = absurd (cc h)
+offset_number (loop r inner rest) ops h is = absurd (cc h)
+offset_number (if_then r taken rest) ops h is = absurd (cc h)
+offset_number (if_else r taken other rest) ops h is = absurd (cc h)
 
 constant_fits : (op : Op) (count size : ℕ) → constant_type op ≡ Some I32
     → exceeds_size (profile.i32_constant op) count size ≡ false → constant_number op + count ≤ size
@@ -71,17 +71,17 @@ constant_fits op count size e h = absurd cc
 -- a constant offset of a segment that doesn't pass the end
 pub offset_fits : (e : Expr) (count size : ℕ) → IsConstant I32 e
     → exceeds_size (single_constant e) count size ≡ false → constant_of e + count ≤ size
-offset_fits done count size h p = absurd h
+offset_fits done count size h p = absurd (cc h)
 offset_fits (plain m done) count size h p = constant_fits m.0 count size h p
-offset_fits (plain m (plain n rest)) count size h p = absurd h
-offset_fits (plain m (block r inner rest)) count size h p = absurd h
-offset_fits (plain m (loop r inner rest)) count size h p = absurd h
-offset_fits (plain m (if_then r taken rest)) count size h p = absurd h
-offset_fits (plain m (if_else r taken other rest)) count size h p = absurd h
-offset_fits (block r inner rest) count size h p = absurd h
-offset_fits (loop r inner rest) count size h p = absurd h
-offset_fits (if_then r taken rest) count size h p = absurd h
-offset_fits (if_else r taken other rest) count size h p = absurd h
+offset_fits (plain m (plain n rest)) count size h p = absurd (cc h)
+offset_fits (plain m (block r inner rest)) count size h p = absurd (cc h)
+offset_fits (plain m (loop r inner rest)) count size h p = absurd (cc h)
+offset_fits (plain m (if_then r taken rest)) count size h p = absurd (cc h)
+offset_fits (plain m (if_else r taken other rest)) count size h p = absurd (cc h)
+offset_fits (block r inner rest) count size h p = absurd (cc h)
+offset_fits (loop r inner rest) count size h p = absurd (cc h)
+offset_fits (if_then r taken rest) count size h p = absurd (cc h)
+offset_fits (if_else r taken other rest) count size h p = absurd (cc h)
 
 -- what a data segment's reader gives
 pub record IsSegmentRead (o : Option DataSegment) (offset : ℕ) (bytes : List ℕ) : Type 0 where

@@ -30,31 +30,34 @@ not_one t e h is =
 pub constant_to : (t : ValType) (e : Expr) → only_constant (operations_of (flat e)) ≡ Some t → IsConstant t e
 constant_to t done is = absurd cc
 constant_to t (plain m done) is = is
-constant_to t (plain m (plain n rest)) is = not_one t (plain m (plain n rest)) (omega arith) is
-constant_to t (plain m (block r inner rest)) is = not_one t (plain m (block r inner rest)) (omega arith) is
-constant_to t (plain m (loop r inner rest)) is = not_one t (plain m (loop r inner rest)) (omega arith) is
+constant_to t (plain m (plain n rest)) is = absurd (not_one t (plain m (plain n rest)) (omega arith) is)
+constant_to t (plain m (block r inner rest)) is =
+    absurd (not_one t (plain m (block r inner rest)) (omega arith) is)
+constant_to t (plain m (loop r inner rest)) is =
+    absurd (not_one t (plain m (loop r inner rest)) (omega arith) is)
 constant_to t (plain m (if_then r taken rest)) is =
-    not_one t (plain m (if_then r taken rest)) (omega arith) is
+    absurd (not_one t (plain m (if_then r taken rest)) (omega arith) is)
 constant_to t (plain m (if_else r taken other rest)) is =
-    not_one t (plain m (if_else r taken other rest)) (omega arith) is
-constant_to t (block r inner rest) is = not_one t (block r inner rest) (omega arith) is
-constant_to t (loop r inner rest) is = not_one t (loop r inner rest) (omega arith) is
-constant_to t (if_then r taken rest) is = not_one t (if_then r taken rest) (omega arith) is
-constant_to t (if_else r taken other rest) is = not_one t (if_else r taken other rest) (omega arith) is
+    absurd (not_one t (plain m (if_else r taken other rest)) (omega arith) is)
+constant_to t (block r inner rest) is = absurd (not_one t (block r inner rest) (omega arith) is)
+constant_to t (loop r inner rest) is = absurd (not_one t (loop r inner rest) (omega arith) is)
+constant_to t (if_then r taken rest) is = absurd (not_one t (if_then r taken rest) (omega arith) is)
+constant_to t (if_else r taken other rest) is =
+    absurd (not_one t (if_else r taken other rest) (omega arith) is)
 
 pub constant_from : (t : ValType) (e : Expr) → IsConstant t e
     → only_constant (operations_of (flat e)) ≡ Some t
-constant_from t done h = absurd h
+constant_from t done h = absurd (cc h)
 constant_from t (plain m done) h = h
-constant_from t (plain m (plain n rest)) h = absurd h
-constant_from t (plain m (block r inner rest)) h = absurd h
-constant_from t (plain m (loop r inner rest)) h = absurd h
-constant_from t (plain m (if_then r taken rest)) h = absurd h
-constant_from t (plain m (if_else r taken other rest)) h = absurd h
-constant_from t (block r inner rest) h = absurd h
-constant_from t (loop r inner rest) h = absurd h
-constant_from t (if_then r taken rest) h = absurd h
-constant_from t (if_else r taken other rest) h = absurd h
+constant_from t (plain m (plain n rest)) h = absurd (cc h)
+constant_from t (plain m (block r inner rest)) h = absurd (cc h)
+constant_from t (plain m (loop r inner rest)) h = absurd (cc h)
+constant_from t (plain m (if_then r taken rest)) h = absurd (cc h)
+constant_from t (plain m (if_else r taken other rest)) h = absurd (cc h)
+constant_from t (block r inner rest) h = absurd (cc h)
+constant_from t (loop r inner rest) h = absurd (cc h)
+constant_from t (if_then r taken rest) h = absurd (cc h)
+constant_from t (if_else r taken other rest) h = absurd (cc h)
 
 pub constant_decided : (r : Bool) (t : ValType) (e : Expr) (ops : List Op) (found : Option ValType)
     → ops ≡ operations_of (flat e) → found ≡ only_constant ops → Decides r (found ≡ Some t)

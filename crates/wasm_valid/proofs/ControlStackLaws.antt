@@ -29,39 +29,51 @@ reverse_taken n xs h =
     ∙ ap (drop (length xs - n))
     (sym (reverse-append (take n xs) (drop n xs)) ∙ ap reverse (take-append-drop n xs))
 
-topmost_more : (unreachable : Bool) (k : OperandType) (ks : List OperandType) → topmost unreachable (k ∷ ks) ≡ Some (k, ks)
+topmost_more : (unreachable : Bool) (k : OperandType) (ks : List OperandType)
+    → topmost unreachable (k ∷ ks) ≡ Some (k, ks)
 topmost_more true k ks = refl
 topmost_more false k ks = refl
 
 -- one more operand type is the innermost list's
-pub held_more : (f : ControlFrame) (fs : List ControlFrame) (k : OperandType) (ks : List OperandType) → f.height ≤ length ks
+pub held_more : (f : ControlFrame) (fs : List ControlFrame) (k : OperandType) (ks : List OperandType)
+    → f.height ≤ length ks
     → blocks_of_frames (f ∷ fs) (k ∷ ks) ≡ on_top (with_operand k) (blocks_of_frames (f ∷ fs) ks)
 held_more f fs k ks h = ap (cut_at f fs (k ∷ ks)) {y = suc (length ks - f.height)} (omega (arith, h))
 
-popped_more : (f : ControlFrame) (fs : List ControlFrame) (k : OperandType) (ks : List OperandType) → f.height ≤ length ks
+popped_more : (f : ControlFrame) (fs : List ControlFrame) (k : OperandType) (ks : List OperandType)
+    → f.height ≤ length ks
     → popped (blocks_of_frames (f ∷ fs) (k ∷ ks)) ≡ Some (k, blocks_of_frames (f ∷ fs) ks)
 popped_more f fs k ks h =
     let o = block_of_frame f (length ks - f.height) ks in
     ap popped (held_more f fs k ks h)
-    ∙ ap (option_map (λ top.
-    (top.0, record o { stack = record o.stack { operands = top.1 } } ∷ blocks_of_frames fs (drop (length ks - f.height) ks))))
+    ∙ ap (option_map (λ top. (
+      top.0,
+      record o { stack = record o.stack { operands = top.1 } } ∷ blocks_of_frames fs
+          (drop (length ks - f.height) ks),
+    )))
     (topmost_more f.unreachable k (take (length ks - f.height) ks))
 
-pub popped_one : (f : ControlFrame) (fs : List ControlFrame) (old new : List OperandType) (k : OperandType) → f.height < length old
-    → old ≡ new ++ k ∷ [] → popped (blocks_of_frames (f ∷ fs) (reverse old)) ≡ Some (k, blocks_of_frames (f ∷ fs) (reverse new))
+pub popped_one : (f : ControlFrame) (fs : List ControlFrame) (old new : List OperandType) (k : OperandType)
+    → f.height < length old
+    → old ≡ new ++ k ∷ []
+    → popped (blocks_of_frames (f ∷ fs) (reverse old))
+    ≡ Some (k, blocks_of_frames (f ∷ fs) (reverse new))
 popped_one f fs old new k h e =
     ap (λ xs. popped (blocks_of_frames (f ∷ fs) (reverse xs))) e
     ∙ ap (λ xs. popped (blocks_of_frames (f ∷ fs) xs)) (reverse-append new (k ∷ []))
     ∙ popped_more f fs k (reverse new)
     (omega (arith, h, ap length e, length-append new (k ∷ []), length-reverse new))
 
-pub popped_some : (f : ControlFrame) (fs : List ControlFrame) (old new : List OperandType) (r : Option OperandType) → f.height < length old
+pub popped_some : (f : ControlFrame) (fs : List ControlFrame) (old new : List OperandType)
+    (r : Option OperandType) → f.height < length old
     → old ≡ new ++ option_to_list r → IsSome r
-    → popped (blocks_of_frames (f ∷ fs) (reverse old)) ≡ option_map (λ k. (k, blocks_of_frames (f ∷ fs) (reverse new))) r
+    → popped (blocks_of_frames (f ∷ fs) (reverse old)) ≡ option_map
+    (λ k. (k, blocks_of_frames (f ∷ fs) (reverse new))) r
 popped_some f fs old new None h e some = absurd (cc some)
 popped_some f fs old new (Some k) h e some = popped_one f fs old new k h e
 
-pub pushed_one : (inner : Option ControlFrame) (outer : List ControlFrame) (old : List OperandType) (k : OperandType)
+pub pushed_one : (inner : Option ControlFrame) (outer : List ControlFrame) (old : List OperandType)
+    (k : OperandType)
     → ((f : ControlFrame) → inner ≡ Some f → f.height ≤ length old)
     → blocks_of_frames (all_frames inner outer) (reverse (old ++ k ∷ []))
     ≡ on_top (with_operand k) (blocks_of_frames (all_frames inner outer) (reverse old))
@@ -70,7 +82,8 @@ pushed_one (Some f) outer old k h =
     ap (blocks_of_frames (f ∷ reverse outer)) (reverse-append old (k ∷ []))
     ∙ held_more f (reverse outer) k (reverse old) (omega (arith, h f refl, length-reverse old))
 
-pub restarted : (f : ControlFrame) (fs : List ControlFrame) (old new : List OperandType) (unreachable : Bool) → new ≡ take f.height old
+pub restarted : (f : ControlFrame) (fs : List ControlFrame) (old new : List OperandType) (unreachable : Bool)
+    → new ≡ take f.height old
     → f.height ≤ length old
     → blocks_of_frames (record f { unreachable = unreachable } ∷ fs) (reverse new)
     ≡ on_top (without_operands unreachable) (blocks_of_frames (f ∷ fs) (reverse old))
@@ -81,14 +94,17 @@ restarted f fs old new unreachable e h =
     let none : length (reverse new) - f.height ≡ 0 =
     omega (arith, h, ap length same, length-drop n (reverse old), length-reverse old) in
     ap (cut_at g fs (reverse new)) none ∙ ap (λ ks. block_of_frame g 0 [] ∷ blocks_of_frames fs ks) same
-    ∙ ap (λ k. on_top (without_operands unreachable) (cut_at f fs (reverse old) k)) {x = n} (omega (arith, length-reverse old))
+    ∙ ap (λ k. on_top (without_operands unreachable) (cut_at f fs (reverse old) k)) {x = n}
+    (omega (arith, length-reverse old))
 
-left_to : (f : ControlFrame) (fs gs : List ControlFrame) (old new : List OperandType) → new ≡ take f.height old → f.height ≤ length old
+left_to : (f : ControlFrame) (fs gs : List ControlFrame) (old new : List OperandType)
+    → new ≡ take f.height old → f.height ≤ length old
     → gs ≡ fs
     → blocks_of_frames gs (reverse new) ≡ drop 1 (blocks_of_frames (f ∷ fs) (reverse old))
 left_to f fs gs old new e h same =
     let n : ℕ = length old - f.height in
-    ap (λ xs. blocks_of_frames xs (reverse new)) same ∙ ap (blocks_of_frames fs) (ap reverse e ∙ reverse_taken f.height old h)
+    ap (λ xs. blocks_of_frames xs (reverse new)) same
+    ∙ ap (blocks_of_frames fs) (ap reverse e ∙ reverse_taken f.height old h)
     ∙ ap (λ k. drop 1 (cut_at f fs (reverse old) k)) {x = n} (omega (arith, length-reverse old))
 
 nothing_left : {A : Type 0} (xs : List A) → length xs ≡ 0 → [] ≡ reverse xs
@@ -101,21 +117,25 @@ next_frames outer left None e (inl h) = nothing_left outer h
 next_frames outer left None e (inr h) = absurd (cc h)
 next_frames outer left (Some g) e h = sym (ap reverse e ∙ reverse-append left (g ∷ []))
 
-pub left : (f : ControlFrame) (outer rest : List ControlFrame) (r : Option ControlFrame) (old new : List OperandType)
+pub left : (f : ControlFrame) (outer rest : List ControlFrame) (r : Option ControlFrame)
+    (old new : List OperandType)
     → new ≡ take f.height old → f.height ≤ length old
     → outer ≡ rest ++ option_to_list r → (0 < length outer → IsSome r)
-    → blocks_of_frames (all_frames r rest) (reverse new) ≡ drop 1 (blocks_of_frames (f ∷ reverse outer) (reverse old))
+    → blocks_of_frames (all_frames r rest) (reverse new)
+    ≡ drop 1 (blocks_of_frames (f ∷ reverse outer) (reverse old))
 left f [] rest r old new e h eo some =
     left_to f [] (all_frames r rest) old new e h (next_frames [] rest r eo (inl refl))
 left f (g ∷ outer) rest r old new e h eo some =
     left_to f (reverse (g ∷ outer)) (all_frames r rest) old new e h
     (next_frames (g ∷ outer) rest r eo (inr (some (omega arith))))
 
-labels_held : (fs : List ControlFrame) (ks : List OperandType) → label_types (blocks_of_frames fs ks) ≡ map (λ f. f.label.now) fs
+labels_held : (fs : List ControlFrame) (ks : List OperandType)
+    → label_types (blocks_of_frames fs ks) ≡ map (λ f. f.label.now) fs
 labels_held [] ks = refl
 labels_held (f ∷ fs) ks = ap (λ ls. f.label.now ∷ ls) (labels_held fs (drop (length ks - f.height) ks))
 
-pub no_label : (f : ControlFrame) (outer : List ControlFrame) (ks : List OperandType) (depth : ℕ) → length outer ≤ depth
+pub no_label : (f : ControlFrame) (outer : List ControlFrame) (ks : List OperandType) (depth : ℕ)
+    → length outer ≤ depth
     → None ≡ slice_get (label_types (blocks_of_frames (f ∷ reverse outer) ks)) (depth + 1)
 no_label f outer ks depth h =
     let labels : List (List ValType) = map (λ g. g.label.now) (f ∷ reverse outer) in
@@ -123,7 +143,8 @@ no_label f outer ks depth h =
     ∙ slice_get_past labels (depth + 1)
     (omega (arith, h, length-map (f ∷ reverse outer) (λ g. g.label.now), length-reverse outer)))
 
-pub some_label : (f g : ControlFrame) (outer : List ControlFrame) (ks : List OperandType) (depth at : ℕ) → depth < length outer
+pub some_label : (f g : ControlFrame) (outer : List ControlFrame) (ks : List OperandType) (depth at : ℕ)
+    → depth < length outer
     → at ≡ length outer - 1 - depth → g ≡ get_or outer at g
     → Some g.label.now ≡ slice_get (label_types (blocks_of_frames (f ∷ reverse outer) ks)) (depth + 1)
 some_label f g outer ks depth at h ea e =

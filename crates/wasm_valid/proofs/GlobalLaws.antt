@@ -15,24 +15,25 @@ use Rattle.wasm_tree.specs.Pool.{operations_of}
 use Rattle.wasm_valid.specs.Constants.{constant_value, first_constant}
 use Rattle.wasm_valid.proofs.NoneLaws.{all_at}
 
-value_is : (op : Op) (t : ValType) → constant_type op ≡ Some t → constant_value op ≡ value_of t (constant_number op)
+value_is : (op : Op) (t : ValType) → constant_type op ≡ Some t
+    → constant_value op ≡ value_of t (constant_number op)
 value_is (I32Const n) t e = ap (λ k. value_of k n) (same_Some _ _ e)
 value_is (I64Const n) t e = ap (λ k. value_of k n) (same_Some _ _ e)
 value_is op t e = absurd cc
 
 first_is : (e : Expr) (t : ValType) → IsConstant t e
     → first_constant (operations_of (flat e)) ≡ value_of t (constant_of e)
-first_is done t h = absurd h
+first_is done t h = absurd (cc h)
 first_is (plain m done) t h = value_is m.0 t h
-first_is (plain m (plain n rest)) t h = absurd h
-first_is (plain m (block r inner rest)) t h = absurd h
-first_is (plain m (loop r inner rest)) t h = absurd h
-first_is (plain m (if_then r taken rest)) t h = absurd h
-first_is (plain m (if_else r taken other rest)) t h = absurd h
-first_is (block r inner rest) t h = absurd h
-first_is (loop r inner rest) t h = absurd h
-first_is (if_then r taken rest) t h = absurd h
-first_is (if_else r taken other rest) t h = absurd h
+first_is (plain m (plain n rest)) t h = absurd (cc h)
+first_is (plain m (block r inner rest)) t h = absurd (cc h)
+first_is (plain m (loop r inner rest)) t h = absurd (cc h)
+first_is (plain m (if_then r taken rest)) t h = absurd (cc h)
+first_is (plain m (if_else r taken other rest)) t h = absurd (cc h)
+first_is (block r inner rest) t h = absurd (cc h)
+first_is (loop r inner rest) t h = absurd (cc h)
+first_is (if_then r taken rest) t h = absurd (cc h)
+first_is (if_else r taken other rest) t h = absurd (cc h)
 
 given : (o : Option Global) (ops : List Op) (v : Val)
     → ((g : Global) → o ≡ Some g → IsConstant g.global.value g.first)

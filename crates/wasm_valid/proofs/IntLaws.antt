@@ -15,12 +15,12 @@ use Rattle.w4_defs.specs.declared.instruction_table.IntegerType.TheVariants as i
 use Rattle.w4_defs.specs.declared.instruction_table.Row.{Row}
 use Rattle.w4_defs.specs.declared.instruction_table.Row.TheVariants as stack
 use Rattle.w4_defs.specs.InstructionTable.{value_type_of, row}
-use Rattle.w4_defs.specs.ValueTypes.{same_type}
+use Rattle.w4_defs.specs.ValueTypes.{same_type, result_types}
 use Rattle.w4_defs.specs.Module.{WasmModule}
 use Rattle.w4_defs.specs.Lookup.{signature_of, global_types, tables_of, memories_of, function_indices}
 use Rattle.w4_defs.specs.Floats.{is_float_result}
-use Rattle.w4_defs.specs.OperandTypes.{Arrow, arrow_if, row_type, gives, unary_type}
-use Rattle.w4_defs.specs.Typing.{Context, with_label, result_types, IsInt, AreInt, only_type, consumes, sets, branches, calls, calls_indirectly}
+use Rattle.w4_defs.specs.OperandTypes.{StackType, stack_type_if, row_type, gives, unary_type}
+use Rattle.w4_defs.specs.Typing.{Context, with_label, IsInt, AreInt, only_type, consumes, sets, branches, calls, calls_indirectly}
 use Rattle.w4_defs.specs.AbstractStack.{OperandType, agrees, agree, below, below_all, topmost, common_type}
 use Rattle.wasm_valid.specs.AbstractStackLaw.{HasNoFloat, IsIntOperand, AreIntOperands}
 use Rattle.wasm_valid.proofs.OperandTypeLaws.{then_some, if_some}
@@ -81,7 +81,8 @@ all_below_int (u ∷ us) unreachable ks rest i h =
     let p = then_some (below_all us unreachable) (below u unreachable ks) rest h in
     all_below_int us unreachable p.0 rest (below_int u unreachable ks p.0 i p.1) p.2
 
-pub top_int : (unreachable : Bool) (ks : List OperandType) (top : OperandType × List OperandType) → AreIntOperands ks
+pub top_int : (unreachable : Bool) (ks : List OperandType) (top : OperandType × List OperandType)
+    → AreIntOperands ks
     → topmost unreachable ks ≡ Some top → IsIntOperand top.0 × AreIntOperands top.1
 top_int true [] top i h =
     let e : (None, []) ≡ top = cc h in subst (λ x. IsIntOperand x.0 × AreIntOperands x.1) e (tt, tt)
@@ -91,7 +92,8 @@ top_int true (k ∷ ks) top i h =
 top_int false (k ∷ ks) top i h =
     let e : (k, ks) ≡ top = cc h in subst (λ x. IsIntOperand x.0 × AreIntOperands x.1) e i
 
-pub common_int : (j k both : OperandType) → IsIntOperand j → IsIntOperand k → common_type j k ≡ Some both → IsIntOperand both
+pub common_int : (j k both : OperandType) → IsIntOperand j → IsIntOperand k → common_type j k ≡ Some both
+    → IsIntOperand both
 common_int None k both i l h = let e : k ≡ both = cc h in subst IsIntOperand e l
 common_int (Some u) None both i l h = let e : Some u ≡ both = cc h in subst IsIntOperand e i
 common_int (Some u) (Some v) both i l h = subst IsIntOperand (if_some (same_type u v) (Some u) both h).1 i
@@ -113,14 +115,14 @@ some_types (k ∷ ks) unreachable i =
     let q = some_types ks unreachable i.1 in
     (p.0 ∷ q.0, (p.1, q.1), and_from (agrees k p.0) (agree ks unreachable q.0) p.2 q.2)
 
--- ---- the arrows of operations
+-- ---- the stack types of operations
 
-abbrev pub IsIntArrow : Option Arrow → Type 0
-IsIntArrow None = Unit {0}
-IsIntArrow (Some arrow) = AreInt arrow.0 × AreInt arrow.1
+abbrev pub IsIntStackType : Option StackType → Type 0
+IsIntStackType None = Unit {0}
+IsIntStackType (Some stack_type) = AreInt stack_type.0 × AreInt stack_type.1
 
 int_if : (b : Bool) (taken given : List ValType) → AreInt taken → AreInt given
-    → IsIntArrow (arrow_if b taken given)
+    → IsIntStackType (stack_type_if b taken given)
 int_if true taken given h g = (h, g)
 int_if false taken given h g = tt
 
@@ -128,7 +130,7 @@ is_int : (t : IntegerType) → IsInt (value_type_of t)
 is_int integer.I32 = tt
 is_int integer.I64 = tt
 
-row_int : (has : Bool) (r : Row) → IsIntArrow (row_type has r)
+row_int : (has : Bool) (r : Row) → IsIntStackType (row_type has r)
 row_int has (stack.Const t n) = (tt, (is_int t, tt))
 row_int has (stack.Test t) = ((is_int t, tt), (tt, tt))
 row_int has (stack.Compare t o) = ((is_int t, (is_int t, tt)), (tt, tt))
@@ -146,15 +148,15 @@ row_int has stack.MemoryGrow = int_if has (I32 ∷ []) (I32 ∷ []) (tt, tt) (tt
 row_int has stack.MemoryCopy = int_if has (I32 ∷ I32 ∷ I32 ∷ []) [] (tt, (tt, (tt, tt))) tt
 row_int has stack.MemoryFill = int_if has (I32 ∷ I32 ∷ I32 ∷ []) [] (tt, (tt, (tt, tt))) tt
 row_int has stack.Float = tt
-row_int has stack.Missing = tt
+row_int has stack.NoRow = tt
 
--- an arrow of what an index names
-named_int : {A : Type 0} (P : A → Type 0) (f : A → Option Arrow) (o : Option A) → IfSome o P
-    → ((x : A) → P x → IsIntArrow (f x)) → IsIntArrow (option_and_then f o)
+-- a stack type of what an index names
+named_int : {A : Type 0} (P : A → Type 0) (f : A → Option StackType) (o : Option A) → IfSome o P
+    → ((x : A) → P x → IsIntStackType (f x)) → IsIntStackType (option_and_then f o)
 named_int P f None h g = tt
 named_int P f (Some x) h g = g x h
 
-branches_int : (label : List ValType) → AreInt label → IsIntArrow (branches label)
+branches_int : (label : List ValType) → AreInt label → IsIntStackType (branches label)
 branches_int label h = (joined_int label (I32 ∷ []) h (tt, tt), h)
 
 signature_int : (m : WasmModule) (o : Option ℕ) → All (λ s. AreInt s.params × AreInt s.results) m.types
@@ -162,41 +164,41 @@ signature_int : (m : WasmModule) (o : Option ℕ) → All (λ s. AreInt s.params
 signature_int m None h = tt
 signature_int m (Some index) h = got_all (λ s. AreInt s.params × AreInt s.results) m.types index h
 
-int_when : (b : Bool) (o : Option Arrow) → IsIntArrow o → IsIntArrow (cond b o None)
+int_when : (b : Bool) (o : Option StackType) → IsIntStackType o → IsIntStackType (cond b o None)
 int_when true o h = h
 int_when false o h = tt
 
-sets_int : (g : GlobalType) → IsInt g.value → IsIntArrow (sets g)
+sets_int : (g : GlobalType) → IsInt g.value → IsIntStackType (sets g)
 sets_int g h = int_if g.mutable (g.value ∷ []) [] (h, tt) tt
 
-pub arrow_int : (c : Context) (o : Op) → HasNoFloat c → IsIntArrow (only_type c o)
-arrow_int c op.Nop n = (tt, tt)
-arrow_int c (op.BrIf label) n =
+pub stack_type_int : (c : Context) (o : Op) → HasNoFloat c → IsIntStackType (only_type c o)
+stack_type_int c op.Nop n = (tt, tt)
+stack_type_int c (op.BrIf label) n =
     named_int AreInt branches (slice_get c.labels label) (got_all AreInt c.labels label n.labels) branches_int
-arrow_int c (op.Call func) n =
+stack_type_int c (op.Call func) n =
     named_int (λ s. AreInt s.params × AreInt s.results) calls (signature_of c.within func)
     (signature_int c.within (slice_get (function_indices c.within) func) n.signatures) (λ s h. h)
-arrow_int c (op.CallIndirect signature table) n =
+stack_type_int c (op.CallIndirect signature table) n =
     int_when (nat_lt table (length (tables_of c.within)))
     (option_and_then calls_indirectly (slice_get c.within.types signature))
     (named_int (λ s. AreInt s.params × AreInt s.results) calls_indirectly (slice_get c.within.types signature)
     (got_all (λ s. AreInt s.params × AreInt s.results) c.within.types signature n.signatures)
     (λ s h. (joined_int s.params (I32 ∷ []) h.0 (tt, tt), h.1)))
-arrow_int c (op.LocalGet index) n =
+stack_type_int c (op.LocalGet index) n =
     named_int IsInt gives (slice_get c.locals index) (got_int c.locals index n.locals) (λ t h. (tt, (h, tt)))
-arrow_int c (op.LocalSet index) n =
+stack_type_int c (op.LocalSet index) n =
     named_int IsInt consumes (slice_get c.locals index) (got_int c.locals index n.locals)
     (λ t h. ((h, tt), tt))
-arrow_int c (op.LocalTee index) n =
+stack_type_int c (op.LocalTee index) n =
     named_int IsInt unary_type (slice_get c.locals index) (got_int c.locals index n.locals)
     (λ t h. ((h, tt), (h, tt)))
-arrow_int c (op.GlobalGet index) n =
+stack_type_int c (op.GlobalGet index) n =
     named_int (λ g. IsInt g.value) (λ g. gives g.value) (slice_get (global_types c.within) index)
     (got_all (λ g. IsInt g.value) (global_types c.within) index n.globals) (λ g h. (tt, (h, tt)))
-arrow_int c (op.GlobalSet index) n =
+stack_type_int c (op.GlobalSet index) n =
     named_int (λ g. IsInt g.value) sets (slice_get (global_types c.within) index)
     (got_all (λ g. IsInt g.value) (global_types c.within) index n.globals) sets_int
-arrow_int c o n = row_int (nat_lt 0 (length (memories_of c.within))) (row o)
+stack_type_int c o n = row_int (nat_lt 0 (length (memories_of c.within))) (row o)
 
 pub inside : (c : Context) (label : List ValType) → AreInt label → HasNoFloat c
     → HasNoFloat (with_label label c)
@@ -208,6 +210,6 @@ inside c label h n = record {
   globals = n.globals;
 }
 
-pub arrow_ints : (o : Option Arrow) (arrow : Arrow) → IsIntArrow o → o ≡ Some arrow
-    → AreInt arrow.0 × AreInt arrow.1
-arrow_ints o arrow h e = subst IsIntArrow e h
+pub stack_type_ints : (o : Option StackType) (stack_type : StackType) → IsIntStackType o → o ≡ Some stack_type
+    → AreInt stack_type.0 × AreInt stack_type.1
+stack_type_ints o stack_type h e = subst IsIntStackType e h

@@ -5,18 +5,18 @@ use Rattle.w4_defs.specs.declared.value.Cause.TheVariants.{Stack}
 use Rattle.w4_defs.specs.declared.console.Import.{Import}
 use Rattle.w4_defs.specs.declared.console.Import.TheVariants.{Blit}
 use Rattle.w4_defs.specs.Module.{Signature, Function, Global, WasmModule, nothing_to_nothing}
-use Rattle.w4_defs.specs.Lookup.{signature_of, global_types, local_types}
+use Rattle.w4_defs.specs.Lookup.{signature_of, global_types, local_types, own_global_types}
 use Rattle.w4_defs.specs.ValueTypes.{same_signature}
 use Rattle.w4_defs.specs.Imports.{import_type}
 use Rattle.w4_defs.specs.Profile.{profile_refusal}
 use Rattle.w4_defs.specs.Typing.{Context, body_context}
 use Rattle.w4_defs.specs.Validity.{IsValid}
-use Rattle.w4_defs.specs.Outcome.{Store, HostFunctions, Outcome, Falls, Branch, Returns, Trap, Spent, Stuck, Ended, Finished, Faulted, Exhausted, Undefined}
+use Rattle.w4_defs.specs.Outcome.{Store, HostFunctions, Outcome, Falls, Branch, Returns, Trap, Spent, Stuck, Ended, RunDone, RunTrap, RunSpent, RunStuck}
 use Rattle.w4_defs.specs.Program.{Callee, own_function, host_function, no_function, zeros, reserve_of, Prog, program}
 use Rattle.w4_defs.specs.Control.{leave}
 use Rattle.w4_defs.specs.Evaluation.{body_env, eval, run_own, ended, enter_own, enter, run_entry}
 use Rattle.w4_defs.specs.RunLaws.{types_of}
-use Rattle.wasm_valid.specs.TypeSoundness.{AnswersByType, HasTypes, NeverStuck, KeepsGlobalTypes, own_global_types}
+use Rattle.wasm_valid.specs.TypeSoundness.{AnswersByType, HasTypes, NeverStuck, KeepsGlobalTypes}
 use Rattle.wasm_valid.proofs.ProfileLaws.{own_globals}
 use Rattle.wasm_valid.proofs.TypedValues.{are_of_typed}
 use Rattle.wasm_valid.proofs.TypedLists.{Fits}
@@ -26,16 +26,16 @@ use Rattle.wasm_valid.proofs.TypedModules.{linked}
 
 -- an end with a meaning, at which the globals have these types
 abbrev Ends : {H : Type 0} → List ValType → Ended H → Type 0
-Ends types (Finished st rest) = types_of st.globals ≡ types
-Ends types (Faulted c st) = types_of st.globals ≡ types
-Ends types (Exhausted st) = types_of st.globals ≡ types
-Ends types Undefined = ⊥
+Ends types (RunDone st rest) = types_of st.globals ≡ types
+Ends types (RunTrap c st) = types_of st.globals ≡ types
+Ends types (RunSpent st) = types_of st.globals ≡ types
+Ends types RunStuck = ⊥
 
 ends_typed : {H : Type 0} (types : List ValType) (end : Ended H) → Ends types end → HasTypes types end
-ends_typed types (Finished st rest) h = h
-ends_typed types (Faulted c st) h = h
-ends_typed types (Exhausted st) h = h
-ends_typed types Undefined h = absurd h
+ends_typed types (RunDone st rest) h = h
+ends_typed types (RunTrap c st) h = h
+ends_typed types (RunSpent st) h = h
+ends_typed types RunStuck h = absurd h
 
 cond_ends : {H : Type 0} (types : List ValType) (test : Bool) (o p : Ended H) → Ends types o → Ends types p
     → Ends types (cond test o p)
@@ -76,9 +76,9 @@ enter_ends {H} m prog l (own_function f) st b ready named k =
     eval_fits m prog l (suc b) into f.function.list (body_env f 1 (reserve_of f)) [] f.signature.results []
     (zeros f.function.runs) st b
     (omega arith) refl same ready.0 refl locals k in
-    subst (λ t. Ends types (cond t (enter_own prog f st b) Undefined))
+    subst (λ t. Ends types (cond t (enter_own prog f st b) RunStuck))
     (ap (λ s. same_signature s nothing_to_nothing) (sym named))
-    (cond_ends types (nat_le (reserve_of f) 1048576) (ended (run_own prog f st b)) (Faulted Stack st)
+    (cond_ends types (nat_le (reserve_of f) 1048576) (ended (run_own prog f st b)) (RunTrap Stack st)
     (left_ends m f.signature f.function o fits) k)
 enter_ends m prog l (host_function s i) st b ready named k =
     absurd (import_takes i (ap (λ s. s.params) (sym ready ∙ named)))
@@ -89,42 +89,47 @@ values_of [] = refl
 values_of (g ∷ gs) = ap (λ ts. g.global.value ∷ ts) (values_of gs)
 
 -- only own globals are there
-own_values : (m : WasmModule) → profile_refusal m ≡ None → map (λ g. g.value) (global_types m) ≡ own_global_types m
+own_values : (m : WasmModule) → profile_refusal m ≡ None
+    → map (λ g. g.value) (global_types m) ≡ own_global_types m
 own_values m h = ap (map (λ g. g.value)) (own_globals m h) ∙ values_of m.globals
 
-run_ends : {H : Type 0} (m : WasmModule) (out : HostFunctions H) → profile_refusal m ≡ None → IsValid m
-    → length m.functions ≡ length m.bodies → AnswersByType out
+run_ends : {H : Type 0} (m : WasmModule) (imports : HostFunctions H) → profile_refusal m ≡ None → IsValid m
+    → length m.functions ≡ length m.bodies → AnswersByType imports
     → (func : ℕ) (st : Store H) (b : ℕ) → signature_of m func ≡ Some nothing_to_nothing
-    → types_of st.globals ≡ own_global_types m → Ends (own_global_types m) (run_entry m out func st b)
-run_ends m out profile valid even answers func st b entry globals =
-    let prog = program m out in
-    let l = linked m out profile valid even answers in
+    → types_of st.globals ≡ own_global_types m → Ends (own_global_types m) (run_entry m imports func st b)
+run_ends m imports profile valid as_many_bodies answers func st b entry globals =
+    let prog = program m imports in
+    let l = linked m imports profile valid as_many_bodies answers in
     let p = l.functions func nothing_to_nothing entry in
     let same = own_values m profile in
-    subst (λ types. Ends types (run_entry m out func st b)) same
+    subst (λ types. Ends types (run_entry m imports func st b)) same
     (subst (λ callee. Ends (map (λ g. g.value) (global_types m)) (enter prog callee st b)) (sym p.named.found)
     (enter_ends m prog l p.named.callee st b p.named.ready p.signature (globals ∙ sym same)))
 
-pub never_stuck : {H : Type 0} (m : WasmModule) (out : HostFunctions H)
-    → profile_refusal m ≡ None → IsValid m → length m.functions ≡ length m.bodies → AnswersByType out
+pub never_stuck : {H : Type 0} (m : WasmModule) (imports : HostFunctions H)
+    → profile_refusal m ≡ None → IsValid m → length m.functions ≡ length m.bodies → AnswersByType imports
     → (func : ℕ) (st : Store H) (b : ℕ) → signature_of m func ≡ Some nothing_to_nothing
     → types_of st.globals ≡ own_global_types m
-    → run_entry m out func st b ≢ Undefined
-never_stuck m out profile valid even answers func st b entry globals h =
-    subst (Ends (own_global_types m)) h (run_ends m out profile valid even answers func st b entry globals)
+    → run_entry m imports func st b ≢ RunStuck
+never_stuck m imports profile valid as_many_bodies answers func st b entry globals h =
+    subst (Ends (own_global_types m)) h
+    (run_ends m imports profile valid as_many_bodies answers func st b entry globals)
 
-pub globals_keep_types : {H : Type 0} (m : WasmModule) (out : HostFunctions H)
-    → profile_refusal m ≡ None → IsValid m → length m.functions ≡ length m.bodies → AnswersByType out
+pub globals_keep_types : {H : Type 0} (m : WasmModule) (imports : HostFunctions H)
+    → profile_refusal m ≡ None → IsValid m → length m.functions ≡ length m.bodies → AnswersByType imports
     → (func : ℕ) (st : Store H) (b : ℕ) → signature_of m func ≡ Some nothing_to_nothing
     → types_of st.globals ≡ own_global_types m
-    → HasTypes (own_global_types m) (run_entry m out func st b)
-globals_keep_types m out profile valid even answers func st b entry globals =
-    ends_typed (own_global_types m) (run_entry m out func st b)
-    (run_ends m out profile valid even answers func st b entry globals)
+    → HasTypes (own_global_types m) (run_entry m imports func st b)
+globals_keep_types m imports profile valid as_many_bodies answers func st b entry globals =
+    ends_typed (own_global_types m) (run_entry m imports func st b)
+    (run_ends m imports profile valid as_many_bodies answers func st b entry globals)
 
 -- the law, said of host functions
-pub never_stuck_with : {H : Type 0} (out : HostFunctions H) → AnswersByType out → NeverStuck out
-never_stuck_with out answers m profile valid even = never_stuck m out profile valid even answers
+pub never_stuck_with : {H : Type 0} (imports : HostFunctions H) → AnswersByType imports → NeverStuck imports
+never_stuck_with imports answers m profile valid as_many_bodies =
+    never_stuck m imports profile valid as_many_bodies answers
 
-pub globals_keep_types_with : {H : Type 0} (out : HostFunctions H) → AnswersByType out → KeepsGlobalTypes out
-globals_keep_types_with out answers m profile valid even = globals_keep_types m out profile valid even answers
+pub globals_keep_types_with : {H : Type 0} (imports : HostFunctions H) → AnswersByType imports
+    → KeepsGlobalTypes imports
+globals_keep_types_with imports answers m profile valid as_many_bodies =
+    globals_keep_types m imports profile valid as_many_bodies answers

@@ -60,7 +60,8 @@ anything_agrees [] = refl
 anything_agrees (t ∷ ts) = refl
 
 pub below_agrees : (t : ValType) (unreachable : Bool) (ks rest : List OperandType) (ts : List ValType)
-    → below t unreachable ks ≡ Some rest → agree rest unreachable ts ≡ true → agree ks unreachable (t ∷ ts) ≡ true
+    → below t unreachable ks ≡ Some rest → agree rest unreachable ts ≡ true
+    → agree ks unreachable (t ∷ ts) ≡ true
 below_agrees t true [] rest ts h g = refl
 below_agrees t false [] rest ts h g = absurd (cc h)
 below_agrees t true (k ∷ ks) rest ts h g =
@@ -80,8 +81,10 @@ agrees_below t true (k ∷ ks) ts h =
 agrees_below t false (k ∷ ks) ts h =
     let p = and_parts (agrees k t) (agree ks false ts) h in (ks, some_if (agrees k t) (Some ks) p.0, p.1)
 
-pub all_below_agree : (us : List ValType) (unreachable : Bool) (ks rest : List OperandType) (ts : List ValType)
-    → below_all us unreachable ks ≡ Some rest → agree rest unreachable ts ≡ true → agree ks unreachable (us ++ ts) ≡ true
+pub all_below_agree : (us : List ValType) (unreachable : Bool) (ks rest : List OperandType)
+    (ts : List ValType)
+    → below_all us unreachable ks ≡ Some rest → agree rest unreachable ts ≡ true
+    → agree ks unreachable (us ++ ts) ≡ true
 all_below_agree [] unreachable ks rest ts h g = subst (λ xs. agree xs unreachable ts ≡ true) (sym (cc h)) g
 all_below_agree (u ∷ us) unreachable ks rest ts h g =
     let p = then_some (below_all us unreachable) (below u unreachable ks) rest h in
@@ -89,7 +92,8 @@ all_below_agree (u ∷ us) unreachable ks rest ts h g =
 
 pub agree_all_below : (us : List ValType) (unreachable : Bool) (ks : List OperandType) (ts : List ValType)
     → agree ks unreachable (us ++ ts) ≡ true
-    → (rest : List OperandType) × (below_all us unreachable ks ≡ Some rest) × (agree rest unreachable ts ≡ true)
+    → (rest : List OperandType) × (below_all us unreachable ks ≡ Some rest)
+    × (agree rest unreachable ts ≡ true)
 agree_all_below [] unreachable ks ts h = (ks, refl, h)
 agree_all_below (u ∷ us) unreachable ks ts h =
     let p = agrees_below u unreachable ks (us ++ ts) h in
@@ -115,7 +119,8 @@ agree_known (u ∷ us) unreachable ks (t ∷ ts) h =
 
 -- ---- the topmost operand type
 
-pub top_agrees : (unreachable : Bool) (ks : List OperandType) (top : OperandType × List OperandType) (t : ValType) (ts : List ValType)
+pub top_agrees : (unreachable : Bool) (ks : List OperandType) (top : OperandType × List OperandType)
+    (t : ValType) (ts : List ValType)
     → topmost unreachable ks ≡ Some top → agrees top.0 t ≡ true → agree top.1 unreachable ts ≡ true
     → agree ks unreachable (t ∷ ts) ≡ true
 top_agrees true [] top t ts h a g = refl
@@ -131,7 +136,8 @@ top_agrees false (k ∷ ks) top t ts h a g =
 
 pub agrees_top : (unreachable : Bool) (ks : List OperandType) (t : ValType) (ts : List ValType)
     → agree ks unreachable (t ∷ ts) ≡ true
-    → (k : OperandType) × (rest : List OperandType) × (topmost unreachable ks ≡ Some (k, rest)) × (agrees k t ≡ true)
+    → (k : OperandType) × (rest : List OperandType) × (topmost unreachable ks ≡ Some (k, rest))
+    × (agrees k t ≡ true)
     × (agree rest unreachable ts ≡ true)
 agrees_top true [] t ts h = (None, [], refl, refl, anything_agrees ts)
 agrees_top false [] t ts h = absurd (cc h)
@@ -141,7 +147,8 @@ agrees_top false (k ∷ ks) t ts h =
     let p = and_parts (agrees k t) (agree ks false ts) h in (k, ks, refl, p.0, p.1)
 
 -- what agrees with the common operand type agrees with both, and the other way
-pub common_agrees : (j k both : OperandType) (t : ValType) → common_type j k ≡ Some both → agrees both t ≡ true
+pub common_agrees : (j k both : OperandType) (t : ValType) → common_type j k ≡ Some both
+    → agrees both t ≡ true
     → (agrees j t ≡ true) × (agrees k t ≡ true)
 common_agrees None k both t h a = let e : k ≡ both = cc h in (refl, subst (λ x. agrees x t ≡ true) (sym e) a)
 common_agrees (Some u) None both t h a =

@@ -7,22 +7,26 @@ use Rattle.w4_defs.specs.declared.operation.Op.{Op}
 use Rattle.w4_defs.specs.declared.operation.Op.TheVariants as op
 use Rattle.w4_defs.specs.Tree.{Mark, mark, Expr, done, plain, block, loop, if_then, if_else, span, flat_at}
 use Rattle.w4_defs.specs.Flattening.{IsLeaf, IsProper}
-use Rattle.w4_defs.specs.Typing.{Context, body_context, result_types}
+use Rattle.w4_defs.specs.Typing.{Context, body_context}
+use Rattle.w4_defs.specs.ValueTypes.{result_types}
 use Rattle.w4_defs.specs.AbstractStack.{AbstractStack, empty, stands, stands_in, taken, given, step, stack_after}
 use Rattle.wasm_valid.specs.Pass.{OpenBlock, opened, with_stack, context, blocks_after_entry, blocks_after, PassDecidesBodies}
 
 -- the pass goes on where the innermost list has this abstract stack
-abbrev pub resumed : Context → OpenBlock → List OpenBlock → List Mark → Option AbstractStack → Option (List OpenBlock)
+abbrev pub resumed : Context → OpenBlock → List OpenBlock → List Mark → Option AbstractStack
+    → Option (List OpenBlock)
 resumed c o os ms None = None
 resumed c o os ms (Some s) = blocks_after c ms (with_stack o s ∷ os)
 
-resumed_if : (c : Context) (o : OpenBlock) (os : List OpenBlock) (ms : List Mark) (b : Bool) (x : Option AbstractStack)
+resumed_if : (c : Context) (o : OpenBlock) (os : List OpenBlock) (ms : List Mark) (b : Bool)
+    (x : Option AbstractStack)
     → cond b (resumed c o os ms x) None ≡ resumed c o os ms (cond b x None)
 resumed_if c o os ms true x = refl
 resumed_if c o os ms false x = refl
 
 closed_if : (c : Context) (p : OpenBlock) (os : List OpenBlock) (ms : List Mark) (b : Bool)
-    → option_and_then (blocks_after c ms) (cond b (Some (p ∷ os)) None) ≡ cond b (blocks_after c ms (p ∷ os)) None
+    → option_and_then (blocks_after c ms) (cond b (Some (p ∷ os)) None) ≡ cond b (blocks_after c ms (p ∷ os))
+    None
 closed_if c p os ms true = refl
 closed_if c p os ms false = refl
 
@@ -69,7 +73,8 @@ nothing_if c o os ms true = refl
 nothing_if c o os ms false = refl
 
 -- a condition is taken, and what stands inside is as it is for each abstract stack below
-chosen_on : (c : Context) (o : OpenBlock) (os : List OpenBlock) (result : List ValType) (body ms : List Mark) (b : Bool)
+chosen_on : (c : Context) (o : OpenBlock) (os : List OpenBlock) (result : List ValType) (body ms : List Mark)
+    (b : Bool)
     (f : AbstractStack → Option AbstractStack) (x : Option AbstractStack)
     → ((s : AbstractStack) → blocks_after c body (opened result result ∷ with_stack o s ∷ os)
     ≡ cond b (resumed c o os ms (f s)) None)
@@ -78,7 +83,8 @@ chosen_on : (c : Context) (o : OpenBlock) (os : List OpenBlock) (result : List V
 chosen_on c o os result body ms b f None h = nothing_if c o os ms b
 chosen_on c o os result body ms b f (Some s) h = h s ∙ resumed_if c o os ms b (f s)
 
-pub run_list : (c : Context) (close : Op) (at : ℕ) (e : Expr) (ms : List Mark) (o : OpenBlock) (os : List OpenBlock)
+pub run_list : (c : Context) (close : Op) (at : ℕ) (e : Expr) (ms : List Mark) (o : OpenBlock)
+    (os : List OpenBlock)
     → IsProper e
     → blocks_after c (flat_at close at e ++ ms) (o ∷ os)
     ≡ resumed c o os (mark close ∷ ms) (stack_after (context c (o ∷ os)) e o.stack)
@@ -94,7 +100,8 @@ run_list c close at (block r inner rest) ms o os h =
     let tail = flat_at close (end + 1) rest in
     let x = stack_after (context c (n ∷ o ∷ os)) inner empty in
     let next = with_stack o (given (result_types r) o.stack) in
-    ap (λ l. blocks_after c l (o ∷ os)) (append_assoc (mark (op.Block r end) ∷ flat_at op.End (at + 1) inner) tail ms)
+    ap (λ l. blocks_after c l (o ∷ os))
+    (append_assoc (mark (op.Block r end) ∷ flat_at op.End (at + 1) inner) tail ms)
     ∙ run_list c op.End (at + 1) inner (tail ++ ms) n (o ∷ os) h.0
     ∙ ended c n o os (tail ++ ms) x
     ∙ ap (λ y. cond (stands_in x (result_types r)) y None) (run_list c close (end + 1) rest ms next os h.1)
@@ -106,7 +113,8 @@ run_list c close at (loop r inner rest) ms o os h =
     let tail = flat_at close (end + 1) rest in
     let x = stack_after (context c (n ∷ o ∷ os)) inner empty in
     let next = with_stack o (given (result_types r) o.stack) in
-    ap (λ l. blocks_after c l (o ∷ os)) (append_assoc (mark (op.Loop r end) ∷ flat_at op.End (at + 1) inner) tail ms)
+    ap (λ l. blocks_after c l (o ∷ os))
+    (append_assoc (mark (op.Loop r end) ∷ flat_at op.End (at + 1) inner) tail ms)
     ∙ run_list c op.End (at + 1) inner (tail ++ ms) n (o ∷ os) h.0
     ∙ ended c n o os (tail ++ ms) x
     ∙ ap (λ y. cond (stands_in x (result_types r)) y None) (run_list c close (end + 1) rest ms next os h.1)

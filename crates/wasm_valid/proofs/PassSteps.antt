@@ -7,7 +7,7 @@ use Rattle.w4_defs.specs.Lookup.{memories_of}
 use Rattle.w4_defs.specs.OperandTypes.{memory_type}
 use Rattle.w4_defs.specs.Typing.{Context}
 use Rattle.wasm_valid.specs.Pass.{OpenBlock}
-use Rattle.wasm_valid.specs.ControlStack.{direct_type, after_operation, after_entry, after_arrow}
+use Rattle.wasm_valid.specs.ControlStack.{direct_type, after_operation, after_entry, after_stack_type}
 
 -- an operation that names something of its function or module
 abbrev pub names : Op → Bool
@@ -43,8 +43,9 @@ branches_or_chooses op.Drop = true
 branches_or_chooses op.Select = true
 branches_or_chooses _ = false
 
-pub passed_step : (c : Context) (o : Op) (labels : List ℕ) (os : List OpenBlock) → branches_or_chooses o ≡ false
-    → after_arrow (direct_type c o) os ≡ after_operation c o labels os
+pub passed_step : (c : Context) (o : Op) (labels : List ℕ) (os : List OpenBlock)
+    → branches_or_chooses o ≡ false
+    → after_stack_type (direct_type c o) os ≡ after_operation c o labels os
 passed_step c op.Unreachable labels os h = absurd (cc h)
 passed_step c (op.Br label) labels os h = absurd (cc h)
 passed_step c (op.BrIf label) labels os h = absurd (cc h)
@@ -63,7 +64,8 @@ opens_or_closes op.Else = true
 opens_or_closes op.End = true
 opens_or_closes _ = false
 
-leaf_of : (c : Context) (o : Op) (labels : List ℕ) (p : OpenBlock) (os : List OpenBlock) → opens_or_closes o ≡ false
+leaf_of : (c : Context) (o : Op) (labels : List ℕ) (p : OpenBlock) (os : List OpenBlock)
+    → opens_or_closes o ≡ false
     → after_operation c o labels (p ∷ os) ≡ after_entry c o labels (p ∷ os)
 leaf_of c (op.Block r end) labels p os h = absurd (cc h)
 leaf_of c (op.Loop r end) labels p os h = absurd (cc h)

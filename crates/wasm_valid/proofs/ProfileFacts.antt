@@ -109,7 +109,8 @@ right_entry false right h e = absurd cc
 abbrev pub Found : WasmModule → Option ℕ → Type 0
 Found m o = IfSome o (λ f. signature_of m f ≡ Some nothing_to_nothing)
 
-found_here : (m : WasmModule) (f : ℕ) (o : Option ℕ) → (o ≡ Some f) × (signature_of m f ≡ Some nothing_to_nothing)
+found_here : (m : WasmModule) (f : ℕ) (o : Option ℕ) → (o ≡ Some f)
+    × (signature_of m f ≡ Some nothing_to_nothing)
     → Found m o
 found_here m f o h = subst (Found m) (sym h.0) h.1
 

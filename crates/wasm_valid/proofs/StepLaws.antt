@@ -8,12 +8,12 @@ use Rattle.w4_defs.specs.declared.value.ValType.{ValType}
 use Rattle.w4_defs.specs.declared.value.ValType.TheVariants.{I32}
 use Rattle.w4_defs.specs.declared.operation.Op.{Op}
 use Rattle.w4_defs.specs.declared.operation.Op.TheVariants as op
-use Rattle.w4_defs.specs.OperandTypes.{Arrow}
+use Rattle.w4_defs.specs.OperandTypes.{StackType}
 use Rattle.w4_defs.specs.Typing.{Context, IsInt, AreInt, AreLabels, Leads, only_type}
 use Rattle.w4_defs.specs.AbstractStack.{OperandType, AbstractStack, agrees, agree, anything, stands, with_operands, taken, given, passed, topmost, common_type, dropped, select_with, selected, after_branch, is_label, common_label, step}
 use Rattle.wasm_valid.specs.AbstractStackLaw.{HasNoFloat, AreIntOperands}
 use Rattle.wasm_valid.proofs.OperandTypeLaws.{then_some, some_then, map_some, some_map, if_some, some_if, same_types_are, same_types_self, anything_agrees, top_agrees, agrees_top, common_agrees, agrees_common}
-use Rattle.wasm_valid.proofs.IntLaws.{joined_int, left_int, right_int, top_int, common_int, some_type, arrow_int, arrow_ints}
+use Rattle.wasm_valid.proofs.IntLaws.{joined_int, left_int, right_int, top_int, common_int, some_type, stack_type_int, stack_type_ints}
 use Rattle.wasm_valid.proofs.NoneLaws.{all_at}
 use Rattle.wasm_valid.proofs.TakenLaws.{taken_stands, stands_taken, given_stands, stands_given, taken_int, given_int, some_ints, uncut}
 
@@ -29,17 +29,18 @@ Follows o outs = (t : AbstractStack) × (o ≡ Some t) × (stands t outs ≡ tru
 anything_stands : (ts : List ValType) → stands anything ts ≡ true
 anything_stands ts = anything_agrees (reverse ts)
 
--- ---- an operation with an arrow
+-- ---- an operation with a stack type
 
-arrow_begins : (s t : AbstractStack) (arrow : Arrow) (outs : List ValType) → AreInt arrow.0 → AreInt outs
-    → passed s arrow ≡ Some t → stands t outs ≡ true
-    → (ts : List ValType) × (outs ≡ ts ++ arrow.1) × AreInt (ts ++ arrow.0)
-    × (stands s (ts ++ arrow.0) ≡ true)
-arrow_begins s t arrow outs i j h g =
-    let p = map_some (given arrow.1) (taken arrow.0 s) t h in
-    let q = stands_given arrow.1 p.0 outs (subst (λ x. stands x outs ≡ true) (sym p.2) g) in
-    let under : AreInt q.0 = left_int q.0 arrow.1 (subst AreInt q.1 j) in
-    (q.0, q.1, joined_int q.0 arrow.0 under i, taken_stands arrow.0 s p.0 q.0 p.1 q.2)
+stack_type_begins : (s t : AbstractStack) (stack_type : StackType) (outs : List ValType)
+    → AreInt stack_type.0 → AreInt outs
+    → passed s stack_type ≡ Some t → stands t outs ≡ true
+    → (ts : List ValType) × (outs ≡ ts ++ stack_type.1) × AreInt (ts ++ stack_type.0)
+    × (stands s (ts ++ stack_type.0) ≡ true)
+stack_type_begins s t stack_type outs i j h g =
+    let p = map_some (given stack_type.1) (taken stack_type.0 s) t h in
+    let q = stands_given stack_type.1 p.0 outs (subst (λ x. stands x outs ≡ true) (sym p.2) g) in
+    let under : AreInt q.0 = left_int q.0 stack_type.1 (subst AreInt q.1 j) in
+    (q.0, q.1, joined_int q.0 stack_type.0 under i, taken_stands stack_type.0 s p.0 q.0 p.1 q.2)
 
 plain_begins : (c : Context) (o : Op) (s t : AbstractStack) (outs : List ValType) → HasNoFloat c → AreInt outs
     → option_and_then (passed s) (only_type c o) ≡ Some t → stands t outs ≡ true
@@ -47,19 +48,20 @@ plain_begins : (c : Context) (o : Op) (s t : AbstractStack) (outs : List ValType
     × ((ts a b : List ValType) × (ins ≡ ts ++ a) × (only_type c o ≡ Some (a, b)) × (outs ≡ ts ++ b))
 plain_begins c o s t outs n j h g =
     let p = then_some (passed s) (only_type c o) t h in
-    let i = arrow_ints (only_type c o) p.0 (arrow_int c o n) p.1 in
-    let q = arrow_begins s t p.0 outs i.0 j p.2 g in
+    let i = stack_type_ints (only_type c o) p.0 (stack_type_int c o n) p.1 in
+    let q = stack_type_begins s t p.0 outs i.0 j p.2 g in
     (q.0 ++ p.0.0, q.2, q.3, (q.0, p.0.0, p.0.1, refl, p.1, q.1))
 
 plain_int : (c : Context) (o : Op) (s t : AbstractStack) → HasNoFloat c → AreIntOperands s.operands
     → option_and_then (passed s) (only_type c o) ≡ Some t → AreIntOperands t.operands
 plain_int c o s t n k h =
     let p = then_some (passed s) (only_type c o) t h in
-    let i = arrow_ints (only_type c o) p.0 (arrow_int c o n) p.1 in
+    let i = stack_type_ints (only_type c o) p.0 (stack_type_int c o n) p.1 in
     let q = map_some (given p.0.1) (taken p.0.0 s) t p.2 in
     subst (λ x. AreIntOperands x.operands) q.2 (given_int p.0.1 q.0 i.1 (taken_int p.0.0 s q.0 k q.1))
 
-plain_follows : (c : Context) (o : Op) (s : AbstractStack) (ins outs ts a b : List ValType) → stands s ins ≡ true
+plain_follows : (c : Context) (o : Op) (s : AbstractStack) (ins outs ts a b : List ValType)
+    → stands s ins ≡ true
     → ins ≡ ts ++ a → only_type c o ≡ Some (a, b) → outs ≡ ts ++ b
     → Follows (option_and_then (passed s) (only_type c o)) outs
 plain_follows c o s ins outs ts a b h e k f =
@@ -72,7 +74,8 @@ plain_follows c o s ins outs ts a b h e k f =
 -- ---- branches: they take a label's types, and anything may stand behind them
 
 ends_anything : (s t : AbstractStack) (label : Option (List ValType)) → after_branch s label ≡ Some t
-    → (ts : List ValType) × (below : AbstractStack) × (label ≡ Some ts) × (taken ts s ≡ Some below) × (anything ≡ t)
+    → (ts : List ValType) × (below : AbstractStack) × (label ≡ Some ts) × (taken ts s ≡ Some below)
+    × (anything ≡ t)
 ends_anything s t None h = absurd (cc h)
 ends_anything s t (Some label) h =
     let p = map_some (λ below. anything) (taken label s) t h in (label, p.0, refl, p.1, p.2)
@@ -82,7 +85,8 @@ ends_here : (s below : AbstractStack) (label : List ValType) (o : Option (List V
 ends_here s below label o h g = ap (after_branch s) h ∙ some_map (λ x. anything) (taken label s) below g
 
 -- some int types below a label's, for which the abstract stack stands
-branch_begins : (s below : AbstractStack) (label : List ValType) → AreIntOperands s.operands → taken label s ≡ Some below
+branch_begins : (s below : AbstractStack) (label : List ValType) → AreIntOperands s.operands
+    → taken label s ≡ Some below
     → (ts : List ValType) × AreInt ts × (stands s (ts ++ label) ≡ true)
 branch_begins s below label k h =
     let p = some_ints below (taken_int label s below k h) in (p.0, p.1, taken_stands label s below p.0 h p.2)
@@ -156,7 +160,8 @@ dropped_begins s t outs k h g =
           (subst (λ x. stands x outs ≡ true) (sym p.2) g)),
     )
 
-dropped_int : (s t : AbstractStack) → AreIntOperands s.operands → dropped s ≡ Some t → AreIntOperands t.operands
+dropped_int : (s t : AbstractStack) → AreIntOperands s.operands → dropped s ≡ Some t
+    → AreIntOperands t.operands
 dropped_int s t k h =
     let p = map_some (λ top. with_operands s top.1) (topmost s.unreachable s.operands) t h in
     subst (λ x. AreIntOperands x.operands) p.2 (top_int s.unreachable s.operands p.0 k p.1).1
@@ -166,8 +171,12 @@ dropped_follows : (s : AbstractStack) (ts : List ValType) (u : ValType) → stan
 dropped_follows s ts u h =
     let p =
     agrees_top s.unreachable s.operands u (reverse ts)
-    (subst (λ xs. agree s.operands s.unreachable xs ≡ true) (reverse-append ts (u ∷ [])) h) in
-    (with_operands s p.1, some_map (λ top. with_operands s top.1) (topmost s.unreachable s.operands) (p.0, p.1) p.2, p.4)
+    (subst (λ xs. agree s.operands s.unreachable xs ≡ true) (reverse-append ts (u ∷ [])) h) in (
+      with_operands s p.1,
+      some_map (λ top. with_operands s top.1) (topmost s.unreachable s.operands)
+          (p.0, p.1) p.2,
+      p.4,
+    )
 
 -- ---- select
 
@@ -216,16 +225,20 @@ selected_begins s t outs i h g =
       e,
       (right_int (reverse p.1) (p.0 ∷ []) j).0,
       left_int (reverse p.1) (p.0 ∷ []) j,
-      subst (λ xs. agree s.operands s.unreachable xs ≡ true) (sym (reverse-append (reverse p.1) (p.0 ∷ p.0 ∷ [])))
-          (subst (λ xs. agree s.operands s.unreachable (p.0 ∷ p.0 ∷ xs) ≡ true) (sym (reverse-reverse p.1)) high),
+      subst (λ xs. agree s.operands s.unreachable xs ≡ true)
+          (sym (reverse-append (reverse p.1) (p.0 ∷ p.0 ∷ [])))
+          (subst (λ xs. agree s.operands s.unreachable (p.0 ∷ p.0 ∷ xs) ≡ true) (sym (reverse-reverse p.1))
+          high),
     )
 
-selected_int : (s t : AbstractStack) → AreIntOperands s.operands → selected s ≡ Some t → AreIntOperands t.operands
+selected_int : (s t : AbstractStack) → AreIntOperands s.operands → selected s ≡ Some t
+    → AreIntOperands t.operands
 selected_int s t k h =
     let w = two s t h in
     let a = top_int s.unreachable s.operands w.upper k w.there in
     let b = top_int s.unreachable w.upper.1 w.lower a.1 w.under in
-    subst (λ x. AreIntOperands x.operands) w.made (common_int w.upper.0 w.lower.0 w.both a.0 b.0 w.common, b.1)
+    subst (λ x. AreIntOperands x.operands) w.made
+    (common_int w.upper.0 w.lower.0 w.both a.0 b.0 w.common, b.1)
 
 selected_follows : (s : AbstractStack) (ts : List ValType) (u : ValType) → stands s (ts ++ u ∷ u ∷ []) ≡ true
     → Follows (selected s) (ts ++ u ∷ [])
@@ -258,7 +271,8 @@ labels_int c [] label n some h = absurd (omega arith)
 labels_int c (l ∷ labels) label n some h = label_int c l label n h.0
 
 -- from some int types for which s stands the step leads to outs
-pub step_begins : (c : Context) (o : Op) (labels : List ℕ) (s t : AbstractStack) (outs : List ValType) → HasNoFloat c
+pub step_begins : (c : Context) (o : Op) (labels : List ℕ) (s t : AbstractStack) (outs : List ValType)
+    → HasNoFloat c
     → AreIntOperands s.operands → AreInt outs
     → step c o labels s ≡ Some t → stands t outs ≡ true → Begins c o labels s outs
 step_begins c op.Unreachable labels s t outs n k i h g =
@@ -311,7 +325,8 @@ step_begins c op.Select labels s t outs n k i h g =
 step_begins c o labels s t outs n k i h g = plain_begins c o s t outs n i h g
 
 -- no float comes to an abstract stack by a step
-pub step_int : (c : Context) (o : Op) (labels : List ℕ) (s t : AbstractStack) → HasNoFloat c → AreIntOperands s.operands
+pub step_int : (c : Context) (o : Op) (labels : List ℕ) (s t : AbstractStack) → HasNoFloat c
+    → AreIntOperands s.operands
     → step c o labels s ≡ Some t → AreIntOperands t.operands
 step_int c op.Unreachable labels s t n k h =
     let e : anything ≡ t = cc h in subst (λ x. AreIntOperands x.operands) e tt
@@ -341,8 +356,12 @@ step_follows c op.BrTable labels s ins outs h (ts, a, b, e, (under, types, some,
     stands_taken (I32 ∷ []) s (ts ++ (under ++ types)) (subst (λ x. stands s x ≡ true) (e ∙ whole) h) in
     let p =
     branch_follows m.0 ts (under ++ types) under types outs (common_label c labels) m.2 refl
-    (are_common c types labels some there) in
-    (p.0, some_then (λ below. after_branch below (common_label c labels)) (taken (I32 ∷ []) s) m.0 p.0 m.1 p.1, p.2)
+    (are_common c types labels some there) in (
+      p.0,
+      some_then (λ below. after_branch below (common_label c labels)) (taken (I32 ∷ []) s) m.0 p.0 m.1
+          p.1,
+      p.2,
+    )
 step_follows c op.Return labels s ins outs h (ts, a, b, e, (under, parts, i, j), f) =
     branch_follows s ts a under c.results outs (Some c.results) (subst (λ x. stands s x ≡ true) e h)
     parts refl

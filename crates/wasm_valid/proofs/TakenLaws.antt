@@ -37,17 +37,24 @@ pub stands_taken : (us : List ValType) (s : AbstractStack) (ts : List ValType) �
 stands_taken us s ts h =
     let p =
     agree_all_below (reverse us) s.unreachable s.operands (reverse ts)
-    (subst (λ xs. agree s.operands s.unreachable xs ≡ true) (reverse-append ts us) h) in
-    (with_operands s p.0, some_map (with_operands s) (below_all (reverse us) s.unreachable s.operands) p.0 p.1, p.2)
+    (subst (λ xs. agree s.operands s.unreachable xs ≡ true) (reverse-append ts us) h) in (
+      with_operands s p.0,
+      some_map (with_operands s) (below_all (reverse us) s.unreachable s.operands) p.0
+          p.1,
+      p.2,
+    )
 
 pub given_stands : (us : List ValType) (s : AbstractStack) (ts : List ValType) → stands s ts ≡ true
     → stands (given us s) (ts ++ us) ≡ true
 given_stands us s ts h =
-    subst (λ ks. agree (ks ++ s.operands) s.unreachable (reverse (ts ++ us)) ≡ true) (sym (map_reversed Some us))
-    (subst (λ xs. agree (map Some (reverse us) ++ s.operands) s.unreachable xs ≡ true) (sym (reverse-append ts us))
+    subst (λ ks. agree (ks ++ s.operands) s.unreachable (reverse (ts ++ us)) ≡ true)
+    (sym (map_reversed Some us))
+    (subst (λ xs. agree (map Some (reverse us) ++ s.operands) s.unreachable xs ≡ true)
+    (sym (reverse-append ts us))
     (known_agree (reverse us) s.unreachable s.operands (reverse ts) h))
 
-pub stands_given : (us : List ValType) (s : AbstractStack) (outs : List ValType) → stands (given us s) outs ≡ true
+pub stands_given : (us : List ValType) (s : AbstractStack) (outs : List ValType)
+    → stands (given us s) outs ≡ true
     → (ts : List ValType) × (outs ≡ ts ++ us) × (stands s ts ≡ true)
 stands_given us s outs h =
     let p =
@@ -58,7 +65,8 @@ stands_given us s outs h =
       subst (λ xs. agree s.operands s.unreachable xs ≡ true) (sym (reverse-reverse p.0)) p.2,
     )
 
-pub taken_int : (us : List ValType) (s below : AbstractStack) → AreIntOperands s.operands → taken us s ≡ Some below
+pub taken_int : (us : List ValType) (s below : AbstractStack) → AreIntOperands s.operands
+    → taken us s ≡ Some below
     → AreIntOperands below.operands
 taken_int us s below i h =
     let p = map_some (with_operands s) (below_all (reverse us) s.unreachable s.operands) below h in
@@ -71,7 +79,8 @@ given_int us s h i =
     (subst AreIntOperands (sym (map_reversed Some us)) (known_int (reverse us) (reversed_int us h))) i
 
 -- some int types for which an abstract stack stands
-pub some_ints : (s : AbstractStack) → AreIntOperands s.operands → (ts : List ValType) × AreInt ts × (stands s ts ≡ true)
+pub some_ints : (s : AbstractStack) → AreIntOperands s.operands → (ts : List ValType) × AreInt ts
+    × (stands s ts ≡ true)
 some_ints s i =
     let p = some_types s.operands s.unreachable i in (
       reverse p.0,

@@ -16,7 +16,7 @@ use Rattle.w4_defs.specs.Imports.{import_type}
 use Rattle.w4_defs.specs.Program.{Own, Callee, own_function, host_function, no_function, zeros, Prog}
 use Rattle.w4_defs.specs.Outcome.{Store, Called, HostFunctions, Outcome, Spent, Stuck, Trap}
 use Rattle.w4_defs.specs.Control.{where_some, with_arguments, leave}
-use Rattle.w4_defs.specs.Evaluation.{Env, Evaluator, allowed, called_env, after_import, with_result, call_import, call_own, call, call_typed, call_entry, call_indirect}
+use Rattle.w4_defs.specs.Evaluation.{Env, Evaluator, allowed, called_env, after_import, with_result, call_import, call_own, call, call_typed, call_table_element, call_indirect}
 use Rattle.w4_defs.specs.RunLaws.{types_of}
 use Rattle.wasm_valid.specs.TypeSoundness.{AnswersByType}
 use Rattle.wasm_valid.proofs.TypeLaws.{same_signature_is}
@@ -86,15 +86,16 @@ module _ {H : Type 0} (c : Context) (outs tops : List ValType) where
   answered_fits (t ∷ ts) n ops ls st b (inl e) a h g l s = absurd (cc e)
   answered_fits (t ∷ ts) n ops ls st b (inr e) a h g l s = absurd (cc e)
 
-  pub call_import_fits : (out : HostFunctions H) (s : Signature) (i : Import) (ops ls : List Val) (st : Store H)
-      (b : ℕ) → AnswersByType out → s ≡ import_type i
+  pub call_import_fits : (imports : HostFunctions H) (s : Signature) (i : Import) (ops ls : List Val)
+      (st : Store H)
+      (b : ℕ) → AnswersByType imports → s ≡ import_type i
       → types_of ops ≡ reverse s.params ++ tops → reverse outs ≡ reverse s.results ++ tops
       → types_of ls ≡ c.locals → types_of st.globals ≡ global_values c
-      → Fits c outs (call_import out s i ops ls st b)
-  call_import_fits out s i ops ls st b answers e h g l k =
+      → Fits c outs (call_import imports s i ops ls st b)
+  call_import_fits imports s i ops ls st b answers e h g l k =
       with_arguments_fits c outs s.params tops ops _ h (λ args ops typed below.
-      let weight : ℕ = out.weight st.host i (integers_of args) st.page in
-      let done : Called H = out.effect st.host i (integers_of args) st.page in
+      let weight : ℕ = imports.weight st.host i (integers_of args) st.page in
+      let done : Called H = imports.effect st.host i (integers_of args) st.page in
       cond_fits c outs (nat_lt b weight) (Spent st)
       (with_result s.results done.answer ops ls (after_import done st) (b - weight)) (λ t. k)
       (λ t. answered_fits s.results done.answer ops ls (after_import done st) (b - weight)
@@ -151,11 +152,14 @@ module _ {H : Type 0} (c : Context) (outs tops : List ValType) where
         → Fits c outs (call_typed prog e s callee env ops ls st b)
     call_typed_fits s (own_function f) env ops ls st b less ready h g l k =
         cond_fits c outs (same_signature f.signature s) (call_own e f env ops ls st b) (Trap cause.Type_ st)
-        (λ t. call_fits s (own_function f) env ops ls st b less ready (same_signature_is f.signature s t) h g l k)
+        (λ t. call_fits s (own_function f) env ops ls st b less ready (same_signature_is f.signature s t) h g
+        l k)
         (λ t. k)
     call_typed_fits s (host_function t i) env ops ls st b less ready h g l k =
-        cond_fits c outs (same_signature t s) (call_import prog.host_functions t i ops ls st b) (Trap cause.Type_ st)
-        (λ same. call_fits s (host_function t i) env ops ls st b less ready (same_signature_is t s same) h g l k)
+        cond_fits c outs (same_signature t s) (call_import prog.host_functions t i ops ls st b)
+        (Trap cause.Type_ st)
+        (λ same. call_fits s (host_function t i) env ops ls st b less ready (same_signature_is t s same) h g
+        l k)
         (λ t. k)
     call_typed_fits s no_function env ops ls st b less ready h g l k = absurd ready
 
@@ -163,7 +167,7 @@ module _ {H : Type 0} (c : Context) (outs tops : List ValType) where
         (st : Store H) (b : ℕ) → b < n → slice_get prog.table i ≡ Some entry
         → types_of ops ≡ reverse s.params ++ tops → reverse outs ≡ reverse s.results ++ tops
         → types_of ls ≡ c.locals → types_of st.globals ≡ global_values c
-        → Fits c outs (call_entry prog e s entry env ops ls st b)
+        → Fits c outs (call_table_element prog e s entry env ops ls st b)
     call_entry_fits s i None env ops ls st b less found h g l k = k
     call_entry_fits s i (Some func) env ops ls st b less found h g l k =
         let p = linked.entries i func found in
@@ -177,7 +181,7 @@ module _ {H : Type 0} (c : Context) (outs tops : List ValType) where
         → types_of ops ≡ reverse s.params ++ tops → reverse outs ≡ reverse s.results ++ tops
         → types_of ls ≡ c.locals → types_of st.globals ≡ global_values c
         → Fits c outs (where_some (Trap cause.Table st) found
-        (λ entry. call_entry prog e s entry env ops ls st b))
+        (λ entry. call_table_element prog e s entry env ops ls st b))
     call_place_fits s i None env ops ls st b less found h g l k = k
     call_place_fits s i (Some entry) env ops ls st b less found h g l k =
         call_entry_fits s i entry env ops ls st b less found h g l k

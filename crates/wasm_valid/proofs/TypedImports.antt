@@ -38,7 +38,8 @@ function_named m index name functions indices t rest zero s e =
     let same : t.index ≡ index = cc t.function in
     let typed : slice_get m.types index ≡ Some (import_type t.import) =
     subst (λ k. slice_get m.types k ≡ Some (import_type t.import)) same t.typed in
-    let callee : imported_callee (slice_get m.types index) name ≡ host_function (import_type t.import) t.import =
+    let callee : imported_callee (slice_get m.types index) name ≡ host_function (import_type t.import)
+    t.import =
     ap (λ o. imported_callee o name) typed ∙ ap (imported_callee (Some (import_type t.import))) t.named in
     record {
       named = record {

@@ -82,7 +82,8 @@ local_tee_suits i t tops ops ls page e h =
     (λ old. on_value Lacks ops
     (λ v ops. if same_value_type old v then Does (v ∷ ops) (slice_set ls i v) page else Lacks)) p.found
     (on_value_suits (t ∷ tops) (types_of ls) t tops ops _ h (λ v ops typed below.
-    holds_suits (t ∷ tops) (types_of ls) (same_value_type p.value v) (Does (v ∷ ops) (slice_set ls i v) page) Lacks
+    holds_suits (t ∷ tops) (types_of ls) (same_value_type p.value v) (Does (v ∷ ops) (slice_set ls i v) page)
+    Lacks
     (same_kinds p.value v (p.typed ∙ sym typed))
     (pushed t tops v ops typed below, types_set ls i t v e typed)))
 

@@ -8,12 +8,12 @@ use Rattle.w4_defs.specs.declared.value.ValType.{ValType}
 use Rattle.w4_defs.specs.declared.value.ValType.TheVariants.{I32}
 use Rattle.w4_defs.specs.Module.{Signature, Function}
 use Rattle.w4_defs.specs.Lookup.{global_types}
-use Rattle.w4_defs.specs.ValueTypes.{have_types}
-use Rattle.w4_defs.specs.Typing.{Context, with_label, result_types, body_context}
+use Rattle.w4_defs.specs.ValueTypes.{have_types, result_types}
+use Rattle.w4_defs.specs.Typing.{Context, with_label, body_context}
 use Rattle.w4_defs.specs.Outcome.{Store, Outcome, Falls, Branch, Returns, Trap, Spent, Stuck}
 use Rattle.w4_defs.specs.Control.{Next, on_i32, where_some, with_top, with_arguments, and_then, close, close_loop, leave}
 use Rattle.w4_defs.specs.Effects.{Effect, Does, Traps, Lacks}
-use Rattle.w4_defs.specs.Evaluation.{with_page, settle, settle_after}
+use Rattle.w4_defs.specs.Evaluation.{with_page, outcome_of_effect, outcome_after_units}
 use Rattle.w4_defs.specs.InstructionSoundness.{Suits}
 use Rattle.w4_defs.specs.RunLaws.{types_of, Within}
 use Rattle.w4_defs.proofs.Budgets.{AtMost}
@@ -167,14 +167,14 @@ module _ {H : Type 0} (c : Context) (outs : List ValType) where
 
   pub settle_fits : (types locals : List ValType) (f : Effect) (st : Store H) (b : ℕ) → Suits types locals f
       → reverse outs ≡ types → locals ≡ c.locals
-      → types_of st.globals ≡ global_values c → Fits c outs (settle f st b)
+      → types_of st.globals ≡ global_values c → Fits c outs (outcome_of_effect f st b)
   settle_fits types locals (Does ops ls page) st b h e l g = (h.0 ∙ sym e, h.1 ∙ l, g)
   settle_fits types locals (Traps cause) st b h e l g = g
   settle_fits types locals Lacks st b h e l g = h
 
   pub settle_after_fits : (units : ℕ) (types locals : List ValType) (f : Effect) (st : Store H) (b : ℕ)
       → Suits types locals f → reverse outs ≡ types → locals ≡ c.locals
-      → types_of st.globals ≡ global_values c → Fits c outs (settle_after units f st b)
+      → types_of st.globals ≡ global_values c → Fits c outs (outcome_after_units units f st b)
   settle_after_fits units types locals (Does ops ls page) st b h e l g =
       cond_fits (nat_lt b units) (Spent st) (Falls ops ls (with_page page st) (b - units)) (λ t. g)
       (λ t. (h.0 ∙ sym e, h.1 ∙ l, g))

@@ -31,13 +31,13 @@ own_found : (types : List Signature) (fs : List ℕ) (bs : List Function) (k ind
     → length fs ≡ length bs → slice_get fs k ≡ Some index → slice_get types index ≡ Some s
     → (f : Function) × (slice_get bs k ≡ Some f)
     × (slice_get (own_callees types fs bs) k ≡ Some (own_function (record { signature = s; function = f })))
-own_found types [] bs k index s even h t = absurd (cc h)
-own_found types (x ∷ fs) [] k index s even h t = absurd (omega (arith, even))
-own_found types (x ∷ fs) (f ∷ bs) zero index s even h t =
+own_found types [] bs k index s as_many_bodies h t = absurd (cc h)
+own_found types (x ∷ fs) [] k index s as_many_bodies h t = absurd (omega (arith, as_many_bodies))
+own_found types (x ∷ fs) (f ∷ bs) zero index s as_many_bodies h t =
     let same : index ≡ x = cc (sym h) in
     (f, refl, ap (λ o. Some (own_callee o f)) (subst (λ i. slice_get types i ≡ Some s) same t))
-own_found types (x ∷ fs) (f ∷ bs) (suc k) index s even h t =
-    own_found types fs bs k index s (omega (arith, even)) h t
+own_found types (x ∷ fs) (f ∷ bs) (suc k) index s as_many_bodies h t =
+    own_found types fs bs k index s (omega (arith, as_many_bodies)) h t
 
 body_typed : (m : WasmModule) (k index : ℕ) (s : Signature) (f : Function) → IsValid m
     → slice_get m.functions k ≡ Some index → slice_get m.types index ≡ Some s → slice_get m.bodies k ≡ Some f
@@ -61,9 +61,9 @@ body_zeros m k f h g =
 
 owns_named : (m : WasmModule) → profile_refusal m ≡ None → IsValid m → length m.functions ≡ length m.bodies
     → AllNamed m (own_callees m.types m.functions m.bodies) m.functions
-owns_named m profile valid even k s h =
+owns_named m profile valid as_many_bodies k s h =
     let p = then_some (λ index. slice_get m.types index) (slice_get m.functions k) s h in
-    let q = own_found m.types m.functions m.bodies k p.0 s even p.1 p.2 in
+    let q = own_found m.types m.functions m.bodies k p.0 s as_many_bodies p.1 p.2 in
     record {
       named = record {
         callee = own_function (record { signature = s; function = q.0 });
@@ -75,10 +75,10 @@ owns_named m profile valid even k s h =
 
 pub all_named : (m : WasmModule) → profile_refusal m ≡ None → IsValid m → length m.functions ≡ length m.bodies
     → AllNamed m (callees m) (function_indices m)
-all_named m profile valid even =
+all_named m profile valid as_many_bodies =
     imports_named m (own_callees m.types m.functions m.bodies) m.functions m.imports
     (no_cause m profile).imports
-    (owns_named m profile valid even)
+    (owns_named m profile valid as_many_bodies)
 
 -- ---- the table
 
@@ -135,17 +135,17 @@ has_signature m func valid less =
 
 -- ---- the program
 
-pub linked : {H : Type 0} (m : WasmModule) (out : HostFunctions H) → profile_refusal m ≡ None → IsValid m
-    → length m.functions ≡ length m.bodies → AnswersByType out → Linked m (program m out)
-linked m out profile valid even answers = record {
+pub linked : {H : Type 0} (m : WasmModule) (imports : HostFunctions H) → profile_refusal m ≡ None → IsValid m
+    → length m.functions ≡ length m.bodies → AnswersByType imports → Linked m (program m imports)
+linked m imports profile valid as_many_bodies answers = record {
   types = refl;
-  functions = all_named m profile valid even;
+  functions = all_named m profile valid as_many_bodies;
   entries = λ i func h.
       let less =
       filled_table m (empty_table m.tables) m.elements valid.0.elements
       (filled_empty (length (function_indices m)) m.tables) i func h in
       let p = has_signature m func valid less in
-      (all_named m profile valid even func p.0 p.1).named;
+      (all_named m profile valid as_many_bodies func p.0 p.1).named;
   answers = answers;
   one_table = valid.0.one_table;
 }

@@ -12,14 +12,14 @@ use Rattle.w4_defs.specs.declared.operation.Op.TheVariants as op
 use Rattle.w4_defs.specs.Tree.{Expr, done, plain, block, loop, if_then, if_else}
 use Rattle.w4_defs.specs.Module.{WasmModule}
 use Rattle.w4_defs.specs.Lookup.{signature_of, global_types, tables_of, memories_of}
-use Rattle.w4_defs.specs.ValueTypes.{result_arity}
-use Rattle.w4_defs.specs.OperandTypes.{arrow_if, gives, unary_type, memory_type}
-use Rattle.w4_defs.specs.Typing.{Context, with_label, result_types, HasType, OperationHasType, branches, calls, calls_indirectly, consumes, sets}
+use Rattle.w4_defs.specs.ValueTypes.{result_arity, result_types}
+use Rattle.w4_defs.specs.OperandTypes.{stack_type_if, gives, unary_type, memory_type}
+use Rattle.w4_defs.specs.Typing.{Context, with_label, HasType, OperationHasType, branches, calls, calls_indirectly, consumes, sets}
 use Rattle.w4_defs.specs.Outcome.{Store, Stuck}
 use Rattle.w4_defs.specs.Program.{Prog}
 use Rattle.w4_defs.specs.Control.{close}
 use Rattle.w4_defs.specs.Effects.{Does, local_get, local_set, local_tee, select, effect}
-use Rattle.w4_defs.specs.Evaluation.{Env, Evaluator, inside, further_units, settle, call, simple, act, eval}
+use Rattle.w4_defs.specs.Evaluation.{Env, Evaluator, inside, further_units, outcome_of_effect, call, simple, act, eval}
 use Rattle.w4_defs.specs.RunLaws.{types_of}
 use Rattle.w4_defs.proofs.PlainSound.{plain_sound}
 use Rattle.w4_defs.proofs.Budgets.{Keeps, simple_most, body_most, eval_keeps}
@@ -34,9 +34,9 @@ where_true : {A : Type 0} (b : Bool) (o : Option A) (x : A) → cond b o None �
 where_true true o x h = (refl, h)
 where_true false o x h = absurd (cc h)
 
-arrow_parts : (b : Bool) (x y a g : List ValType) → arrow_if b x y ≡ Some (a, g) → (x ≡ a) × (y ≡ g)
-arrow_parts true x y a g h = some_pair_parts x a y g h
-arrow_parts false x y a g h = absurd (cc h)
+stack_type_parts : (b : Bool) (x y a g : List ValType) → stack_type_if b x y ≡ Some (a, g) → (x ≡ a) × (y ≡ g)
+stack_type_parts true x y a g h = some_pair_parts x a y g h
+stack_type_parts false x y a g h = absurd (cc h)
 
 -- operands whose topmost types are written otherwise
 retyped : (ts a b tops : List ValType) → ts ≡ reverse a ++ tops → b ≡ a → ts ≡ reverse b ++ tops
@@ -62,7 +62,7 @@ module _ {H : Type 0} (c : Context) (prog : Prog H) (e : Evaluator H) (n : ℕ) 
       → memory_type (nat_lt 0 (length (memories_of c.within))) o ≡ Some (a, given)
       → types_of ops ≡ reverse a ++ tops → reverse outs ≡ reverse given ++ tops → types_of ls ≡ c.locals
       → types_of st.globals ≡ global_values c
-      → Fits c outs (settle (effect o ops ls st.page) st b)
+      → Fits c outs (outcome_of_effect (effect o ops ls st.page) st b)
   plain_fits o a given tops outs ops ls st b t h g l k =
       settle_fits c outs (reverse given ++ tops) (types_of ls) (effect o ops ls st.page) st b
       ((plain_sound (nat_lt 0 (length (memories_of c.within))) o
@@ -152,7 +152,7 @@ module _ {H : Type 0} (c : Context) (prog : Prog H) (e : Evaluator H) (n : ℕ) 
       (retyped (reverse outs) given (p.0.value ∷ []) tops g q.1) l k
   simple_fits (op.GlobalSet index) labels env a given tops outs ops ls st b less m t h g l k =
       let p = then_some sets (slice_get (global_types c.within) index) (a, given) t in
-      let q = arrow_parts p.0.mutable (p.0.value ∷ []) [] a given p.2 in
+      let q = stack_type_parts p.0.mutable (p.0.value ∷ []) [] a given p.2 in
       set_global_fits c outs index p.0 tops ops ls st b p.1
       (retyped (types_of ops) a (p.0.value ∷ []) tops h q.0) (retyped (reverse outs) given [] tops g q.1) l k
   simple_fits op.MemoryCopy labels env a given tops outs ops ls st b less m t h g l k =
@@ -178,7 +178,8 @@ module _ {H : Type 0} (c : Context) (prog : Prog H) (e : Evaluator H) (n : ℕ) 
         → Fits c outs (close (option_to_list r) ops (e rest env)
         (e inner (inside (result_arity r) env) [] ls st b))
     closed_fits r inner rest env ins outs ops ls st b less m t u h l k =
-        close_fits c outs r (reverse ins) b ops (e rest env) (e inner (inside (result_arity r) env) [] ls st b) h
+        close_fits c outs r (reverse ins) b ops (e rest env)
+        (e inner (inside (result_arity r) env) [] ls st b) h
         (body_most e n b keeps less inner (inside (result_arity r) env) [] ls st)
         (fits (with_label (result_types r) c) inner (inside (result_arity r) env) []
         (result_types r) [] ls st b less refl (inside_matches c env r m) t refl l k)

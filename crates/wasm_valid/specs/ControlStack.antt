@@ -6,7 +6,7 @@ use Rattle.w4_defs.specs.declared.value.ValType.{ValType}
 use Rattle.w4_defs.specs.declared.value.ValType.TheVariants.{I32}
 use Rattle.w4_defs.specs.declared.operation.Op.{Op}
 use Rattle.w4_defs.specs.declared.operation.Op.TheVariants.{BrIf, CallIndirect}
-use Rattle.w4_defs.specs.OperandTypes.{Arrow}
+use Rattle.w4_defs.specs.OperandTypes.{StackType}
 use Rattle.w4_defs.specs.Typing.{Context, only_type}
 use Rattle.w4_defs.specs.AbstractStack.{OperandType, AbstractStack, topmost, with_operands, stands, taken, passed, is_label, step}
 use Rattle.wasm_valid.specs.Pass.{OpenBlock, opened, with_stack, context, label_types, chosen_list, closed, blocks_after_entry}
@@ -76,7 +76,8 @@ block_of_frame f n ks =
 -- the open blocks of control frames, the innermost first, over operands from the top
 abbrev pub blocks_of_frames : List ControlFrame → List OperandType → List OpenBlock
 blocks_of_frames [] ks = []
-blocks_of_frames (f ∷ fs) ks = block_of_frame f (length ks - f.height) ks ∷ blocks_of_frames fs (drop (length ks - f.height) ks)
+blocks_of_frames (f ∷ fs) ks =
+    block_of_frame f (length ks - f.height) ks ∷ blocks_of_frames fs (drop (length ks - f.height) ks)
 
 abbrev pub all_frames : Option ControlFrame → List ControlFrame → List ControlFrame
 all_frames None outer = []
@@ -124,13 +125,13 @@ shared os (l ∷ labels) =
 -- ---- operations that take and give types
 
 -- the types of an operation that looks at no label and no table
-abbrev pub direct_type : Context → Op → Option Arrow
+abbrev pub direct_type : Context → Op → Option StackType
 direct_type c (BrIf label) = None
 direct_type c (CallIndirect signature table) = None
 direct_type c op = only_type c op
 
-abbrev pub after_arrow : Option Arrow → List OpenBlock → Option (List OpenBlock)
-after_arrow arrow os = at_top (λ s. option_and_then (passed s) arrow) os
+abbrev pub after_stack_type : Option StackType → List OpenBlock → Option (List OpenBlock)
+after_stack_type stack_type os = at_top (λ s. option_and_then (passed s) stack_type) os
 
 -- after a condition is taken
 abbrev pub with_condition : (AbstractStack → Option AbstractStack) → List OpenBlock → Option (List OpenBlock)

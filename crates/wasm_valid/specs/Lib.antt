@@ -10,6 +10,6 @@ pub mod Segments
 pub mod Instructions
 pub mod Ready
 pub mod ControlStack
-pub mod ArrowTypes
+pub mod StackTypes
 pub mod BodyEntries
 pub mod Untyped

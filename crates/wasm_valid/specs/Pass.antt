@@ -9,7 +9,8 @@ use Rattle.w4_defs.specs.declared.operation.Op.TheVariants.{Block, Loop, If, Els
 use Rattle.w4_defs.specs.Tree.{Mark, flat}
 use Rattle.w4_defs.specs.Flattening.{IsProper}
 use Rattle.w4_defs.specs.Module.{Signature, Function, WasmModule}
-use Rattle.w4_defs.specs.Typing.{Context, result_types, body_context}
+use Rattle.w4_defs.specs.Typing.{Context, body_context}
+use Rattle.w4_defs.specs.ValueTypes.{result_types}
 use Rattle.w4_defs.specs.AbstractStack.{AbstractStack, empty, stands, taken, given, step}
 use Rattle.wasm_valid.specs.AbstractStackLaw.{body_stands}
 
@@ -52,9 +53,11 @@ blocks_after_entry c (Block r end) labels o os = Some (opened (result_types r) (
 blocks_after_entry c (Loop r end) labels o os = Some (opened [] (result_types r) ∷ o ∷ os)
 blocks_after_entry c (If r None end) labels o os = opened_if r o os
 blocks_after_entry c (If r (Some other) end) labels o os = chosen_list (result_types r) o os
-blocks_after_entry c Else labels o os = cond (stands o.stack o.result) (Some (opened o.label o.result ∷ os)) None
+blocks_after_entry c Else labels o os =
+    cond (stands o.stack o.result) (Some (opened o.label o.result ∷ os)) None
 blocks_after_entry c End labels o os = closed o os
-blocks_after_entry c op labels o os = option_map (λ s. with_stack o s ∷ os) (step (context c (o ∷ os)) op labels o.stack)
+blocks_after_entry c op labels o os =
+    option_map (λ s. with_stack o s ∷ os) (step (context c (o ∷ os)) op labels o.stack)
 
 abbrev pub blocks_after : Context → List Mark → List OpenBlock → Option (List OpenBlock)
 blocks_after c [] os = Some os

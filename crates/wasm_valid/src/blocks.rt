@@ -3,8 +3,8 @@
 ghost use Rattle.std.specs.Prelude.{◌≡◌, IfOk, true};
 ghost use Rattle.wasm_valid.specs.ControlStack.{Becomes, chosen_on, closed_on, else_begun, finishes, on_top, with_block_begun, without_operands};
 
-use crate::arrows::one;
 use crate::control_stack::ControlStack;
+use crate::stack_types::one;
 use w4_defs::{OutOfMemory, ValType};
 
 /// The result says whether the control stack allows the step; where it doesn't, it is of no further use.
@@ -15,7 +15,8 @@ impl<'a> ControlStack<'a> {
         label: &'a [ValType],
         results: &'a [ValType],
     ) -> Result<bool, OutOfMemory>
-        ensures { IfOk result (λ went. Becomes went self.new (with_block_begun label.now results.now self.old)) }
+        ensures { IfOk result
+            (λ went. Becomes went self.new (with_block_begun label.now results.now self.old)) }
     {
         if !self.is_open() {
             return Ok(false);

@@ -3,7 +3,6 @@
 //! called.
 #![tactic(auto)]
 
-mod arrows;
 mod blocks;
 mod body;
 mod call;
@@ -28,6 +27,7 @@ mod scope;
 mod segments;
 mod signature;
 mod soundness;
+mod stack_types;
 mod steps;
 mod table;
 mod validation;

@@ -4,9 +4,9 @@ ghost use Rattle.std.specs.Prelude.{◌++◌, ◌≡◌, ◌∷◌, IfOk, None, 
 ghost use Rattle.w4_defs.specs.Lookup.{function_indices, global_types, local_types, memories_of, signature_of, tables_of};
 ghost use Rattle.w4_defs.specs.OperandTypes.{memory_type};
 ghost use Rattle.w4_defs.specs.Profile.{profile_refusal};
-ghost use Rattle.wasm_valid.specs.ArrowTypes.{shown};
+ghost use Rattle.wasm_valid.specs.StackTypes.{shown};
 
-use crate::arrows::{Arrow, table_arrow};
+use crate::stack_types::{StackType, table_stack_type};
 use std::alloc::Global;
 use std::marker::Model;
 use w4_defs::{FuncType, GlobalType, ImportKind, Locals, Op, OutOfMemory, ValType};
@@ -115,11 +115,11 @@ impl<'a> Scope<'a> {
     }
 
     /// The types of a memory or numeric instruction. Each module within the profile imports a memory.
-    pub fn table_arrow(&self, op: Op) -> Option<Arrow<'static>>
+    pub fn table_stack_type(&self, op: Op) -> Option<StackType<'static>>
         ensures { shown result ≡ memory_type (nat_lt 0 (length (memories_of self.now.within))) op }
     {
         let _code = self.code;
-        table_arrow(op)
+        table_stack_type(op)
     }
 
     /// A function type.

@@ -9,8 +9,8 @@ use wasm_tree::Host;
 /// module never lacks an operand, a local, a global, a label or a function, nor finds one of another type;
 /// and the globals have their types at its end, at a trap and when the budget is spent.
 pub fn runs_are_sound<H>()
-    ensures never_stuck { (out : HostFunctions H) → AnswersByType out → NeverStuck out }
-    ensures globals { (out : HostFunctions H) → AnswersByType out → KeepsGlobalTypes out }
+    ensures never_stuck { (imports : HostFunctions H) → AnswersByType imports → NeverStuck imports }
+    ensures globals { (imports : HostFunctions H) → AnswersByType imports → KeepsGlobalTypes imports }
 {}
 
 /// A run is sound with every implementation of `Host`.

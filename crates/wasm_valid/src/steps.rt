@@ -5,14 +5,14 @@ ghost use Rattle.w4_defs.specs.Lookup.{signature_of};
 ghost use Rattle.w4_defs.specs.OperandTypes.{gives, unary_type};
 ghost use Rattle.w4_defs.specs.AbstractStack.{after_branch, anything, selected};
 ghost use Rattle.w4_defs.specs.Typing.{branches, calls, consumes, only_type, sets};
-ghost use Rattle.wasm_valid.specs.ControlStack.{Becomes, after_arrow, after_entry, after_operation, at_top, chosen_if, direct_type, shared, with_condition};
+ghost use Rattle.wasm_valid.specs.ControlStack.{Becomes, after_stack_type, after_entry, after_operation, at_top, chosen_if, direct_type, shared, with_condition};
 ghost use Rattle.wasm_valid.specs.Pass.{label_types};
-ghost use Rattle.wasm_valid.specs.ArrowTypes.{shown};
+ghost use Rattle.wasm_valid.specs.StackTypes.{shown};
 
-use crate::arrows::{Arrow, one, result_types};
 use crate::control_stack::ControlStack;
 use crate::labels::common_label;
 use crate::scope::Scope;
+use crate::stack_types::{StackType, one, result_types};
 use w4_defs::{GlobalType, Op, OutOfMemory, ValType};
 
 /// The result says whether the control stack allows the step; where it doesn't, it is of no further use.
@@ -24,7 +24,8 @@ impl<'a> Scope<'a> {
         labels: &[u32],
         control: &mut ControlStack<'a>,
     ) -> Result<bool, OutOfMemory>
-        ensures { IfOk result (λ went. Becomes went control.new (after_entry self.now op labels.now control.old)) }
+        ensures { IfOk result
+            (λ went. Becomes went control.new (after_entry self.now op labels.now control.old)) }
     {
         match op {
             Op::Block { result: block, .. } => control.begin(
@@ -50,7 +51,8 @@ impl<'a> Scope<'a> {
         labels: &[u32],
         control: &mut ControlStack<'a>,
     ) -> Result<bool, OutOfMemory>
-        ensures { IfOk result (λ went. Becomes went control.new (after_operation self.now op labels.now control.old)) }
+        ensures { IfOk result
+            (λ went. Becomes went control.new (after_operation self.now op labels.now control.old)) }
     {
         match op {
             Op::Unreachable => Ok(never_reached(control)),
@@ -66,20 +68,21 @@ impl<'a> Scope<'a> {
     }
 
     fn pass(&self, op: Op, control: &mut ControlStack<'a>) -> Result<bool, OutOfMemory>
-        ensures { IfOk result (λ went. Becomes went control.new (after_arrow (direct_type self.now op) control.old)) }
+        ensures { IfOk result (λ went.
+            Becomes went control.new (after_stack_type (direct_type self.now op) control.old)) }
     {
-        match self.arrow(op) {
-            Some(arrow) => control.pass(arrow.takes, arrow.gives),
+        match self.stack_type(op) {
+            Some(stack_type) => control.pass(stack_type.takes, stack_type.gives),
             None => Ok(false),
         }
     }
 
     /// The types of an operation that looks at no label and no table.
-    fn arrow(&self, op: Op) -> Option<Arrow<'a>>
+    fn stack_type(&self, op: Op) -> Option<StackType<'a>>
         ensures { shown result ≡ direct_type self.now op }
     {
         match op {
-            Op::Nop => Some(Arrow {
+            Op::Nop => Some(StackType {
                 takes: &[],
                 gives: &[],
             }),
@@ -89,15 +92,15 @@ impl<'a> Scope<'a> {
             Op::LocalTee { index } => keeps(self.local(index)),
             Op::GlobalGet { index } => read(self.global(index)),
             Op::GlobalSet { index } => written(self.global(index)),
-            _ => self.table_arrow(op),
+            _ => self.table_stack_type(op),
         }
     }
 
-    fn call(&self, func: u32) -> Option<Arrow<'a>>
+    fn call(&self, func: u32) -> Option<StackType<'a>>
         ensures { shown result ≡ option_and_then calls (signature_of self.now.within func) }
     {
         match self.function(func) {
-            Some(signature) => Some(Arrow {
+            Some(signature) => Some(StackType {
                 takes: &signature.params,
                 gives: &signature.results,
             }),
@@ -113,7 +116,8 @@ impl<'a> Scope<'a> {
         control: &mut ControlStack<'a>,
     ) -> Result<bool, OutOfMemory>
         ensures { IfOk result (λ went.
-            Becomes went control.new (after_arrow (only_type self.now (Op.CallIndirect index table)) control.old)) }
+            Becomes went control.new
+            (after_stack_type (only_type self.now (Op.CallIndirect index table)) control.old)) }
     {
         if !self.has_table(table) {
             return Ok(false);
@@ -128,11 +132,11 @@ impl<'a> Scope<'a> {
     }
 }
 
-fn gives(block: Option<ValType>) -> Option<Arrow<'static>>
+fn gives(block: Option<ValType>) -> Option<StackType<'static>>
     ensures { shown result ≡ option_and_then gives block }
 {
     match block {
-        Some(block) => Some(Arrow {
+        Some(block) => Some(StackType {
             takes: &[],
             gives: one(block),
         }),
@@ -140,11 +144,11 @@ fn gives(block: Option<ValType>) -> Option<Arrow<'static>>
     }
 }
 
-fn takes(block: Option<ValType>) -> Option<Arrow<'static>>
+fn takes(block: Option<ValType>) -> Option<StackType<'static>>
     ensures { shown result ≡ option_and_then consumes block }
 {
     match block {
-        Some(block) => Some(Arrow {
+        Some(block) => Some(StackType {
             takes: one(block),
             gives: &[],
         }),
@@ -152,11 +156,11 @@ fn takes(block: Option<ValType>) -> Option<Arrow<'static>>
     }
 }
 
-fn keeps(block: Option<ValType>) -> Option<Arrow<'static>>
+fn keeps(block: Option<ValType>) -> Option<StackType<'static>>
     ensures { shown result ≡ option_and_then unary_type block }
 {
     match block {
-        Some(block) => Some(Arrow {
+        Some(block) => Some(StackType {
             takes: one(block),
             gives: one(block),
         }),
@@ -164,7 +168,7 @@ fn keeps(block: Option<ValType>) -> Option<Arrow<'static>>
     }
 }
 
-fn read(global: Option<GlobalType>) -> Option<Arrow<'static>>
+fn read(global: Option<GlobalType>) -> Option<StackType<'static>>
     ensures { shown result ≡ option_and_then (λ g. gives g.value) global }
 {
     match global {
@@ -173,7 +177,7 @@ fn read(global: Option<GlobalType>) -> Option<Arrow<'static>>
     }
 }
 
-fn written(global: Option<GlobalType>) -> Option<Arrow<'static>>
+fn written(global: Option<GlobalType>) -> Option<StackType<'static>>
     ensures { shown result ≡ option_and_then sets global }
 {
     match global {
@@ -223,7 +227,8 @@ fn branch(label: u32, control: &mut ControlStack) -> bool
 /// Takes the condition; the label's types are taken and given again.
 fn branch_if(label: u32, control: &mut ControlStack) -> Result<bool, OutOfMemory>
     ensures { IfOk result (λ went. Becomes went control.new
-        (after_arrow (option_and_then branches (slice_get (label_types control.old) label)) control.old)) }
+        (after_stack_type (option_and_then branches (slice_get (label_types control.old) label))
+        control.old)) }
 {
     let Some(types) = control.label(label) else {
         return Ok(false);

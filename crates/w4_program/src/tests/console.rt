@@ -1,7 +1,7 @@
 //! The console itself, between the bytes of a cart and the state that frames leave.
 
 ghost use Rattle.std.specs.Prelude.{◌≡◌, ◌<◌, IfOk};
-ghost use Rattle.w4_console.specs.UnderWay.{HasGlobals};
+ghost use Rattle.w4_defs.specs.State.{HasGlobals};
 
 use crate::cart::accept;
 use std::alloc::Global;

@@ -12,20 +12,30 @@ use Rattle.w4_blit.proofs.blit.blit_rows.Goals as goal
 
 pub loop-v-init : goal.loop-v-init
 loop-v-init c =
-    let f = cells_painter (with_snapshot c.args.page.now c.args.snapshot.now) c.args.picture.now (to_z w32 (of_z w32 c.args.x)) (to_z w32 (of_z w32 c.args.y)) in
+    let f = cells_painter (with_snapshot c.args.page.now c.args.snapshot.now) c.args.picture.now
+    (to_z w32 (of_z w32 c.args.x)) (to_z w32 (of_z w32 c.args.y)) in
     let columns = c.screen_part-left.result in
-    let rows = c.screen_part-top.result in
-    (paint_off c.args.page.now _ c.told-page c.fits-page (λ a b ha hb. boxed_no_row f columns.0 columns.1 rows.0 rows.0 a b (omega arith)), omega arith)
+    let rows = c.screen_part-top.result in (
+      paint_off c.args.page.now _ c.told-page c.fits-page
+          (λ a b ha hb. boxed_no_row f columns.0 columns.1 rows.0 rows.0 a b (omega arith)),
+      omega arith,
+    )
 
 pub loop-v-preserved : goal.loop-v-preserved
 loop-v-preserved c =
     let page = c.args.page.now in
     let snapshot = c.args.snapshot.now in
-    let f = cells_painter (with_snapshot page snapshot) c.args.picture.now (to_z w32 (of_z w32 c.args.x)) (to_z w32 (of_z w32 c.args.y)) in
-    let same : with_snapshot c.loop-v.page snapshot ≡ with_snapshot page snapshot = rw c.loop-v.invariant.0 (with_snapshot-paint page snapshot (clipped f c.screen_part-left.result.0 c.screen_part-left.result.1 c.screen_part-top.result.0 c.loop-v.v)) in (
+    let f = cells_painter (with_snapshot page snapshot) c.args.picture.now (to_z w32 (of_z w32 c.args.x))
+    (to_z w32 (of_z w32 c.args.y)) in
+    let same : with_snapshot c.loop-v.page snapshot ≡ with_snapshot page snapshot =
+    rw c.loop-v.invariant.0
+    (with_snapshot-paint page snapshot
+    (clipped f c.screen_part-left.result.0 c.screen_part-left.result.1 c.screen_part-top.result.0
+    c.loop-v.v)) in (
       rw (c.blit_row.ensures, same, c.loop-v.invariant.0)
           (paint_step page _ _ _ c.told-page
-          (λ a b ha hb. row_more f c.screen_part-left.result.0 c.screen_part-left.result.1 c.screen_part-top.result.0 c.loop-v.v a b c.loop-v.auto.v)),
+          (λ a b ha hb. row_more f c.screen_part-left.result.0 c.screen_part-left.result.1
+          c.screen_part-top.result.0 c.loop-v.v a b c.loop-v.auto.v)),
       omega arith,
     )
 
@@ -42,8 +52,11 @@ returns c =
     let before = simp (same_x, same_y) at c.loop-v.invariant.0 in
     before ∙ paint_ext c.args.page.now _ _ c.told-page (λ a b ha hb.
     boxed_down f left.0 left.1 top.0 top.1 c.loop-v.v a b c.loop-v-test.false c.loop-v.invariant.1
-    ∙ boxed_all f x (x +ℤ pos (width_on_screen picture)) y (y +ℤ pos (height_on_screen picture)) left.0 left.1 top.0 top.1 a b
+    ∙ boxed_all f x (x +ℤ pos (width_on_screen picture)) y (y +ℤ pos (height_on_screen picture)) left.0
+    left.1 top.0 top.1 a b
     (c.screen_part-left.ensures.first a ha ∙ ap (λ z. int_le z (pos a)) same_x)
-    (c.screen_part-left.ensures.end a ha ∙ ap (λ z. int_le (z +ℤ pos c.width_on_screen.result) (pos a)) same_x ∙ ap (λ n. int_le (x +ℤ pos n) (pos a)) c.width_on_screen.ensures)
+    (c.screen_part-left.ensures.end a ha ∙ ap (λ z. int_le (z +ℤ pos c.width_on_screen.result) (pos a))
+    same_x ∙ ap (λ n. int_le (x +ℤ pos n) (pos a)) c.width_on_screen.ensures)
     (c.screen_part-top.ensures.first b hb ∙ ap (λ z. int_le z (pos b)) same_y)
-    (c.screen_part-top.ensures.end b hb ∙ ap (λ z. int_le (z +ℤ pos c.height_on_screen.result) (pos b)) same_y ∙ ap (λ n. int_le (y +ℤ pos n) (pos b)) c.height_on_screen.ensures))
+    (c.screen_part-top.ensures.end b hb ∙ ap (λ z. int_le (z +ℤ pos c.height_on_screen.result) (pos b))
+    same_y ∙ ap (λ n. int_le (y +ℤ pos n) (pos b)) c.height_on_screen.ensures))

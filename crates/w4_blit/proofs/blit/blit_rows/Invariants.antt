@@ -7,5 +7,7 @@ use Rattle.w4_blit.proofs.blit.blit_rows.Given as goal
 
 abbrev pub invariant-loop-v : goal.invariant-loop-v
 invariant-loop-v l =
-    (l.page ≡ paint l.initial.page (clipped (cells_painter (with_snapshot l.initial.page l.snapshot) l.picture l.x l.y) l.left l.right l.top l.v))
+    (l.page ≡ paint l.initial.page
+    (clipped (cells_painter (with_snapshot l.initial.page l.snapshot) l.picture l.x l.y) l.left
+    l.right l.top l.v))
     × (l.v ≤ max l.top l.bottom)

@@ -5,5 +5,16 @@ use Rattle.w4_blit.proofs.blit.blit_sub.Goals as goal
 
 pub returns : goal.returns
 returns c =
-    rw (c.blit_rows.ensures, c.framebuffer-snapshot.ensures, with_snapshot-own c.args.page.now c.told-page, c.side-w.ensures, c.side-h.ensures)
-    (simp (to_z-of_z w32 c.args.x c.ranges.x, to_z-of_z w32 c.args.y c.ranges.y, to_z-of_z w32 c.args.w c.ranges.w, to_z-of_z w32 c.args.h c.ranges.h))
+    rw (
+      c.blit_rows.ensures,
+      c.framebuffer-snapshot.ensures,
+      with_snapshot-own c.args.page.now c.told-page,
+      c.side-w.ensures,
+      c.side-h.ensures,
+    )
+    (simp (
+      to_z-of_z w32 c.args.x c.ranges.x,
+      to_z-of_z w32 c.args.y c.ranges.y,
+      to_z-of_z w32 c.args.w c.ranges.w,
+      to_z-of_z w32 c.args.h c.ranges.h,
+    ))

@@ -12,6 +12,8 @@ returns-clause-value c =
     let page = with_snapshot c.args.page.now c.args.snapshot.now in
     let p : ℕ → Bool = λ b. not (b == 0) in
     let full : length page ≡ 65536 = length-with_snapshot c.args.page.now c.args.snapshot.now ∙ c.told-page in
-    let none : prefix_len p (drop c.loop-at.at page) ≡ 0 = prefix_len-drop_all p page c.loop-at.at (omega arith) in
-    let count : prefix_len p (drop c.min-first.result page) ≡ 65536 - c.min-first.result = omega (arith, c.loop-at.invariant) in
+    let none : prefix_len p (drop c.loop-at.at page) ≡ 0 =
+    prefix_len-drop_all p page c.loop-at.at (omega arith) in
+    let count : prefix_len p (drop c.min-first.result page) ≡ 65536 - c.min-first.result =
+    omega (arith, c.loop-at.invariant) in
     passed_counted p page c.args.ptr c.min-first.result (65536 - c.min-first.result) full (omega arith) count

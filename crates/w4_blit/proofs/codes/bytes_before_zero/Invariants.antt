@@ -7,4 +7,5 @@ use Rattle.w4_blit.proofs.codes.bytes_before_zero.Given as goal
 
 abbrev pub invariant-loop-at : goal.invariant-loop-at
 invariant-loop-at l =
-    prefix_len (λ b. not (b == 0)) (drop l.first (with_snapshot l.page l.snapshot)) ≡ (l.at - l.first) + prefix_len (λ b. not (b == 0)) (drop l.at (with_snapshot l.page l.snapshot))
+    prefix_len (λ b. not (b == 0)) (drop l.first (with_snapshot l.page l.snapshot)) ≡ (l.at - l.first) +
+    prefix_len (λ b. not (b == 0)) (drop l.at (with_snapshot l.page l.snapshot))

@@ -9,5 +9,7 @@ returns-in-Utf16 c =
     let ptr : c.from-in-Utf16.result ≡ c.in-Utf16.ptr = c.from-in-Utf16.ensures in
     let within = rw c.in-Utf16.is at c.requires in
     rw (c.in-Utf16.is, c.from-in-Utf16-2.ensures, c.from-in-Utf16-3.ensures)
-    (unit_at page c.in-Utf16.ptr c.in-Utf16.len c.args.k c.source_byte-low.result c.source_byte-high.result within
-    (c.source_byte-low.ensures ∙ ap (λ p. get_or page (p + 2 * c.args.k) 0) ptr) (c.source_byte-high.ensures ∙ ap (λ p. get_or page ((p + 2 * c.args.k) + 1) 0) ptr))
+    (unit_at page c.in-Utf16.ptr c.in-Utf16.len c.args.k c.source_byte-low.result c.source_byte-high.result
+    within
+    (c.source_byte-low.ensures ∙ ap (λ p. get_or page (p + 2 * c.args.k) 0) ptr)
+    (c.source_byte-high.ensures ∙ ap (λ p. get_or page ((p + 2 * c.args.k) + 1) 0) ptr))

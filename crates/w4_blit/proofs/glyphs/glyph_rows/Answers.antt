@@ -10,8 +10,12 @@ pub loop-v-init : goal.loop-v-init
 loop-v-init c =
     let g = c.args.glyph in
     let f = bits_painter c.args.font.now g.colors g.code g.x g.y in
-    let top = c.on_screen-top.result in
-    (paint_off c.args.page.now _ c.told-page c.fits-page (λ a b ha hb. boxed_no_row f c.on_screen-left.result c.on_screen-right.result top top a b (omega arith)), omega arith)
+    let top = c.on_screen-top.result in (
+      paint_off c.args.page.now _ c.told-page c.fits-page
+          (λ a b ha hb. boxed_no_row f c.on_screen-left.result c.on_screen-right.result top top a b
+          (omega arith)),
+      omega arith,
+    )
 
 pub loop-v-preserved : goal.loop-v-preserved
 loop-v-preserved c =
@@ -19,7 +23,8 @@ loop-v-preserved c =
     let f = bits_painter c.args.font.now g.colors g.code g.x g.y in (
       rw (c.glyph_row.ensures, c.loop-v.invariant.0)
           (paint_step c.args.page.now _ _ _ c.told-page
-          (λ a b ha hb. row_more f c.on_screen-left.result c.on_screen-right.result c.on_screen-top.result c.loop-v.v a b c.loop-v.auto.v)),
+          (λ a b ha hb. row_more f c.on_screen-left.result c.on_screen-right.result c.on_screen-top.result
+          c.loop-v.v a b c.loop-v.auto.v)),
       omega arith,
     )
 

@@ -24,7 +24,9 @@ code_at-code-requires c =
     let snapshot = c.args.snapshot.now in
     let f : Painter = c.loop-k.invariant.painted.0 in
     let painted : c.loop-k.page ≡ paint c.args.page.now f = c.loop-k.invariant.painted.1 in
-    let same : with_snapshot c.loop-k.page snapshot ≡ with_snapshot c.args.page.now snapshot = ap (λ (p : List ℕ). with_snapshot p snapshot) painted ∙ with_snapshot-paint c.args.page.now snapshot f in
+    let same : with_snapshot c.loop-k.page snapshot ≡ with_snapshot c.args.page.now snapshot =
+    ap (λ (p : List ℕ). with_snapshot p snapshot) painted
+    ∙ with_snapshot-paint c.args.page.now snapshot f in
     rw same (omega (arith, c.code_count-count.ensures.value))
 
 pub loop-k-preserved : goal.loop-k-preserved
@@ -38,31 +40,47 @@ loop-k-preserved c =
     let left = to_z w64 (of_z w64 c.args.x) in
     let f : Painter = c.loop-k.invariant.painted.0 in
     let painted : c.loop-k.page ≡ paint c.args.page.now f = c.loop-k.invariant.painted.1 in
-    let same : with_snapshot c.loop-k.page snapshot ≡ page = ap (λ (p : List ℕ). with_snapshot p snapshot) painted ∙ with_snapshot-paint c.args.page.now snapshot f in
+    let same : with_snapshot c.loop-k.page snapshot ≡ page =
+    ap (λ (p : List ℕ). with_snapshot p snapshot) painted
+    ∙ with_snapshot-paint c.args.page.now snapshot f in
     let count : c.code_count-count.result ≡ length codes = c.code_count-count.ensures.value in
-    let code : c.code_at-code.result ≡ get_or codes k 0 = c.code_at-code.ensures ∙ ap (λ (p : List ℕ). get_or (text_codes p c.args.source) k 0) same in
+    let code : c.code_at-code.result ≡ get_or codes k 0 = c.code_at-code.ensures
+    ∙ ap (λ (p : List ℕ). get_or (text_codes p c.args.source) k 0) same in
     let below : k < length codes = omega arith in
-    let next : c.code_at-code.result ∷ drop (k + 1) codes ≡ drop k codes = ap (λ (n : ℕ). n ∷ drop (k + 1) codes) code ∙ sym (drop_more codes k 0 below) in
-    let size : length c.loop-k.page ≡ 65536 = ap length painted ∙ length-paint c.args.page.now f ∙ c.told-page in
+    let next : c.code_at-code.result ∷ drop (k + 1) codes ≡ drop k codes =
+    ap (λ (n : ℕ). n ∷ drop (k + 1) codes) code ∙ sym (drop_more codes k 0 below) in
+    let size : length c.loop-k.page ≡ 65536 = ap length painted ∙ length-paint c.args.page.now f
+    ∙ c.told-page in
     let glyph : Painter = glyph_painter font c.args.colors c.code_at-code.result pen.x pen.y in
     let column : to_z w64 (of_z w64 pen.x) ≡ pen.x = omega (arith, ints) in
     let row : to_z w64 (of_z w64 pen.y) ≡ pen.y = omega (arith, ints) in
     let put = simp (column, row) at c.put_glyph.ensures in
     record {
       rest = rw (put, c.moved-pen.ensures.column, c.moved-pen.ensures.row)
-          (code_first c.loop-k.page font c.args.colors c.code_at-code.result left pen.x pen.y (drop (k + 1) codes) size
-          ∙ ap (λ (cs : List ℕ). paint c.loop-k.page (codes_painter font c.args.colors left cs pen.x pen.y)) next
+          (code_first c.loop-k.page font c.args.colors c.code_at-code.result left pen.x pen.y
+          (drop (k + 1) codes) size
+          ∙ ap (λ (cs : List ℕ). paint c.loop-k.page (codes_painter font c.args.colors left cs pen.x pen.y))
+          next
           ∙ c.loop-k.invariant.rest);
-      painted = (over glyph f, put ∙ ap (λ (p : List ℕ). paint p glyph) painted ∙ paint-paint c.args.page.now f glyph c.told-page);
-      column = rw c.moved-pen.ensures.column (either_below c.code_at-code.result left (pen.x +ℤ pos 8) (2147483648 + 8 * (k + 1)) (omega (arith, ints)) (omega (arith, ints)));
-      row = rw c.moved-pen.ensures.row (either_below c.code_at-code.result (pen.y +ℤ pos 8) pen.y (2147483648 + 8 * (k + 1)) (omega (arith, ints)) (omega (arith, ints)));
+      painted = (
+        over glyph f,
+        put ∙ ap (λ (p : List ℕ). paint p glyph) painted
+            ∙ paint-paint c.args.page.now f glyph c.told-page,
+      );
+      column = rw c.moved-pen.ensures.column
+          (either_below c.code_at-code.result left (pen.x +ℤ pos 8) (2147483648 + 8 * (k + 1))
+          (omega (arith, ints)) (omega (arith, ints)));
+      row = rw c.moved-pen.ensures.row
+          (either_below c.code_at-code.result (pen.y +ℤ pos 8) pen.y (2147483648 + 8 * (k + 1))
+          (omega (arith, ints)) (omega (arith, ints)));
     }
 
 pub returns : goal.returns
 returns c =
     let page = with_snapshot c.args.page.now c.args.snapshot.now in
     let codes = text_codes page c.args.source in
-    let none : drop c.loop-k.k codes ≡ [] = drop_all c.loop-k.k codes (omega (arith, c.code_count-count.ensures.value)) in
+    let none : drop c.loop-k.k codes ≡ [] =
+    drop_all c.loop-k.k codes (omega (arith, c.code_count-count.ensures.value)) in
     let pen = c.loop-k.pen in
     let same_x : to_z w64 (of_z w64 c.args.x) ≡ c.args.x = to_z-of_z w64 c.args.x c.ranges.x in
     let same_y : to_z w64 (of_z w64 c.args.y) ≡ c.args.y = to_z-of_z w64 c.args.y c.ranges.y in
@@ -70,6 +88,8 @@ returns c =
     let f : Painter = c.loop-k.invariant.painted.0 in
     let painted : c.loop-k.page ≡ paint c.args.page.now f = c.loop-k.invariant.painted.1 in
     let nothing : Painter = codes_painter c.args.font.now c.args.colors c.args.x [] pen.x pen.y in
-    painted ∙ sym (paint_step c.args.page.now f nothing f c.told-page (λ u v hu hv. refl)) ∙ ap (λ (p : List ℕ). paint p nothing) (sym painted)
-    ∙ ap (λ (cs : List ℕ). paint c.loop-k.page (codes_painter c.args.font.now c.args.colors c.args.x cs pen.x pen.y)) (sym none)
+    painted ∙ sym (paint_step c.args.page.now f nothing f c.told-page (λ u v hu hv. refl))
+    ∙ ap (λ (p : List ℕ). paint p nothing) (sym painted)
+    ∙ ap (λ (cs : List ℕ). paint c.loop-k.page
+    (codes_painter c.args.font.now c.args.colors c.args.x cs pen.x pen.y)) (sym none)
     ∙ rest

@@ -7,8 +7,12 @@ use Rattle.w4_blit.proofs.texts.put_codes.Given as goal
 -- the codes that are left, painted from the pen, give the whole text
 abbrev pub invariant-loop-k : goal.invariant-loop-k
 invariant-loop-k l = record {
-  rest : paint l.page (codes_painter l.font l.colors l.x (drop l.k (text_codes (with_snapshot l.initial.page l.snapshot) l.source)) l.pen.x l.pen.y)
-      ≡ paint l.initial.page (codes_painter l.font l.colors l.x (text_codes (with_snapshot l.initial.page l.snapshot) l.source) l.x l.y);
+  rest : paint l.page
+      (codes_painter l.font l.colors l.x
+      (drop l.k (text_codes (with_snapshot l.initial.page l.snapshot) l.source)) l.pen.x l.pen.y)
+      ≡ paint l.initial.page
+      (codes_painter l.font l.colors l.x
+      (text_codes (with_snapshot l.initial.page l.snapshot) l.source) l.x l.y);
   painted : (f : Painter) × (l.page ≡ paint l.initial.page f);
   column : l.pen.x ≤ℤ pos (2147483648 + 8 * l.k);
   row : l.pen.y ≤ℤ pos (2147483648 + 8 * l.k);

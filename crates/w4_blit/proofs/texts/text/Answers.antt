@@ -7,4 +7,10 @@ pub returns : goal.returns
 returns c =
     let column : to_z w64 (of_z w64 c.from.result) ≡ c.args.x = omega (arith, ints) in
     let row : to_z w64 (of_z w64 c.from-2.result) ≡ c.args.y = omega (arith, ints) in
-    rw (c.put_codes.ensures, c.framebuffer-snapshot.ensures, with_snapshot-own c.args.page.now c.told-page, column, row) refl
+    rw (
+      c.put_codes.ensures,
+      c.framebuffer-snapshot.ensures,
+      with_snapshot-own c.args.page.now c.told-page,
+      column,
+      row,
+    ) refl

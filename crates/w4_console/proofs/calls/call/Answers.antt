@@ -1,10 +1,11 @@
-use Rattle.std.proofs.Common.{◌≡◌, ap, map, ◌∙◌}
+use Rattle.std.proofs.Common.{◌≡◌, ap, ◌∙◌}
 use Rattle.std.proofs.lemmas.List.{with_items_is}
 use Rattle.std.specs.Vec.{with_items}
+use Rattle.w4_defs.specs.Lookup.{own_global_types}
 use Rattle.w4_defs.specs.Outcome.{Store}
 use Rattle.w4_defs.specs.RunLaws.{types_of}
-use Rattle.w4_defs.specs.State.{Board, State, Underway}
-use Rattle.w4_console.specs.UnderWay.{so_far}
+use Rattle.w4_defs.specs.State.{Board, State, LoggedState}
+use Rattle.w4_console.specs.ConsoleCalls.{so_far}
 use Rattle.w4_console.proofs.CallLaws.{called, still_runs}
 use Rattle.w4_console.proofs.GlobalLaws.{as_long}
 use Rattle.w4_console.proofs.calls.call.Goals as goal
@@ -14,7 +15,7 @@ handed : (c : goal.After-rest_after) → c.deref_mut.result.now ≡ c.board_of-b
 handed c = c.deref_mut.ensures.value ∙ ap (λ (s : State). s.globals) c.state.view_is
 
 first_types : (c : goal.After-rest_after)
-    → types_of c.deref_mut.result.now ≡ map (λ g. g.global.value) c.args.cart.now.globals
+    → types_of c.deref_mut.result.now ≡ own_global_types c.args.cart.now
 first_types c =
     ap types_of (handed c) ∙ ap (λ (st : Store Board). types_of st.globals) c.board_of-board.ensures
     ∙ c.requires.globals
@@ -24,7 +25,7 @@ kept : (c : goal.After-rest_after)
 kept c =
     with_items_is c.state.inside.globals c.invoke-ending.new.globals
     (as_long c.invoke-ending.new.globals c.deref_mut.result.now
-    (map (λ g. g.global.value) c.args.cart.now.globals) c.invoke-ending.ensures.globals
+    (own_global_types c.args.cart.now) c.invoke-ending.ensures.globals
     (first_types c)
     ∙ c.deref_mut.ensures.len)
 
@@ -41,9 +42,9 @@ returns-clause-called c =
 pub returns-clause-running : goal.returns-clause-running
 returns-clause-running c =
     still_runs c.invoke-ending.result c.rest_after.result c.halt_after.result c.put_back.new.state.halt
-    c.rest_after.ensures c.halt_after.ensures (ap (λ (u : Underway). u.state.halt) c.put_back.ensures)
+    c.rest_after.ensures c.halt_after.ensures (ap (λ (u : LoggedState). u.state.halt) c.put_back.ensures)
 
 pub returns-clause-globals : goal.returns-clause-globals
 returns-clause-globals c =
-    ap (λ (u : Underway). types_of u.state.globals) c.put_back.ensures ∙ ap types_of (kept c)
+    ap (λ (u : LoggedState). types_of u.state.globals) c.put_back.ensures ∙ ap types_of (kept c)
     ∙ c.invoke-ending.ensures.globals

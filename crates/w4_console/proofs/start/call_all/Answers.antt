@@ -1,7 +1,7 @@
 use Rattle.std.proofs.Common.{ℕ, List, [], ◌∷◌, Option, codes}
 use Rattle.w4_defs.specs.EntryPoints.{exported_function}
 use Rattle.w4_defs.specs.Module.{WasmModule}
-use Rattle.w4_console.specs.UnderWay.{so_far}
+use Rattle.w4_console.specs.ConsoleCalls.{so_far}
 use Rattle.w4_console.proofs.CallLaws.{ends, goes_on, stops}
 use Rattle.w4_console.proofs.start.call_all.Goals as goal
 

@@ -6,7 +6,8 @@ use Rattle.w4_devices.proofs.format.formatted_line.Goals as goal
 pub loop-i-preserved-then-byte-ne37 : goal.loop-i-preserved-then-byte-ne37
 loop-i-preserved-then-byte-ne37 c = record {
   kept = cut_kept _ _ c.add.ensures;
-  rest = step_byte c.args.page.now c.args.format.now c.loop-i.line c.add.new.self c.loop-i.i c.loop-i.at c.loop-i-test.true c.if-byte-ne37.true c.add.ensures ∙ c.loop-i.invariant.rest;
+  rest = step_byte c.args.page.now c.args.format.now c.loop-i.line c.add.new.self c.loop-i.i c.loop-i.at
+      c.loop-i-test.true c.if-byte-ne37.true c.add.ensures ∙ c.loop-i.invariant.rest;
   within = omega arith;
   place = omega arith;
 }
@@ -14,12 +15,15 @@ loop-i-preserved-then-byte-ne37 c = record {
 pub loop-i-preserved-then-i-format : goal.loop-i-preserved-then-i-format
 loop-i-preserved-then-i-format c = record {
   kept = cut_kept _ _ c.show.ensures;
-  rest = step_place c.args.page.now c.args.format.now c.loop-i.line c.show.new.line c.loop-i.i c.loop-i.at c.argument_len-at.result c.if-i-format.true c.if-byte-ne37.false c.show.ensures c.argument_len-at.ensures.bytes ∙ c.loop-i.invariant.rest;
+  rest = step_place c.args.page.now c.args.format.now c.loop-i.line c.show.new.line c.loop-i.i c.loop-i.at
+      c.argument_len-at.result c.if-i-format.true c.if-byte-ne37.false c.show.ensures
+      c.argument_len-at.ensures.bytes ∙ c.loop-i.invariant.rest;
   within = omega arith;
   place = omega arith;
 }
 
 pub returns-then-is_full : goal.returns-then-is_full
 returns-then-is_full c =
-    sym (cut_full c.loop-i.line _ (eqb-true (length c.loop-i.line) 128 (sym c.is_full.ensures ∙ c.if-is_full.true)))
+    sym (cut_full c.loop-i.line _
+    (eqb-true (length c.loop-i.line) 128 (sym c.is_full.ensures ∙ c.if-is_full.true)))
     ∙ c.loop-i.invariant.rest

@@ -11,4 +11,5 @@ loop-q-preserved c = rw (c.put_part.ensures, c.loop-q.invariant)
     (paint_step c.args.page.now _ _ _ c.told-page (λ u v hu hv. grind (arith, nat_tests)))
 
 pub returns-else-first-end : goal.returns-else-first-end
-returns-else-first-end c = paint_off c.args.page.now _ c.told-page c.fits-page (λ u v hu hv. grind (arith, nat_tests))
+returns-else-first-end c =
+    paint_off c.args.page.now _ c.told-page c.fits-page (λ u v hu hv. grind (arith, nat_tests))

@@ -9,13 +9,16 @@ use Rattle.w4_pixels.proofs.runs.span.Goals.{else-y-ge0-via-then-y-ge0+else-y-lt
 
 pub returns-then-y-lt160 : goal.returns-then-y-lt160
 returns-then-y-lt160 c = c.put_span.ensures ∙ paint_ext c.args.page.now _ _ c.told-page (λ u v hu hv.
-    span_row c.args.x0 c.args.x1 c.args.y c.on_screen.result c.on_screen-then-y-lt160.result _ u v (Some c.args.index)
+    span_row c.args.x0 c.args.x1 c.args.y c.on_screen.result c.on_screen-then-y-lt160.result _ u v
+    (Some c.args.index)
     (c.on_screen.ensures.same u hu ∙ ap (λ z. int_le z (pos u)) (to_z-of_z w64 c.args.x0 c.ranges.x0))
-    (c.on_screen-then-y-lt160.ensures.same u hu ∙ ap (λ z. int_le z (pos u)) (to_z-of_z w64 c.args.x1 c.ranges.x1))
+    (c.on_screen-then-y-lt160.ensures.same u hu
+    ∙ ap (λ z. int_le z (pos u)) (to_z-of_z w64 c.args.x1 c.ranges.x1))
     (omega (arith, ints)))
 
 pub returns-else-y-ge0 : goal.returns-else-y-ge0
-returns-else-y-ge0 c = paint_off c.args.page.now _ c.told-page c.fits-page (λ u v hu hv. elim c.else-y-ge0.branch [
-  | else-y-ge0-via-then-y-ge0+else-y-lt160 w ↦ grind (arith, ints, nat_tests)
-  | else-y-ge0-via-else-y-ge0 w ↦ grind (arith, ints, nat_tests)
-])
+returns-else-y-ge0 c =
+    paint_off c.args.page.now _ c.told-page c.fits-page (λ u v hu hv. elim c.else-y-ge0.branch [
+      | else-y-ge0-via-then-y-ge0+else-y-lt160 w ↦ grind (arith, ints, nat_tests)
+      | else-y-ge0-via-else-y-ge0 w ↦ grind (arith, ints, nat_tests)
+    ])

@@ -1,16 +1,16 @@
-use Rattle.std.proofs.Common.{◌∙◌, ap, sym, drop}
+use Rattle.std.proofs.Common.{◌∙◌, ap, drop}
 use Rattle.w4_house.proofs.WorldLaws.{printing_then}
-use Rattle.w4_program.specs.Answering.{Answered, answers}
+use Rattle.w4_program.specs.BuiltOrders.{BuiltAnswer, built_answers}
 use Rattle.w4_program.specs.Scenes.{scene_setup}
 use Rattle.w4_program.proofs.OwesLaws.{owes_nothing}
-use Rattle.w4_program.proofs.AnswerLaws.{past_end, answers-out-step, answers-inputs-step, answers-end}
+use Rattle.w4_program.proofs.AnswerLaws.{past_end, answers-out-step, answers-inputs-step, answers-end, answers-inputs-end}
 use Rattle.w4_program.proofs.carry.obey_all.Goals as goal
 
 pub loop-order-preserved : goal.loop-order-preserved
 loop-order-preserved g c =
     let setup = scene_setup c.args.scene.now in
     let disk = c.args.scene.now.disk.now in
-    let whole = answers setup disk c.args.inputs.now.items c.args.orders.now in
+    let whole = built_answers setup disk c.args.inputs.now.items c.args.orders.now in
     let before = g.H.House.world c.args.house.now in
     let now = g.H.House.world c.loop-order.house in
     let after = g.H.House.world c.obey_order.new.house in
@@ -34,13 +34,15 @@ returns-clause-out g c =
     answers-end setup disk c.loop-order.inputs.items c.args.orders.now c.loop-order.order-index
     c.loop-order-test.false in
     owes_nothing (g.H.House.world c.args.house.now) (g.H.House.world c.loop-order.house)
-    (answers setup disk c.loop-order.inputs.items (drop c.loop-order.order-index c.args.orders.now)).out
-    (answers setup disk c.args.inputs.now.items c.args.orders.now).out (ap (λ (a : Answered). a.out) end)
+    (built_answers setup disk c.loop-order.inputs.items (drop c.loop-order.order-index c.args.orders.now)).out
+    (built_answers setup disk c.args.inputs.now.items c.args.orders.now).out
+    (ap (λ (a : BuiltAnswer). a.out) end)
     c.loop-order.invariant.0
 
 pub returns-clause-inputs : goal.returns-clause-inputs
 returns-clause-inputs g c =
-    let end =
-    answers-end (scene_setup c.args.scene.now) c.args.scene.now.disk.now c.loop-order.inputs.items
-    c.args.orders.now c.loop-order.order-index c.loop-order-test.false in
-    sym (ap (λ (a : Answered). a.inputs) end) ∙ c.loop-order.invariant.1
+    let setup = scene_setup c.args.scene.now in
+    let disk = c.args.scene.now.disk.now in
+    answers-inputs-end setup disk c.loop-order.inputs.items c.args.orders.now c.loop-order.order-index
+    (built_answers setup disk c.args.inputs.now.items c.args.orders.now).inputs c.loop-order-test.false
+    c.loop-order.invariant.1

@@ -1,11 +1,11 @@
-use Rattle.w4_program.specs.Refusals.{Finished, manner_of}
+use Rattle.w4_program.specs.Endings.{AllWritten, manner_of}
 use Rattle.w4_program.specs.Output.{checked}
 use Rattle.w4_program.proofs.EndLaws.{ends_printed, prints_stopped}
 use Rattle.w4_program.proofs.commands.check.Goals as goal
 
 pub returns-in-Ok-clause-ends : goal.returns-in-Ok-clause-ends
 returns-in-Ok-clause-ends g c =
-    ends_printed (g.H.House.world c.args.house.now) (g.H.House.world c.print.new.house) Finished checked
+    ends_printed (g.H.House.world c.args.house.now) (g.H.House.world c.print.new.house) AllWritten checked
     c.print.ensures.rest.files c.in-Ok.ensures.out
 
 pub returns-in-Err-clause-ends : goal.returns-in-Err-clause-ends

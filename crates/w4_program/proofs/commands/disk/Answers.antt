@@ -1,5 +1,5 @@
 use Rattle.std.proofs.Common.{◌≡◌, ◌+◌, ◌-◌, subst, arith}
-use Rattle.w4_program.specs.Refusals.{manner_of}
+use Rattle.w4_program.specs.Endings.{manner_of}
 use Rattle.w4_program.specs.Output.{run_files_to, only_printed, place_texts_from, disk_output}
 use Rattle.w4_program.specs.declared.place_text.PlaceText.TheVariants as wanted
 use Rattle.w4_program.specs.Causes.{Prints}
@@ -11,7 +11,8 @@ pub returns-in-Err-clause-ends : goal.returns-in-Err-clause-ends
 unfolding disk_output
 returns-in-Err-clause-ends g c =
     ends_untold (g.H.House.world c.args.house.now) (g.H.House.world c.load_run_to.new.house)
-    (manner_of c.in-Err.status) (λ files. run_files_to c.args.file.now.digest (run_view c.args.names) c.args.place files)
+    (manner_of c.in-Err.status)
+    (λ files. run_files_to c.args.file.now.digest (run_view c.args.names) c.args.place files)
     (λ files p. only_printed (place_texts_from wanted.DiskBytes c.args.file.now.cart p c.args.place 1) files)
     c.in-Err.ensures.rest c.in-Err.ensures.gives
 
@@ -21,7 +22,8 @@ returns-in-Ok-clause-ends g c =
     let one : c.args.place + 1 - c.args.place ≡ 1 = omega arith in
     ends_texts (g.H.House.world c.args.house.now) (g.H.House.world c.load_run_to.new.house)
     (g.H.House.world c.write_run.new.house) (manner_of c.write_run.result)
-    (λ files. run_files_to c.args.file.now.digest (run_view c.args.names) c.args.place files) (played_view c.in-Ok.run')
+    (λ files. run_files_to c.args.file.now.digest (run_view c.args.names) c.args.place files)
+    (played_view c.in-Ok.run')
     (λ p. place_texts_from wanted.DiskBytes c.args.file.now.cart p c.args.place 1) c.in-Ok.ensures.rest
     c.write_run.ensures.rest c.in-Ok.ensures.gives
     (subst

@@ -1,4 +1,4 @@
-use Rattle.w4_program.specs.Refusals.{manner_of}
+use Rattle.w4_program.specs.Endings.{manner_of}
 use Rattle.w4_program.specs.Output.{edit_files, edit_result, edit_output}
 use Rattle.w4_program.specs.Views.{cart_view, edit_view, loaded_view}
 use Rattle.w4_program.proofs.EndLaws.{ends_untold, ends_carried}

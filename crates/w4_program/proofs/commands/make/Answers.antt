@@ -3,6 +3,9 @@ use Rattle.w4_program.proofs.commands.make.Goals as goal
 pub returns-in-Check-clause-ends : goal.returns-in-Check-clause-ends
 returns-in-Check-clause-ends g c = rw c.in-Check.is c.check.ensures.ends
 
+pub returns-in-Blank-clause-ends : goal.returns-in-Blank-clause-ends
+returns-in-Blank-clause-ends g c = rw c.in-Blank.is c.blank.ensures.ends
+
 pub returns-in-Frames-clause-ends : goal.returns-in-Frames-clause-ends
 returns-in-Frames-clause-ends g c = rw c.in-Frames.is c.frames.ensures.ends
 
@@ -17,3 +20,6 @@ returns-in-Disk-clause-ends g c = rw c.in-Disk.is c.disk.ensures.ends
 
 pub returns-in-Edit-clause-ends : goal.returns-in-Edit-clause-ends
 returns-in-Edit-clause-ends g c = rw c.in-Edit.is c.edit.ensures.ends
+
+pub returns-in-Make-clause-ends : goal.returns-in-Make-clause-ends
+returns-in-Make-clause-ends g c = rw c.in-Make.is c.make_cart.ensures.ends

@@ -1,4 +1,4 @@
-use Rattle.w4_program.specs.Refusals.{manner_of}
+use Rattle.w4_program.specs.Endings.{manner_of}
 use Rattle.w4_program.specs.Output.{output_of}
 use Rattle.w4_program.specs.Views.{cart_view, form_view}
 use Rattle.w4_program.proofs.EndLaws.{ends_unjudged, ends_judged}

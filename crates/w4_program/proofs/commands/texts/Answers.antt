@@ -1,5 +1,5 @@
 use Rattle.std.proofs.Common.{◌≡◌, ◌+◌, ◌-◌, length, subst, arith}
-use Rattle.w4_program.specs.Refusals.{manner_of}
+use Rattle.w4_program.specs.Endings.{manner_of}
 use Rattle.w4_program.specs.Output.{run_files, only_printed, place_texts_from, texts_output}
 use Rattle.w4_program.specs.Causes.{Prints}
 use Rattle.w4_program.specs.Views.{run_view, played_view}
@@ -12,7 +12,8 @@ returns-in-Err-clause-ends g c =
     ends_untold (g.H.House.world c.args.house.now) (g.H.House.world c.load_run.new.house)
     (manner_of c.in-Err.status) (λ files. run_files c.args.file.now.digest (run_view c.args.names) files)
     (λ files p.
-    only_printed (place_texts_from c.args.wanted c.args.file.now.cart p 0 (length p.recording.frames + 1)) files)
+    only_printed (place_texts_from c.args.wanted c.args.file.now.cart p 0 (length p.recording.frames + 1))
+    files)
     c.in-Err.ensures.rest c.in-Err.ensures.gives
 
 pub returns-in-Ok-clause-ends : goal.returns-in-Ok-clause-ends

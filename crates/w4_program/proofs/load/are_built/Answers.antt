@@ -1,6 +1,6 @@
 use Rattle.std.proofs.Common.{sym, ◌∙◌}
 use Rattle.std.specs.List.{list_all}
-use Rattle.w4_program.specs.Output.{is_built}
+use Rattle.w4_program.specs.BuiltOrders.{is_built}
 use Rattle.w4_program.proofs.AnswerLaws.{past_end}
 use Rattle.w4_program.proofs.BuiltLaws.{built-goes_on, built-stops, built-ends}
 use Rattle.w4_program.proofs.load.are_built.Goals as goal

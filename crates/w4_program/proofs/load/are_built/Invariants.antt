@@ -1,6 +1,6 @@
 use Rattle.std.proofs.Common.{◌≡◌, drop}
 use Rattle.std.specs.List.{list_all}
-use Rattle.w4_program.specs.Output.{is_built}
+use Rattle.w4_program.specs.BuiltOrders.{is_built}
 use Rattle.w4_program.proofs.load.are_built.Given as goal
 
 abbrev pub invariant-loop-order : goal.invariant-loop-order

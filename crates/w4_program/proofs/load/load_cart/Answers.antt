@@ -1,6 +1,6 @@
 use Rattle.std.proofs.Common.{refl}
 use Rattle.std.proofs.lemmas.Result.{err_from_is_err_and}
-use Rattle.w4_program.specs.Refusals.{manner_of}
+use Rattle.w4_program.specs.Endings.{manner_of}
 use Rattle.w4_program.specs.Views.{cart_view}
 use Rattle.w4_program.proofs.CartLaws.{cart_unread, cart_given, cart_refused}
 use Rattle.w4_program.proofs.load.load_cart.Goals as goal
@@ -15,7 +15,8 @@ returns-in_err-bytes-clause-gives g c =
 pub returns-in-Ok-clause-gives : goal.returns-in-Ok-clause-gives
 returns-in-Ok-clause-gives g c =
     cart_given (g.H.House.world c.args.house.now) c.args.name.now c.in_ok-bytes.bytes.items
-    (cart_view c.in-Ok.file) c.in_ok-bytes.ensures.gives (rw (← c.as_slice.ensures.value) c.in-Ok.ensures.cart)
+    (cart_view c.in-Ok.file) c.in_ok-bytes.ensures.gives
+    (rw (← c.as_slice.ensures.value) c.in-Ok.ensures.cart)
     (rw (← c.as_slice.ensures.value) c.in-Ok.ensures.digest)
 
 pub returns-in-Err-Kind-clause-gives : goal.returns-in-Err-Kind-clause-gives

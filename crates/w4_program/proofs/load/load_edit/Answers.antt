@@ -1,7 +1,7 @@
 -- Each exit: what stopped this step stops the whole, after the step that went before it.
 use Rattle.std.proofs.Common.{Ok}
 use Rattle.std.proofs.lemmas.Result.{err_from_is_err_and}
-use Rattle.w4_program.specs.Refusals.{manner_of}
+use Rattle.w4_program.specs.Endings.{manner_of}
 use Rattle.w4_program.specs.Output.{◌>>=◌, run_files, orders_in, edit_files}
 use Rattle.w4_program.specs.Views.{run_view, played_view}
 use Rattle.w4_program.proofs.StepLaws.{stops_first, stops_later}
@@ -13,7 +13,8 @@ returns-in_err-run-clause-gives g c =
     let p = err_from_is_err_and c.from_residual.result c.from_residual.ensures.1 in
     rw (p.1, p.2)
     (stops_first (g.H.House.world c.args.house.now) (g.H.House.world c.load_run.new.house)
-    (manner_of c.in_err-run.field-0.0) (λ files. run_files c.args.digest.now (run_view c.args.names.run) files)
+    (manner_of c.in_err-run.field-0.0)
+    (λ files. run_files c.args.digest.now (run_view c.args.names.run) files)
     (λ files run. orders_in files c.args.names.script.now >>= λ orders.
     Ok (record { run = run; orders = orders }))
     c.in_err-run.ensures.gives)

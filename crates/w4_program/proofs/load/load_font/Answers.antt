@@ -1,5 +1,5 @@
 use Rattle.std.proofs.lemmas.Result.{err_from_is_err_and}
-use Rattle.w4_program.specs.Refusals.{manner_of}
+use Rattle.w4_program.specs.Endings.{manner_of}
 use Rattle.w4_program.specs.Output.{reading, font_of, font_in}
 use Rattle.w4_program.proofs.StepLaws.{stops_first, judged_by}
 use Rattle.w4_program.proofs.load.load_font.Goals as goal

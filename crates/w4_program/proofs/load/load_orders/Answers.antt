@@ -1,5 +1,5 @@
 use Rattle.std.proofs.lemmas.Result.{err_from_is_err_and}
-use Rattle.w4_program.specs.Refusals.{manner_of}
+use Rattle.w4_program.specs.Endings.{manner_of}
 use Rattle.w4_program.specs.Output.{reading, orders_of, orders_in}
 use Rattle.w4_program.proofs.StepLaws.{stops_first, judged_by}
 use Rattle.w4_program.proofs.load.load_orders.Goals as goal
@@ -19,4 +19,4 @@ returns-clause-gives g c =
     judged_by (g.H.House.world c.args.house.now) (g.H.House.world c.read_file.new.house)
     (λ orders. orders.items) c.judge_script.result orders_of 1048576 c.args.name.now
     c.in_ok-bytes.bytes.items c.in_ok-bytes.ensures.gives
-    (rw (← c.as_slice.ensures.value) c.judge_script.ensures)
+    (rw (← c.as_slice.ensures.value) c.judge_script.ensures.gives)

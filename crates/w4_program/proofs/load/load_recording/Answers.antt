@@ -1,5 +1,5 @@
 use Rattle.std.proofs.lemmas.Result.{err_from_is_err_and}
-use Rattle.w4_program.specs.Refusals.{manner_of}
+use Rattle.w4_program.specs.Endings.{manner_of}
 use Rattle.w4_program.specs.Output.{reading, cart_recording, recording_in}
 use Rattle.w4_program.proofs.StepLaws.{stops_first, judged_by}
 use Rattle.w4_program.proofs.load.load_recording.Goals as goal
@@ -17,5 +17,6 @@ pub returns-clause-gives : goal.returns-clause-gives
 unfolding recording_in
 returns-clause-gives g c =
     judged_by (g.H.House.world c.args.house.now) (g.H.House.world c.read_file.new.house)
-    (λ recording. recording) c.judge_recording.result (cart_recording c.args.digest.now) 361071 c.args.name.now c.in_ok-bytes.bytes.items
+    (λ recording. recording) c.judge_recording.result (cart_recording c.args.digest.now) 361071
+    c.args.name.now c.in_ok-bytes.bytes.items
     c.in_ok-bytes.ensures.gives (rw (← c.as_slice.ensures.value) c.judge_recording.ensures)

@@ -1,7 +1,7 @@
 -- Each exit: what stopped this step stops the whole, after the step that went before it.
 use Rattle.std.proofs.Common.{Ok}
 use Rattle.std.proofs.lemmas.Result.{err_from_is_err_and}
-use Rattle.w4_program.specs.Refusals.{manner_of}
+use Rattle.w4_program.specs.Endings.{manner_of}
 use Rattle.w4_program.specs.Output.{◌>>=◌, recording_in, font_in, run_files}
 use Rattle.w4_program.proofs.StepLaws.{stops_first, stops_later}
 use Rattle.w4_program.proofs.load.load_run.Goals as goal
@@ -12,7 +12,8 @@ returns-in_err-recording-clause-gives g c =
     let p = err_from_is_err_and c.from_residual.result c.from_residual.ensures.1 in
     rw (p.1, p.2)
     (stops_first (g.H.House.world c.args.house.now) (g.H.House.world c.load_recording.new.house)
-    (manner_of c.in_err-recording.field-0.0) (λ files. recording_in c.args.digest.now files c.args.names.recording.now)
+    (manner_of c.in_err-recording.field-0.0)
+    (λ files. recording_in c.args.digest.now files c.args.names.recording.now)
     (λ files recording. font_in files c.args.names.font.now >>= λ font.
     Ok (record { recording = recording; font = font }))
     c.in_err-recording.ensures.gives)

@@ -1,6 +1,7 @@
 use Rattle.std.proofs.Common.{Ok, Err, length, nat_le, if◌then◌else◌}
 use Rattle.std.proofs.lemmas.Result.{err_from_is_err_and}
-use Rattle.w4_program.specs.Refusals.{FrameRefused, manner_of}
+use Rattle.w4_program.specs.declared.status.Status.TheVariants.{FrameRefused}
+use Rattle.w4_program.specs.Endings.{manner_of}
 use Rattle.w4_program.specs.Output.{run_files, run_files_to}
 use Rattle.w4_program.specs.Views.{run_view}
 use Rattle.w4_program.proofs.StepLaws.{stops_first}

@@ -3,7 +3,7 @@ use Rattle.std.proofs.Common.{map, ◌∙◌, Result, string_bytes}
 use Rattle.w4_house.specs.World.{Files}
 use Rattle.w4_program.specs.declared.status.Status.TheVariants as status
 use Rattle.w4_program.specs.Lines.{status_line}
-use Rattle.w4_program.specs.Refusals.{Refusal}
+use Rattle.w4_program.specs.declared.status.Status.{Status}
 use Rattle.w4_program.specs.Output.{Output, Outputs}
 use Rattle.w4_program.specs.CartRuns.{CartRunsHaveMeaning}
 use Rattle.w4_program.proofs.CartLaws.{cart_runs}
@@ -18,7 +18,7 @@ returns g c =
     let new = g.H.House.world c.report.new.house in
     let result = c.report.result in
     let words = map string_bytes c.args.words.now in
-    let step : Files → Result Output Refusal → Type 0 =
+    let step : Files → Result Output Status → Type 0 =
     λ files made. Outputs words files made in
     let ends =
     ends_reported old mid new c.obey-status.result result step c.report.ensures.rest

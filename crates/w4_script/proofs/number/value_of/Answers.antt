@@ -6,14 +6,16 @@ pub returns-in_err-checked_mul : goal.returns-in_err-checked_mul
 returns-in_err-checked_mul c =
     let digit = c.if-not-is_ascii_digit.ensures.cases in
     c.from_residual.ensures
-    ∙ sym (past_limit c.loop-digit.value c.loop-digit.digit-index c.args.digits.now (omega arith) (omega (arith, digit)) (omega
+    ∙ sym (past_limit c.loop-digit.value c.loop-digit.digit-index c.args.digits.now (omega arith)
+    (omega (arith, digit)) (omega
     (arith, digit)) c.loop-digit.invariant.1 (omega (arith, digit)))
 
 pub returns-in_err-value : goal.returns-in_err-value
 returns-in_err-value c =
     let digit = c.if-not-is_ascii_digit.ensures.cases in
     c.from_residual-in_err-value.ensures
-    ∙ sym (past_limit c.loop-digit.value c.loop-digit.digit-index c.args.digits.now (omega arith) (omega (arith, digit)) (omega
+    ∙ sym (past_limit c.loop-digit.value c.loop-digit.digit-index c.args.digits.now (omega arith)
+    (omega (arith, digit)) (omega
     (arith, digit)) c.loop-digit.invariant.1 (omega (arith, digit)))
 
 pub returns : goal.returns

@@ -15,5 +15,20 @@ returns c =
     let after_top : to_z w64 (of_z w64 (a.top +ℤ pos 1)) ≡ a.top +ℤ pos 1 = omega (arith, ints) in
     let before_right : to_z w64 (of_z w64 (a.right -ℤ pos 1)) ≡ a.right -ℤ pos 1 = omega (arith, ints) in
     let before_bottom : to_z w64 (of_z w64 (a.bottom -ℤ pos 1)) ≡ a.bottom -ℤ pos 1 = omega (arith, ints) in
-    rw (c.fill-4.ensures, c.fill-3.ensures, c.fill-2.ensures, c.fill.ensures, left, right, top, bottom, after_left, after_top, before_right, before_bottom)
-    (four_painted a.page.now _ _ _ _ _ c.told-page (λ u v hu hv. four_sides a.left a.right a.top a.bottom u v a.index (omega (arith, ints)) (omega (arith, ints))))
+    rw (
+      c.fill-4.ensures,
+      c.fill-3.ensures,
+      c.fill-2.ensures,
+      c.fill.ensures,
+      left,
+      right,
+      top,
+      bottom,
+      after_left,
+      after_top,
+      before_right,
+      before_bottom,
+    )
+    (four_painted a.page.now _ _ _ _ _ c.told-page
+    (λ u v hu hv. four_sides a.left a.right a.top a.bottom u v a.index (omega (arith, ints))
+    (omega (arith, ints))))

@@ -15,13 +15,25 @@ returns-then-h-gt0 c =
     let h : to_z w64 (of_z w64 c.from-then-h-gt0.result) ≡ a.h = omega (arith, ints) in
     let right : to_z w64 (of_z w64 (a.x +ℤ a.w)) ≡ a.x +ℤ a.w = omega (arith, ints) in
     let bottom : to_z w64 (of_z w64 (a.y +ℤ a.h)) ≡ a.y +ℤ a.h = omega (arith, ints) in
-    rw (c.outline.ensures, c.fill.ensures, x, y, w, h, right, bottom, c.entry_of.ensures.value, c.entry_of-then-h-gt0.ensures.value)
+    rw (
+      c.outline.ensures,
+      c.fill.ensures,
+      x,
+      y,
+      w,
+      h,
+      right,
+      bottom,
+      c.entry_of.ensures.value,
+      c.entry_of-then-h-gt0.ensures.value,
+    )
     (paint-paint a.page.now _ _ c.told-page)
 
 pub returns-else-w-gt0 : goal.returns-else-w-gt0
 returns-else-w-gt0 c =
     let a = c.args in
-    paint_off a.page.now _ c.told-page c.fits-page (λ u v hu hv. outside_box _ _ _ _ (elim c.else-w-gt0.branch [
+    paint_off a.page.now _ c.told-page c.fits-page
+    (λ u v hu hv. outside_box _ _ _ _ (elim c.else-w-gt0.branch [
       | else-w-gt0-via-then-w-gt0+else-h-gt0 w ↦ no_rows a.x a.y a.w a.h u v (omega (arith, ints))
       | else-w-gt0-via-else-w-gt0 w ↦ no_columns a.x a.y a.w a.h u v (omega (arith, ints))
     ]))

@@ -15,4 +15,5 @@ returns c =
     let right : to_z w64 (of_z w64 (a.x +ℤ pos 1)) ≡ a.x +ℤ pos 1 = omega (arith, ints) in
     let below : to_z w64 (of_z w64 (a.y +ℤ a.len)) ≡ a.y +ℤ a.len = omega (arith, ints) in
     rw (c.fill.ensures, x, y, len, right, below, c.entry_of.ensures.value)
-    (paint_ext a.page.now _ _ c.told-page (λ u v hu hv. column_box a.x a.y (a.y +ℤ a.len) u v (palette_index a.colors 1)))
+    (paint_ext a.page.now _ _ c.told-page
+    (λ u v hu hv. column_box a.x a.y (a.y +ℤ a.len) u v (palette_index a.colors 1)))

@@ -9,7 +9,9 @@ use Rattle.w4_shapes.proofs.StepLaws.{steps_none, steps_more, steps_all}
 use Rattle.w4_shapes.proofs.lines.line_from.Goals as goal
 
 pub loop-step-init : goal.loop-step-init
-loop-step-init c = paint_off c.args.page.now _ c.told-page c.fits-page (λ u v hu hv. steps_none _ _ c.line_steps-first.result.0 u v c.args.index)
+loop-step-init c =
+    paint_off c.args.page.now _ c.told-page c.fits-page
+    (λ u v hu hv. steps_none _ _ c.line_steps-first.result.0 u v c.args.index)
 
 pub loop-step-preserved : goal.loop-step-preserved
 loop-step-preserved c =
@@ -22,20 +24,26 @@ loop-step-preserved c =
     let ys : ℕ → ℤ = λ t. toward y1 y2 (moved (apart y1 y2) (apart x1 x2) t) in
     let first = c.line_steps-first.result.0 in
     let step = c.loop-step.step in
-    let before : c.loop-step.page ≡ paint a.page.now (steps_painter xs ys first step a.index) = c.loop-step.invariant in
+    let before : c.loop-step.page ≡ paint a.page.now (steps_painter xs ys first step a.index) =
+    c.loop-step.invariant in
     let wide : c.distance-wide.result ≡ apart x1 x2 = c.distance-wide.ensures.value in
     let high : c.distance-high.result ≡ apart y1 y2 = c.distance-high.ensures.value in
     let x_bits : to_z w64 (of_z w64 c.axis_at-x.result) ≡ c.axis_at-x.result = omega (arith, ints) in
     let y_bits : to_z w64 (of_z w64 c.axis_at-y.result) ≡ c.axis_at-y.result = omega (arith, ints) in
     let x : c.axis_at-x.result ≡ xs step = c.axis_at-x.ensures
-    ∙ ap (λ k. toward x1 x2 (moved k c.distance-high.result step)) wide ∙ ap (λ k. toward x1 x2 (moved (apart x1 x2) k step)) high in
+    ∙ ap (λ k. toward x1 x2 (moved k c.distance-high.result step)) wide
+    ∙ ap (λ k. toward x1 x2 (moved (apart x1 x2) k step)) high in
     let y : c.axis_at-y.result ≡ ys step = c.axis_at-y.ensures
-    ∙ ap (λ k. toward y1 y2 (moved k c.distance-wide.result step)) high ∙ ap (λ k. toward y1 y2 (moved (apart y1 y2) k step)) wide in
-    let dotted : c.dot.new.page ≡ paint c.loop-step.page (point_painter (xs step) (ys step) a.index) = c.dot.ensures
-    ∙ ap (λ z. paint c.loop-step.page (point_painter z (to_z w64 (of_z w64 c.axis_at-y.result)) a.index)) (x_bits ∙ x)
+    ∙ ap (λ k. toward y1 y2 (moved k c.distance-wide.result step)) high
+    ∙ ap (λ k. toward y1 y2 (moved (apart y1 y2) k step)) wide in
+    let dotted : c.dot.new.page ≡ paint c.loop-step.page (point_painter (xs step) (ys step) a.index) =
+    c.dot.ensures
+    ∙ ap (λ z. paint c.loop-step.page (point_painter z (to_z w64 (of_z w64 c.axis_at-y.result)) a.index))
+    (x_bits ∙ x)
     ∙ ap (λ z. paint c.loop-step.page (point_painter (xs step) z a.index)) (y_bits ∙ y) in
     dotted ∙ ap (λ p. paint p (point_painter (xs step) (ys step) a.index)) before
-    ∙ paint_step a.page.now _ _ _ c.told-page (λ u v hu hv. steps_more xs ys first step u v a.index c.loop-step.auto.step)
+    ∙ paint_step a.page.now _ _ _ c.told-page
+    (λ u v hu hv. steps_more xs ys first step u v a.index c.loop-step.auto.step)
 
 pub returns : goal.returns
 returns c =
@@ -48,10 +56,18 @@ returns c =
     let ys : ℕ → ℤ = λ t. toward y1 y2 (moved (apart y1 y2) (apart x1 x2) t) in
     let first = c.line_steps-first.result.0 in
     let end = c.line_steps-first.result.1 in
-    let last : c.loop-step.step ≡ end = omega (arith, c.line_steps-first.ensures.order, c.loop-step.auto.step-end) in
-    let before : c.loop-step.page ≡ paint a.page.now (steps_painter xs ys first c.loop-step.step a.index) = c.loop-step.invariant in
+    let last : c.loop-step.step ≡ end =
+    omega (arith, c.line_steps-first.ensures.order, c.loop-step.auto.step-end) in
+    let before : c.loop-step.page ≡ paint a.page.now (steps_painter xs ys first c.loop-step.step a.index) =
+    c.loop-step.invariant in
     let whole : c.loop-step.page ≡ paint a.page.now (line_from x1 y1 x2 y2 a.index) =
     before ∙ ap (λ k. paint a.page.now (steps_painter xs ys first k a.index)) last
-    ∙ paint_ext a.page.now _ _ c.told-page (λ u v hu hv. steps_all xs ys first end _ u v a.index c.line_steps-first.ensures.bound
+    ∙ paint_ext a.page.now _ _ c.told-page
+    (λ u v hu hv. steps_all xs ys first end _ u v a.index c.line_steps-first.ensures.bound
     (λ t out ht. c.line_steps-first.ensures.off t u v hu hv out ht)) in
-    simp (to_z-of_z w32 a.x1 c.ranges.x1, to_z-of_z w32 a.y1 c.ranges.y1, to_z-of_z w32 a.x2 c.ranges.x2, to_z-of_z w32 a.y2 c.ranges.y2) at whole
+    simp (
+      to_z-of_z w32 a.x1 c.ranges.x1,
+      to_z-of_z w32 a.y1 c.ranges.y1,
+      to_z-of_z w32 a.x2 c.ranges.x2,
+      to_z-of_z w32 a.y2 c.ranges.y2,
+    ) at whole

@@ -6,5 +6,6 @@ use Rattle.w4_shapes.proofs.lines.line_from.Given as goal
 
 abbrev pub invariant-loop-step : goal.invariant-loop-step
 invariant-loop-step l = l.page ≡ paint l.initial.page (steps_painter
-    (λ t. toward l.x1 l.x2 (moved (apart l.x1 l.x2) (apart l.y1 l.y2) t)) (λ t. toward l.y1 l.y2 (moved (apart l.y1 l.y2) (apart l.x1 l.x2) t))
+    (λ t. toward l.x1 l.x2 (moved (apart l.x1 l.x2) (apart l.y1 l.y2) t))
+    (λ t. toward l.y1 l.y2 (moved (apart l.y1 l.y2) (apart l.x1 l.x2) t))
     l.first l.step l.index)

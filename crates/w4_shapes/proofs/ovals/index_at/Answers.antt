@@ -17,7 +17,8 @@ returns-then-j-from-clause-value c =
     let i : to_z w64 (of_z w64 (pos u -ℤ a.x)) ≡ pos u -ℤ a.x = omega (arith, ints) in
     let j : to_z w64 (of_z w64 (pos v -ℤ a.y)) ≡ pos v -ℤ a.y = omega (arith, ints) in
     rw (c.cell_index.ensures.value, x, y, column, row, i, j)
-    (kept _ _ (is_cell a.x (a.x +ℤ pos a.w) a.y (a.y +ℤ pos a.h) u v (omega (arith, ints)) (omega (arith, ints)) (omega (arith, ints)) (omega (arith, ints))))
+    (kept _ _ (is_cell a.x (a.x +ℤ pos a.w) a.y (a.y +ℤ pos a.h) u v (omega (arith, ints))
+    (omega (arith, ints)) (omega (arith, ints)) (omega (arith, ints))))
 
 pub returns-else-i-ge0-clause-value : goal.returns-else-i-ge0-clause-value
 returns-else-i-ge0-clause-value c =
@@ -25,8 +26,12 @@ returns-else-i-ge0-clause-value c =
     let u = c.args.u in
     let v = c.args.v in
     gone _ _ (elim c.else-i-ge0.branch [
-      | else-i-ge0-via-then-i-ge0+then-i-from+then-j-ge0+else-j-from w ↦ is_below a.x (a.x +ℤ pos a.w) a.y (a.y +ℤ pos a.h) u v (omega (arith, ints))
-      | else-i-ge0-via-then-i-ge0+then-i-from+else-j-ge0 w ↦ is_above a.x (a.x +ℤ pos a.w) a.y (a.y +ℤ pos a.h) u v (omega (arith, ints))
-      | else-i-ge0-via-then-i-ge0+else-i-from w ↦ is_right a.x (a.x +ℤ pos a.w) a.y (a.y +ℤ pos a.h) u v (omega (arith, ints))
-      | else-i-ge0-via-else-i-ge0 w ↦ is_left a.x (a.x +ℤ pos a.w) a.y (a.y +ℤ pos a.h) u v (omega (arith, ints))
+      | else-i-ge0-via-then-i-ge0+then-i-from+then-j-ge0+else-j-from w ↦ is_below a.x (a.x +ℤ pos a.w) a.y
+          (a.y +ℤ pos a.h) u v (omega (arith, ints))
+      | else-i-ge0-via-then-i-ge0+then-i-from+else-j-ge0 w ↦ is_above a.x (a.x +ℤ pos a.w) a.y
+          (a.y +ℤ pos a.h) u v (omega (arith, ints))
+      | else-i-ge0-via-then-i-ge0+else-i-from w ↦ is_right a.x (a.x +ℤ pos a.w) a.y (a.y +ℤ pos a.h) u v
+          (omega (arith, ints))
+      | else-i-ge0-via-else-i-ge0 w ↦ is_left a.x (a.x +ℤ pos a.w) a.y (a.y +ℤ pos a.h) u v
+          (omega (arith, ints))
     ])

@@ -12,4 +12,17 @@ returns c =
     let right : to_z w64 (of_z w64 (c.args.i +ℤ pos 1)) ≡ c.args.i +ℤ pos 1 = omega (arith, ints) in
     let above : to_z w64 (of_z w64 (c.args.j -ℤ pos 1)) ≡ c.args.j -ℤ pos 1 = omega (arith, ints) in
     let below : to_z w64 (of_z w64 (c.args.j +ℤ pos 1)) ≡ c.args.j +ℤ pos 1 = omega (arith, ints) in
-    rw (c.not_all.ensures, c.is_within-left.ensures, c.is_within-right.ensures, c.is_within-above.ensures, c.is_within-below.ensures, i, j, left, right, above, below) (refl {a = is_edge c.args.w c.args.h c.args.i c.args.j})
+    rw (
+      c.not_all.ensures,
+      c.is_within-left.ensures,
+      c.is_within-right.ensures,
+      c.is_within-above.ensures,
+      c.is_within-below.ensures,
+      i,
+      j,
+      left,
+      right,
+      above,
+      below,
+    )
+    (refl {a = is_edge c.args.w c.args.h c.args.i c.args.j})

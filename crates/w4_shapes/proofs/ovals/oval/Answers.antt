@@ -18,8 +18,10 @@ returns-then-h-gt0 c =
     let h : to_z w32 (of_z w32 a.h) ≡ a.h = to_z-of_z w32 a.h c.ranges.h in
     let wide : pos (unsigned_abs a.w) ≡ a.w = as_natural a.w (omega (arith, ints)) in
     let high : pos (unsigned_abs a.h) ≡ a.h = as_natural a.h (omega (arith, ints)) in
-    let painted : c.oval_rows.new.page ≡ paint a.page.now (oval_painter a.colors (to_z w32 (of_z w32 a.x)) (to_z w32 (of_z w32 a.y))
-    (pos (unsigned_abs (to_z w32 (of_z w32 a.w)))) (pos (unsigned_abs (to_z w32 (of_z w32 a.h))))) = c.oval_rows.ensures in
+    let painted : c.oval_rows.new.page ≡ paint a.page.now
+    (oval_painter a.colors (to_z w32 (of_z w32 a.x)) (to_z w32 (of_z w32 a.y))
+    (pos (unsigned_abs (to_z w32 (of_z w32 a.w)))) (pos (unsigned_abs (to_z w32 (of_z w32 a.h))))) =
+    c.oval_rows.ensures in
     rw (painted, x, y, w, h, wide, high) (refl {a = paint a.page.now (oval_painter a.colors a.x a.y a.w a.h)})
 
 pub returns-else-w-gt0 : goal.returns-else-w-gt0

@@ -5,4 +5,5 @@ use Rattle.w4_shapes.specs.OvalCells.{painter_of}
 use Rattle.w4_shapes.proofs.ovals.oval_rows.Given as goal
 
 abbrev pub invariant-loop-v : goal.invariant-loop-v
-invariant-loop-v l = (l.page ≡ paint l.initial.page (clipped (painter_of l.cells) l.left l.right l.top l.v)) × (l.v ≤ max l.top l.bottom)
+invariant-loop-v l = (l.page ≡ paint l.initial.page (clipped (painter_of l.cells) l.left l.right l.top l.v))
+    × (l.v ≤ max l.top l.bottom)

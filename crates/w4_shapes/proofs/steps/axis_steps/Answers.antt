@@ -11,4 +11,5 @@ returns-clause-off c = λ t u hu out ht.
       | inl below ↦ inl (subst (λ (z : ℤ). pos t <ℤ z) same (c.part.ensures.before t below))
       | inr above ↦ inr (subst (λ (z : ℤ). (z +ℤ pos 160) ≤ℤ pos t) same (c.part.ensures.after t above ht))
     ] in
-    simp (to_z-of_z w32 c.args.a c.ranges.a, to_z-of_z w32 c.args.b c.ranges.b) at (c.first_step.ensures.off t u hu beyond)
+    simp (to_z-of_z w32 c.args.a c.ranges.a, to_z-of_z w32 c.args.b c.ranges.b) at
+    (c.first_step.ensures.off t u hu beyond)

@@ -12,7 +12,9 @@ returns-then-imported c =
     let own = c.any-own.ensures ∙ ap (list_any (λ g. is_float g.global.value)) c.globals.ensures in
     let imported = c.any-imported.ensures ∙ ap (list_any (λ i. imports_float i.kind)) c.imports.ensures in
     c.if-imported.true ∙ sym (ap (λ b. b || c.any-own.result) c.if-imported.true)
-    ∙ ap (λ b. b || c.any-own.result) imported ∙ ap (λ b. list_any (λ i. imports_float i.kind) m.imports || b) own ∙ global_floats m.imports m.globals
+    ∙ ap (λ b. b || c.any-own.result) imported
+    ∙ ap (λ b. list_any (λ i. imports_float i.kind) m.imports || b) own
+    ∙ global_floats m.imports m.globals
 
 pub returns-else-imported : goal.returns-else-imported
 returns-else-imported c =
@@ -20,4 +22,6 @@ returns-else-imported c =
     let own = c.any-own.ensures ∙ ap (list_any (λ g. is_float g.global.value)) c.globals.ensures in
     let imported = c.any-imported.ensures ∙ ap (list_any (λ i. imports_float i.kind)) c.imports.ensures in
     sym (ap (λ b. b || c.any-own.result) c.if-imported.false)
-    ∙ ap (λ b. b || c.any-own.result) imported ∙ ap (λ b. list_any (λ i. imports_float i.kind) m.imports || b) own ∙ global_floats m.imports m.globals
+    ∙ ap (λ b. b || c.any-own.result) imported
+    ∙ ap (λ b. list_any (λ i. imports_float i.kind) m.imports || b) own
+    ∙ global_floats m.imports m.globals

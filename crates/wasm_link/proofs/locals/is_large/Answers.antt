@@ -10,6 +10,9 @@ returns c =
     let m = c.args.code.now in
     let func = c.args.func in
     let value = c.functions-functions.ensures.value in
-    let index = ap (λ xs. slice_get xs func) (sym value) ∙ slice_get-get_or c.functions-functions.result.now func 0 (omega (arith, c.requires, c.functions-functions.ensures.even, ap length value)) in
+    let index = ap (λ xs. slice_get xs func) (sym value)
+    ∙ slice_get-get_or c.functions-functions.result.now func 0
+    (omega (arith, c.requires, c.functions-functions.ensures.as_many_bodies, ap length value)) in
     zip_at m m.functions m.bodies func _ c.runs.result.now index c.runs.ensures
-    ∙ ap Some (ap (λ n. nat_lt 1024 (n + local_count c.runs.result.now)) (sym c.param_count.ensures) ∙ sym c.exceeds.ensures)
+    ∙ ap Some (ap (λ n. nat_lt 1024 (n + local_count c.runs.result.now)) (sym c.param_count.ensures)
+    ∙ sym c.exceeds.ensures)

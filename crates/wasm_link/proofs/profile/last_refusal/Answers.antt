@@ -24,4 +24,5 @@ returns c =
     let update = sym (c.any-2.ensures ∙ ap (list_any is_update) c.exports.ensures) in
     let entry = sym (c.any-3.ensures ∙ ap (list_any (is_wrong_entry m)) c.exports-2.ensures) in
     c.segment_refusal.ensures ∙ ap (option_map SegmentOutside) c.first_outside.ensures ∙ last _
-    ∙ passed _ _ _ (entry ∙ c.if-any.false) ∙ passed _ _ _ (ap not (update ∙ c.if-not-any-2.false)) ∙ passed _ _ _ (ap not (memory ∙ c.if-not-any.false))
+    ∙ passed _ _ _ (entry ∙ c.if-any.false) ∙ passed _ _ _ (ap not (update ∙ c.if-not-any-2.false))
+    ∙ passed _ _ _ (ap not (memory ∙ c.if-not-any.false))

@@ -5,7 +5,8 @@ use Rattle.wasm_link.proofs.SignatureLaws.{all_i32, another_length}
 use Rattle.wasm_link.proofs.signature.are_i32.Goals as goal
 
 pub returns-then-kinds-count : goal.returns-then-kinds-count
-returns-then-kinds-count c = ap not c.any.ensures ∙ all_i32 c.args.kinds.now c.args.count c.if-kinds-count.true
+returns-then-kinds-count c = ap not c.any.ensures
+    ∙ all_i32 c.args.kinds.now c.args.count c.if-kinds-count.true
 
 pub returns-else-kinds-count : goal.returns-else-kinds-count
 returns-else-kinds-count c =

@@ -105,7 +105,8 @@ returns-in-Br-clause-goes g c = leads_stepped _ _ _ _ _ _ _ _ _ _ _ _ _ _
     c.branch-label.ensures
 
 pub returns-in-Br-clause-grows : goal.returns-in-Br-clause-grows
-returns-in-Br-clause-grows g c = branch_few c.in-Br.label c.args.labels.now c.args.slots.now c.args.activation.now
+returns-in-Br-clause-grows g c =
+    branch_few c.in-Br.label c.args.labels.now c.args.slots.now c.args.activation.now
     c.args.rest c.branch-label.result c.branch-label.new.labels c.branch-label.new.slots
     c.branch-label.new.activation c.branch-label.ensures
 

@@ -7,9 +7,11 @@ use Rattle.wasm_machine.proofs.run.run.Given as goal
 
 abbrev pub invariant-steps : goal.invariant-steps
 invariant-steps g l =
-    Comes (program l.cart (host_functions g.H.Host.weight g.H.Host.effect)) (entries l.cart) l.start l.initial.activation
+    Comes (program l.cart (host_functions g.H.Host.weight g.H.Host.effect)) (entries l.cart) l.start
+    l.initial.activation
     l.initial.labels l.initial.slots
-    (store_with l.initial.page l.initial.globals l.initial.host) l.budget l.place l.activation l.labels l.slots
+    (store_with l.initial.page l.initial.globals l.initial.host) l.budget l.place l.activation l.labels
+    l.slots
     (store_with l.page l.globals l.host) l.rest
 
 abbrev pub decreases-steps : goal.decreases-steps

@@ -6,4 +6,5 @@ use Rattle.wasm_num.proofs.Rotations.{rotated_right}
 use Rattle.wasm_num.proofs.bits64.rotr64.Goals as goal
 
 pub returns : goal.returns
-returns c = c.rotate_right.ensures ∙ rotated_right 64 c.args.a (c.args.b % 64 % 64) (omega arith) c.ranges.a.fits ∙ ap (λ k. rotr 64 c.args.a k) (mod-mod c.args.b 64)
+returns c = c.rotate_right.ensures ∙ rotated_right 64 c.args.a (c.args.b % 64 % 64) (omega arith)
+    c.ranges.a.fits ∙ ap (λ k. rotr 64 c.args.a k) (mod-mod c.args.b 64)

@@ -5,4 +5,5 @@ use Rattle.wasm_num.proofs.LeadingZeros.{leading_zeros}
 use Rattle.wasm_num.proofs.bits64.unary64.Goals as goal
 
 pub returns-in-Clz : goal.returns-in-Clz
-returns-in-Clz c = c.from.ensures ∙ leading_zeros 64 c.args.a ∙ ap (λ op. unary 64 op c.args.a) (sym c.in-Clz.is)
+returns-in-Clz c = c.from.ensures ∙ leading_zeros 64 c.args.a
+    ∙ ap (λ op. unary 64 op c.args.a) (sym c.in-Clz.is)

@@ -8,9 +8,13 @@ use Rattle.wasm_read.proofs.expression.entries_at.Goals as goal
 
 pub returns-in_err-more : goal.returns-in_err-more
 returns-in_err-more c =
-    let left : length c.args.bytes.now - c.loop.counter ≡ suc (length c.args.bytes.now - (c.loop.counter + 1)) = omega arith in
+    let left : length c.args.bytes.now - c.loop.counter
+    ≡ suc (length c.args.bytes.now - (c.loop.counter + 1)) = omega arith in
     let p = err_from_is_err_and c.from_residual-in_err-more.result c.from_residual-in_err-more.ensures.1 in
-    rw (p.1, p.2) (refused (entry_at c.loop.rest.now ≡ None) (entries_at (length c.args.bytes.now) 1 c.args.bytes.now ≡ None) (entries_none c.loop.marks c.loop.depth _ _ c.loop.rest.now _ c.loop.invariant.more left) c.in_err-more.field-0.0 c.in_err-more.ensures)
+    rw (p.1, p.2) (refused (entry_at c.loop.rest.now ≡ None)
+    (entries_at (length c.args.bytes.now) 1 c.args.bytes.now ≡ None)
+    (entries_none c.loop.marks c.loop.depth _ _ c.loop.rest.now _ c.loop.invariant.more left)
+    c.in_err-more.field-0.0 c.in_err-more.ensures)
 
 pub loop-preserved : goal.loop-preserved
 loop-preserved c =
@@ -21,7 +25,8 @@ loop-preserved c =
     let left : length c.args.bytes.now - c.loop.counter ≡ suc count = omega arith in
     let depth = c.depth_after-depth.ensures in
     let after : List ℕ = c.in_ok-more.after.now in
-    let next = entries_more c.loop.marks m c.loop.depth _ count c.loop.rest.now after _ c.loop.invariant.more left h.1 (λ z. c.if-depth-eq0.false (depth ∙ z)) in
+    let next = entries_more c.loop.marks m c.loop.depth _ count c.loop.rest.now after _ c.loop.invariant.more
+    left h.1 (λ z. c.if-depth-eq0.false (depth ∙ z)) in
     record {
       few = omega (arith, depth, depth_at_most op c.loop.depth);
       more =

@@ -6,5 +6,6 @@ use Rattle.wasm_read.proofs.expression.entries_at.Given as goal
 abbrev pub invariant-loop : goal.invariant-loop
 invariant-loop l = record {
   few : l.depth ≤ l.counter + 1;
-  more : after_items l.marks (entries_at (length l.bytes - l.counter) l.depth l.rest) ≡ entries_at (length l.bytes) 1 l.bytes;
+  more : after_items l.marks (entries_at (length l.bytes - l.counter) l.depth l.rest) ≡ entries_at
+      (length l.bytes) 1 l.bytes;
 }

@@ -16,7 +16,7 @@ returns-in-Some c =
     let index =
     ap (λ xs. slice_get xs func) (sym value)
     ∙ slice_get-get_or c.functions.result.now func 0
-    (omega (arith, c.requires.body, c.functions.ensures.even, ap length value)) in
+    (omega (arith, c.requires.body, c.functions.ensures.as_many_bodies, ap length value)) in
     IfOk-weaker c.has_type.result
     (λ (r : Bool). option_map (body_stands m c.in-Some.signature.now) (slice_get m.bodies func) ≡ Some r)
     (λ r. IsTrue r ↔ IsTypedAt m func)
@@ -32,5 +32,5 @@ returns-in-None c =
     let index =
     ap (λ xs. slice_get xs func) (sym value)
     ∙ slice_get-get_or c.functions.result.now func 0
-    (omega (arith, c.requires.body, c.functions.ensures.even, ap length value)) in
+    (omega (arith, c.requires.body, c.functions.ensures.as_many_bodies, ap length value)) in
     untyped m func _ index (sym c.type_at.ensures ∙ ap (option_map (λ s. s.now)) c.in-None.is)

@@ -13,7 +13,8 @@ returns c =
     let s = c.args.signature.now in
     let func = c.args.func in
     IfOk-weaker c.goes_through.result
-    (λ (r : Bool). IsTrue r ↔ (blocks_after c.in_ok-scope.scope (body_entries m func) c.new-control.result ≡ Some []))
+    (λ (r : Bool). IsTrue r
+    ↔ (blocks_after c.in_ok-scope.scope (body_entries m func) c.new-control.result ≡ Some []))
     (λ r. option_map (body_stands m s) (slice_get m.bodies func) ≡ Some r)
     (λ r h. decided m s (slice_get m.bodies func) c.runs.result.now c.in_ok-scope.scope c.new-control.result r
     c.runs.ensures c.goes_through.ensures.proper

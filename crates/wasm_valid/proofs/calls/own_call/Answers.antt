@@ -72,5 +72,7 @@ returns c =
     c.own_type-signature.ensures c.runs.ensures c.body.ensures.value c.body.ensures.proper
     c.body_start.ensures.stands
     (c.number_of_type.ensures ∙ ap (λ ts. number_of_type ts s) c.types.ensures) params
-    c.local_count-zeros.ensures (gives_of c.is_empty.result (length s.results) (c.is_empty.ensures ∙ ap (λ n. nat_eq n 0) results) few)
+    c.local_count-zeros.ensures
+    (gives_of c.is_empty.result (length s.results)
+    (c.is_empty.ensures ∙ ap (λ n. nat_eq n 0) results) few)
     c.instruction_count-instructions.ensures refl

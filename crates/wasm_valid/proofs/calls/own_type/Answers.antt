@@ -8,7 +8,7 @@ bounds-types-functions c =
     omega (
       arith,
       ap length c.functions-functions.ensures.value,
-      c.functions-functions.ensures.even,
+      c.functions-functions.ensures.as_many_bodies,
       c.requires.within,
     ) in
     omega (
@@ -24,7 +24,7 @@ returns c =
     omega (
       arith,
       ap length c.functions-functions.ensures.value,
-      c.functions-functions.ensures.even,
+      c.functions-functions.ensures.as_many_bodies,
       c.requires.within,
     ) in
     let below : get_or c.functions-functions.result.now c.args.func 0 < length c.types.result.now =

@@ -5,4 +5,5 @@ use Rattle.wasm_valid.proofs.labels.all_have.Given as goal
 
 abbrev pub invariant-loop-i : goal.invariant-loop-i
 invariant-loop-i l =
-    all_have l.label (label_types l.control) (drop l.i l.labels) ≡ all_have l.label (label_types l.control) l.labels
+    all_have l.label (label_types l.control) (drop l.i l.labels) ≡ all_have l.label (label_types l.control)
+    l.labels

@@ -2,7 +2,7 @@ use Rattle.std.proofs.Common.{◌≡◌, Some, subst}
 use Rattle.w4_defs.specs.Board.{console_setup}
 use Rattle.w4_defs.specs.Frame.{frame}
 use Rattle.w4_defs.specs.State.{State}
-use Rattle.w4_console.specs.UnderWay.{moment, so_far}
+use Rattle.w4_console.specs.ConsoleCalls.{moment, so_far}
 use Rattle.w4_console.proofs.FrameLaws.{framed}
 use Rattle.w4_console.proofs.console.Console.frame.Goals as goal
 

@@ -6,5 +6,6 @@ pub returns : goal.returns
 returns c =
     c.append.ensures
     ∙ (ap (λ n. c.self.inside.bytes.items ++ take n c.args.bytes.now) c.min-count.ensures
-    ∙ (fits_cut 128 c.self.inside.bytes.items c.args.bytes.now c.remaining_capacity.result c.remaining_capacity.ensures
+    ∙ (fits_cut 128 c.self.inside.bytes.items c.args.bytes.now c.remaining_capacity.result
+    c.remaining_capacity.ensures
     ∙ ap (λ line. take 128 (line ++ c.args.bytes.now)) c.self.view_is))

@@ -4,7 +4,8 @@ use Rattle.w4_script.proofs.reading.LinesIterator.next.Given as goal
 
 abbrev pub invariant-loop-line : goal.invariant-loop-line
 invariant-loop-line l =
-    lines_from l.self.number (pieces 10 l.self.rest.now) ≡ lines_from l.fn.self.number (pieces 10 l.fn.self.rest.now)
+    lines_from l.self.number (pieces 10 l.self.rest.now) ≡ lines_from l.fn.self.number
+    (pieces 10 l.fn.self.rest.now)
 
 abbrev pub decreases-loop-line : goal.decreases-loop-line
 decreases-loop-line l = length l.self.rest.now

@@ -12,7 +12,8 @@ use Rattle.w4_snap.proofs.shared_page.SharedPage.new.Goals as goal
 pub loop-k-init : goal.loop-k-init
 loop-k-init g c = record {
   many = ap length c.in_ok-chunks.ensures.items;
-  long = All-same (λ chunk. length (rc_slice_items chunk) ≡ 1024) c.in_ok-chunks.chunks.items [] c.in_ok-chunks.ensures.items (All-nil _);
+  long = All-same (λ chunk. length (rc_slice_items chunk) ≡ 1024) c.in_ok-chunks.chunks.items []
+      c.in_ok-chunks.ensures.items (All-nil _);
   page = ap (flat_map rc_slice_items) c.in_ok-chunks.ensures.items;
   copied = sym (copied_none _ c.args.page.now);
   bound = omega arith;
@@ -24,15 +25,23 @@ loop-k-preserved g c =
     let chunk = c.in_ok-chunk.chunk in
     let chunks = c.loop-k.chunks.items in
     let pushed : c.push.new.self.items ≡ chunks ++ chunk ∷ [] = c.in_ok-push.ensures.items in
-    let long : length (rc_slice_items chunk) ≡ 1024 = ap length c.in_ok-chunk.ensures.bytes ∙ c.chunk_bytes.ensures.long in
-    let new : c.from-copied.result ≡ (if c.in_ok-chunk.is_new then 1 else 0) = c.from-copied.ensures ∙ number_of c.in_ok-chunk.is_new in
+    let long : length (rc_slice_items chunk) ≡ 1024 = ap length c.in_ok-chunk.ensures.bytes
+    ∙ c.chunk_bytes.ensures.long in
+    let new : c.from-copied.result ≡ (if c.in_ok-chunk.is_new then 1 else 0) = c.from-copied.ensures
+    ∙ number_of c.in_ok-chunk.is_new in
     record {
       many = ap length pushed ∙ (length_push chunks chunk ∙ ap (λ n. n + 1) c.loop-k.invariant.many);
-      long = All-same (λ chunk. length (rc_slice_items chunk) ≡ 1024) c.push.new.self.items (chunks ++ chunk ∷ []) pushed (All-push (λ chunk. length (rc_slice_items chunk) ≡ 1024) chunks chunk c.loop-k.invariant.long long);
+      long = All-same (λ chunk. length (rc_slice_items chunk) ≡ 1024) c.push.new.self.items
+          (chunks ++ chunk ∷ []) pushed
+          (All-push (λ chunk. length (rc_slice_items chunk) ≡ 1024) chunks chunk c.loop-k.invariant.long
+          long);
       page = ap (flat_map rc_slice_items) pushed ∙ (sym (flat_map_more rc_slice_items [] chunks chunk)
-          ∙ (ap₂ ◌++◌ c.loop-k.invariant.page (c.in_ok-chunk.ensures.bytes ∙ c.chunk_bytes.ensures.bytes) ∙ sym (first_more c.args.page.now c.loop-k.k)));
+          ∙ (ap₂ ◌++◌ c.loop-k.invariant.page (c.in_ok-chunk.ensures.bytes ∙ c.chunk_bytes.ensures.bytes)
+          ∙ sym (first_more c.args.page.now c.loop-k.k)));
       copied = ap₂ ◌+◌ c.loop-k.invariant.copied (new ∙ ap (λ b. if b then 1 else 0)
-          (c.in_ok-chunk.ensures.copied ∙ ap (λ bytes. is_copied (option_map (λ p. p.now) c.args.before) bytes c.loop-k.k) c.chunk_bytes.ensures.bytes))
+          (c.in_ok-chunk.ensures.copied
+          ∙ ap (λ bytes. is_copied (option_map (λ p. p.now) c.args.before) bytes c.loop-k.k)
+          c.chunk_bytes.ensures.bytes))
           ∙ sym (copied_more _ c.args.page.now c.loop-k.k);
       bound = bound_more _ _ _ c.in_ok-chunk.is_new c.loop-k.invariant.bound new;
       ticks = ticks_more _ _ _ _ _ _ c.loop-k.invariant.ticks c.in_ok-chunk.ensures.ticks new;

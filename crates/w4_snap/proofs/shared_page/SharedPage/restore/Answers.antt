@@ -11,11 +11,15 @@ loop-k-preserved c =
     let long : length c.copy_from_slice.new.self ≡ 1024 =
     ap length (c.copy_from_slice.ensures.after ∙ c.as_slice.ensures.value) ∙ c.chunk.ensures.long in
     record {
-      done = put_more c.loop-k.page c.args.self.now c.copy_from_slice.new.self c.loop-k.k _ (omega arith) long put c.loop-k.invariant.done;
-      long = put_long c.loop-k.page c.copy_from_slice.new.self c.loop-k.k _ (omega arith) (omega arith) long ∙ c.loop-k.invariant.long;
+      done = put_more c.loop-k.page c.args.self.now c.copy_from_slice.new.self c.loop-k.k _ (omega arith)
+          long put c.loop-k.invariant.done;
+      long = put_long c.loop-k.page c.copy_from_slice.new.self c.loop-k.k _ (omega arith) (omega arith) long
+          ∙ c.loop-k.invariant.long;
     }
 
 pub returns : goal.returns
 returns c =
-    let long : length c.args.self.now ≡ 65536 = ap length (sym c.self.view_is) ∙ pieces_are_page rc_slice_items c.self.inside.chunks.items c.self.invariant in
-    first_all c.loop-k.page c.args.self.now c.loop-k.k c.loop-k.invariant.long long (omega arith) c.loop-k.invariant.done
+    let long : length c.args.self.now ≡ 65536 = ap length (sym c.self.view_is)
+    ∙ pieces_are_page rc_slice_items c.self.inside.chunks.items c.self.invariant in
+    first_all c.loop-k.page c.args.self.now c.loop-k.k c.loop-k.invariant.long long (omega arith)
+    c.loop-k.invariant.done

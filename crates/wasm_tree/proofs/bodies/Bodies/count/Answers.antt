@@ -5,11 +5,18 @@ use Rattle.wasm_tree.proofs.bodies.Bodies.count.Goals as goal
 pub index-requires : goal.index-requires
 index-requires c =
     let fs = c.args.self.now in
-    omega (arith, c.requires, c.self.inside.places.ok, ap length (shown _ _ fs c.self.invariant c.self.view_is).2, placed_length 0 fs)
+    omega (
+      arith,
+      c.requires,
+      c.self.inside.places.ok,
+      ap length (shown _ _ fs c.self.invariant c.self.view_is).2,
+      placed_length 0 fs,
+    )
 
 pub returns : goal.returns
 returns c =
     let fs = c.args.self.now in
     let p = c.index.result.now in
-    let same = sym (c.behind-self.view_is ∙ c.index.ensures ∙ ap (λ ps. get_or ps c.args.func p) (shown _ _ fs c.self.invariant c.self.view_is).2) in
+    let same = sym (c.behind-self.view_is ∙ c.index.ensures
+    ∙ ap (λ ps. get_or ps c.args.func p) (shown _ _ fs c.self.invariant c.self.view_is).2) in
     (facts fs c.args.func p c.requires).count ∙ ap (λ q. Some q.count) same

@@ -10,17 +10,23 @@ start-start-requires c = index_small c.args.self.now c.args.func c.args.place c.
 pub place_among-at-requires : goal.place_among-at-requires
 place_among-at-requires c =
     let ms = c.marks-marks.result.now in
-    let s = stands_in _ c.args.self.now c.args.func c.start-start.result c.args.place c.start-start.ensures.stands c.marks-marks.ensures.proper c.requires in
+    let s = stands_in _ c.args.self.now c.args.func c.start-start.result c.args.place
+    c.start-start.ensures.stands c.marks-marks.ensures.proper c.requires in
     omega (arith, s.within, length_shown _ ms c.ops.ensures, ap length c.marks-marks.ensures.entries)
 
 pub labels-requires : goal.labels-requires
 labels-requires c =
     let ms = c.marks-marks.result.now in
-    let s = stands_in _ c.args.self.now c.args.func c.start-start.result c.args.place c.start-start.ensures.stands c.marks-marks.ensures.proper c.requires in
+    let s = stands_in _ c.args.self.now c.args.func c.start-start.result c.args.place
+    c.start-start.ensures.stands c.marks-marks.ensures.proper c.requires in
     omega (arith, s.within, c.place_among-at.ensures, ap length c.marks-marks.ensures.entries)
 
 pub returns : goal.returns
 returns c =
-    let s = stands_in _ c.args.self.now c.args.func c.start-start.result c.args.place c.start-start.ensures.stands c.marks-marks.ensures.proper c.requires in
+    let s = stands_in _ c.args.self.now c.args.func c.start-start.result c.args.place
+    c.start-start.ensures.stands c.marks-marks.ensures.proper c.requires in
     labels_found _ c.start-start.result c.args.place _ s c.labels.result.now
-    (ap (λ ms. option_map (λ m. m.1) (slice_get ms (c.start-start.result + c.args.place))) (sym c.marks-marks.ensures.entries) ∙ ap (λ at. option_map (λ m. m.1) (slice_get c.marks-marks.result.now at)) (sym c.place_among-at.ensures) ∙ c.labels.ensures)
+    (ap (λ ms. option_map (λ m. m.1) (slice_get ms (c.start-start.result + c.args.place)))
+    (sym c.marks-marks.ensures.entries)
+    ∙ ap (λ at. option_map (λ m. m.1) (slice_get c.marks-marks.result.now at))
+    (sym c.place_among-at.ensures) ∙ c.labels.ensures)

@@ -5,4 +5,10 @@ use Rattle.wasm_tree.proofs.bodies.Bodies.len.Goals as goal
 pub returns : goal.returns
 returns c =
     let fs = c.args.self.now in
-    omega (arith, c.len.ensures, c.self.inside.places.ok, ap length (shown _ _ fs c.self.invariant c.self.view_is).2, placed_length 0 fs)
+    omega (
+      arith,
+      c.len.ensures,
+      c.self.inside.places.ok,
+      ap length (shown _ _ fs c.self.invariant c.self.view_is).2,
+      placed_length 0 fs,
+    )

@@ -9,18 +9,28 @@ pub invariant_of-result : goal.invariant_of-result
 invariant_of-result c =
     let ms = c.self.inside.marks in
     let entries = c.marks-entries.ensures.entries ∙ ap (λ f. flat f.list) c.body.view_is in
-    let h = more ms c.in_ok-marks.marks _ c.push.new.self.items c.args.self c.args.body c.len-start.result c.len-count.result (shown _ _ c.args.self c.self.invariant c.self.view_is)
+    let h = more ms c.in_ok-marks.marks _ c.push.new.self.items c.args.self c.args.body c.len-start.result
+    c.len-count.result (shown _ _ c.args.self c.self.invariant c.self.view_is)
     (subst IsProper (ap (λ f. f.list) c.body.view_is) c.marks-entries.ensures.proper)
-    c.len-start.ensures (c.len-count.ensures ∙ ap length entries) (c.in_ok-marks.ensures ∙ ap (λ xs. ms ++ map (shifted_entry (length ms)) xs) entries)
-    (c.in_ok-push.ensures.items ∙ ap (λ f. c.self.inside.places.items ++ record { start = c.len-start.result; count = c.len-count.result; runs = f.runs } ∷ []) c.body.view_is) in
+    c.len-start.ensures (c.len-count.ensures ∙ ap length entries)
+    (c.in_ok-marks.ensures ∙ ap (λ xs. ms ++ map (shifted_entry (length ms)) xs) entries)
+    (c.in_ok-push.ensures.items
+    ∙ ap (λ f. c.self.inside.places.items
+    ++ record { start = c.len-start.result; count = c.len-count.result; runs = f.runs } ∷ [])
+    c.body.view_is) in
     (c.args.self ++ c.args.body ∷ [], h.0, h.1, h.2)
 
 pub returns : goal.returns
 returns c =
     let ms = c.self.inside.marks in
     let entries = c.marks-entries.ensures.entries ∙ ap (λ f. flat f.list) c.body.view_is in
-    let h = more ms c.in_ok-marks.marks _ c.push.new.self.items c.args.self c.args.body c.len-start.result c.len-count.result (shown _ _ c.args.self c.self.invariant c.self.view_is)
+    let h = more ms c.in_ok-marks.marks _ c.push.new.self.items c.args.self c.args.body c.len-start.result
+    c.len-count.result (shown _ _ c.args.self c.self.invariant c.self.view_is)
     (subst IsProper (ap (λ f. f.list) c.body.view_is) c.marks-entries.ensures.proper)
-    c.len-start.ensures (c.len-count.ensures ∙ ap length entries) (c.in_ok-marks.ensures ∙ ap (λ xs. ms ++ map (shifted_entry (length ms)) xs) entries)
-    (c.in_ok-push.ensures.items ∙ ap (λ f. c.self.inside.places.items ++ record { start = c.len-start.result; count = c.len-count.result; runs = f.runs } ∷ []) c.body.view_is) in
+    c.len-start.ensures (c.len-count.ensures ∙ ap length entries)
+    (c.in_ok-marks.ensures ∙ ap (λ xs. ms ++ map (shifted_entry (length ms)) xs) entries)
+    (c.in_ok-push.ensures.items
+    ∙ ap (λ f. c.self.inside.places.items
+    ++ record { start = c.len-start.result; count = c.len-count.result; runs = f.runs } ∷ [])
+    c.body.view_is) in
     lays _ _ (c.args.self ++ c.args.body ∷ []) h.0 h.1 h.2

@@ -32,5 +32,6 @@ returns c =
     (stretch ms place 0 0 c.requires).labels
     ∙ ap Some
     (sym (c.stretch.ensures
-    ∙ ap (λ xs. slice_range xs (get_or c.deref-2.result.now place 0) (get_or c.deref-2.result.now (place + 1) 0)) pool
+    ∙ ap (λ xs. slice_range xs (get_or c.deref-2.result.now place 0)
+    (get_or c.deref-2.result.now (place + 1) 0)) pool
     ∙ ap (λ bs. slice_range (pool_of ms) (get_or bs place 0) (get_or bs (place + 1) 0)) begins))

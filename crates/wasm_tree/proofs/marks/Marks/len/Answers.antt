@@ -5,4 +5,9 @@ use Rattle.wasm_tree.proofs.marks.Marks.len.Goals as goal
 pub returns : goal.returns
 returns c =
     let ms = c.args.self.now in
-    omega (arith, c.len.ensures, c.self.inside.ops.ok, length_shown _ ms (shown _ _ _ ms c.self.invariant c.self.view_is).0)
+    omega (
+      arith,
+      c.len.ensures,
+      c.self.inside.ops.ok,
+      length_shown _ ms (shown _ _ _ ms c.self.invariant c.self.view_is).0,
+    )

@@ -5,10 +5,16 @@ use Rattle.wasm_tree.proofs.marks.Marks.op.Goals as goal
 pub index-requires : goal.index-requires
 index-requires c =
     let ms = c.args.self.now in
-    omega (arith, c.requires, c.self.inside.ops.ok, length_shown _ ms (shown _ _ _ ms c.self.invariant c.self.view_is).0)
+    omega (
+      arith,
+      c.requires,
+      c.self.inside.ops.ok,
+      length_shown _ ms (shown _ _ _ ms c.self.invariant c.self.view_is).0,
+    )
 
 pub returns : goal.returns
 returns c =
     let ms = c.args.self.now in
     operation_at ms c.args.place c.index.result.now c.requires
-    (c.index.ensures ∙ ap (λ xs. get_or xs c.args.place c.index.result.now) (shown _ _ _ ms c.self.invariant c.self.view_is).0)
+    (c.index.ensures ∙ ap (λ xs. get_or xs c.args.place c.index.result.now)
+    (shown _ _ _ ms c.self.invariant c.self.view_is).0)

@@ -7,7 +7,9 @@ pub returns-in-Some : goal.returns-in-Some
 returns-in-Some c =
     let s = c.self.inside in
     left c.in-Some.frame s.outer.items _ _ s.operands.items _ c.truncate.ensures.items
-    (nested_base s.inner c.in-Some.frame s.outer.items (length s.operands.items) c.self.invariant c.in-Some.is)
+    (nested_base s.inner c.in-Some.frame s.outer.items (length s.operands.items) c.self.invariant
+    c.in-Some.is)
     c.pop-self-inside.ensures.items (λ h. c.pop-self-inside.ensures.variant.1 (omega (arith, h, s.outer.ok)))
-    ∙ ap (drop 1) (ap (λ i. blocks_of_frames (all_frames i s.outer.items) (reverse s.operands.items)) (sym c.in-Some.is)
+    ∙ ap (drop 1) (ap (λ i. blocks_of_frames (all_frames i s.outer.items) (reverse s.operands.items))
+    (sym c.in-Some.is)
     ∙ c.self.view_is)

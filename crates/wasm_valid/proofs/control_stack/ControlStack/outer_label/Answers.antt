@@ -12,7 +12,8 @@ returns-then-depth-len c =
     (omega (arith, c.if-depth-len.true, c.len.ensures, s.outer.ok))
     (omega (arith, c.len-then-depth-len.ensures, s.outer.ok)) c.index.ensures
     ∙ ap (λ os. slice_get (label_types os) (c.args.depth + 1))
-    (ap (λ i. blocks_of_frames (all_frames i s.outer.items) (reverse s.operands.items)) (sym c.in-Some.is) ∙ c.self.view_is)
+    (ap (λ i. blocks_of_frames (all_frames i s.outer.items) (reverse s.operands.items)) (sym c.in-Some.is)
+    ∙ c.self.view_is)
 
 pub returns-else-depth-len : goal.returns-else-depth-len
 returns-else-depth-len c =
@@ -20,4 +21,5 @@ returns-else-depth-len c =
     no_label c.in-Some.field-0 s.outer.items (reverse s.operands.items) c.args.depth
     (omega (arith, c.if-depth-len.false, c.len.ensures, s.outer.ok))
     ∙ ap (λ os. slice_get (label_types os) (c.args.depth + 1))
-    (ap (λ i. blocks_of_frames (all_frames i s.outer.items) (reverse s.operands.items)) (sym c.in-Some.is) ∙ c.self.view_is)
+    (ap (λ i. blocks_of_frames (all_frames i s.outer.items) (reverse s.operands.items)) (sym c.in-Some.is)
+    ∙ c.self.view_is)

@@ -7,10 +7,12 @@ use Rattle.wasm_valid.proofs.control_stack.ControlStack.pop.Goals as goal
 pub returns-then-frame-len : goal.returns-then-frame-len
 returns-then-frame-len c =
     let s = c.self.inside in
-    sym (ap popped (ap (λ i. blocks_of_frames (all_frames i s.outer.items) (reverse s.operands.items)) (sym c.in-Some.is)
+    sym (ap popped (ap (λ i. blocks_of_frames (all_frames i s.outer.items) (reverse s.operands.items))
+    (sym c.in-Some.is)
     ∙ c.self.view_is))
     ∙ popped_some c.in-Some.frame (reverse s.outer.items) s.operands.items c.pop.new.self.items c.pop.result
     (omega (arith, c.if-frame-len.true, c.len.ensures, s.operands.ok)) c.pop.ensures.items
     (c.pop.ensures.variant.1 (omega (arith, c.if-frame-len.true, c.len.ensures)))
-    ∙ ap (λ i. option_map (λ k. (k, blocks_of_frames (all_frames i s.outer.items) (reverse c.pop.new.self.items)))
+    ∙ ap (λ i. option_map
+    (λ k. (k, blocks_of_frames (all_frames i s.outer.items) (reverse c.pop.new.self.items)))
     c.pop.result) (sym c.in-Some.is)

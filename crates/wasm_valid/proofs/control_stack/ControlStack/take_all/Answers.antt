@@ -5,6 +5,7 @@ use Rattle.wasm_valid.proofs.control_stack.ControlStack.take_all.Goals as goal
 
 pub loop-i-preserved : goal.loop-i-preserved
 loop-i-preserved c =
-    taken_step c.args.operands.now c.loop-i.i I32 c.loop-i.self c.take.new.self c.take.result c.loop-i-test.true
+    taken_step c.args.operands.now c.loop-i.i I32 c.loop-i.self c.take.new.self c.take.result
+    c.loop-i-test.true
     c.take.ensures c.if-not-take.false
     ∙ c.loop-i.invariant

@@ -1,0 +1,48 @@
+-- What the calls of a reset or a frame come to: the state so far, and the logs that its record has so far.
+use Rattle.std.specs.Prelude.{◌≡◌, ℕ, List, ◌∷◌, Option, Some, None}
+use Rattle.w4_defs.specs.declared.console.Halt.{Halt}
+use Rattle.w4_defs.specs.declared.console.Halt.TheVariants.{Running, Trapped, Spent}
+use Rattle.w4_defs.specs.Board.{console, console_setup}
+use Rattle.w4_defs.specs.Evaluation.{run_entry}
+use Rattle.w4_defs.specs.Module.{WasmModule}
+use Rattle.w4_defs.specs.Reset.{call_all, store_of, then_on}
+use Rattle.w4_defs.specs.State.{State, Moment, LoggedState}
+use Rattle.w4_devices.specs.declared.frame_record.FrameRecord.{FrameRecord as Made}
+use Rattle.w4_devices.specs.Records.{record_of}
+use Rattle.wasm_machine.specs.declared.ending.Ending.{Ending}
+use Rattle.wasm_machine.specs.declared.ending.Ending.TheVariants as ending
+
+-- the state and the logs so far
+abbrev pub so_far : State → Made → LoggedState
+so_far state made = record { state = state; tones = made.tones; traces = made.traces }
+
+-- the state and the record at the end
+abbrev pub moment : State → Made → Moment
+moment state made = record { state = state; made = record_of made }
+
+-- whether the cart still runs after a call that ended so, and the rest of the budget where it does
+abbrev pub halt_after : Ending → Halt
+halt_after (ending.Done rest) = Running
+halt_after (ending.Trap cause) = Trapped cause
+halt_after ending.Spent = Spent
+
+abbrev pub rest_after : Ending → Option ℕ
+rest_after (ending.Done rest) = Some rest
+rest_after (ending.Trap cause) = None
+rest_after ending.Spent = None
+
+-- where a rest is left it goes on, and else this is the end
+abbrev pub gone_on : Option ℕ → LoggedState → (LoggedState → ℕ → Option LoggedState) → Option LoggedState
+gone_on (Some rest) now go = go now rest
+gone_on None now go = Some now
+
+-- a call of a function comes from one of these to the other
+abbrev pub IsCalled : WasmModule → List ℕ → ℕ → LoggedState → ℕ → Option ℕ → LoggedState → Type 0
+IsCalled cart font function now budget rest next = (go : LoggedState → ℕ → Option LoggedState)
+    → then_on (run_entry cart console function (store_of font now) budget) go ≡ gone_on rest next go
+
+-- a function, where there is one, is called before others
+abbrev pub IsCalledFirst : WasmModule → List ℕ → Option ℕ → LoggedState → ℕ → Option ℕ → LoggedState → Type 0
+IsCalledFirst cart font function now budget rest next = (functions : List (Option ℕ)) (whole : ℕ)
+    → call_all (console_setup cart font whole) (function ∷ functions) now budget
+    ≡ gone_on rest next (call_all (console_setup cart font whole) functions)

@@ -1,0 +1,30 @@
+use Rattle.std.proofs.Common.{subst, sym, refl}
+use Rattle.w4_defs.specs.KeptList.{IsConsistent}
+use Rattle.w4_editor.specs.Playing.{setup_of}
+use Rattle.w4_editor.specs.Editing.{Editing}
+use Rattle.w4_editor.specs.Showing.{CanKeep, IsPut}
+use Rattle.w4_editor.proofs.EditorLaws.{stays, put_consistent, view, is_put}
+use Rattle.w4_editor.proofs.editor.Editor.keep_shown.Goals as goal
+
+pub invariant_of-self-2 : goal.invariant_of-self-2
+invariant_of-self-2 c =
+    let inside = c.self.inside in
+    let can = subst (CanKeep c.args.p) (sym c.self.view_is) c.requires in
+    let setup = setup_of inside.player in
+    let put = put_consistent _ _ _ _ _ _ _ c.self.invariant c.args.p can.at can.fresh can.room can.linked
+    c.keep.ensures.globals in
+    stays _ _ _ _ _ _ _ c.self.invariant inside.player c.keep.new.kept.items inside.at refl
+    (subst (IsConsistent setup inside.recording.disk inside.recording.frames)
+    (sym c.in_ok-keep.ensures.ok) put)
+    c.self.invariant.shown
+
+pub returns-clause-ok : goal.returns-clause-ok
+returns-clause-ok c =
+    let inside = c.self.inside in
+    let can = subst (CanKeep c.args.p) (sym c.self.view_is) c.requires in
+    subst (λ (old : Editing). IsPut c.args.p old
+    (view inside.player inside.recording c.keep.new.kept.items inside.older inside.newer inside.at))
+    c.self.view_is
+    (is_put inside.player inside.recording inside.kept.items inside.older inside.newer inside.at
+    inside.reset_frame c.self.invariant c.args.p can.at can.fresh can.room c.keep.new.kept.items
+    c.in_ok-keep.ensures.ok)

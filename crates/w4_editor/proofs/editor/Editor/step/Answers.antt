@@ -1,0 +1,16 @@
+use Rattle.std.proofs.Common.{refl}
+use Rattle.w4_devices.specs.Records.{record_of}
+use Rattle.w4_editor.proofs.EditorLaws.{next_state}
+use Rattle.w4_editor.proofs.editor.Editor.step.Goals as goal
+
+pub returns : goal.returns
+returns g c = (
+  (refl, λ _. tt, (c.in_ok-go_on.ensures.ok, tt)),
+  record {
+    after = tt;
+    state = next_state (record_of c.go_on.new.made) c.args.self.now c.go_on.new.self c.state.result.now
+        c.in_ok-go_on.ensures.ok c.state.ensures;
+    ticks = c.in_ok-go_on.ensures.ticks;
+    refused = tt;
+  },
+)

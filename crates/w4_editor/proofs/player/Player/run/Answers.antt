@@ -1,0 +1,23 @@
+use Rattle.std.proofs.Common.{arith}
+use Rattle.w4_console.specs.ConsoleCalls.{moment}
+use Rattle.w4_editor.specs.Playing.{setup_of}
+use Rattle.w4_editor.proofs.PlayLaws.{fold_more, frame_of, still_in_state}
+use Rattle.w4_editor.proofs.player.Player.run.Goals as goal
+
+pub loop-input-preserved : goal.loop-input-preserved
+loop-input-preserved g c =
+    let first = c.args.self.now in
+    let now = c.loop-input.self in
+    let next = c.frame.new.self in
+    let i = c.loop-input.input-index in
+    let ticks = c.frame.ensures.ticks in
+    let so_far = c.loop-input.invariant in
+    let ticks_so_far = so_far.3 in (
+      fold_more (setup_of first) first.state now.state
+          (moment next.state c.frame.new.made) c.args.inputs.now i _
+          c.loop-input-test.true so_far.0
+          (frame_of first now _ (moment next.state c.frame.new.made) so_far.1 c.frame.ensures.frame),
+      still_in_state first now next so_far.1 c.frame.ensures.same,
+      c.frame.ensures.globals,
+      omega (arith, ticks, ticks_so_far),
+    )

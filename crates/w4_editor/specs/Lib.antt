@@ -1,0 +1,5 @@
+-- The words of the editor's clauses.
+pub mod Playing
+pub mod Settling
+pub mod Editing
+pub mod Showing

@@ -1,0 +1,56 @@
+-- Kept lists that are true of their inputs, whatever the reset says of the first entry, and one turn of
+-- settling.
+use Rattle.std.specs.Prelude.{◌≡◌, ◌≢◌, ℕ, ◌+◌, ◌≤◌, ◌<◌, true, List, length, slice_range, Some}
+use Rattle.w4_defs.specs.declared.console.Input.{Input}
+use Rattle.w4_defs.specs.State.{State, Moment, HasGlobals}
+use Rattle.w4_defs.specs.Reset.{Setup}
+use Rattle.w4_defs.specs.Run.{fold, run, run_state}
+use Rattle.w4_defs.specs.KeptList.{Entry, kept_entry_at, place_at, state_at, linked_at, computed, is_sure, IsConsistent, SamePlaces}
+
+-- places that rise within the inputs, states of the cart's types, and links that are true
+pub record AreTrue (setup : Setup) (inputs : List Input) (kept : List Entry) : Type 0 where
+  pub rising : (i : ℕ) → i + 1 < length kept → place_at kept i < place_at kept (i + 1)
+  pub within : (i : ℕ) → i < length kept → place_at kept i ≤ length inputs
+  pub globals : (i : ℕ) → i < length kept → HasGlobals setup.cart (state_at kept i)
+  pub links : (i : ℕ) → i + 1 < length kept → linked_at kept (i + 1) ≡ true
+      → computed setup inputs kept i ≡ Some (state_at kept (i + 1))
+
+-- the entries up to this one are linked
+abbrev pub AreLinked : ℕ → List Entry → Type 0
+AreLinked last kept = (i : ℕ) → i ≤ last → linked_at kept i ≡ true
+
+-- entry i + 1 is brought up to date: it has what the inputs make of entry i and is linked, and the entry
+-- after it
+-- stays linked if and only if the state is what it was
+pub record IsComputed (setup : Setup) (inputs : List Input) (i : ℕ) (old new : List Entry) : Type 0 where
+  pub places : SamePlaces old new
+  pub linked : linked_at new (i + 1) ≡ true
+  pub state : computed setup inputs old i ≡ Some (state_at new (i + 1))
+  pub globals : HasGlobals setup.cart (state_at new (i + 1))
+  pub next : linked_at new (i + 1 + 1) ≡ is_sure old new (i + 1)
+  pub next_state : state_at new (i + 1 + 1) ≡ state_at old (i + 1 + 1)
+  pub others : (k : ℕ) → k ≢ i + 1 → k ≢ i + 1 + 1 → kept_entry_at new k ≡ kept_entry_at old k
+
+-- the state at place P is what the inputs from entry i on make of its state
+abbrev pub ShowsFrom : Setup → List Input → List Entry → ℕ → ℕ → State → Type 0
+ShowsFrom setup inputs kept i p state =
+    fold setup (state_at kept i) (slice_range inputs (place_at kept i) p) ≡ Some state
+
+-- whatever the disk at the reset: a list that was consistent still is
+abbrev pub StaysConsistent : Setup → List Input → List Entry → List Entry → Type 0
+StaysConsistent setup inputs old new =
+    (disk : List ℕ) → IsConsistent setup disk inputs old → IsConsistent setup disk inputs new
+
+-- and where the list was consistent, the state is that of a run from reset
+abbrev pub IsOfRun : Setup → List Input → List Entry → ℕ → State → Type 0
+IsOfRun setup inputs kept p state =
+    (disk : List ℕ) → IsConsistent setup disk inputs kept → run_state setup disk inputs p ≡ Some state
+
+-- from the state of a run at place P to its next moment
+abbrev pub MovesOn : Setup → List Input → ℕ → State → Moment → Type 0
+MovesOn setup inputs p state next = (disk : List ℕ) →
+    run_state setup disk inputs p ≡ Some state → run setup disk inputs (p + 1) ≡ Some next
+
+-- the linked entry of place P with this state
+abbrev pub entry_of : ℕ → State → Entry
+entry_of p state = record { place = p; state = state; linked = true }

@@ -1,0 +1,77 @@
+-- What showing, stepping, keeping and settling do to an editor.
+use Rattle.std.specs.Prelude.{◌≡◌, ℕ, ◌+◌, ◌-◌, ◌≤◌, ◌<◌, ◌⊎◌, false, length, Option, Some, None, option_map, Ok}
+use Rattle.w4_defs.specs.declared.editing.EditRefusal.{EditRefusal}
+use Rattle.w4_defs.specs.declared.editing.EditRefusal.TheVariants.{OutOfMemory}
+use Rattle.w4_defs.specs.Run.{run, run_state}
+use Rattle.w4_defs.specs.Session.{is_kept, keep}
+use Rattle.w4_defs.specs.State.{State, Moment, FrameRecord}
+use Rattle.w4_defs.specs.KeptList.{kept_entries, place_at, state_at, SamePlaces, IsSettled, last_up_to, show_frames, settle_frames}
+use Rattle.w4_editor.specs.Settling.{AreLinked, entry_of}
+use Rattle.w4_editor.specs.Editing.{Editing, editing_setup, with_session}
+
+-- recording, history and kept places are unchanged; kept states and links may be newer
+pub record KeepsRecording (old new : Editing) : Type 0 where
+  pub same : new ≡ with_session old new.session new.at
+  pub inputs : new.session.current.inputs ≡ old.session.current.inputs
+  pub older : new.session.older ≡ old.session.older
+  pub newer : new.session.newer ≡ old.session.newer
+  pub places : SamePlaces old.session.current.kept new.session.current.kept
+
+-- a refusal has its cause; where there is none it is memory's
+abbrev pub IsRefusal : Option EditRefusal → EditRefusal → Type 0
+IsRefusal wanted refusal = (wanted ≡ Some refusal) ⊎ ((refusal ≡ OutOfMemory) × (wanted ≡ None))
+
+-- place P is shown. The frames that were run are those that had to be
+pub record IsShown (p before after : ℕ) (old new : Editing) : Type 0 where
+  pub recording : KeepsRecording old new
+  pub at : new.at ≡ Some p
+  pub settled : IsSettled
+      (last_up_to p old.session.current.kept) old.session.current.kept new.session.current.kept
+  pub frames : after ≤ before + show_frames p old.session.current.kept new.session.current.kept
+
+-- no place is shown, or the last one
+abbrev pub IsAtEnd : Editing → Type 0
+IsAtEnd e = (e.at ≡ None) ⊎ (e.at ≡ Some (length e.session.current.inputs))
+
+-- one place on: the session stays, and the record is that of the run
+pub record IsStepped (made : FrameRecord) (old new : Editing) : Type 0 where
+  pub place : ℕ
+  pub at : old.at ≡ Some place
+  pub within : place < length old.session.current.inputs
+  pub same : new ≡ with_session old old.session (Some (place + 1))
+  pub record_is : option_map (λ (moment : Moment). moment.made)
+      (run (editing_setup old) old.disk old.session.current.inputs (place + 1)) ≡ Some made
+
+-- all entries are linked. The frames that were run are those that had to be
+pub record IsAllSettled (before after : ℕ) (old new : Editing) : Type 0 where
+  pub recording : KeepsRecording old new
+  pub at : new.at ≡ None
+  pub settled : IsSettled
+      (length old.session.current.kept - 1) old.session.current.kept new.session.current.kept
+  pub frames : after ≤ before + settle_frames old.session.current.kept new.session.current.kept
+
+-- all kept states are those of a run from reset
+abbrev pub AreOfRun : Editing → Type 0
+AreOfRun e = (i : ℕ) → i < length e.session.current.kept →
+    run_state (editing_setup e) e.disk e.session.current.inputs (place_at e.session.current.kept i)
+    ≡ Some (state_at e.session.current.kept i)
+
+-- place P is shown and isn't kept, there is room for it, and the entries below it are linked
+pub record CanKeep (p : ℕ) (e : Editing) : Type 0 where
+  pub at : e.at ≡ Some p
+  pub fresh : is_kept kept_entries p e.session.current.kept ≡ false
+  pub room : length e.session.current.kept < 1024
+  pub linked : AreLinked (last_up_to p e.session.current.kept) e.session.current.kept
+
+-- the state of the run at place P is kept, and linked
+pub record IsPut (p : ℕ) (old new : Editing) : Type 0 where
+  pub state : State
+  pub of_run : run_state (editing_setup old) old.disk old.session.current.inputs p ≡ Some state
+  pub kept : keep kept_entries (entry_of p state) old.session ≡ Ok new.session
+  pub same : new ≡ with_session old new.session old.at
+
+-- place P is shown, and then kept
+pub record IsKeptAt (p before after : ℕ) (old new : Editing) : Type 0 where
+  pub shown : Editing
+  pub is_shown : IsShown p before after old shown
+  pub put : IsPut p shown new

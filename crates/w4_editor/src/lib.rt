@@ -1,0 +1,20 @@
+//! The editor of recordings (project rule): edits with undo and redo, kept places with links, and showing.
+//! The layers above rely on each call leaving the session of the definitions, on a shown state being that of
+//! a run from reset, and on how many frames a call runs.
+#![tactic(auto)]
+
+pub mod draft;
+pub mod editor;
+pub mod edits;
+pub mod history;
+pub mod kept;
+pub mod kept_list;
+pub mod player;
+pub mod playing;
+pub mod settling;
+pub mod showing;
+#[cfg(test)]
+mod tests;
+
+pub use editor::Editor;
+pub use w4_defs::EditRefusal;

@@ -1,0 +1,186 @@
+//! A console with its cart and its font, under one budget.
+
+ghost use Rattle.std.specs.Prelude.{◌≡◌, ◌+◌, ◌<◌, ◌≤◌, IfOk, length, Some};
+ghost use Rattle.w4_console.specs.ConsoleCalls.{moment};
+ghost use Rattle.w4_defs.specs.Frame.{frame};
+ghost use Rattle.w4_defs.specs.State.{HasGlobals};
+ghost use Rattle.w4_defs.specs.Reset.{reset};
+ghost use Rattle.w4_defs.specs.Run.{fold};
+ghost use Rattle.w4_editor.specs.Playing.{IsPlayer, in_state, setup_of};
+
+use std::alloc::Global;
+use std::marker::{Brand, Model};
+use std::rc::Rc;
+use std::sync::ledger::{Blank, Ledger};
+use w4_blit::Font;
+use w4_console::Console;
+use w4_defs::{Input, OutOfMemory, Steps};
+use w4_devices::FrameRecord;
+use w4_map::State;
+use w4_snap::{Snap, capture};
+use wasm_valid::Cart;
+
+/// Plays frames of a cart. A contract sees the cart, the font, the budget and the state.
+#[derive(Drop)]
+pub struct Player {
+    cart: Cart,
+    font: Font,
+    budget: u32,
+    console: Console,
+}
+
+impl Model for Player {
+    ghost use Rattle.std.specs.Coded.{codes};
+    ghost use Rattle.w4_defs.specs.TreeCode.{tree_code};
+    ghost use Rattle.w4_editor.specs.Playing.{IsPlayer, Player};
+
+    ghost Value = { Player };
+
+    ghost coded = { Prim.hlevel (codes, tree_code) };
+
+    ghost view = { λ p. record { cart = p.cart; font = p.font; budget = p.budget; state = p.console } };
+
+    ghost invariant = { λ p. IsPlayer
+        (record { cart = p.cart; font = p.font; budget = p.budget; state = p.console }) };
+}
+
+impl Player {
+    /// A player before any reset.
+    pub(crate) fn new(
+        alloc: Global,
+        cart: Cart,
+        font: Font,
+        budget: u32,
+    ) -> Result<Player, OutOfMemory>
+        requires { 1 ≤ budget }
+        ensures cart { IfOk result (λ player. player.cart ≡ cart) }
+        ensures font { IfOk result (λ player. player.font ≡ font) }
+        ensures budget { IfOk result (λ player. player.budget ≡ budget) }
+    {
+        let console = Console::new(alloc, &cart)?;
+        Ok(Player {
+            cart,
+            font,
+            budget,
+            console,
+        })
+    }
+
+    /// Starts the cart with this disk.
+    pub(crate) fn reset(&mut self, disk: &[u8], made: &mut FrameRecord)
+        requires { length disk.now ≤ 1024 }
+        ensures reset { reset (setup_of self.old) disk.now ≡ Some (moment self.new.state made.new) }
+        ensures same { self.new ≡ in_state self.old self.new.state }
+        ensures globals { HasGlobals self.new.cart self.new.state }
+    {
+        self.console
+            .reset(&self.cart, &self.font, disk, self.budget, made);
+    }
+
+    /// Plays one frame, and ticks once.
+    pub(crate) fn frame<L: Ledger>(
+        &mut self,
+        input: &Input,
+        made: &mut FrameRecord,
+        steps: &mut Steps<L>,
+    )
+        ensures frame { frame (setup_of self.old) self.old.state input.now
+            ≡ Some (moment self.new.state made.new) }
+        ensures same { self.new ≡ in_state self.old self.new.state }
+        ensures globals { HasGlobals self.new.cart self.new.state }
+        ensures ticks { steps.new ≡ steps.old + 1 }
+    {
+        self.console
+            .frame(&self.cart, &self.font, input, self.budget, made, steps);
+    }
+
+    /// Plays these frames, one after another; each is one tick.
+    pub(crate) fn run<L: Ledger>(&mut self, inputs: &[Input], steps: &mut Steps<L>)
+        requires globals { HasGlobals self.old.cart self.old.state }
+        ensures fold { fold (setup_of self.old) self.old.state inputs.now ≡ Some self.new.state }
+        ensures same { self.new ≡ in_state self.old self.new.state }
+        ensures globals { HasGlobals self.new.cart self.new.state }
+        ensures ticks { steps.new ≡ steps.old + length inputs.now }
+    {
+        let mut made = FrameRecord::new();
+        for input in inputs {
+            self.frame(input, &mut made, steps);
+        }
+    }
+
+    /// Puts the state of a snapshot.
+    pub(crate) fn restore(&mut self, snap: &Snap)
+        requires { HasGlobals self.old.cart snap.now }
+        ensures { self.new ≡ in_state self.old snap.now }
+    {
+        snap.restore(self.console.state_mut());
+    }
+
+    /// A snapshot of the state, which shares with one before what is equal.
+    pub(crate) fn capture(
+        &self,
+        alloc: Global,
+        before: Option<&Snap>,
+    ) -> Result<Rc<Snap>, OutOfMemory>
+        ensures state { IfOk result (λ snap. snap.value ≡ self.now.state) }
+        ensures globals { HasGlobals self.now.cart self.now.state }
+    {
+        capture_alone(alloc, before, self.console.state())
+    }
+
+    /// The state.
+    pub(crate) fn state(&self) -> &State
+        ensures { result.now ≡ self.now.state }
+    {
+        self.console.state()
+    }
+
+    /// The cart.
+    pub(crate) fn cart(&self) -> &Cart
+        ensures { result.now ≡ self.now.cart }
+    {
+        &self.cart
+    }
+
+    /// The font.
+    pub(crate) fn font(&self) -> &Font
+        ensures { result.now ≡ self.now.font }
+    {
+        &self.font
+    }
+}
+
+/// A fact for callers, which costs nothing: the globals have the cart's types, the first ones too.
+pub(crate) fn has_types(player: &Player)
+    ensures { IsPlayer player.now }
+{
+    let _budget = player.budget;
+}
+
+/// A snapshot of a state, which shares with one before what is equal. Its chunks are counted by nobody.
+pub(crate) fn capture_alone(
+    alloc: Global,
+    before: Option<&Snap>,
+    state: &State,
+) -> Result<Rc<Snap>, OutOfMemory>
+    ensures { IfOk result (λ snap. snap.value ≡ state.now) }
+{
+    let snap = captured::<Brand>(alloc, before, state, Blank::new(1))?;
+    Ok(Rc::new(alloc, snap)?)
+}
+
+/// A capture under a counter of its own.
+fn captured<L: Ledger>(
+    alloc: Global,
+    before: Option<&Snap>,
+    state: &State,
+    blank: Blank,
+) -> Result<Snap, OutOfMemory>
+    requires name { blank.name ≡ L.name }
+    requires parts { blank.parts ≡ L.parts }
+    requires some { 0 < L.parts }
+    ensures { IfOk result (λ snap. snap ≡ state.now) }
+{
+    let (snap, _copied) = capture(alloc, before, state, &mut Steps::<L>::new(blank))?;
+    Ok(snap)
+}

@@ -1,0 +1,253 @@
+//! Showing, stepping, settling and keeping.
+
+ghost use Rattle.std.specs.Prelude.{◌≡◌, ◌≢◌, ℕ, ◌+◌, ◌-◌, ◌<◌, ◌≤◌, ◌↔◌, IfErr, IfOk, IsOk, IsTrue, None, OnErr, OnOk, Some, length};
+ghost use Rattle.w4_defs.specs.KeptList.{computed, kept_entries, last_up_to, relinked_at, replaced_at, state_at};
+ghost use Rattle.w4_defs.specs.State.{HasGlobals};
+ghost use Rattle.w4_defs.specs.Run.{run_state};
+ghost use Rattle.w4_defs.specs.Session.{keep_refusal, place_refusal, with_list};
+ghost use Rattle.w4_defs.specs.declared.editing.EditRefusal.TheVariants.{NoFrame, OutOfMemory as NoMemory};
+ghost use Rattle.w4_devices.specs.Records.{record_of};
+ghost use Rattle.w4_editor.specs.Editing.{editing_setup, with_session};
+ghost use Rattle.w4_editor.specs.Settling.{AreLinked};
+ghost use Rattle.w4_editor.specs.Showing.{
+  AreOfRun,
+  CanKeep,
+  IsAllSettled,
+  IsAtEnd,
+  IsKeptAt,
+  IsPut,
+  IsRefusal,
+  IsShown,
+  IsStepped,
+  KeepsRecording,
+};
+
+use crate::editor::Editor;
+use crate::kept_list::entry_at;
+use crate::player::has_types;
+use crate::showing::{
+    keep, keep_refusal, link, move_on, replace, settle_all, show, shown_before_end,
+};
+use std::alloc::Global;
+use std::sync::ledger::Ledger;
+use w4_defs::{EditRefusal, OutOfMemory, Steps};
+use w4_devices::FrameRecord;
+use w4_map::State;
+
+/// Showing.
+impl Editor {
+    ghost use Rattle.std.specs.Borrow.{sem};
+    ghost use Rattle.std.specs.Io.BufRead.{Rests};
+    ghost use Rattle.w4_editor.specs.contracts.editor.Editor.{the_row};
+
+    /// The state at place `p`. Kept places up to it are brought up to date first, where that is owed; each
+    /// frame is one tick. Takes no memory where the kept places up to `p` are linked. Errors: NoFrame where
+    /// there is no such place; OutOfMemory.
+    pub fn show<L: Ledger>(
+        &mut self,
+        alloc: Global,
+        p: usize,
+        steps: &mut Steps<L>,
+    ) -> Result<&State, EditRefusal>
+        ensures* after { sem 𝓛 (Rests the_row self.entry (λ n.
+            OnOk result (IsShown p steps.old steps.new self.old n)
+            × OnErr result (KeepsRecording self.old n)
+            × IfErr result (λ refusal. refusal ≢ NoMemory → n ≡ self.old))) }
+        ensures state { IfOk result (λ state. run_state (editing_setup self.old) self.old.disk
+            self.old.session.current.inputs p ≡ Some state.now) }
+        ensures refused { IfErr result (IsRefusal (place_refusal p self.old.session.current)) }
+        ensures accepted { OnOk result (place_refusal p self.old.session.current ≡ None) }
+        ensures linked { p ≤ length self.old.session.current.inputs
+            → AreLinked (last_up_to p self.old.session.current.kept) self.old.session.current.kept
+            → IsOk result }
+    {
+        if p > self.recording.frames.len() {
+            return Err(EditRefusal::NoFrame);
+        }
+        self.go_to(alloc, p, steps)?;
+        Ok(self.state())
+    }
+
+    /// Goes to a place that is there.
+    fn go_to<L: Ledger>(
+        &mut self,
+        alloc: Global,
+        p: usize,
+        steps: &mut Steps<L>,
+    ) -> Result<(), OutOfMemory>
+        requires { p ≤ length self.old.session.current.inputs }
+        ensures ok { OnOk result (IsShown p steps.old steps.new self.old self.new) }
+        ensures err { OnErr result (KeepsRecording self.old self.new) }
+        ensures linked { AreLinked (last_up_to p self.old.session.current.kept) self.old.session.current.kept
+            → IsOk result }
+    {
+        self.at = None;
+        show(
+            alloc,
+            &mut self.player,
+            &self.recording,
+            &mut self.kept,
+            p,
+            steps,
+        )?;
+        self.at = Some(p);
+        Ok(())
+    }
+
+    /// The state at the place that is shown.
+    fn state(&self) -> &State
+        ensures { (p : ℕ) → self.now.at ≡ Some p
+            → run_state (editing_setup self.now) self.now.disk self.now.session.current.inputs p
+            ≡ Some result.now }
+    {
+        self.player.state()
+    }
+
+    /// The state at the place after the one that is shown, and in `made` its record. Runs one frame, and
+    /// takes no memory. Errors: NoFrame where no place is shown, or the last one.
+    pub fn step<L: Ledger>(
+        &mut self,
+        made: &mut FrameRecord,
+        steps: &mut Steps<L>,
+    ) -> Result<&State, EditRefusal>
+        ensures* after { sem 𝓛 (Rests the_row self.entry (λ n.
+            OnOk result (IsStepped (record_of made.new) self.old n)
+            × OnErr result (n ≡ self.old))) }
+        ensures state { IfOk result (λ state. (p : ℕ) → self.old.at ≡ Some p
+            → run_state (editing_setup self.old) self.old.disk self.old.session.current.inputs (p + 1)
+            ≡ Some state.now) }
+        ensures ticks { OnOk result (steps.new ≡ steps.old + 1) }
+        ensures refused { IfErr result (λ refusal. (refusal ≡ NoFrame) × IsAtEnd self.old) }
+    {
+        self.go_on(made, steps)?;
+        Ok(self.state())
+    }
+
+    /// Goes one place on. Errors: NoFrame where no place is shown, or the last one.
+    fn go_on<L: Ledger>(
+        &mut self,
+        made: &mut FrameRecord,
+        steps: &mut Steps<L>,
+    ) -> Result<(), EditRefusal>
+        ensures ok { OnOk result (IsStepped (record_of made.new) self.old self.new) }
+        ensures ticks { OnOk result (steps.new ≡ steps.old + 1) }
+        ensures refused { IfErr result (λ refusal. (refusal ≡ NoFrame) × IsAtEnd self.old) }
+        ensures unchanged { OnErr result (self.new ≡ self.old) }
+    {
+        let Some(p) = shown_before_end(self.at, &self.recording) else {
+            return Err(EditRefusal::NoFrame);
+        };
+        move_on(&mut self.player, &self.recording, p, made, steps);
+        self.at = Some(p + 1);
+        Ok(())
+    }
+
+    /// Brings all kept places up to date; each frame is one tick. No place is shown then. Takes no memory
+    /// where they are linked. Errors: OutOfMemory.
+    pub fn settle<L: Ledger>(
+        &mut self,
+        alloc: Global,
+        steps: &mut Steps<L>,
+    ) -> Result<(), EditRefusal>
+        ensures ok { OnOk result (IsAllSettled steps.old steps.new self.old self.new) }
+        ensures states { OnOk result (AreOfRun self.new) }
+        ensures err { OnErr result (KeepsRecording self.old self.new) }
+        ensures refused { IfErr result (λ refusal. refusal ≡ NoMemory) }
+        ensures linked { AreLinked (length self.old.session.current.kept - 1) self.old.session.current.kept
+            → IsOk result }
+    {
+        self.at = None;
+        settle_all(
+            alloc,
+            &mut self.player,
+            &self.recording,
+            &mut self.kept,
+            steps,
+        )?;
+        Ok(())
+    }
+}
+
+/// Keeping.
+impl Editor {
+    /// Shows place `p` and keeps it. Errors: NoFrame where there is no such place; Kept where it is kept;
+    /// FullSnapshots where 1,024 places are; OutOfMemory.
+    pub fn keep<L: Ledger>(
+        &mut self,
+        alloc: Global,
+        p: usize,
+        steps: &mut Steps<L>,
+    ) -> Result<(), EditRefusal>
+        ensures ok { OnOk result (IsKeptAt p steps.old steps.new self.old self.new) }
+        ensures err { OnErr result (KeepsRecording self.old self.new) }
+        ensures refused { IfErr result (IsRefusal (keep_refusal kept_entries p self.old.session.current)) }
+        ensures accepted { OnOk result (keep_refusal kept_entries p self.old.session.current ≡ None) }
+        ensures unchanged { IfErr result (λ refusal. refusal ≢ NoMemory → self.new ≡ self.old) }
+    {
+        if let Some(refusal) = keep_refusal(&self.recording, &self.kept, p) {
+            return Err(refusal);
+        }
+        self.go_to(alloc, p, steps)?;
+        self.keep_shown(alloc, p)?;
+        Ok(())
+    }
+
+    /// Keeps the place that is shown, where the entries below it are linked.
+    fn keep_shown(&mut self, alloc: Global, p: usize) -> Result<(), OutOfMemory>
+        requires { CanKeep p self.old }
+        ensures ok { OnOk result (IsPut p self.old self.new) }
+        ensures err { OnErr result (self.new ≡ self.old) }
+    {
+        keep(alloc, &self.player, &mut self.kept, p)?;
+        Ok(())
+    }
+
+    /// Makes a state that of entry `i`.
+    pub fn kept_restore(&self, i: usize, into: &mut State)
+        requires there { i < length self.now.session.current.kept }
+        requires globals { length into.old.globals ≡ length self.now.cart.globals }
+        ensures { into.new ≡ state_at self.now.session.current.kept i }
+    {
+        entry_at(self.kept.as_slice(), i).snap().restore(into);
+    }
+
+    /// Whether a state is that of entry `i`.
+    pub fn kept_same(&self, i: usize, state: &State) -> bool
+        requires { i < length self.now.session.current.kept }
+        ensures { IsTrue result ↔ (state_at self.now.session.current.kept i ≡ state.now) }
+    {
+        entry_at(self.kept.as_slice(), i).snap().same(state)
+    }
+
+    /// Links entry `i` of 1 or more, whose state is what the inputs between make of that of the entry before.
+    pub fn link(&mut self, i: usize)
+        requires there { i < length self.old.session.current.kept }
+        requires some { 1 ≤ i }
+        requires state { computed (editing_setup self.old) self.old.session.current.inputs
+            self.old.session.current.kept (i - 1)
+            ≡ Some (state_at self.old.session.current.kept i) }
+        ensures { self.new ≡ with_session self.old
+            (with_list self.old.session (relinked_at i self.old.session.current.kept)) self.old.at }
+    {
+        link(&mut self.kept, i);
+    }
+
+    /// Puts into entry `i` of 1 or more the state that the inputs between make of that of the entry before.
+    /// The entry is linked, and the one after it unlinked. Errors: OutOfMemory, and then nothing has
+    /// changed.
+    pub fn replace(&mut self, alloc: Global, i: usize, state: &State) -> Result<(), OutOfMemory>
+        requires there { i < length self.old.session.current.kept }
+        requires some { 1 ≤ i }
+        requires state { computed (editing_setup self.old) self.old.session.current.inputs
+            self.old.session.current.kept (i - 1)
+            ≡ Some state.now }
+        ensures ok { OnOk result (self.new ≡ with_session self.old
+            (with_list self.old.session (replaced_at i state.now self.old.session.current.kept))
+            self.old.at) }
+        ensures err { OnErr result (self.new ≡ self.old) }
+    {
+        has_types(&self.player);
+        replace(alloc, &mut self.kept, i, state)?;
+        Ok(())
+    }
+}

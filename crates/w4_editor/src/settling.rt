@@ -1,0 +1,91 @@
+//! Bringing a kept list up to date.
+
+ghost use Rattle.std.specs.Prelude.{◌≡◌, ℕ, ◌+◌, ◌-◌, ◌<◌, ◌≤◌, true, IsOk, OnErr, OnOk, length, Some};
+ghost use Rattle.w4_defs.specs.KeptList.{IsSettled, SamePlaces, computed, doubtful, kept_entry_at, linked_at, place_at};
+ghost use Rattle.w4_defs.specs.State.{HasGlobals};
+ghost use Rattle.w4_editor.specs.Playing.{in_state, setup_of};
+ghost use Rattle.w4_editor.specs.Settling.{AreLinked, AreTrue, IsComputed, StaysConsistent};
+
+use crate::kept::Kept;
+use crate::kept_list::{entry_at, link_at, replace_at};
+use crate::player::Player;
+use std::alloc::Global;
+use std::sync::ledger::Ledger;
+use w4_defs::{Input, OutOfMemory, Steps};
+
+/// Puts the state that the inputs between entries `i` and `i + 1` make of the state of entry `i`.
+fn compute<L: Ledger>(
+    player: &mut Player,
+    inputs: &[Input],
+    kept: &[Kept],
+    i: usize,
+    steps: &mut Steps<L>,
+)
+    requires there { i + 1 < length kept.now }
+    requires kept { AreTrue (setup_of player.old) inputs.now kept.now }
+    ensures computed { computed (setup_of player.old) inputs.now kept.now i ≡ Some player.new.state }
+    ensures same { player.new ≡ in_state player.old player.new.state }
+    ensures globals { HasGlobals player.new.cart player.new.state }
+    ensures ticks { steps.new ≡ steps.old + (place_at kept.now (i + 1) - place_at kept.now i) }
+{
+    let from = entry_at(kept, i);
+    let to = entry_at(kept, i + 1);
+    player.restore(from.snap());
+    player.run(&inputs[from.place()..to.place()], steps);
+}
+
+/// Brings entry `i + 1` up to date. Where its state is found unchanged it is linked, and the replay may end;
+/// else the new state is put and the entry after it unlinked.
+fn settle_one<L: Ledger>(
+    alloc: Global,
+    player: &mut Player,
+    inputs: &[Input],
+    kept: &mut [Kept],
+    i: usize,
+    steps: &mut Steps<L>,
+) -> Result<(), OutOfMemory>
+    requires there { i + 1 < length kept.old }
+    requires kept { AreTrue (setup_of player.old) inputs.now kept.old }
+    ensures ok { OnOk result (IsComputed (setup_of player.old) inputs.now i kept.old kept.new) }
+    ensures err { OnErr result (kept.new ≡ kept.old) }
+    ensures same { player.new ≡ in_state player.old player.new.state }
+    ensures ticks { steps.new ≡ steps.old + (place_at kept.old (i + 1) - place_at kept.old i) }
+{
+    compute(player, inputs, kept, i, steps);
+    if entry_at(kept, i + 1).snap().same(player.state()) {
+        link_at(kept, i + 1);
+        return Ok(());
+    }
+    let snap = player.capture(alloc, Some(entry_at(kept, i).snap()))?;
+    replace_at(kept, i + 1, snap);
+    Ok(())
+}
+
+/// Brings the entries up to `last` up to date, in order. Where memory is refused, those before are done and
+/// the list is still true.
+pub(crate) fn settle<L: Ledger>(
+    alloc: Global,
+    player: &mut Player,
+    inputs: &[Input],
+    kept: &mut [Kept],
+    last: usize,
+    steps: &mut Steps<L>,
+) -> Result<(), OutOfMemory>
+    requires there { last < length kept.old }
+    requires first { linked_at kept.old 0 ≡ true }
+    requires kept { AreTrue (setup_of player.old) inputs.now kept.old }
+    ensures kept { AreTrue (setup_of player.old) inputs.now kept.new }
+    ensures places { SamePlaces kept.old kept.new }
+    ensures consistent { StaysConsistent (setup_of player.old) inputs.now kept.old kept.new }
+    ensures settled { OnOk result (IsSettled last kept.old kept.new) }
+    ensures ticks { OnOk result (steps.new ≤ steps.old + doubtful kept.old kept.new last) }
+    ensures same { player.new ≡ in_state player.old player.new.state }
+    ensures linked { AreLinked last kept.old → IsOk result }
+{
+    for i in 0..last {
+        if !entry_at(kept, i + 1).linked() {
+            settle_one(alloc, player, inputs, kept, i, steps)?;
+        }
+    }
+    Ok(())
+}

@@ -1,0 +1,89 @@
+//! The five lines that tell of a made cart.
+
+ghost use Rattle.std.specs.Prelude.{ℕ, List, ◌≡◌, ◌++◌, ◌∷◌, ◌<◌, [], IfOk, OnOk};
+ghost use Rattle.w4_defs.specs.Image.{image};
+ghost use Rattle.w4_defs.specs.FrameTexts.{hex_digit, numbered};
+ghost use Rattle.w4_defs.specs.MadeSummary.{hexadecimal, lit_pixels, summary_text};
+ghost use Rattle.w4_defs.specs.State.{State};
+
+use crate::state_line::add_halt;
+use crate::text::{add_number, add_words};
+use std::alloc::Global;
+use w4_defs::{Halt, OutOfMemory, PageBytes};
+use w4_pixels::pixel;
+
+/// What is told of a made cart after its last frame.
+#[derive(Clone, Copy)]
+pub struct Summary {
+    /// How many bytes the cart has.
+    pub cart_len: usize,
+    pub halt: Halt,
+    /// How many pixels don't have palette index 0.
+    pub lit: u32,
+    /// The SHA-256 of the image.
+    pub image: [u8; 32],
+}
+
+/// How many of the 25,600 pixels don't have palette index 0.
+#[tactic(auto, unfolding(w4_defs::specs::MadeSummary::lit_pixels))]
+pub fn lit_pixels(page: &PageBytes) -> u32
+    ensures { result ≡ lit_pixels page.now }
+{
+    let mut lit = 0;
+    for n in 0..25_600 {
+        lit += u32::from(pixel(page, n % 160, n / 160) != 0);
+    }
+    lit
+}
+
+/// Adds a word, a number and the line's end.
+fn add_line(text: &mut Vec<u8>, word: &[u8], number: u64) -> Result<(), OutOfMemory>
+    ensures { OnOk result (text.new.items ≡ text.old.items ++ numbered word.now (number ∷ [])) }
+{
+    add_words(text, word)?;
+    add_number(text, number)?;
+    add_words(text, b"\n")
+}
+
+/// The digit of a number below 16, in lower case.
+fn hex_digit(number: u8) -> u8
+    requires { number < 16 }
+    ensures { result ≡ hex_digit number }
+{
+    if number < 10 {
+        b'0' + number
+    } else {
+        b'a' - 10 + number
+    }
+}
+
+/// Adds bytes, each as two hexadecimal digits.
+fn add_hexadecimal(text: &mut Vec<u8>, bytes: &[u8]) -> Result<(), OutOfMemory>
+    ensures { OnOk result (text.new.items ≡ text.old.items ++ hexadecimal bytes.now) }
+{
+    for byte in bytes {
+        text.push(hex_digit(*byte / 16))?;
+        text.push(hex_digit(*byte % 16))?;
+    }
+    Ok(())
+}
+
+/// The five lines.
+#[tactic(auto, unfolding(w4_defs::specs::MadeSummary::summary_text))]
+pub fn summary_text(alloc: Global, summary: &Summary) -> Result<Vec<u8>, OutOfMemory>
+    ensures { IfOk result (λ text. (sha256 : List ℕ → List ℕ) (state : State) → state.halt ≡ summary.now.halt
+        → lit_pixels state.page ≡ summary.now.lit → sha256 (image state.page) ≡ summary.now.image
+        → text.items ≡ summary_text sha256 summary.now.cart_len state) }
+{
+    let mut text = Vec::new(alloc);
+    add_line(&mut text, b"cart", summary.cart_len as u64)?;
+    add_line(&mut text, b"frames", 600)?;
+    add_words(&mut text, b"halt ")?;
+    add_halt(&mut text, summary.halt)?;
+    add_words(&mut text, b"\n")?;
+    add_line(&mut text, b"lit", u64::from(summary.lit))?;
+    add_words(&mut text, b"image ")?;
+    add_hexadecimal(&mut text, &summary.image)?;
+    add_words(&mut text, b"\n")?;
+    Ok(text)
+}

@@ -1,0 +1,10 @@
+use Rattle.std.proofs.Common.{◌∙◌}
+use Rattle.w4_defs.specs.Tree.{sequence}
+use Rattle.w4_defs.specs.View.{before}
+use Rattle.wasm_write.proofs.SequenceLaws.{pushed}
+use Rattle.wasm_write.proofs.made.byte_of_word.Goals as goal
+
+pub returns : goal.returns
+unfolding before
+returns c = λ ops. pushed _ _ _ c.in_ok-push-2.ensures.items (sequence ops)
+    ∙ pushed _ _ _ c.in_ok-push.ensures.items _
