@@ -42,8 +42,8 @@ def written(recording):
 INPUTS = os.path.join(HERE, os.pardir, "inputs")
 LEFT = """
 calls-itself-of-4095 calls-itself-of-4096 copy-past-the-page divides-by-zero endless-loop fills-of-103 fills-of-104
-first first-27 loads-by-pad-0 loads-by-pad-1 nested-blocks-of-19999 nested-blocks-of-20000 store-past-the-page
-three-nops-of-2 three-nops-of-3 unreachable writes-a-long-disk
+first first-1-1-2 first-27 first-of-1 first-of-3 loads-by-pad loads-by-pad-0 loads-by-pad-1 nested-blocks-of-19999
+nested-blocks-of-20000 smallest smallest-of-120-and-a-pad smallest-of-9 store-past-the-page three-nops-of-2 three-nops-of-3 unreachable writes-a-long-disk
 """
 for folder, names in (("recordings", [name + ".w4rec" for name in LEFT.split()]),
                       ("machine", sorted(os.listdir(os.path.join(INPUTS, "machine"))))):

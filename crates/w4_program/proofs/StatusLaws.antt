@@ -57,10 +57,6 @@ pub frame_refused : (old new : World) (result : Status) (step : Files → Result
     → (number n : ℕ) → result ≡ status.FrameRefused number n → Refuses old (status.FrameRefused number n) step
 frame_refused old new result step h number n e = (subst (λ s. Ends old new (manner_of s) step) e h).0
 
-pub not_built : (old new : World) (result : Status) (step : Files → Result Output Status → Type 0)
-    → Ends old new (manner_of result) step → result ≡ status.NotBuilt → Refuses old status.NotBuilt step
-not_built old new result step h e = (subst (λ s. Ends old new (manner_of s) step) e h).0
-
 pub refused : (old new : World) (result : Status) (step : Files → Result Output Status → Type 0)
     → Ends old new (manner_of result) step → IsRefusal result → LeavesOutputs old new
 refused old new status.Done step h r = absurd r
@@ -73,7 +69,6 @@ refused old new status.ReadFault step h r = h.1
 refused old new status.WriteFault step h r = absurd r
 refused old new status.OutOfMemory step h r = absurd r
 refused old new (status.FrameRefused number n) step h r = h.1
-refused old new status.NotBuilt step h r = h.1
 
 pub line_reported : (old mid new : World) (line : List ℕ) → LeavesErr old mid → Reports mid new line
     → Reports old new line
@@ -119,8 +114,6 @@ exact old new status.WriteFault step h = λ files texts reads writes. absurd (wr
 exact old new status.OutOfMemory step h = λ files texts reads writes. inl refl
 exact old new (status.FrameRefused number n) step h =
     λ files texts reads writes. inr (Err (status.FrameRefused number n), h.0 files texts, refl)
-exact old new status.NotBuilt step h =
-    λ files texts reads writes. inr (Err status.NotBuilt, h.0 files texts, refl)
 
 -- a status that stands, or memory that ran out while it was reported
 pub texts_or_memory : (texts why result : Status) → texts ≡ why → (result ≡ texts)

@@ -5,7 +5,6 @@ use Rattle.std.specs.List.{range_with_len}
 use Rattle.std.proofs.lemmas.List.{take_all}
 use Rattle.std.proofs.lemmas.List.Sums.{sum_by_more}
 use Rattle.std.proofs.lemmas.List.FromFn.{length-range_with_len, get_or-range_with_len}
-use mir.Val.{bool_byte}
 use Rattle.sha2.specs.Sha256.{sha256}
 use Rattle.w4_defs.specs.declared.console.Input.{Input}
 use Rattle.w4_defs.specs.Module.{WasmModule}
@@ -17,10 +16,6 @@ use Rattle.w4_defs.specs.Run.{run}
 use Rattle.w4_defs.specs.State.{Moment}
 use Rattle.wasm_write.specs.EncodeModule.{module_bytes}
 use Rattle.w4_program.specs.Output.{made_text}
-
-pub bit_of : (b : Bool) (r : ℕ) → r ≡ bool_byte b → r ≡ cond b 1 0
-bit_of true r e = e
-bit_of false r e = e
 
 bit_small : (b : Bool) → cond b 1 0 ≤ 1
 bit_small true = omega arith

@@ -5,7 +5,7 @@ pub mod Forms
 pub mod Reads
 pub mod Texts
 pub mod Answering
-pub mod BuiltOrders
+pub mod Editors
 pub mod Output
 pub mod NetSessions
 pub mod RamAnswers

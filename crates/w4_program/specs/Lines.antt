@@ -12,7 +12,7 @@ use Rattle.w4_program.specs.declared.status.RecordingKind.TheVariants.{Bad, Wron
 use Rattle.w4_program.specs.declared.status.ScriptKind.{ScriptKind}
 use Rattle.w4_program.specs.declared.status.ScriptKind.TheVariants.{TooLong, BadLine}
 use Rattle.w4_program.specs.declared.status.Status.{Status}
-use Rattle.w4_program.specs.declared.status.Status.TheVariants.{Done, Usage, CartRefused, RecordingRefused, FontRefused, ScriptRefused, ReadFault, WriteFault, OutOfMemory, FrameRefused, NotBuilt}
+use Rattle.w4_program.specs.declared.status.Status.TheVariants.{Done, Usage, CartRefused, RecordingRefused, FontRefused, ScriptRefused, ReadFault, WriteFault, OutOfMemory, FrameRefused}
 
 abbrev pub number_of_status : Status → ℕ
 number_of_status Done = 0
@@ -25,7 +25,6 @@ number_of_status ReadFault = 7
 number_of_status WriteFault = 8
 number_of_status OutOfMemory = 9
 number_of_status (FrameRefused number n) = 10
-number_of_status NotBuilt = 11
 
 abbrev pub profile_words : ProfileRefusal → List ℕ
 profile_words profile.Floats = codes "floats"
@@ -68,7 +67,6 @@ status_words ReadFault = codes "cannot read"
 status_words WriteFault = codes "cannot write"
 status_words OutOfMemory = codes "out of memory"
 status_words (FrameRefused number n) = codes "frame" ++ (spaced number ++ (codes " of" ++ spaced n))
-status_words NotBuilt = codes "not built"
 
 abbrev pub status_line : Status → List ℕ
 status_line status = codes "w4: " ++ status_words status ++ line_end

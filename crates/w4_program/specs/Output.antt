@@ -6,7 +6,6 @@
 -- script. What a cart's bytes are is a relation; all that follows is a function of the cart.
 use Rattle.std.specs.Prelude.{◌≡◌, ℕ, ◌+◌, ◌-◌, ◌==◌, nat_le, List, [], ◌∷◌, ◌++◌, codes, length, unwrap_or, Option, Some, None, Result, Ok, Err, if◌then◌else◌}
 use Rattle.std.specs.FinMap.{insert}
-use Rattle.std.specs.List.{list_all}
 use Rattle.std.specs.Str.{bytes_eq}
 use Rattle.sha2.specs.Sha256.{sha256}
 use Rattle.w4_defs.specs.declared.order.Order.{Order}
@@ -28,11 +27,10 @@ use Rattle.w4_program.specs.declared.place_text.PlaceText.TheVariants.{Image, Sc
 use Rattle.w4_program.specs.declared.status.RecordingKind.TheVariants.{Bad, WrongCart}
 use Rattle.w4_program.specs.declared.status.ScriptKind.TheVariants as script
 use Rattle.w4_program.specs.declared.status.Status.{Status}
-use Rattle.w4_program.specs.declared.status.Status.TheVariants.{Usage, ReadFault, CartRefused, RecordingRefused, FontRefused, ScriptRefused, FrameRefused, NotBuilt}
+use Rattle.w4_program.specs.declared.status.Status.TheVariants.{Usage, ReadFault, CartRefused, RecordingRefused, FontRefused, ScriptRefused, FrameRefused}
 use Rattle.w4_program.specs.Forms.{RunWords, EditWords, Form, Check, Blank, Frames, Tones, Trace, Disk, Edit, Make, form_of}
 use Rattle.w4_program.specs.Texts.{place_text, place_texts}
 use Rattle.w4_program.specs.Answering.{Answered, script_answers}
-use Rattle.w4_program.specs.BuiltOrders.{is_built}
 
 -- what standard output gets, and all files afterwards
 pub record Output : Type 0 where
@@ -87,14 +85,13 @@ font_of bytes = if length bytes == 1792 then Ok bytes else Err FontRefused
 unfoldable pub font_in : Files → List ℕ → Result (List ℕ) Status
 font_in = judged 1792 font_of
 
--- A script's grammar is judged first. A script that keeps it, and has an order that isn't built, isn't built.
-abbrev pub built_orders : Result (List Order) ScriptFault → Result (List Order) Status
-built_orders (Ok orders) = if list_all is_built orders then Ok orders else Err NotBuilt
-built_orders (Err TooLong) = Err (ScriptRefused script.TooLong)
-built_orders (Err (BadLine number)) = Err (ScriptRefused (script.BadLine number))
+abbrev pub or_script_refused : Result (List Order) ScriptFault → Result (List Order) Status
+or_script_refused (Ok orders) = Ok orders
+or_script_refused (Err TooLong) = Err (ScriptRefused script.TooLong)
+or_script_refused (Err (BadLine number)) = Err (ScriptRefused (script.BadLine number))
 
 unfoldable pub orders_of : List ℕ → Result (List Order) Status
-orders_of bytes = built_orders (script_of bytes)
+orders_of bytes = or_script_refused (script_of bytes)
 
 unfoldable pub orders_in : Files → List ℕ → Result (List Order) Status
 orders_in = judged 1048576 orders_of
@@ -218,9 +215,9 @@ output_of (Edit words) cart files = edit_output words cart files
 output_of (Make number) cart files = make_output number files
 
 -- what is made by a form that names no cart, which is `make` alone
-abbrev pub output_alone : Form → Files → Result Output Status
-output_alone (Make number) files = make_output number files
-output_alone form files = Err NotBuilt
+abbrev pub OutputsAlone : Form → Files → Result Output Status → Type 0
+OutputsAlone (Make number) files made = make_output number files ≡ made
+OutputsAlone form files made = ⊥
 
 -- the cart is judged, and then the rest
 abbrev pub OverCart : List ℕ → (CartFile → Files → Result Output Status) → Files → Result Output Status
@@ -230,7 +227,7 @@ OverCart name make files made =
 
 abbrev pub OverFile : Option (List ℕ) → Form → Files → Result Output Status → Type 0
 OverFile (Some name) form files made = OverCart name (output_of form) files made
-OverFile None form files made = output_alone form files ≡ made
+OverFile None form files made = OutputsAlone form files made
 
 abbrev pub OutputsForm : Option Form → Files → Result Output Status → Type 0
 OutputsForm None files made = made ≡ Err Usage

@@ -1,6 +1,6 @@
 //! The commands, each over a cart that is judged first.
 
-ghost use Rattle.std.specs.Prelude.{◌≡◌, ◌+◌, ◌-◌, ◌≤◌, length, option_map, IfErr, OnOk, Ok, Some};
+ghost use Rattle.std.specs.Prelude.{◌≡◌, ◌+◌, ◌-◌, ◌≤◌, length, IfErr, OnOk, Ok, Some};
 ghost use Rattle.w4_defs.specs.Recording.{encoding};
 ghost use Rattle.w4_house.specs.World.{Appends, LeavesPrinting};
 ghost use Rattle.w4_program.specs.Endings.{manner_of};
@@ -9,12 +9,10 @@ ghost use Rattle.w4_program.specs.Output.{
   OverCart,
   blank_output,
   blank_recording,
-  cart_word,
   checked,
   disk_output,
   edit_output,
   images_output,
-  output_alone,
   output_of,
   only_printed,
   texts_output,
@@ -47,38 +45,15 @@ pub fn run_form<H: House>(alloc: Global, house: &mut H, form: Form<'_>) -> Statu
     ensures formed { result ≡ Status.Usage → ⊥ }
     ensures err { LeavesErr (H.world house.old) (H.world house.new) }
 {
-    match cart_name(form) {
-        Some(name) => over_cart(alloc, house, name, form),
-        None => alone(alloc, house, form),
-    }
-}
-
-/// Does what a form asks for that names no cart.
-fn alone<H: House>(alloc: Global, house: &mut H, form: Form<'_>) -> Status
-    ensures ends { Ends (H.world house.old) (H.world house.new) (manner_of result)
-        (ResultsIn (λ files. output_alone (form_view form.entry) files)) }
-    ensures formed { result ≡ Status.Usage → ⊥ }
-    ensures err { LeavesErr (H.world house.old) (H.world house.new) }
-{
     match form {
+        Form::Check(cart) => over_cart(alloc, house, cart, form),
+        Form::Blank(cart, _) => over_cart(alloc, house, cart, form),
+        Form::Frames(names, _) => over_cart(alloc, house, names.cart, form),
+        Form::Tones(names) => over_cart(alloc, house, names.cart, form),
+        Form::Trace(names) => over_cart(alloc, house, names.cart, form),
+        Form::Disk(names, _) => over_cart(alloc, house, names.cart, form),
+        Form::Edit(names) => over_cart(alloc, house, names.run.cart, form),
         Form::Make(number) => make_cart(alloc, house, number),
-        _ => Status::NotBuilt,
-    }
-}
-
-/// The file that is judged as a cart, where the form names one.
-fn cart_name(form: Form<'_>) -> Option<&str>
-    ensures { option_map (λ name. name.now) result ≡ cart_word (form_view form.entry) }
-{
-    match form {
-        Form::Check(cart) => Some(cart),
-        Form::Blank(cart, _) => Some(cart),
-        Form::Frames(names, _) => Some(names.cart),
-        Form::Tones(names) => Some(names.cart),
-        Form::Trace(names) => Some(names.cart),
-        Form::Disk(names, _) => Some(names.cart),
-        Form::Edit(names) => Some(names.run.cart),
-        Form::Make(_) => None,
     }
 }
 
@@ -90,25 +65,25 @@ fn over_cart<H: House>(alloc: Global, house: &mut H, name: &str, form: Form<'_>)
     ensures err { LeavesErr (H.world house.old) (H.world house.new) }
 {
     match load_cart(alloc, house, name) {
-        Ok(file) => make(alloc, house, &file, form),
+        Ok(file) => make(alloc, house, file, form),
         Err(status) => status,
     }
 }
 
 /// What a form makes of a cart.
-fn make<H: House>(alloc: Global, house: &mut H, file: &CartFile, form: Form<'_>) -> Status
+fn make<H: House>(alloc: Global, house: &mut H, file: CartFile, form: Form<'_>) -> Status
     ensures ends { Ends (H.world house.old) (H.world house.new) (manner_of result)
-        (ResultsIn (λ files. output_of (form_view form.entry) (cart_view file.now) files)) }
+        (ResultsIn (λ files. output_of (form_view form.entry) (cart_view file) files)) }
     ensures formed { result ≡ Status.Usage → ⊥ }
     ensures err { LeavesErr (H.world house.old) (H.world house.new) }
 {
     match form {
         Form::Check(_) => check(alloc, house),
-        Form::Blank(_, budget) => blank(alloc, house, file, budget),
-        Form::Frames(names, places) => frames(alloc, house, file, names, places),
-        Form::Tones(names) => texts(alloc, house, file, names, PlaceText::Schedule),
-        Form::Trace(names) => texts(alloc, house, file, names, PlaceText::Traces),
-        Form::Disk(names, place) => disk(alloc, house, file, names, place),
+        Form::Blank(_, budget) => blank(alloc, house, &file, budget),
+        Form::Frames(names, places) => frames(alloc, house, &file, names, places),
+        Form::Tones(names) => texts(alloc, house, &file, names, PlaceText::Schedule),
+        Form::Trace(names) => texts(alloc, house, &file, names, PlaceText::Traces),
+        Form::Disk(names, place) => disk(alloc, house, &file, names, place),
         Form::Edit(names) => edit(alloc, house, file, names),
         Form::Make(number) => make_cart(alloc, house, number),
     }
@@ -226,14 +201,14 @@ fn disk<H: House>(
 
 /// `edit CART REC FONT SCRIPT OUT`.
 #[tactic(auto, unfolding(crate::specs::Output::edit_output))]
-fn edit<H: House>(alloc: Global, house: &mut H, file: &CartFile, names: EditNames<'_>) -> Status
+fn edit<H: House>(alloc: Global, house: &mut H, file: CartFile, names: EditNames<'_>) -> Status
     ensures ends { Ends (H.world house.old) (H.world house.new) (manner_of result)
-        (ResultsIn (λ files. edit_output (edit_view names.entry) (cart_view file.now) files)) }
+        (ResultsIn (λ files. edit_output (edit_view names.entry) (cart_view file) files)) }
     ensures formed { result ≡ Status.Usage → ⊥ }
     ensures err { LeavesErr (H.world house.old) (H.world house.new) }
 {
     match load_edit(alloc, house, &file.digest, names) {
-        Ok(loaded) => carry_out(alloc, house, &file.cart, loaded, names.out),
+        Ok(loaded) => carry_out(alloc, house, file.cart, loaded, names.out),
         Err(status) => status,
     }
 }

@@ -121,7 +121,6 @@ fn add_status(text: &mut Vec<u8>, status: Status) -> Result<(), OutOfMemory>
         Status::WriteFault => add_words(text, b"cannot write"),
         Status::OutOfMemory => add_words(text, b"out of memory"),
         Status::FrameRefused { number, n } => add_refused_frame(text, number, n),
-        Status::NotBuilt => add_words(text, b"not built"),
     }
 }
 

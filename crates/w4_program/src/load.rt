@@ -1,7 +1,6 @@
 //! Files, each judged before the next is read. Nothing is written.
 
 ghost use Rattle.std.specs.Prelude.{◌≡◌, ◌+◌, ◌≤◌, length, Result, Ok, Err, IfOk};
-ghost use Rattle.std.specs.List.{list_all};
 ghost use Rattle.std.specs.Option.{ForSome};
 ghost use Rattle.w4_house.specs.World.{LeavesReading};
 ghost use Rattle.w4_program.specs.Output.{
@@ -17,7 +16,6 @@ ghost use Rattle.w4_program.specs.Output.{
   run_files,
   run_files_to,
 };
-ghost use Rattle.w4_program.specs.BuiltOrders.{AreBuilt, is_built};
 ghost use Rattle.w4_program.specs.Reads.{GivesValue};
 ghost use Rattle.w4_program.specs.Causes.{ResultsIn, StepGives};
 ghost use Rattle.w4_program.specs.Views.{cart_view, edit_view, loaded_view, played_view, run_view};
@@ -114,46 +112,19 @@ fn judge_font(bytes: &[u8]) -> Result<Font, Status>
     }
 }
 
-/// Whether an order is one of those that are built.
-fn is_built(order: &Order) -> bool
-    ensures { result ≡ is_built order.now }
-{
-    matches!(
-        order,
-        Order::Set { .. } | Order::Show { .. } | Order::StateAt { .. }
-    )
-}
-
-/// Whether all orders are built.
-fn are_built(orders: &[Order]) -> bool
-    ensures { result ≡ list_all is_built orders.now }
-{
-    for order in orders {
-        if !is_built(order) {
-            return false;
-        }
-    }
-    true
-}
-
-/// The orders of a script, which have to be built.
+/// The orders of a script.
 #[tactic(auto, unfolding(crate::specs::Output::orders_of))]
 fn judge_script(alloc: Global, bytes: &[u8]) -> Result<Vec<Order>, Status>
-    ensures gives { GivesValue (λ orders. orders.items) result (orders_of bytes.now) }
-    ensures built { IfOk result (λ orders. AreBuilt orders.items) }
+    ensures { GivesValue (λ orders. orders.items) result (orders_of bytes.now) }
 {
-    let orders = match read_script(alloc, bytes) {
-        Ok(orders) => orders,
-        Err(ScriptRefusal::TooLong) => return Err(Status::ScriptRefused(ScriptKind::TooLong)),
+    match read_script(alloc, bytes) {
+        Ok(orders) => Ok(orders),
+        Err(ScriptRefusal::TooLong) => Err(Status::ScriptRefused(ScriptKind::TooLong)),
         Err(ScriptRefusal::BadLine(number)) => {
-            return Err(Status::ScriptRefused(ScriptKind::BadLine(number)));
+            Err(Status::ScriptRefused(ScriptKind::BadLine(number)))
         }
-        Err(ScriptRefusal::OutOfMemory) => return Err(Status::OutOfMemory),
-    };
-    if !are_built(orders.as_slice()) {
-        return Err(Status::NotBuilt);
+        Err(ScriptRefusal::OutOfMemory) => Err(Status::OutOfMemory),
     }
-    Ok(orders)
 }
 
 #[tactic(auto, unfolding(crate::specs::Output::recording_in))]
@@ -185,7 +156,6 @@ fn load_font<H: House>(alloc: Global, house: &mut H, name: &str) -> Result<Font,
 fn load_orders<H: House>(alloc: Global, house: &mut H, name: &str) -> Result<Vec<Order>, Status>
     ensures gives { StepGives (H.world house.old) (H.world house.new) (λ orders. orders.items) result
         (ResultsIn (λ files. orders_in files name.now)) }
-    ensures built { IfOk result (λ orders. AreBuilt orders.items) }
     ensures rest { LeavesReading (H.world house.old) (H.world house.new) }
 {
     let bytes = read_file(alloc, house, name, 1_048_577)?;
@@ -241,7 +211,6 @@ pub fn load_edit<H: House>(
 ) -> Result<Loaded, Status>
     ensures gives { StepGives (H.world house.old) (H.world house.new) loaded_view result
         (ResultsIn (λ files. edit_files digest.now (edit_view names.entry) files)) }
-    ensures built { IfOk result (λ loaded. AreBuilt loaded.orders.items) }
     ensures rest { LeavesReading (H.world house.old) (H.world house.new) }
 {
     let run = load_run(alloc, house, digest, names.run)?;

@@ -7,19 +7,26 @@
 mod budget;
 mod carry;
 mod cart;
+mod change;
 mod commands;
+mod desk;
+mod keep_every;
 mod line;
 mod load;
 mod made;
+mod orders;
 mod place_text;
 mod places;
 mod printing;
+mod refusal;
 mod run;
 mod scene;
 mod stage;
+mod state_answer;
 mod state_line;
 mod status;
 mod summary;
+mod telling;
 #[cfg(test)]
 mod tests;
 mod text;

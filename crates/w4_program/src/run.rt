@@ -79,9 +79,6 @@ pub fn w4_run<R: Threads + Sync, H: House>(
     ensures frame_refused { (number n : ℕ) → result ≡ Status.FrameRefused number n →
         ForSome (H.world house.old).files (λ files.
         Outputs (map string_bytes words.now) files (Err (Status.FrameRefused number n))) }
-    ensures not_built { result ≡ Status.NotBuilt →
-        ForSome (H.world house.old).files (λ files.
-        Outputs (map string_bytes words.now) files (Err Status.NotBuilt)) }
     // A read failed, or a file whose turn came is absent.
     ensures read_fault { result ≡ Status.ReadFault → ReadFails (H.world house.old) (H.world house.new)
         (λ files made. Outputs (map string_bytes words.now) files made) }

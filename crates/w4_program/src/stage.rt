@@ -1,15 +1,14 @@
 //! A console, the record of its last frame, and the buffer of its image.
 
-ghost use Rattle.std.specs.Prelude.{◌≡◌, ◌+◌, ◌≤◌, ◌<◌, ◌∷◌, [], Some, length, IfOk};
+ghost use Rattle.std.specs.Prelude.{◌≡◌, ◌+◌, ◌≤◌, ◌<◌, Some, length, IfOk};
 ghost use Rattle.w4_defs.specs.State.{HasGlobals};
 ghost use Rattle.w4_defs.specs.Frame.{frame};
 ghost use Rattle.w4_program.specs.Scenes.{IsAtPlace, scene_setup, stage_moment};
-ghost use Rattle.w4_defs.specs.FrameTexts.{schedule_text, state_line, trace_text};
+ghost use Rattle.w4_defs.specs.FrameTexts.{schedule_text, trace_text};
 ghost use Rattle.w4_defs.specs.Image.{image};
 ghost use Rattle.w4_defs.specs.MadeSummary.{lit_pixels};
 
 use crate::scene::Scene;
-use crate::state_line::state_line;
 use crate::summary::lit_pixels;
 use std::alloc::Global;
 use std::marker::Brand;
@@ -157,17 +156,4 @@ pub fn traces(alloc: Global, stage: &Stage, place: usize) -> Result<Vec<u8>, Out
     let mut text = Vec::new(alloc);
     trace_text(alloc, place, &stage.made, &mut text)?;
     Ok(text)
-}
-
-/// The line of the state at a place of `count` inputs.
-pub fn state_text(
-    alloc: Global,
-    stage: &Stage,
-    place: usize,
-    count: usize,
-) -> Result<Vec<u8>, OutOfMemory>
-    ensures { IfOk result (λ text. text.items ≡ state_line place count stage.now.console (0 ∷ [])) }
-{
-    let state = stage.console.state();
-    state_line(alloc, place, count, state.halt, state.disk.bytes().len())
 }

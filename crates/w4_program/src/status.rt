@@ -47,8 +47,6 @@ pub enum Status {
     OutOfMemory,
     /// The words name a place past the last, `n`.
     FrameRefused { number: u32, n: usize },
-    /// The words or an order of the script ask for what isn't built yet.
-    NotBuilt,
 }
 
 impl From<OutOfMemory> for Status {
@@ -96,6 +94,5 @@ pub fn number(status: Status) -> u8
         Status::WriteFault => 8,
         Status::OutOfMemory => 9,
         Status::FrameRefused { number: _, n: _ } => 10,
-        Status::NotBuilt => 11,
     }
 }

@@ -1,7 +1,39 @@
 use Rattle.w4_program.proofs.commands.run_form.Goals as goal
 
-pub returns-in-Some-clause-ends : goal.returns-in-Some-clause-ends
-returns-in-Some-clause-ends g c = rw (← c.in-Some.ensures) c.over_cart.ensures.ends
+pub returns-in-Check-clause-ends : goal.returns-in-Check-clause-ends
+returns-in-Check-clause-ends g c =
+    let ends = rw c.in-Check.is at c.over_cart.ensures.ends in
+    rw c.in-Check.is ends
 
-pub returns-in-None-clause-ends : goal.returns-in-None-clause-ends
-returns-in-None-clause-ends g c = rw (← c.in-None.ensures) c.alone.ensures.ends
+pub returns-in-Blank-clause-ends : goal.returns-in-Blank-clause-ends
+returns-in-Blank-clause-ends g c =
+    let ends = rw c.in-Blank.is at c.over_cart-in-Blank.ensures.ends in
+    rw c.in-Blank.is ends
+
+pub returns-in-Frames-clause-ends : goal.returns-in-Frames-clause-ends
+returns-in-Frames-clause-ends g c =
+    let ends = rw c.in-Frames.is at c.over_cart-in-Frames.ensures.ends in
+    rw c.in-Frames.is ends
+
+pub returns-in-Tones-clause-ends : goal.returns-in-Tones-clause-ends
+returns-in-Tones-clause-ends g c =
+    let ends = rw c.in-Tones.is at c.over_cart-in-Tones.ensures.ends in
+    rw c.in-Tones.is ends
+
+pub returns-in-Trace-clause-ends : goal.returns-in-Trace-clause-ends
+returns-in-Trace-clause-ends g c =
+    let ends = rw c.in-Trace.is at c.over_cart-in-Trace.ensures.ends in
+    rw c.in-Trace.is ends
+
+pub returns-in-Disk-clause-ends : goal.returns-in-Disk-clause-ends
+returns-in-Disk-clause-ends g c =
+    let ends = rw c.in-Disk.is at c.over_cart-in-Disk.ensures.ends in
+    rw c.in-Disk.is ends
+
+pub returns-in-Edit-clause-ends : goal.returns-in-Edit-clause-ends
+returns-in-Edit-clause-ends g c =
+    let ends = rw c.in-Edit.is at c.over_cart-in-Edit.ensures.ends in
+    rw c.in-Edit.is ends
+
+pub returns-in-Make-clause-ends : goal.returns-in-Make-clause-ends
+returns-in-Make-clause-ends g c = rw c.in-Make.is c.make_cart.ensures.ends

@@ -19,4 +19,4 @@ returns-clause-gives g c =
     judged_by (g.H.House.world c.args.house.now) (g.H.House.world c.read_file.new.house)
     (λ orders. orders.items) c.judge_script.result orders_of 1048576 c.args.name.now
     c.in_ok-bytes.bytes.items c.in_ok-bytes.ensures.gives
-    (rw (← c.as_slice.ensures.value) c.judge_script.ensures.gives)
+    (rw (← c.as_slice.ensures.value) c.judge_script.ensures)

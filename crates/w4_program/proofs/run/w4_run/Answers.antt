@@ -41,7 +41,6 @@ returns g c =
       font_refused = laws.font_refused old new result step ends;
       script_refused = laws.script_refused old new result step ends;
       frame_refused = laws.frame_refused old new result step ends;
-      not_built = laws.not_built old new result step ends;
       read_fault = laws.read_fault old new result step ends;
       write_fault = λ e. (laws.write_fault old new result step ends e).0;
       write_fault_made = λ e. (laws.write_fault old new result step ends e).1;

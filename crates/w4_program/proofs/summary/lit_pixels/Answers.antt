@@ -1,4 +1,5 @@
-use Rattle.w4_program.proofs.SummaryLaws.{bit_of, lit_more, lit_all}
+use Rattle.w4_program.proofs.BitLaws.{bit_of}
+use Rattle.w4_program.proofs.SummaryLaws.{lit_more, lit_all}
 use Rattle.w4_program.proofs.summary.lit_pixels.Goals as goal
 
 pub loop-n-preserved : goal.loop-n-preserved

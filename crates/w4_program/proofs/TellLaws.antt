@@ -1,0 +1,162 @@
+-- What is told of places: by the state or the record of a run, and by the number of the last place.
+use Rattle.std.proofs.Common.{◌≡◌, ℕ, zero, suc, ◌+◌, ◌-◌, ◌<◌, ◌≤◌, Bool, true, false, cond, List, [], ◌∷◌, ◌++◌, map, length, drop, Option, Some, None, option_map, refl, sym, ap, ◌∙◌, arith, subst, append_assoc, append-nil, leb, ltb}
+use Rattle.std.specs.Prelude.{Result, OnOk, flat_map, nat_lt}
+use Rattle.std.specs.Option.{option_and_then}
+use Rattle.std.proofs.Math.ListN.{drop_of_length-le}
+use Rattle.std.proofs.lemmas.List.{length-map}
+use Rattle.std.proofs.lemmas.Bool.{lt-leb, le-leb}
+use Rattle.w4_defs.specs.FrameTexts.{schedule_text, trace_text, spaced, state_line}
+use Rattle.w4_defs.specs.Image.{image}
+use Rattle.w4_defs.specs.KeptList.{Entry, kept_entries, place_at}
+use Rattle.w4_defs.specs.Run.{run, played_on}
+use Rattle.w4_defs.specs.Reset.{Setup, reset}
+use Rattle.w4_defs.specs.State.{State, Moment, FrameRecord}
+use Rattle.w4_defs.specs.Session.{Session}
+use Rattle.w4_defs.specs.declared.console.Input.{Input}
+use Rattle.w4_editor.specs.Editing.{Editing, editing_setup}
+use Rattle.w4_house.specs.World.{World, Appends}
+use Rattle.w4_program.specs.declared.place_text.PlaceText.{PlaceText}
+use Rattle.w4_program.specs.declared.place_text.PlaceText.TheVariants.{Image, Schedule, Traces, DiskBytes}
+use Rattle.w4_program.specs.Texts.{place_text, place_texts, state_text}
+use Rattle.w4_program.specs.Answering.{if_place, film_text, range_text, answer_text, too_long, no_frame}
+use Rattle.w4_program.specs.Editors.{IsAnswered, place_session, text_by}
+use Rattle.w4_program.proofs.KeepEveryLaws.{places_from}
+use Rattle.w4_program.proofs.OwesLaws.{Owes, owes_less, owes_nothing}
+
+-- ---- one place
+
+abbrev pub state_of : Option Moment → Option State
+state_of m = option_map (λ (moment : Moment). moment.state) m
+
+abbrev pub made_of : Option Moment → Option FrameRecord
+made_of m = option_map (λ (moment : Moment). moment.made) m
+
+some_state : (a b : State) → Some a ≡ Some b → a ≡ b
+some_state a b e = cc
+
+some_made : (a b : FrameRecord) → Some a ≡ Some b → a ≡ b
+some_made a b e = cc
+
+pub image_of_state : (p : ℕ) (m : Option Moment) (s : State) → state_of m ≡ Some s
+    → place_text Image p m ≡ image s.page
+image_of_state p (Some moment) s e = ap (λ (x : State). image x.page) (some_state moment.state s e)
+image_of_state p None s e = cc
+
+pub disk_of_state : (p : ℕ) (m : Option Moment) (s : State) → state_of m ≡ Some s
+    → place_text DiskBytes p m ≡ s.disk
+disk_of_state p (Some moment) s e = ap (λ (x : State). x.disk) (some_state moment.state s e)
+disk_of_state p None s e = cc
+
+pub line_of_state : (p count : ℕ) (kept : List ℕ) (m : Option Moment) (s : State) → state_of m ≡ Some s
+    → state_text p count m kept ≡ state_line p count s kept
+line_of_state p count kept (Some moment) s e =
+    ap (λ (x : State). state_line p count x kept) (some_state moment.state s e)
+line_of_state p count kept None s e = cc
+
+pub schedule_of_record : (p : ℕ) (m : Option Moment) (r : FrameRecord) → made_of m ≡ Some r
+    → place_text Schedule p m ≡ schedule_text p r
+schedule_of_record p (Some moment) r e =
+    ap (λ (x : FrameRecord). schedule_text p x) (some_made moment.made r e)
+schedule_of_record p None r e = cc
+
+pub traces_of_record : (p : ℕ) (m : Option Moment) (r : FrameRecord) → made_of m ≡ Some r
+    → place_text Traces p m ≡ trace_text p r
+traces_of_record p (Some moment) r e =
+    ap (λ (x : FrameRecord). trace_text p x) (some_made moment.made r e)
+traces_of_record p None r e = cc
+
+no_inputs : (setup : Setup) (m : Option Moment)
+    → option_and_then (λ moment. played_on setup moment []) m ≡ m
+no_inputs setup (Some moment) = refl
+no_inputs setup None = refl
+
+-- place 0 of a run is the reset
+pub reset_is_first : (setup : Setup) (disk : List ℕ) (inputs : List Input)
+    → run setup disk inputs 0 ≡ reset setup disk
+reset_is_first setup disk inputs = no_inputs setup (reset setup disk)
+
+pub record_of_reset : (setup : Setup) (disk : List ℕ) (inputs : List Input) (p : ℕ) (r : FrameRecord)
+    → p ≡ 0 → made_of (reset setup disk) ≡ Some r → made_of (run setup disk inputs p) ≡ Some r
+record_of_reset setup disk inputs p r first e =
+    ap (λ (n : ℕ). made_of (run setup disk inputs n)) first
+    ∙ ap (λ (m : Option Moment). made_of m) (reset_is_first setup disk inputs)
+    ∙ e
+
+-- ---- places one after another
+
+pub texts-more : (first now next : World) (text : ℕ → List ℕ) (written whole : List ℕ) (at end : ℕ)
+    → at < end → Appends now.out next.out written → written ≡ text at
+    → Owes first now (place_texts text at (end - at)) whole
+    → Owes first next (place_texts text (at + 1) (end - (at + 1))) whole
+texts-more first now next text written whole at end lt h e so_far =
+    let k : end - at ≡ suc (end - (at + 1)) = omega arith in
+    let one : place_texts text at (end - at) ≡ written ++ place_texts text (at + 1) (end - (at + 1)) =
+    rw k (ap (λ (bytes : List ℕ). bytes ++ place_texts text (at + 1) (end - (at + 1))) (sym e)) in
+    owes_less first now next written (place_texts text (at + 1) (end - (at + 1))) whole h
+    (subst (λ owed. Owes first now owed whole) one so_far)
+
+pub texts-all : (first now : World) (text : ℕ → List ℕ) (whole : List ℕ) (at end : ℕ) → end ≤ at
+    → Owes first now (place_texts text at (end - at)) whole → Appends first.out now.out whole
+texts-all first now text whole at end le so_far =
+    let k : end - at ≡ 0 = omega arith in
+    owes_nothing first now (place_texts text at (end - at)) whole (rw k refl) so_far
+
+-- the text of one place is that of a range
+pub text-alone : (text : ℕ → List ℕ) (p : ℕ) → place_texts text p (p + 1 - p) ≡ text p
+text-alone text p =
+    let k : p + 1 - p ≡ suc zero = omega arith in
+    rw k (append-nil (text p))
+
+-- ---- the last place
+
+pub if_place-past : (s : Session ℕ) (last : ℕ) (out : List ℕ) → length s.current.inputs < last
+    → if_place s last out ≡ no_frame
+if_place-past s last out lt = rw (lt-leb last (length s.current.inputs) lt) refl
+
+pub if_place-within : (s : Session ℕ) (last : ℕ) (out : List ℕ) → last ≤ length s.current.inputs
+    → if_place s last out ≡ out
+if_place-within s last out le = rw (le-leb last (length s.current.inputs) le) refl
+
+pub film-long : (setup : Setup) (disk : List ℕ) (s : Session ℕ) (a b : ℕ)
+    → nat_lt 600 (b + 1 - a) ≡ true → film_text setup disk s a b ≡ too_long
+film-long setup disk s a b long = rw long refl
+
+pub film-short : (setup : Setup) (disk : List ℕ) (s : Session ℕ) (a b : ℕ)
+    → nat_lt 600 (b + 1 - a) ≡ false → film_text setup disk s a b ≡ range_text setup disk s Image a b
+film-short setup disk s a b short = rw short refl
+
+-- ---- numbers one after another
+
+pub numbers-more : (text more whole : List ℕ) (entries : List Entry) (i n : ℕ) → i < length entries
+    → n ≡ place_at entries i → more ≡ text ++ spaced n
+    → text ++ flat_map spaced (drop i (map kept_entries.place entries)) ≡ whole
+    → more ++ flat_map spaced (drop (i + 1) (map kept_entries.place entries)) ≡ whole
+numbers-more text more whole entries i n lt is added so_far =
+    let rest : List ℕ = drop (i + 1) (map kept_entries.place entries) in
+    ap (λ (bytes : List ℕ). bytes ++ flat_map spaced rest) added
+    ∙ append_assoc text (spaced n) (flat_map spaced rest)
+    ∙ ap (λ (m : ℕ). text ++ (spaced m ++ flat_map spaced rest)) is
+    ∙ ap (λ (xs : List ℕ). text ++ flat_map spaced xs) (sym (places_from entries i lt))
+    ∙ so_far
+
+pub numbers-all : (text whole : List ℕ) (entries : List Entry) (i : ℕ) → length entries ≤ i
+    → text ++ flat_map spaced (drop i (map kept_entries.place entries)) ≡ whole → text ≡ whole
+numbers-all text whole entries i le so_far =
+    let past : length (map kept_entries.place entries) ≤ i =
+    subst (λ n. n ≤ i) (sym (length-map entries kept_entries.place)) le in
+    let none : text ++ flat_map spaced (drop i (map kept_entries.place entries)) ≡ text =
+    ap (λ (xs : List ℕ). text ++ flat_map spaced xs) (drop_of_length-le (map kept_entries.place entries) past)
+    ∙ append-nil text in
+    sym none ∙ so_far
+
+-- the answer for one place is that for a range
+pub one_range : {X E : Type 0} (result : Result X E) (before after : World) (old new : Editing)
+    (wanted : PlaceText) (p : ℕ)
+    → OnOk result (IsAnswered before after old new (answer_text (place_session old)
+    (if_place (place_session old) p
+    (range_text (editing_setup old) old.disk (place_session old) wanted p p))))
+    → OnOk result (IsAnswered before after old new (answer_text (place_session old)
+    (if_place (place_session old) p (text_by old wanted p))))
+one_range result before after old new wanted p h =
+    subst (λ bytes. OnOk result (IsAnswered before after old new (answer_text (place_session old)
+    (if_place (place_session old) p bytes)))) (text-alone (text_by old wanted) p) h

@@ -1,0 +1,32 @@
+use Rattle.std.proofs.Common.{◌+◌, ◌-◌, arith}
+use Rattle.w4_house.proofs.WorldLaws.{printing_then}
+use Rattle.w4_program.specs.Editors.{text_by}
+use Rattle.w4_program.specs.Texts.{place_texts}
+use Rattle.w4_program.proofs.SessionLaws.{same_inputs, same_text, shows_then}
+use Rattle.w4_program.proofs.TellLaws.{texts-more, texts-all}
+use Rattle.w4_program.proofs.telling.write_all.Goals as goal
+
+pub loop-place-preserved : goal.loop-place-preserved
+loop-place-preserved g c =
+    let first = c.args.desk.now.editor in
+    let now = c.loop-place.desk.editor in
+    let next = c.write_one.new.desk.editor in
+    let text = text_by first c.args.wanted in
+    let begin = g.H.House.world c.args.house.now in
+    let before = g.H.House.world c.loop-place.house in
+    let after = g.H.House.world c.write_one.new.house in
+    let shows = c.loop-place.invariant.1 in (
+      texts-more begin before after text (text_by now c.args.wanted c.loop-place.place)
+          (place_texts text c.args.a (c.args.b + 1 - c.args.a)) c.loop-place.place (c.args.b + 1)
+          c.loop-place-test.true c.in_ok-write_one.ensures.out
+          (same_text first now c.args.wanted c.loop-place.place shows) c.loop-place.invariant.0,
+      shows_then first now next shows c.in_ok-write_one.ensures.shows,
+      printing_then begin before after c.loop-place.invariant.2 c.in_ok-write_one.ensures.rest,
+    )
+
+pub returns-clause-out : goal.returns-clause-out
+returns-clause-out g c =
+    let text = text_by c.args.desk.now.editor c.args.wanted in
+    texts-all (g.H.House.world c.args.house.now) (g.H.House.world c.loop-place.house) text
+    (place_texts text c.args.a (c.args.b + 1 - c.args.a)) c.loop-place.place (c.args.b + 1)
+    c.loop-place-test.false c.loop-place.invariant.0

@@ -1,0 +1,35 @@
+//! The line of a refused order.
+
+ghost use Rattle.std.specs.Prelude.{◌≢◌, OnOk, IfErr};
+ghost use Rattle.w4_defs.specs.declared.editing.EditRefusal.TheVariants.{OutOfMemory as NoMemory};
+ghost use Rattle.w4_house.specs.World.{Appends, LeavesPrinting};
+ghost use Rattle.w4_program.specs.Answering.{refusal_words, refused_line};
+ghost use Rattle.w4_program.specs.Causes.{StopsWriting};
+ghost use Rattle.w4_program.specs.Endings.{manner_of};
+
+use crate::printing::print;
+use crate::status::Status;
+use std::alloc::Global;
+use w4_defs::EditRefusal;
+use w4_house::House;
+
+/// Writes the line of an order that is refused. Where it is memory that was refused, the run ends.
+pub fn refuse<H: House>(alloc: Global, house: &mut H, refusal: EditRefusal) -> Result<(), Status>
+    ensures out { OnOk result (Appends (H.world house.old).out (H.world house.new).out
+        (refused_line (refusal_words refusal))) }
+    ensures cause { OnOk result (refusal ≢ NoMemory) }
+    ensures stops { IfErr result (λ why.
+        StopsWriting (H.world house.old) (H.world house.new) (manner_of why)) }
+    ensures rest { LeavesPrinting (H.world house.old) (H.world house.new) }
+{
+    match refusal {
+        EditRefusal::NoFrame => print(alloc, house, b"refused no frame\n"),
+        EditRefusal::FullRecording => print(alloc, house, b"refused full\n"),
+        EditRefusal::NothingToUndo => print(alloc, house, b"refused nothing to undo\n"),
+        EditRefusal::NothingToRedo => print(alloc, house, b"refused nothing to redo\n"),
+        EditRefusal::Kept => print(alloc, house, b"refused kept\n"),
+        EditRefusal::NotKept => print(alloc, house, b"refused not kept\n"),
+        EditRefusal::FullSnapshots => print(alloc, house, b"refused full\n"),
+        EditRefusal::OutOfMemory => Err(Status::OutOfMemory),
+    }
+}
