@@ -1,5 +1,5 @@
 #!/usr/bin/env python3
-"""Writes the carts, recordings and scripts beside it. Each cart is listed here as its bytes.
+"""Writes the carts, recordings and long lists beside it. Each cart is listed here as its bytes.
 
 Add a line and run it, or put a file here that was made in any other way.
 """
@@ -92,6 +92,9 @@ def importing(functions, instructions, data=()):
 # It stores pad 1 into the first byte of the framebuffer.
 FIRST = with_body("00 41 a0 01 41 16 2d 00 00 3a 00 00 0b")
 
+# It adds the number of four pads to the one at 8,192.
+ADDS = " 41 80 c0 00 41 80 c0 00 28 02 00 41 16 28 02 00 6a 36 02 00 "
+
 NESTED = FRONT + EXPORTS + code(b"\x00" + b"\x02\x40" * 20_000 + b"\x0b" * 20_001)
 
 TONE = ("tone", 4, 0)
@@ -99,6 +102,34 @@ DISKW = ("diskw", 2, 1)
 DISKR = ("diskr", 2, 1)
 TRACE = ("trace", 1, 0)
 TRACEF = ("tracef", 2, 0)
+
+# The tones of the cart `plays-by-pad`, each as its four arguments: frequency, duration, volume, flags. Pad 1
+# is the tone's number, counted from 1.
+TONES = [
+    # 1: a pulse, high for half of its period; 2: the other pulse, going down, of all four parts, on the left
+    (11_025, 1, 100, 8),
+    (440 | 220 << 16, 0x01_01_01_01, 80 << 8 | 40, 17),
+    # 3: a triangle, on the right; 4: noise that rises and fades
+    (1_000, 3, 60, 34),
+    (5_000 | 30_000 << 16, 0x00_00_02_01, 30, 3),
+    # 5: a pulse in note mode; 6: a tone without length
+    (330, 2, 100, 68),
+    (0, 0, 0, 0),
+    # 7: a pulse above 44,100 hertz, of pan 3; 8: noise whose phase may come round twice in a tick
+    (50_000, 1, 7, 60),
+    (65_535, 1, 100, 19),
+    # 9: a level past 100; 10: a triangle that falls from 100 to 25
+    (700, 2, 255, 4),
+    (262, 0x00_02_00_00, 25, 2),
+]
+
+
+def plays_by_pad():
+    """What `update` does: where pad 1 isn't 0, it plays the tone of that number."""
+    pad = constant(22) + hexed("2d 00 00")
+    loads = b"".join(
+        pad + constant(4) + hexed("74") + b"\x28\x02" + number(0x2000 - 16 + 4 * at) for at in range(4))
+    return pad + hexed("04 40") + loads + call(0) + b"\x0b"
 
 CARTS = {
     "smallest": with_body("00 0b"),
@@ -159,6 +190,13 @@ CARTS = {
     "store-past-the-page": with_body("00 41 fd ff 03 41 7f 36 02 00 0b"),
     # pad 1 in the first byte of the framebuffer, and then the same
     "pixels-then-a-trap": with_body("00 41 a0 01 41 16 2d 00 00 3a 00 00 41 fd ff 03 41 7f 36 02 00 0b"),
+    # all four pads in the first bytes of the framebuffer; and both coordinates of the mouse
+    "four-pads": with_body("00 41 a0 01 41 16 28 02 00 36 02 00 0b"),
+    "mouse": with_body("00 41 a0 01 41 1a 28 02 00 36 02 00 0b"),
+    # the pads are added to the number at 8,192, which is then stored in the first bytes of the framebuffer
+    "adds-pads": with_body("00" + ADDS + "41 a0 01 41 80 c0 00 28 02 00 36 02 00 0b"),
+    # and it loads at 65,533 and that number more
+    "adds-pads-up-to-2": with_body("00" + ADDS + "41 fd ff 03 41 80 c0 00 28 02 00 6a 2d 00 00 1a 0b"),
     # i32.extend8_s of 128 stored in the first four bytes of the framebuffer
     "extends-a-byte": with_body("00 41 a0 01 41 80 01 c0 36 02 00 0b"),
     # memory.fill of the framebuffer with 0x55
@@ -178,6 +216,13 @@ CARTS = {
         0a 17 02 02 00 0b 12 00 41 b8 83 f0 06 41 82 88 80 20 41 32 41 00 10 00 0b"""),
     # first frequencies 1 to 65 on channel 0, each one frame of sustain at level 100
     "65-tones": importing([TONE], b"".join(call(0, first, 1, 100, 0) for first in range(1, 66))),
+    # the last tone that is listed has no duration, and the one that isn't listed sounds
+    "65-tones-and-a-stop": importing([TONE], call(0, 440, 1, 100, 0) * 63 + call(0, 440, 0, 100, 0)
+                                     + call(0, 440, 1, 100, 0)),
+    "plays-by-pad": importing(
+        [TONE], plays_by_pad(), [(0x2000, b"".join(struct.pack("<4I", *tone) for tone in TONES))]),
+    # a pulse of three frames, and then a trap
+    "tone-then-a-trap": importing([TONE], call(0, 441, 3, 50, 8) + b"\x00"),
     # the second has no duration
     "two-tones": importing([TONE], call(0, 440, 1, 100, 0) + call(0, 440, 0, 100, 0)),
     # tracef with -5, 255 and the address of `ab`
@@ -426,12 +471,56 @@ RECORDINGS = {
     "letters": recording("letters", 100_000, [0]),
     "one-tone": recording("one-tone", 100_000, [0] * 10),
     "65-tones": recording("65-tones", 100_000, [0]),
+    "65-tones-and-a-stop": recording("65-tones-and-a-stop", 100_000, [0]),
     "two-tones": recording("two-tones", 100_000, [0]),
     "33-traces": recording("33-traces", 100_000, [0]),
     "counts-of-the-disk": recording("counts-of-the-disk", 100_000, [0], b"xyz"),
     "traces-a-line": recording("traces-a-line", 100_000, [0]),
     "writes-a-long-disk": recording("writes-a-long-disk", 100_000, [0], b"xyz"),
+    "first-5-9": recording("first", 100_000, [5, 9]),
+    "first-5-9-5-5": recording("first", 100_000, [5, 9, 5, 5]),
+    "first-128-127": recording("first", 100_000, [128, 127]),
+    "adds-pads": recording("adds-pads", 100_000, [200, 100, 0, 50]),
+    "adds-pads-reset": recording_2("adds-pads", 100_000, [3, 4, 5], [0, 0, 1]),
+    "each-tone": recording("plays-by-pad", 100_000, [1, 0, 2, 0, 3, 0, 0, 0, 4, 0, 0, 0, 8, 0, 10, 0, 0]),
+    # a tone is cut off, by another or by none, and channels sound together
+    "tones-together": recording(
+        "plays-by-pad", 100_000, [5, 1, 9, 6, 7, 3, 2, 4, 9, 0, 5, 0, 9, 0, 0]),
+    "tones-and-a-reset": recording_2(
+        "plays-by-pad", 100_000, [3, 9, 0, 4, 0, 2], [0, 0, 1, 0, 0, 1]),
+    "pulse": recording("plays-by-pad", 100_000, [1, 0]),
+    "one-tone-reset": recording_2("one-tone", 100_000, [0] * 5, [0, 0, 1, 0, 0]),
+    "one-tone-not-begun": recording_2("one-tone", 100_000, [], []),
+    "tone-then-a-trap": recording("tone-then-a-trap", 100_000, [0] * 4),
+    "writes-a-long-disk-not-begun": recording("writes-a-long-disk", 100_000, [], b"xyz"),
+    "smallest-longest": recording_2("smallest", 100_000, [0] * 36_000, [0] * 36_000, bytes(1_024)),
+    "smallest-longest-and-a-byte":
+        recording_2("smallest", 100_000, [0] * 36_000, [0] * 36_000, bytes(1_024)) + b"\x00",
     "writes-a-disk-at-the-end": recording("writes-a-disk-at-the-end", 100_000, [0], b"xyz"),
+}
+
+# The same file by a name of 255 bytes, and by one of 256.
+A_NAME = b"inputs/recordings/first.w4rec\n"
+NAME_OF_255 = b"inputs/" + b"./" * 113 + b"recordings/first.w4rec"
+NAME_OF_256 = NAME_OF_255.replace(b"/", b"//", 1)
+assert (len(NAME_OF_255), len(NAME_OF_256)) == (255, 256)
+
+LISTS = {
+    "256-names": A_NAME * 256,
+    # an empty line is counted and is no name
+    "256-names-and-an-empty-line": A_NAME * 255 + b"\n" + A_NAME,
+    "257-names": b"a\n" * 257,
+    "257-names-behind-an-empty-line": b"\n" + A_NAME * 257,
+    "65536-lines": b"\n" * 65_536,
+    "65537-lines": b"\n" * 65_537,
+    "name-of-255-bytes": NAME_OF_255 + b"\r\n",
+    "name-of-256-bytes": A_NAME + b"\n" + NAME_OF_256 + b"\n",
+    "65537-bytes-of-a-name": b"a" * 65_537,
+}
+
+LOGS = {
+    "36001-nexts": b"next\n" * 36_001,
+    "1024-keeps": b"next\n" * 1_024 + b"".join(b"keep %d\n" % place for place in range(1, 1_025)),
 }
 
 
@@ -451,8 +540,12 @@ def main():
     cart, recording_of_it = made(14)
     write("carts/made-14.wasm", cart)
     write("recordings/made-14.w4rec", recording_of_it)
+    for folder, files in (("lists", LISTS), ("logs", LOGS)):
+        for name, text in files.items():
+            write(f"{folder}/{name}.txt", text)
     write("font.bin", bytes(1_792))
     write("short-font.bin", bytes(1_791))
 
 
-main()
+if __name__ == "__main__":
+    main()

@@ -4,6 +4,7 @@
 An image is a PPM file of 160 by 160 pixels. A pixel's entry stands in two bits of the framebuffer, the lowest
 bits of a byte leftmost, and names one of the palette's four colors.
 """
+import hashlib
 import os
 
 HERE = os.path.dirname(os.path.abspath(__file__))
@@ -55,10 +56,14 @@ for folder, names in (("recordings", [name + ".w4rec" for name in LEFT.split()])
 
 # A page on which nothing was painted.
 write("clear.ppm", image(of_framebuffer(b"")))
-# The first byte of the framebuffer is pad 1: 27, 1 and 2.
+# The first byte of the framebuffer is pad 1: 27, 228, 1 and 2.
 write("pad-27.ppm", image(of_framebuffer(b"\x1b")))
+write("pad-228.ppm", image(of_framebuffer(b"\xe4")))
 write("pad-1.ppm", image(of_framebuffer(b"\x01")))
 write("pad-2.ppm", image(of_framebuffer(b"\x02")))
+# Its first four bytes are the pads of four players; the second lets its button go.
+write("pads-1-2-4-8.ppm", image(of_framebuffer(b"\x01\x02\x04\x08")))
+write("pads-1-0-4-8.ppm", image(of_framebuffer(b"\x01\x00\x04\x08")))
 # Two letters of a font of zeros, which is all ink, one below the other: 8 by 16 pixels in the second color.
 write("letters.ppm", image(lambda x, y: 1 if x < 8 and y < 16 else 0))
 # 128 as a signed byte is -128: the bytes 80 ff ff ff.
@@ -82,3 +87,7 @@ write("65-tones.txt", "\n".join(["frame 0", "frame 1", *lines, "dropped 1", "sou
 
 # 33 traces of `a` in a frame.
 write("33-traces.txt", b"frame 0\nframe 1\n" + b"trace a\n" * 32 + b"dropped 1\n")
+
+# The rows of 256 recordings of two frames of zeros.
+CLEAR = hashlib.sha256(image(of_framebuffer(b""))).hexdigest()
+write("256-rows.txt", f"inputs/recordings/first.w4rec 2 halt running image {CLEAR} disk 0\n".encode() * 256)

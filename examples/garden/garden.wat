@@ -1,4 +1,5 @@
-;; A robot walks through a garden. Left and right move it, button 1 makes it hop and sound.
+;; A robot walks through a garden, and a waltz is played. Left and right move it, button 1 makes it hop and
+;; sound. How often it has hopped stands at address 0x2118 (8472), in four bytes.
 ;; Built by `wat2wasm garden.wat -o cart.wasm` (wabt).
 (module
   (import "env" "memory" (memory 1))
@@ -45,8 +46,23 @@
     "\00\c0") ;; ....3...
   (data (i32.const 0x2040) "A ROBOT'S GARDEN\00")
   (data (i32.const 0x2060) "frame %d: the robot is at %d\00")
-  ;; Four notes in hertz, 32 bits each.
-  (data (i32.const 0x2080) "\06\01\00\00\4a\01\00\00\88\01\00\00\0b\02\00\00")
+  ;; The waltz: four bars of six eighth notes in hertz, 16 bits each. At a 0 the note before it sounds on.
+  (data (i32.const 0x2080) ;; the tune
+    "\93\02\00\00\10\03\00\00\93\02\4b\02" ;; E5 - G5 - E5 D5
+    "\0b\02\00\00\93\02\00\00\0b\02\ee\01" ;; C5 - E5 - C5 B4
+    "\b8\01\00\00\0b\02\00\00\ba\02\93\02" ;; A4 - C5 - F5 E5
+    "\4b\02\00\00\00\00\ee\01\4b\02\00\00") ;; D5 - - B4 D5 -
+  (data (i32.const 0x20b0) ;; the bass
+    "\83\00\00\00\4a\01\00\00\88\01\00\00" ;; C3 - E4 - G4 -
+    "\6e\00\00\00\06\01\00\00\4a\01\00\00" ;; A2 - C4 - E4 -
+    "\af\00\00\00\06\01\00\00\5d\01\00\00" ;; F3 - C4 - F4 -
+    "\c4\00\00\00\f7\00\00\00\26\01\00\00") ;; G3 - B3 - D4 -
+  (data (i32.const 0x20e0) ;; the brushes, on the second and third beat
+    "\00\00\00\00\40\1f\00\00\40\1f\00\00"
+    "\00\00\00\00\40\1f\00\00\40\1f\00\00"
+    "\00\00\00\00\40\1f\00\00\40\1f\00\00"
+    "\00\00\00\00\40\1f\00\00\40\1f\40\1f")
+  ;; 0x2110 has the numbers of the line that is traced.
 
   (func $colors (param $colors i32)
     i32.const 0x14
@@ -98,7 +114,7 @@
       call $step
     end)
 
-  ;; A hop is 24 frames long and begins with a tone that slides up.
+  ;; A hop is 24 frames long, is counted, and begins with a tone that slides up.
   (func $jump
     global.get $hop
     if
@@ -112,6 +128,12 @@
       if
         i32.const 24
         global.set $hop
+        i32.const 0x2118
+        i32.const 0x2118
+        i32.load
+        i32.const 1
+        i32.add
+        i32.store
         i32.const 0x02bc0118 ;; from 280 to 700 hertz
         i32.const 0x00000810 ;; 8 frames of release, 16 of sustain
         i32.const 40
@@ -120,25 +142,50 @@
       end
     end)
 
-  ;; A note each half second.
+  ;; The note of a part that begins now, if one does.
+  (func $part (param $notes i32) (param $duration i32) (param $volume i32) (param $flags i32)
+    (local $note i32)
+    local.get $notes
+    global.get $frames
+    i32.const 10
+    i32.div_u
+    i32.const 24
+    i32.rem_u
+    i32.const 1
+    i32.shl
+    i32.add
+    i32.load16_u
+    local.tee $note
+    if
+      local.get $note
+      local.get $duration
+      local.get $volume
+      local.get $flags
+      call $tone
+    end)
+
+  ;; An eighth note is ten frames long.
   (func $music
     global.get $frames
-    i32.const 30
+    i32.const 10
     i32.rem_u
     i32.eqz
     if
-      global.get $frames
-      i32.const 30
-      i32.div_u
-      i32.const 3
-      i32.and
-      i32.const 2
-      i32.shl
-      i32.load offset=0x2080
-      i32.const 0x0000140a ;; 20 frames of release, 10 of sustain
-      i32.const 30
+      i32.const 0x2080
+      i32.const 0x00000e06 ;; 14 frames of release, 6 of sustain
+      i32.const 26
+      i32.const 5 ;; the second pulse, high for a quarter
+      call $part
+      i32.const 0x20b0
+      i32.const 0x00001004 ;; 16 frames of release, 4 of sustain
+      i32.const 45
       i32.const 2 ;; the triangle
-      call $tone
+      call $part
+      i32.const 0x20e0
+      i32.const 0x00000500 ;; 5 frames of release
+      i32.const 7
+      i32.const 35 ;; the noise, on the right
+      call $part
     end)
 
   (func $flowers
@@ -241,14 +288,14 @@
     i32.rem_u
     i32.eqz
     if
-      i32.const 0x2100
+      i32.const 0x2110
       global.get $frames
       i32.store
-      i32.const 0x2104
+      i32.const 0x2114
       global.get $x
       i32.store
       i32.const 0x2060
-      i32.const 0x2100
+      i32.const 0x2110
       call $tracef
     end)
 

@@ -2,3 +2,5 @@
 mod CodeLaws
 mod SnapshotLaws
 mod TextLaws
+mod WalkLaws
+mod WindowLaws

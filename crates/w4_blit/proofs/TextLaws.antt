@@ -1,12 +1,18 @@
 -- One code of a text after another.
-use Rattle.std.proofs.Common.{◌≡◌, ℕ, false, List, ◌∷◌, length, Option, Some, None, refl, inl, inr, arith}
-use Rattle.std.specs.Prelude.{ℤ, pos, ◌+ℤ◌, ◌≤ℤ◌, ◌==◌, if◌then◌else◌}
+use Rattle.std.proofs.Common.{◌≡◌, ℕ, zero, suc, ◌<◌, ◌≤◌, ◌+◌, ◌-◌, ◌*◌, ◌/◌, ◌%◌, ◌^◌, ◌&&◌, get_or, sym, ◌∙◌, ap, false, List, ◌∷◌, length, Option, Some, None, refl, inl, inr, arith}
+use Rattle.std.specs.Prelude.{ℤ, pos, ◌+ℤ◌, ◌-ℤ◌, ◌≤ℤ◌, ◌==◌, int_le, nat_le, nat_lt, if◌then◌else◌}
 use Rattle.std.specs.Option.{option_or}
 use Rattle.std.proofs.lemmas.Bool.{cases_eq}
 use Rattle.std.proofs.lemmas.Bool.Decides.{nat_tests}
+use Rattle.std.proofs.lemmas.Int.{ints}
 use Rattle.w4_defs.specs.Framebuffer.{paint}
 use Rattle.w4_defs.specs.Text.{codes_painter, glyph_painter}
+use Rattle.w4_defs.specs.Colours.{palette_index}
+use Rattle.w4_defs.specs.Shapes.{natural, only_if}
 use Rattle.w4_defs.proofs.PaintLaws.{paint_step}
+use Rattle.w4_pixels.specs.Clipping.{clipped}
+use Rattle.w4_pixels.proofs.ClippingLaws.{away}
+use Rattle.w4_blit.specs.Unclipped.{bits_painter, eight_painter}
 
 or_none : (o : Option ℕ) → option_or o None ≡ o
 or_none None = refl
@@ -41,3 +47,39 @@ either_below code newline other limit hn ho = elim (cases_eq code 10) [
   | inl same ↦ rw same hn
   | inr apart ↦ (let off : (code == 10) ≡ false = grind (arith, nat_tests) in rw off ho)
 ]
+
+-- a bit is 0 or 1
+bit_colour : (colors bit : ℕ) → bit < 2
+    → (if bit == 1 then palette_index colors 2 else palette_index colors 1) ≡ palette_index colors (bit + 1)
+bit_colour colors zero h = refl
+bit_colour colors (suc zero) h = refl
+bit_colour colors (suc (suc bit)) h = absurd (omega arith)
+
+-- what the cells of a glyph's row paint, by its byte of the font
+pub row_of_glyph : (font : List ℕ) (colors code bits : ℕ) (paper ink : Option ℕ) (x y : ℤ)
+    (left right v a b : ℕ)
+    → bits ≡ get_or font (8 * (code - 32) + natural (pos v -ℤ y)) 0
+    → paper ≡ palette_index colors 1 → ink ≡ palette_index colors 2
+    → clipped (eight_painter bits paper ink x) left right v (v + 1) a b
+    ≡ clipped (bits_painter font colors code x y) left right v (v + 1) a b
+row_of_glyph font colors code bits paper ink x y left right v a b e eg ei = elim (cases_eq b v) [
+  | inl same ↦ (
+      let bit = bits / 2 ^ (7 - natural (pos a -ℤ x)) % 2 in
+      ap (only_if ((nat_le left a && nat_lt a right) && (nat_le v b && nat_lt b (v + 1))))
+      (ap (λ (o : Option ℕ). if bit == 1 then o else paper) ei
+      ∙ ap (λ (o : Option ℕ). if bit == 1 then palette_index colors 2 else o) eg
+      ∙ bit_colour colors bit (omega arith)
+      ∙ ap (λ (byte : ℕ). palette_index colors (byte / 2 ^ (7 - natural (pos a -ℤ x)) % 2 + 1))
+      (e ∙ ap (λ (w : ℕ). get_or font (8 * (code - 32) + natural (pos w -ℤ y)) 0) (sym same))))
+  | inr n ↦ away ((nat_le left a && nat_lt a right) && (nat_le v b && nat_lt b (v + 1))) _ _
+      (grind (arith, nat_tests))
+]
+
+-- the first column of a glyph that is on the screen, and the last
+pub first_column : (x : ℤ) (left : ℕ) → left < 160
+    → ((u : ℕ) → u < 160 → nat_le left u ≡ int_le x (pos u)) → x ≤ℤ pos left
+first_column x left h same = let here = same left h in grind (arith, ints, nat_tests)
+
+pub last_column : (x : ℤ) (right : ℕ) → 0 < right → right ≤ 160
+    → ((u : ℕ) → u < 160 → nat_le right u ≡ int_le x (pos u)) → pos right ≤ℤ x
+last_column x right some h same = let here = same (right - 1) (omega arith) in grind (arith, ints, nat_tests)

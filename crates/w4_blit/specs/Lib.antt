@@ -1,3 +1,4 @@
 -- What the contracts of this crate cite besides the definitions of drawing.
 pub mod Snapshot
 pub mod Unclipped
+pub mod Walks

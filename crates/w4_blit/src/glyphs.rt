@@ -1,17 +1,18 @@
 //! Glyphs, by their cells that are on the screen.
 
 ghost use Rattle.std.specs.Option.{ForSome};
-ghost use Rattle.std.specs.Prelude.{◌+◌, ◌+ℤ◌, ◌<◌, ◌≡◌, ◌≤◌, ◌≤ℤ◌, pos};
-ghost use Rattle.w4_blit.specs.Unclipped.{bits_painter};
+ghost use Rattle.std.specs.Prelude.{◌+◌, ◌+ℤ◌, ◌-◌, ◌-ℤ◌, ◌<◌, ◌≡◌, ◌≤◌, ◌≤ℤ◌, pos};
+ghost use Rattle.w4_blit.specs.Unclipped.{bits_painter, eight_painter};
 ghost use Rattle.w4_defs.specs.Framebuffer.{paint};
-ghost use Rattle.w4_defs.specs.Shapes.{is_inside, only_if};
+ghost use Rattle.w4_defs.specs.Shapes.{is_inside, natural, only_if};
 ghost use Rattle.w4_defs.specs.Text.{glyph_painter};
 ghost use Rattle.w4_pixels.specs.Clipping.{clipped};
+ghost use Rattle.w4_pixels.specs.Packed.{byte_painter};
 
 use crate::font::Font;
 use crate::source::offset;
 use w4_defs::PageBytes;
-use w4_pixels::{cell, entry_of, on_screen};
+use w4_pixels::{entry_of, on_screen, put_quad};
 
 /// The codes that have a glyph: the first, and the end, which is left out.
 const FIRST_CODE: u16 = 32;
@@ -56,24 +57,114 @@ fn glyph_rows(page: &mut PageBytes, font: &Font, glyph: Glyph)
 fn glyph_row(page: &mut PageBytes, font: &Font, glyph: Glyph, left: usize, right: usize, v: usize)
     requires columns { right ≤ 160 }
     requires row { v < 160 }
+    requires from { left < right → glyph.x ≤ℤ pos left }
+    requires to { left < right → pos right ≤ℤ (glyph.x +ℤ pos 8) }
     ensures { page.new ≡ paint page.old
         (clipped (bits_painter font.now glyph.colors glyph.code glyph.x glyph.y) left right v (v + 1)) }
 {
-    for u in left..right {
-        let index = bit_index(font, glyph, u, v);
-        cell(page, u, v, index);
+    if left < right {
+        let first = 8 * u64::from(glyph.code.saturating_sub(FIRST_CODE));
+        let row = Row {
+            bits: font.byte(first + offset(v, glyph.y)),
+            paper: entry_of(glyph.colors, 1),
+            ink: entry_of(glyph.colors, 2),
+            x: glyph.x,
+            left,
+            right,
+            v,
+        };
+        put_row(page, row);
     }
 }
 
-/// What a glyph paints at column `u` and row `v` of the screen: a bit 0 in colour 1, a bit 1 in colour 2.
-fn bit_index(font: &Font, glyph: Glyph, u: usize, v: usize) -> Option<u8>
+/// A part of a row of the screen, with the eight bits that its cells read: a bit 0 is paper, a bit 1 ink.
+#[derive(Clone, Copy)]
+struct Row {
+    bits: u8,
+    paper: Option<u8>,
+    ink: Option<u8>,
+    x: i64,
+    left: usize,
+    right: usize,
+    v: usize,
+}
+
+fn put_row(page: &mut PageBytes, row: Row)
+    requires some { row.left < row.right }
+    requires columns { row.right ≤ 160 }
+    requires row { row.v < 160 }
+    requires from { row.x ≤ℤ pos row.left }
+    requires to { pos row.right ≤ℤ (row.x +ℤ pos 8) }
+    requires paper { ForSome row.paper (λ e. e < 4) }
+    requires ink { ForSome row.ink (λ e. e < 4) }
+    ensures { page.new ≡ paint page.old
+        (clipped (eight_painter row.bits row.paper row.ink row.x) row.left row.right row.v (row.v + 1)) }
+{
+    for q in row.left / 4..(row.right + 3) / 4 {
+        put_byte(page, row, q);
+    }
+}
+
+/// Those of the cells that are in byte `q` of the row.
+fn put_byte(page: &mut PageBytes, row: Row, q: usize)
+    requires byte { q < 40 }
+    requires row { row.v < 160 }
+    requires from { row.x ≤ℤ pos row.left }
+    requires to { pos row.right ≤ℤ (row.x +ℤ pos 8) }
+    requires paper { ForSome row.paper (λ e. e < 4) }
+    requires ink { ForSome row.ink (λ e. e < 4) }
+    ensures { page.new ≡ paint page.old
+        (byte_painter (clipped (eight_painter row.bits row.paper row.ink row.x) row.left row.right row.v
+        (row.v + 1)) q row.v) }
+{
+    let first = index_in(row, 4 * q);
+    let second = index_in(row, 4 * q + 1);
+    let third = index_in(row, 4 * q + 2);
+    let fourth = index_in(row, 4 * q + 3);
+    put_quad(page, q, row.v, first, second, third, fourth);
+}
+
+/// What is painted at column `u`: nothing where it isn't of the row's part.
+fn index_in(row: Row, u: usize) -> Option<u8>
     requires column { u < 160 }
-    requires row { v < 160 }
-    ensures value { result ≡ bits_painter font.now glyph.colors glyph.code glyph.x glyph.y u v }
+    requires from { row.x ≤ℤ pos row.left }
+    requires to { pos row.right ≤ℤ (row.x +ℤ pos 8) }
+    requires paper { ForSome row.paper (λ e. e < 4) }
+    requires ink { ForSome row.ink (λ e. e < 4) }
+    ensures value { result ≡ clipped (eight_painter row.bits row.paper row.ink row.x) row.left row.right row.v
+        (row.v + 1) u row.v }
     ensures bound { ForSome result (λ e. e < 4) }
 {
-    let first = 8 * u64::from(glyph.code.saturating_sub(FIRST_CODE));
-    let byte = font.byte(first + offset(v, glyph.y));
-    let shift = 7u64.saturating_sub(offset(u, glyph.x)) as u32;
-    entry_of(glyph.colors, (byte >> shift) % 2 + 1)
+    if row.left <= u && u < row.right {
+        bit_index(row, u)
+    } else {
+        None
+    }
+}
+
+fn bit_index(row: Row, u: usize) -> Option<u8>
+    requires column { u < 160 }
+    requires from { row.x ≤ℤ pos u }
+    requires to { (pos u +ℤ pos 1) ≤ℤ (row.x +ℤ pos 8) }
+    requires paper { ForSome row.paper (λ e. e < 4) }
+    requires ink { ForSome row.ink (λ e. e < 4) }
+    ensures value { result ≡ eight_painter row.bits row.paper row.ink row.x u row.v }
+    ensures bound { ForSome result (λ e. e < 4) }
+{
+    if (row.bits >> shift_of(row.x, u)) % 2 == 1 {
+        row.ink
+    } else {
+        row.paper
+    }
+}
+
+/// How far the bit of column `u` stands from the lowest.
+fn shift_of(x: i64, u: usize) -> u32
+    requires column { u < 160 }
+    requires from { x ≤ℤ pos u }
+    requires to { (pos u +ℤ pos 1) ≤ℤ (x +ℤ pos 8) }
+    ensures value { result ≡ 7 - natural (pos u -ℤ x) }
+    ensures bound { result < 8 }
+{
+    (x + 7 - u as i64) as u32
 }

@@ -11,6 +11,8 @@ pub mod font;
 mod glyphs;
 mod source;
 pub mod texts;
+mod walks;
+mod windows;
 
 pub use blit::blit_sub;
 pub use font::{Font, FontLength};

@@ -10,6 +10,10 @@ use w4_defs::PageBytes;
 /// A snapshot of the framebuffer's bytes, taken when the call begins.
 pub(crate) type Snapshot = [u8; 6400];
 
+/// The first byte behind the framebuffer. A source that begins there or further up is never painted, so it
+/// needs no snapshot.
+pub(crate) const FRAMEBUFFER_END: u32 = 6560;
+
 /// What a byte past the page's end reads.
 const PAST_THE_END: u8 = 0;
 
@@ -22,15 +26,25 @@ pub(crate) fn framebuffer(page: &PageBytes) -> Snapshot
 }
 
 /// A byte of the page when the call began; 0 past its end.
-pub(crate) fn source_byte(page: &PageBytes, snapshot: &Snapshot, at: u128) -> u8
+pub(crate) fn source_byte(page: &PageBytes, snapshot: &[u8], at: u64) -> u8
     ensures { result ≡ slice_index (with_snapshot page.now snapshot.now) at }
 {
-    if at < 160 {
+    if 65536 <= at {
+        PAST_THE_END
+    } else if 6560 <= at {
         page[at as usize]
-    } else if at < 6560 {
-        snapshot[at as usize - 160]
-    } else if at < 65536 {
+    } else if at < 160 {
         page[at as usize]
+    } else {
+        kept_byte(snapshot, at as usize - 160)
+    }
+}
+
+fn kept_byte(snapshot: &[u8], at: usize) -> u8
+    ensures { result ≡ slice_index snapshot.now at }
+{
+    if at < snapshot.len() {
+        snapshot[at]
     } else {
         PAST_THE_END
     }

@@ -1,14 +1,14 @@
 //! Text, code by code.
 
-ghost use Rattle.std.specs.Prelude.{◌+ℤ◌, ◌==◌, ◌≡◌, ◌≤ℤ◌, if◌then◌else◌, pos};
-ghost use Rattle.w4_blit.specs.Snapshot.{with_snapshot};
+ghost use Rattle.std.specs.Prelude.{◌+ℤ◌, ◌==◌, ◌≡◌, ◌≤◌, ◌≤ℤ◌, if◌then◌else◌, pos};
+ghost use Rattle.w4_blit.specs.Snapshot.{source_start, with_snapshot};
 ghost use Rattle.w4_defs.specs.Framebuffer.{paint};
 ghost use Rattle.w4_defs.specs.Text.{text_codes, text_painter};
 
 use crate::codes::{code_at, code_count};
 use crate::font::Font;
 use crate::glyphs::{Glyph, put_glyph};
-use crate::source::{Snapshot, framebuffer};
+use crate::source::{FRAMEBUFFER_END, framebuffer};
 use w4_defs::{PageBytes, TextSource};
 
 /// Where the next code's cells begin.
@@ -21,6 +21,35 @@ struct Pen {
 /// Paints a text from (x, y) on. Code 10 goes to column `x`, 8 further down; every other code moves 8 to the
 /// right, and those from 32 to 255 paint 8 by 8 cells, a bit 0 of the font in colour 1, a bit 1 in colour 2.
 pub fn text(page: &mut PageBytes, font: &Font, colors: u16, source: TextSource, x: i32, y: i32)
+    ensures { page.new ≡ paint page.old (text_painter font.now colors (text_codes page.old source) x y) }
+{
+    if FRAMEBUFFER_END <= start_of(source) {
+        text_outside(page, font, colors, source, x, y);
+    } else {
+        text_inside(page, font, colors, source, x, y);
+    }
+}
+
+fn start_of(source: TextSource) -> u32
+    ensures { result ≡ source_start source }
+{
+    match source {
+        TextSource::Cstr { ptr } => ptr,
+        TextSource::Utf8 { ptr, .. } => ptr,
+        TextSource::Utf16 { ptr, .. } => ptr,
+    }
+}
+
+/// Paints a text that lies behind the framebuffer.
+fn text_outside(page: &mut PageBytes, font: &Font, colors: u16, source: TextSource, x: i32, y: i32)
+    requires { 6560 ≤ source_start source }
+    ensures { page.new ≡ paint page.old (text_painter font.now colors (text_codes page.old source) x y) }
+{
+    put_codes(page, &[], font, colors, source, i64::from(x), i64::from(y));
+}
+
+/// Paints a text that may lie in the framebuffer.
+fn text_inside(page: &mut PageBytes, font: &Font, colors: u16, source: TextSource, x: i32, y: i32)
     ensures { page.new ≡ paint page.old (text_painter font.now colors (text_codes page.old source) x y) }
 {
     let snapshot = framebuffer(page);
@@ -37,7 +66,7 @@ pub fn text(page: &mut PageBytes, font: &Font, colors: u16, source: TextSource, 
 
 fn put_codes(
     page: &mut PageBytes,
-    snapshot: &Snapshot,
+    snapshot: &[u8],
     font: &Font,
     colors: u16,
     source: TextSource,

@@ -7,7 +7,6 @@ ghost use Rattle.w4_devices.specs.Records.{record_of};
 use crate::frame_record::FrameRecord;
 use crate::hexadecimal::hex_digit;
 use crate::line::Line;
-use crate::tone_log::ToneEntry;
 use itoa::Buffer;
 use std::alloc::Global;
 use w4_defs::{OutOfMemory, Sound, Tone};
@@ -51,7 +50,7 @@ fn add_schedule(text: &mut Vec<u8>, place: usize, made: &FrameRecord) -> Result<
     ensures { OnOk result (text.new.items ≡ text.old.items ++ schedule_text place (record_of made.now)) }
 {
     add_numbered(text, b"frame", &[place as u64])?;
-    add_tones(text, made.tones.tones())?;
+    add_tones(text, made.tones.kept())?;
     add_dropped(text, made.tones.dropped())?;
     add_sounds(text, &made.sounds)
 }
@@ -95,11 +94,11 @@ fn add_dropped(text: &mut Vec<u8>, dropped: u64) -> Result<(), OutOfMemory>
     add_numbered(text, b"dropped", &[dropped])
 }
 
-fn add_tones(text: &mut Vec<u8>, tones: &[ToneEntry]) -> Result<(), OutOfMemory>
+fn add_tones(text: &mut Vec<u8>, tones: &[Tone]) -> Result<(), OutOfMemory>
     ensures { OnOk result (text.new.items ≡ text.old.items ++ flat_map tone_line tones.now) }
 {
-    for entry in tones {
-        add_tone(text, entry.tone())?;
+    for tone in tones {
+        add_tone(text, *tone)?;
     }
     Ok(())
 }

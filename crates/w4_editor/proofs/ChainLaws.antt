@@ -1,14 +1,14 @@
 -- Kept lists entry by entry: a chain goes on from a place and its state. A kept list is consistent if and
--- only if its
--- first entry is that of the reset and the others are a chain from it.
-use Rattle.std.proofs.Common.{◌≡◌, ℕ, zero, suc, ◌+◌, ◌<◌, ◌≤◌, true, List, [], ◌∷◌, length, Some, option_map, ◌⊎◌, sym, subst, arith}
+-- only if its first entry is that of the reset and the others are a chain from it.
+use Rattle.std.proofs.Common.{◌≡◌, ℕ, zero, suc, ◌+◌, ◌<◌, ◌≤◌, true, List, [], ◌∷◌, length, Some, option_map}
+use Rattle.std.proofs.Common.{◌⊎◌, sym, subst, arith}
 use Rattle.std.specs.List.{slice_range}
 use Rattle.w4_defs.specs.declared.console.Input.{Input}
 use Rattle.w4_defs.specs.State.{State, Moment, HasGlobals}
 use Rattle.w4_defs.specs.Reset.{Setup, reset}
 use Rattle.w4_defs.specs.Run.{fold}
 use Rattle.w4_defs.specs.KeptList.{Entry, place_at, state_at, linked_at, IsConsistent}
-use Rattle.w4_editor.specs.Settling.{AreTrue}
+use Rattle.w4_editor.specs.Settling.{HasTrueLinks}
 
 -- which links are owed, by the places before and after them: all, or all but the one across input K
 abbrev pub any : ℕ → ℕ → Type 0
@@ -37,8 +37,8 @@ LinkAt setup inputs from state kept j =
     → fold setup state (slice_range inputs from (place_at kept j)) ≡ Some (state_at kept j)
 
 true_after : (setup : Setup) (inputs : List Input) (x : Entry) (kept : List Entry)
-    → AreTrue setup inputs (x ∷ kept)
-    → AreTrue setup inputs kept
+    → HasTrueLinks setup inputs (x ∷ kept)
+    → HasTrueLinks setup inputs kept
 true_after setup inputs x kept s = record {
   rising = λ i h.
       subst (λ j. place_at kept i < place_at (x ∷ kept) j) (next_index i) (s.rising (suc i) (omega arith));
@@ -49,7 +49,7 @@ true_after setup inputs x kept s = record {
 }
 
 chain_of : (setup : Setup) (inputs : List Input) (x : Entry) (kept : List Entry)
-    → AreTrue setup inputs (x ∷ kept)
+    → HasTrueLinks setup inputs (x ∷ kept)
     → Chain any setup inputs x.place x.state kept
 chain_of setup inputs x [] s = tt
 chain_of setup inputs x (y ∷ kept) s = (
@@ -91,8 +91,8 @@ module _ (setup : Setup) (inputs : List Input) (x : Entry) where
 
   true_on : (kept : List Entry) → x.place ≤ length inputs → HasGlobals setup.cart x.state
       → (0 < length kept → x.place < place_at kept 0)
-      → (0 < length kept → LinkAt setup inputs x.place x.state kept 0) → AreTrue setup inputs kept
-      → AreTrue setup inputs (x ∷ kept)
+      → (0 < length kept → LinkAt setup inputs x.place x.state kept 0) → HasTrueLinks setup inputs kept
+      → HasTrueLinks setup inputs (x ∷ kept)
   true_on kept le globals first link s = record {
     rising = rising_on kept first s.rising;
     within = within_on kept le s.within;
@@ -100,7 +100,7 @@ module _ (setup : Setup) (inputs : List Input) (x : Entry) where
     links = links_on kept link s.links;
   }
 
-none_true : (setup : Setup) (inputs : List Input) → AreTrue setup inputs []
+none_true : (setup : Setup) (inputs : List Input) → HasTrueLinks setup inputs []
 none_true setup inputs = record {
   rising = λ i h. absurd (omega (arith, h));
   within = λ i h. absurd (omega (arith, h));
@@ -110,7 +110,7 @@ none_true setup inputs = record {
 
 true_of : (setup : Setup) (inputs : List Input) (x : Entry) (kept : List Entry) → x.place ≤ length inputs
     → HasGlobals setup.cart x.state → Chain any setup inputs x.place x.state kept
-    → AreTrue setup inputs (x ∷ kept)
+    → HasTrueLinks setup inputs (x ∷ kept)
 true_of setup inputs x [] le globals c = true_on setup inputs x [] le globals (λ h. absurd (omega (arith, h)))
     (λ h l. absurd (omega (arith, h))) (none_true setup inputs)
 true_of setup inputs x (y ∷ kept) le globals c =

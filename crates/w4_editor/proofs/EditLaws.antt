@@ -1,6 +1,8 @@
 -- An edit of a consistent kept list leaves a consistent one: below the edited input nothing changes, the link
 -- across it goes, and above it entries and inputs move alike.
-use Rattle.std.proofs.Common.{◌≡◌, ◌≢◌, ℕ, suc, ◌+◌, ◌-◌, ◌<◌, ◌≤◌, Bool, true, false, cond, not, ltb, eqb, List, [], ◌∷◌, map, length, set, ◌⊎◌, inl, inr, refl, sym, ap, ◌∙◌, subst, arith, length-set}
+use Rattle.std.proofs.Common.{◌≡◌, ◌≢◌, ℕ, suc, ◌+◌, ◌-◌, ◌<◌, ◌≤◌, Bool, true, false, cond, not, ltb, eqb}
+use Rattle.std.proofs.Common.{List, [], ◌∷◌, map, length, set, ◌⊎◌, inl, inr, refl, sym, ap, ◌∙◌, subst}
+use Rattle.std.proofs.Common.{arith, length-set}
 use Rattle.std.specs.List.{All, slice_range, insert, remove, filter}
 use Rattle.std.proofs.lemmas.Bool.{cases_lt, cases_eq, lt-ltb, le-ltb, eq-eqb, ne_eqb, eqb-false, or_parts}
 use Rattle.std.proofs.lemmas.List.{map-id}
@@ -10,9 +12,11 @@ use Rattle.w4_defs.specs.declared.console.Input.{Input}
 use Rattle.w4_defs.specs.State.{State}
 use Rattle.w4_defs.specs.Reset.{Setup}
 use Rattle.w4_defs.specs.Run.{fold}
-use Rattle.w4_defs.specs.Session.{is_kept, unlink_above, moved_up, moved_down, without_double, kept_after_set, kept_after_insert, kept_after_delete}
+use Rattle.w4_defs.specs.Session.{is_kept, unlink_above, moved_up, moved_down, without_double, kept_after_set}
+use Rattle.w4_defs.specs.Session.{kept_after_insert, kept_after_delete}
 use Rattle.w4_defs.specs.KeptList.{Entry, kept_entries, IsConsistent}
-use Rattle.w4_editor.proofs.SliceLaws.{before_set, after_set, before_insert, after_insert, before_remove, after_remove}
+use Rattle.w4_editor.proofs.SliceLaws.{before_set, after_set, before_insert, after_insert, before_remove}
+use Rattle.w4_editor.proofs.SliceLaws.{after_remove}
 use Rattle.w4_editor.proofs.ChainLaws.{any, beside, Chain, FromReset, from_reset, consistent_from}
 
 not_true : {A : Type 0} → false ≡ true → A

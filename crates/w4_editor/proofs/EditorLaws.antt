@@ -1,5 +1,7 @@
 -- What showing, settling and keeping leave of an editor's parts.
-use Rattle.std.proofs.Common.{◌≡◌, ◌⊎◌, ℕ, suc, ◌+◌, ◌-◌, ◌<◌, ◌≤◌, Bool, true, false, cond, not, ltb, eqb, ◌||◌, List, [], ◌∷◌, length, Option, Some, None, option_map, Ok, refl, sym, ap, ◌∙◌, subst, arith, inl, inr}
+use Rattle.std.proofs.Common.{◌≡◌, ◌⊎◌, ℕ, suc, ◌+◌, ◌-◌, ◌<◌, ◌≤◌, Bool, true, false, cond, not, ltb, eqb}
+use Rattle.std.proofs.Common.{◌||◌, List, [], ◌∷◌, length, Option, Some, None, option_map, Ok, refl, sym, ap}
+use Rattle.std.proofs.Common.{◌∙◌, subst, arith, inl, inr}
 use Rattle.std.proofs.lemmas.Bool.{lt-ltb, le-ltb, ltb-true}
 use Rattle.std.proofs.lemmas.Option.{same_Some}
 use Rattle.std.proofs.lemmas.List.{length-map}
@@ -11,11 +13,12 @@ use Rattle.w4_defs.specs.Reset.{Setup}
 use Rattle.w4_defs.specs.Run.{run, run_state}
 use Rattle.w4_defs.specs.Session.{Draft, is_kept, with_kept, keep_refusal, unless, with_list}
 use Rattle.w4_defs.specs.State.{State, Moment, FrameRecord, HasGlobals}
-use Rattle.w4_defs.specs.KeptList.{Entry, kept_entries, place_at, state_at, first_above, last_up_to, IsConsistent, IsSettled}
+use Rattle.w4_defs.specs.KeptList.{Entry, kept_entries, place_at, state_at, first_above, last_up_to}
+use Rattle.w4_defs.specs.KeptList.{IsConsistent, IsSettled}
 use Rattle.w4_defs.proofs.KeptListLaws.{linked_is_run}
 use Rattle.w4_devices.specs.declared.frame_record.FrameRecord.{FrameRecord as Made}
 use Rattle.w4_editor.specs.Playing.{Player, setup_of, in_state}
-use Rattle.w4_editor.specs.Settling.{AreLinked, entry_of}
+use Rattle.w4_editor.specs.Settling.{AreLinked, linked_entry}
 use Rattle.w4_editor.specs.Editing.{Editing, IsEditor, IsShownAt, editing_setup, session_of}
 use Rattle.w4_editor.specs.Showing.{CanKeep, IsPut, IsShown, IsStepped}
 use Rattle.w4_editor.proofs.KeepLaws.{keep_consistent}
@@ -129,21 +132,22 @@ module _ (player : Player) (r : Recording) (kept : List Entry) (olds news : Buff
   -- the state that is shown is kept
   pub put_consistent : (p : ℕ) → place ≡ Some p → is_kept kept_entries p kept ≡ false → length kept < 1024
       → AreLinked (last_up_to p kept) kept → HasGlobals player.cart player.state
-      → IsConsistent (setup_of player) r.disk r.frames (with_kept kept_entries (entry_of p player.state) kept)
+      → IsConsistent (setup_of player) r.disk r.frames
+      (with_kept kept_entries (linked_entry p player.state) kept)
   put_consistent p at fresh room linked globals =
-      keep_consistent (setup_of player) r.disk r.frames kept (entry_of p player.state)
+      keep_consistent (setup_of player) r.disk r.frames kept (linked_entry p player.state)
       (record { within = within_here p at; globals = globals; run = run_here p at }) fresh room
       (λ i lt le. linked i (up_to_last p kept is_consistent.rising i lt le)) is_consistent
 
   pub is_put : (p : ℕ) → place ≡ Some p → is_kept kept_entries p kept ≡ false → length kept < 1024
       → (new : List Entry)
-      → new ≡ with_kept kept_entries (entry_of p player.state) kept
+      → new ≡ with_kept kept_entries (linked_entry p player.state) kept
       → IsPut p (view player r kept olds news place) (view player r new olds news place)
   is_put p at fresh room new is = record {
     state = player.state;
     of_run = run_here p at;
     kept = ap (λ refusal. unless refusal (with_list (session_of r kept olds.items news.items)
-        (with_kept kept_entries (entry_of p player.state) kept)))
+        (with_kept kept_entries (linked_entry p player.state) kept)))
         (may_keep p (record { inputs = r.frames; kept = kept }) (within_here p at) fresh room)
         ∙ ap (λ entries. Ok (session_of r entries olds.items news.items)) (sym is);
     same = refl;
@@ -184,9 +188,10 @@ first_same p (x ∷ old) (y ∷ new) long same =
     λ j. cond (not (ltb p (same 0 j)))
     (1 + first_same p old new (omega (arith, long)) (λ i. same (suc i)) j) 0
 
-pub can_keep : (p before after : ℕ) (old new : Editing) → IsShown p before after old new
+pub can_keep : (p ticks_before ticks_after : ℕ) (old new : Editing)
+    → IsShown p ticks_before ticks_after old new
     → keep_refusal kept_entries p old.session.current ≡ None → CanKeep p new
-can_keep p before after old new shown owed =
+can_keep p ticks_before ticks_after old new shown owed =
     let free = not_refused p old.session.current owed in
     let room = free.1 in
     let was = old.session.current.kept in

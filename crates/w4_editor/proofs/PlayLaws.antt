@@ -1,5 +1,6 @@
 -- Laws of playing: one input more, and the state at a place from an entry that is linked.
-use Rattle.std.proofs.Common.{◌≡◌, ℕ, suc, ◌+◌, ◌-◌, ◌<◌, ◌≤◌, List, [], ◌∷◌, length, take, get_or, Option, Some, None, refl, sym, ap, ◌∙◌, subst, arith}
+use Rattle.std.proofs.Common.{◌≡◌, ℕ, suc, ◌+◌, ◌-◌, ◌<◌, ◌≤◌, List, [], ◌∷◌, length, take, get_or, Option}
+use Rattle.std.proofs.Common.{Some, None, refl, sym, ap, ◌∙◌, subst, arith}
 use Rattle.std.specs.Option.{option_and_then, option_map, unwrap_or}
 use Rattle.std.proofs.lemmas.Option.{slice_get-get_or}
 use Rattle.std.specs.List.{slice_range}
@@ -50,9 +51,9 @@ run_links setup disk inputs a b s t le here link =
     ∙ link
 
 -- a frame of a player that is in another state than at first
-pub frame_of : (first now : Player) (input : Input) (next : Moment) → now ≡ in_state first now.state
+pub frame_as_first : (first now : Player) (input : Input) (next : Moment) → now ≡ in_state first now.state
     → frame (setup_of now) now.state input ≡ Some next → frame (setup_of first) now.state input ≡ Some next
-frame_of first now input next same e =
+frame_as_first first now input next same e =
     ap (λ (p : Player). frame (setup_of p) now.state input) (sym same) ∙ e
 
 pub still_in_state : (first now next : Player) → now ≡ in_state first now.state

@@ -1,5 +1,7 @@
 -- One turn of settling, and what the turns so far have done.
-use Rattle.std.proofs.Common.{◌≡◌, ◌≢◌, ℕ, zero, suc, ◌+◌, ◌-◌, ◌<◌, ◌≤◌, Bool, true, false, cond, List, length, set, Some, inl, inr, refl, sym, ap, ◌∙◌, ◌&&◌, subst, arith, add-one, length-set}
+use Rattle.std.proofs.Common.{◌≡◌, ◌≢◌, ℕ, zero, suc, ◌+◌, ◌-◌, ◌<◌, ◌≤◌, Bool, true, false, cond, List}
+use Rattle.std.proofs.Common.{length, set, Some, inl, inr, refl, sym, ap, ◌∙◌, ◌&&◌, subst, arith, add-one}
+use Rattle.std.proofs.Common.{length-set}
 use Rattle.std.specs.List.{slice_range}
 use Rattle.std.proofs.lemmas.Bool.{cases_lt, cases_eq}
 use Rattle.std.proofs.lemmas.List.{get_or-set_same, get_or-set_other, set_past, get_or_past}
@@ -9,8 +11,10 @@ use Rattle.w4_defs.specs.Reset.{Setup}
 use Rattle.w4_defs.specs.Run.{fold}
 use Rattle.w4_defs.specs.SameState.{same_state}
 use Rattle.w4_defs.proofs.SameStateLaws.{same_state_decides}
-use Rattle.w4_defs.specs.KeptList.{Entry, kept_entries, nowhere, kept_entry_at, place_at, state_at, linked_at, computed, unlinked_at, relinked_at, replaced_at, SamePlaces, is_sure, doubtful, IsSettled}
-use Rattle.w4_editor.specs.Settling.{AreTrue, IsComputed}
+use Rattle.w4_defs.specs.KeptList.{Entry, kept_entries, nowhere, kept_entry_at, place_at, state_at, linked_at}
+use Rattle.w4_defs.specs.KeptList.{computed, unlinked_at, relinked_at, replaced_at, SamePlaces, is_sure}
+use Rattle.w4_defs.specs.KeptList.{doubtful, IsSettled}
+use Rattle.w4_editor.specs.Settling.{HasTrueLinks, IsComputed}
 
 -- ---- tests of states
 
@@ -135,7 +139,7 @@ computed_same setup inputs old new j places state =
 
 module _ (setup : Setup) (inputs : List Input) (i : ℕ) (old new : List Entry)
     (c : IsTrueChange setup inputs i old new)
-    (there : i + 1 < length old) (t : AreTrue setup inputs old) where
+    (there : i + 1 < length old) (t : HasTrueLinks setup inputs old) where
   states_keep : (j : ℕ) → j ≢ i + 1 → state_at new j ≡ state_at old j
   states_keep j other = elim (cases_eq j (i + 1 + 1)) [
     | inl same ↦ ap (state_at new) same ∙ c.next_state ∙ ap (state_at old) (sym same)
@@ -176,7 +180,7 @@ module _ (setup : Setup) (inputs : List Input) (i : ℕ) (old new : List Entry)
     ]
   ]
 
-  pub changed_true : AreTrue setup inputs new
+  pub changed_true : HasTrueLinks setup inputs new
   changed_true =
       let long = c.places.many in
       let places = c.places.places in record {
@@ -258,7 +262,7 @@ module _ (setup : Setup) (inputs : List Input) (i : ℕ) (kept : List Entry) (st
 -- linked it is as before
 pub record Progress (setup : Setup) (inputs : List Input) (last : ℕ) (old now : List Entry)
     (i from steps : ℕ) : Type 0 where
-  pub true_now : AreTrue setup inputs now
+  pub true_now : HasTrueLinks setup inputs now
   pub first : kept_entry_at now 0 ≡ kept_entry_at old 0
   pub settled : IsSettled i old now
   pub ticks : steps ≤ from + doubtful old now i
@@ -268,7 +272,8 @@ only_zero : (j : ℕ) → j ≤ 0 → j ≡ 0
 only_zero j le = omega (arith, le)
 
 pub progress_none : (setup : Setup) (inputs : List Input) (last : ℕ) (kept : List Entry) (steps : ℕ)
-    → AreTrue setup inputs kept → linked_at kept 0 ≡ true → Progress setup inputs last kept kept 0 steps steps
+    → HasTrueLinks setup inputs kept → linked_at kept 0 ≡ true
+    → Progress setup inputs last kept kept 0 steps steps
 progress_none setup inputs last kept steps t linked = record {
   true_now = t;
   first = refl;

@@ -1,25 +1,28 @@
 -- A showing keeps a kept list consistent, and what it shows is the state of a run from reset.
-use Rattle.std.proofs.Common.{◌≡◌, ℕ, zero, suc, ◌+◌, ◌-◌, ◌<◌, ◌≤◌, Bool, true, false, cond, not, ltb, List, [], ◌∷◌, length, get_or, Some, refl, sym, ap, ◌∙◌, subst, arith, inl, inr}
+use Rattle.std.proofs.Common.{◌≡◌, ℕ, zero, suc, ◌+◌, ◌-◌, ◌<◌, ◌≤◌, Bool, true, false, cond, not, ltb, List}
+use Rattle.std.proofs.Common.{[], ◌∷◌, length, get_or, Some, refl, sym, ap, ◌∙◌, subst, arith, inl, inr}
 use Rattle.std.specs.List.{position_or_len}
 use Rattle.std.proofs.lemmas.Bool.{cases_lt, lt-ltb, le-ltb}
 use Rattle.w4_defs.specs.declared.console.Input.{Input}
 use Rattle.w4_defs.specs.State.{State, HasGlobals}
 use Rattle.w4_defs.specs.Reset.{Setup}
 use Rattle.w4_defs.specs.Run.{run_state}
-use Rattle.w4_defs.specs.KeptList.{Entry, nowhere, kept_entry_at, place_at, state_at, linked_at, first_above, last_up_to, computed, relinked_at, replaced_at, IsConsistent, SamePlaces}
+use Rattle.w4_defs.specs.KeptList.{Entry, nowhere, kept_entry_at, place_at, state_at, linked_at, first_above}
+use Rattle.w4_defs.specs.KeptList.{last_up_to, computed, relinked_at, replaced_at, IsConsistent, SamePlaces}
 use Rattle.w4_defs.proofs.KeptListLaws.{linked_is_run}
-use Rattle.w4_editor.specs.Settling.{AreTrue, ShowsFrom, StaysConsistent}
-use Rattle.w4_editor.proofs.SettleLaws.{Progress, IsTrueChange, true_change, changed_true, first_keeps, relinked_computed, replaced_change}
+use Rattle.w4_editor.specs.Settling.{HasTrueLinks, ShowsFrom, StaysConsistent}
+use Rattle.w4_editor.proofs.SettleLaws.{Progress, IsTrueChange, true_change, changed_true, first_keeps}
+use Rattle.w4_editor.proofs.SettleLaws.{relinked_computed, replaced_change}
 use Rattle.w4_editor.proofs.ListLaws.{position_or_len_le}
 use Rattle.w4_editor.proofs.PlayLaws.{run_links}
 
 pub true_of_consistent : (setup : Setup) (disk : List ℕ) (inputs : List Input) (kept : List Entry)
-    → IsConsistent setup disk inputs kept → AreTrue setup inputs kept
+    → IsConsistent setup disk inputs kept → HasTrueLinks setup inputs kept
 true_of_consistent setup disk inputs kept is =
     record { rising = is.rising; within = is.within; globals = is.globals; links = is.links }
 
 pub consistent_after : (setup : Setup) (disk : List ℕ) (inputs : List Input) (old new : List Entry)
-    → IsConsistent setup disk inputs old → AreTrue setup inputs new → SamePlaces old new
+    → IsConsistent setup disk inputs old → HasTrueLinks setup inputs new → SamePlaces old new
     → kept_entry_at new 0 ≡ kept_entry_at old 0 → IsConsistent setup disk inputs new
 consistent_after setup disk inputs old new is t same first =
     let long = same.many in

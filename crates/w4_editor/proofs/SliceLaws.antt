@@ -1,5 +1,6 @@
 -- Stretches of inputs, in two parts and where one input is changed, inserted or removed.
-use Rattle.std.proofs.Common.{◌≡◌, ℕ, suc, ◌+◌, ◌-◌, ◌<◌, ◌≤◌, List, ◌∷◌, ◌++◌, length, take, drop, set, refl, sym, ap, ◌∙◌, arith, length-take-le}
+use Rattle.std.proofs.Common.{◌≡◌, ℕ, suc, ◌+◌, ◌-◌, ◌<◌, ◌≤◌, List, ◌∷◌, ◌++◌, length, take, drop, set, refl}
+use Rattle.std.proofs.Common.{sym, ap, ◌∙◌, arith, length-take-le}
 use Rattle.std.specs.List.{slice_range, insert, remove}
 use Rattle.std.proofs.Math.Seq.{take-add}
 use Rattle.std.proofs.lemmas.List.{drop-drop, drop_at, drop-set-lt, take-set-le, take-append-le, take-take}

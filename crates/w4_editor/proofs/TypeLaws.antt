@@ -1,5 +1,6 @@
 -- Frames leave globals of the types that they had; a reset gives them those of the cart's first values.
-use Rattle.std.proofs.Common.{◌≡◌, ℕ, zero, suc, Bool, true, false, cond, List, [], ◌∷◌, Option, Some, None, refl, sym, subst, ◌∙◌}
+use Rattle.std.proofs.Common.{◌≡◌, ℕ, zero, suc, Bool, true, false, cond, List, [], ◌∷◌, Option, Some, None}
+use Rattle.std.proofs.Common.{refl, sym, subst, ◌∙◌}
 use Rattle.std.specs.Option.{option_and_then, option_map}
 use Rattle.std.specs.Prelude.{nat_le, reverse, slice_get}
 use Rattle.w4_defs.specs.declared.console.Halt.{Halt}
@@ -14,9 +15,12 @@ use Rattle.w4_defs.specs.EntryPoints.{start_functions, update_entry, first_globa
 use Rattle.w4_defs.specs.Evaluation.{body_env, eval, run_own, ended, enter_own, enter, run_entry}
 use Rattle.w4_defs.specs.Frame.{before_update, call_update, frame, update, update_from}
 use Rattle.w4_defs.specs.Module.{WasmModule}
-use Rattle.w4_defs.specs.Outcome.{Store, Outcome, Falls, Branch, Returns, Trap, Spent, Stuck, Ended, RunDone, RunTrap, RunSpent, RunStuck}
-use Rattle.w4_defs.specs.Program.{Prog, Own, Callee, own_function, host_function, no_function, program, reserve_of, zeros}
-use Rattle.w4_defs.specs.Reset.{call_all, fresh, logged_state_after, recorded, start, store_of, then_on, with_empty_logs}
+use Rattle.w4_defs.specs.Outcome.{Store, Outcome, Falls, Branch, Returns, Trap, Spent, Stuck, Ended, RunDone}
+use Rattle.w4_defs.specs.Outcome.{RunTrap, RunSpent, RunStuck}
+use Rattle.w4_defs.specs.Program.{Prog, Own, Callee, own_function, host_function, no_function, program}
+use Rattle.w4_defs.specs.Program.{reserve_of, zeros}
+use Rattle.w4_defs.specs.Reset.{call_all, fresh, logged_state_after, recorded, start, store_of, then_on}
+use Rattle.w4_defs.specs.Reset.{with_empty_logs}
 use Rattle.w4_defs.specs.Run.{fold}
 use Rattle.w4_defs.specs.RunLaws.{types_of, LeavesGlobals}
 use Rattle.w4_defs.specs.State.{Board, Moment, State, LoggedState, blank_state, HasGlobals}

@@ -1,6 +1,7 @@
 -- What the editor is seen as: a session of entries, what its recording has besides the inputs, the cart, the
 -- font and the place that it shows.
-use Rattle.std.specs.Prelude.{◌≡◌, ℕ, ◌≤◌, ◌⊎◌, true, List, length, Option, Some, option_map, Result, Err, IsOk}
+use Rattle.std.specs.Prelude.{◌≡◌, ℕ, ◌≤◌, ◌⊎◌, true, List, length, Option, Some, option_map, Result, Err}
+use Rattle.std.specs.Prelude.{IsOk}
 use Rattle.circular_buffer.specs.Buffer.{Buffer}
 use Rattle.w4_defs.specs.declared.editing.EditRefusal.{EditRefusal}
 use Rattle.w4_defs.specs.declared.editing.EditRefusal.TheVariants.{OutOfMemory}
@@ -30,8 +31,8 @@ abbrev pub editing_setup : Editing → Setup
 editing_setup e = console_setup e.cart e.font e.budget
 
 -- the recording as the edits so far leave it
-abbrev pub recording_of : Editing → Recording
-recording_of e =
+abbrev pub current_recording : Editing → Recording
+current_recording e =
     record { digest = e.digest; budget = e.budget; disk = e.disk; frames = e.session.current.inputs }
 
 -- the same editor with another session, at another place
@@ -73,13 +74,13 @@ pub record IsEditor (player : Player) (recording : Recording) (kept : List Entry
       (session_of recording kept olds.items news.items) place
       player.state
 
--- a refusal is the session's own; where that has none it is memory's
-abbrev pub IsRefusedAs : Result (Session Entry) EditRefusal → EditRefusal → Type 0
-IsRefusedAs wanted refusal = (wanted ≡ Err refusal) ⊎ ((refusal ≡ OutOfMemory) × IsOk wanted)
+-- the refusal is that of the session after the order; where it has none it is memory's
+abbrev pub IsErrorOrMemory : Result (Session Entry) EditRefusal → EditRefusal → Type 0
+IsErrorOrMemory after refusal = (after ≡ Err refusal) ⊎ ((refusal ≡ OutOfMemory) × IsOk after)
 
 -- an editor of a recording, whose place 0 has this state
-abbrev pub opened : WasmModule → List ℕ → Recording → State → Editing
-opened cart font recording state = record {
+abbrev pub new_editing : WasmModule → List ℕ → Recording → State → Editing
+new_editing cart font recording state = record {
   cart = cart;
   font = font;
   digest = recording.digest;

@@ -1,14 +1,16 @@
--- Kept lists that are true of their inputs, whatever the reset says of the first entry, and one turn of
--- settling.
+-- Kept lists whose links are true of their inputs, and one turn of settling. These words speak of no disk, so
+-- that what they say holds for every disk at the reset.
 use Rattle.std.specs.Prelude.{◌≡◌, ◌≢◌, ℕ, ◌+◌, ◌≤◌, ◌<◌, true, List, length, slice_range, Some}
 use Rattle.w4_defs.specs.declared.console.Input.{Input}
 use Rattle.w4_defs.specs.State.{State, Moment, HasGlobals}
 use Rattle.w4_defs.specs.Reset.{Setup}
 use Rattle.w4_defs.specs.Run.{fold, run, run_state}
-use Rattle.w4_defs.specs.KeptList.{Entry, kept_entry_at, place_at, state_at, linked_at, computed, is_sure, IsConsistent, SamePlaces}
+use Rattle.w4_defs.specs.KeptList.{Entry, kept_entry_at, place_at, state_at, linked_at, computed, is_sure}
+use Rattle.w4_defs.specs.KeptList.{IsConsistent, SamePlaces}
 
--- places that rise within the inputs, states of the cart's types, and links that are true
-pub record AreTrue (setup : Setup) (inputs : List Input) (kept : List Entry) : Type 0 where
+-- what IsConsistent says of the entries beside the first one's reset: places rise within the inputs, states
+-- have the cart's types, and links are true
+pub record HasTrueLinks (setup : Setup) (inputs : List Input) (kept : List Entry) : Type 0 where
   pub rising : (i : ℕ) → i + 1 < length kept → place_at kept i < place_at kept (i + 1)
   pub within : (i : ℕ) → i < length kept → place_at kept i ≤ length inputs
   pub globals : (i : ℕ) → i < length kept → HasGlobals setup.cart (state_at kept i)
@@ -20,8 +22,7 @@ abbrev pub AreLinked : ℕ → List Entry → Type 0
 AreLinked last kept = (i : ℕ) → i ≤ last → linked_at kept i ≡ true
 
 -- entry i + 1 is brought up to date: it has what the inputs make of entry i and is linked, and the entry
--- after it
--- stays linked if and only if the state is what it was
+-- after it stays linked if and only if the state is what it was
 pub record IsComputed (setup : Setup) (inputs : List Input) (i : ℕ) (old new : List Entry) : Type 0 where
   pub places : SamePlaces old new
   pub linked : linked_at new (i + 1) ≡ true
@@ -36,12 +37,12 @@ abbrev pub ShowsFrom : Setup → List Input → List Entry → ℕ → ℕ → S
 ShowsFrom setup inputs kept i p state =
     fold setup (state_at kept i) (slice_range inputs (place_at kept i) p) ≡ Some state
 
--- whatever the disk at the reset: a list that was consistent still is
+-- for every disk at the reset: a list that was consistent stays so
 abbrev pub StaysConsistent : Setup → List Input → List Entry → List Entry → Type 0
 StaysConsistent setup inputs old new =
     (disk : List ℕ) → IsConsistent setup disk inputs old → IsConsistent setup disk inputs new
 
--- and where the list was consistent, the state is that of a run from reset
+-- for every disk at the reset: where the list is consistent, the state is that of a run up to place P
 abbrev pub IsOfRun : Setup → List Input → List Entry → ℕ → State → Type 0
 IsOfRun setup inputs kept p state =
     (disk : List ℕ) → IsConsistent setup disk inputs kept → run_state setup disk inputs p ≡ Some state
@@ -52,5 +53,5 @@ MovesOn setup inputs p state next = (disk : List ℕ) →
     run_state setup disk inputs p ≡ Some state → run setup disk inputs (p + 1) ≡ Some next
 
 -- the linked entry of place P with this state
-abbrev pub entry_of : ℕ → State → Entry
-entry_of p state = record { place = p; state = state; linked = true }
+abbrev pub linked_entry : ℕ → State → Entry
+linked_entry p state = record { place = p; state = state; linked = true }

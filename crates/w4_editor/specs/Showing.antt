@@ -1,12 +1,14 @@
 -- What showing, stepping, keeping and settling do to an editor.
-use Rattle.std.specs.Prelude.{◌≡◌, ℕ, ◌+◌, ◌-◌, ◌≤◌, ◌<◌, ◌⊎◌, false, length, Option, Some, None, option_map, Ok}
+use Rattle.std.specs.Prelude.{◌≡◌, ℕ, ◌+◌, ◌-◌, ◌≤◌, ◌<◌, ◌⊎◌, false, length, Option, Some, None, option_map}
+use Rattle.std.specs.Prelude.{Ok}
 use Rattle.w4_defs.specs.declared.editing.EditRefusal.{EditRefusal}
 use Rattle.w4_defs.specs.declared.editing.EditRefusal.TheVariants.{OutOfMemory}
 use Rattle.w4_defs.specs.Run.{run, run_state}
 use Rattle.w4_defs.specs.Session.{is_kept, keep}
 use Rattle.w4_defs.specs.State.{State, Moment, FrameRecord}
-use Rattle.w4_defs.specs.KeptList.{kept_entries, place_at, state_at, SamePlaces, IsSettled, last_up_to, show_frames, settle_frames}
-use Rattle.w4_editor.specs.Settling.{AreLinked, entry_of}
+use Rattle.w4_defs.specs.KeptList.{kept_entries, place_at, state_at, SamePlaces, IsSettled, last_up_to}
+use Rattle.w4_defs.specs.KeptList.{show_frames, settle_frames}
+use Rattle.w4_editor.specs.Settling.{AreLinked, linked_entry}
 use Rattle.w4_editor.specs.Editing.{Editing, editing_setup, with_session}
 
 -- recording, history and kept places are unchanged; kept states and links may be newer
@@ -17,17 +19,17 @@ pub record KeepsRecording (old new : Editing) : Type 0 where
   pub newer : new.session.newer ≡ old.session.newer
   pub places : SamePlaces old.session.current.kept new.session.current.kept
 
--- a refusal has its cause; where there is none it is memory's
-abbrev pub IsRefusal : Option EditRefusal → EditRefusal → Type 0
-IsRefusal wanted refusal = (wanted ≡ Some refusal) ⊎ ((refusal ≡ OutOfMemory) × (wanted ≡ None))
+-- the refusal is this cause; where there is none it is memory's
+abbrev pub IsCauseOrMemory : Option EditRefusal → EditRefusal → Type 0
+IsCauseOrMemory cause refusal = (cause ≡ Some refusal) ⊎ ((refusal ≡ OutOfMemory) × (cause ≡ None))
 
 -- place P is shown. The frames that were run are those that had to be
-pub record IsShown (p before after : ℕ) (old new : Editing) : Type 0 where
+pub record IsShown (p ticks_before ticks_after : ℕ) (old new : Editing) : Type 0 where
   pub recording : KeepsRecording old new
   pub at : new.at ≡ Some p
   pub settled : IsSettled
       (last_up_to p old.session.current.kept) old.session.current.kept new.session.current.kept
-  pub frames : after ≤ before + show_frames p old.session.current.kept new.session.current.kept
+  pub frames : ticks_after ≤ ticks_before + show_frames p old.session.current.kept new.session.current.kept
 
 -- no place is shown, or the last one
 abbrev pub IsAtEnd : Editing → Type 0
@@ -43,12 +45,12 @@ pub record IsStepped (made : FrameRecord) (old new : Editing) : Type 0 where
       (run (editing_setup old) old.disk old.session.current.inputs (place + 1)) ≡ Some made
 
 -- all entries are linked. The frames that were run are those that had to be
-pub record IsAllSettled (before after : ℕ) (old new : Editing) : Type 0 where
+pub record IsAllSettled (ticks_before ticks_after : ℕ) (old new : Editing) : Type 0 where
   pub recording : KeepsRecording old new
   pub at : new.at ≡ None
   pub settled : IsSettled
       (length old.session.current.kept - 1) old.session.current.kept new.session.current.kept
-  pub frames : after ≤ before + settle_frames old.session.current.kept new.session.current.kept
+  pub frames : ticks_after ≤ ticks_before + settle_frames old.session.current.kept new.session.current.kept
 
 -- all kept states are those of a run from reset
 abbrev pub AreOfRun : Editing → Type 0
@@ -67,11 +69,11 @@ pub record CanKeep (p : ℕ) (e : Editing) : Type 0 where
 pub record IsPut (p : ℕ) (old new : Editing) : Type 0 where
   pub state : State
   pub of_run : run_state (editing_setup old) old.disk old.session.current.inputs p ≡ Some state
-  pub kept : keep kept_entries (entry_of p state) old.session ≡ Ok new.session
+  pub kept : keep kept_entries (linked_entry p state) old.session ≡ Ok new.session
   pub same : new ≡ with_session old new.session old.at
 
 -- place P is shown, and then kept
-pub record IsKeptAt (p before after : ℕ) (old new : Editing) : Type 0 where
+pub record IsKeptAt (p ticks_before ticks_after : ℕ) (old new : Editing) : Type 0 where
   pub shown : Editing
-  pub is_shown : IsShown p before after old shown
+  pub is_shown : IsShown p ticks_before ticks_after old shown
   pub put : IsPut p shown new

@@ -6,7 +6,7 @@ ghost use Rattle.w4_defs.specs.Reset.{reset};
 ghost use Rattle.w4_defs.specs.Session.{drop_kept};
 ghost use Rattle.w4_defs.specs.State.{Moment};
 ghost use Rattle.w4_devices.specs.Records.{record_of};
-ghost use Rattle.w4_editor.specs.Editing.{editing_setup, opened, recording_of, with_session};
+ghost use Rattle.w4_editor.specs.Editing.{editing_setup, new_editing, current_recording, with_session};
 
 use crate::draft::Draft;
 use crate::kept::Kept;
@@ -60,14 +60,15 @@ impl Model for Editor {
 }
 
 impl Editor {
-    /// An editor of a recording, which shows its place 0, the only one that is kept.
+    /// An editor of a recording, which shows its place 0, the only one that is kept. Errors: OutOfMemory, and
+    /// then cart, font and recording are dropped.
     pub fn new(
         alloc: Global,
         cart: Cart,
         font: Font,
         recording: Recording,
     ) -> Result<Editor, OutOfMemory>
-        ensures { IfOk result (λ e. e ≡ opened cart font recording (state_at e.session.current.kept 0)) }
+        ensures { IfOk result (λ e. e ≡ new_editing cart font recording (state_at e.session.current.kept 0)) }
     {
         let mut reset_frame = FrameRecord::new();
         let mut player = Player::new(alloc, cart, font, recording.budget)?;
@@ -85,7 +86,8 @@ impl Editor {
         })
     }
 
-    /// The place that is shown; None after an edit, an undo, a redo or a settling.
+    /// The place that is shown. None after an edit, an undo, a redo or a settling, and after OutOfMemory of
+    /// `show`, `keep` or `settle`.
     pub fn at(&self) -> Option<usize>
         ensures value { result ≡ self.now.at }
         ensures session { IsSession (editing_setup self.now) self.now.disk self.now.session }
@@ -95,7 +97,7 @@ impl Editor {
 
     /// The recording as the edits so far leave it.
     pub fn recording(&self) -> &Recording
-        ensures { result.now ≡ recording_of self.now }
+        ensures { result.now ≡ current_recording self.now }
     {
         &self.recording
     }
@@ -125,7 +127,8 @@ impl Editor {
 
 /// Kept places.
 impl Editor {
-    /// Drops the kept place `p`. Takes no memory. Errors: NotKept where it is place 0 or isn't kept.
+    /// Drops the kept place `p`. Takes no memory. Errors: NotKept where it is place 0 or isn't kept, and then
+    /// nothing has changed.
     pub fn drop_kept(&mut self, p: usize) -> Result<(), EditRefusal>
         ensures ok { OnOk result (drop_kept kept_entries p self.old.session ≡ Ok self.new.session) }
         ensures others { OnOk result (self.new ≡ with_session self.old self.new.session self.old.at) }

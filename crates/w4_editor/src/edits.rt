@@ -4,7 +4,7 @@
 ghost use Rattle.std.specs.Prelude.{◌≡◌, IfErr, None, OnErr, OnOk, Ok};
 ghost use Rattle.w4_defs.specs.KeptList.{IsDraft, kept_entries};
 ghost use Rattle.w4_defs.specs.Session.{delete_input, edited, insert_input, set_input};
-ghost use Rattle.w4_editor.specs.Editing.{IsRefusedAs, editing_setup, with_session};
+ghost use Rattle.w4_editor.specs.Editing.{IsErrorOrMemory, editing_setup, with_session};
 
 use crate::draft::{Draft, delete_draft, exchange, insert_draft, set_draft};
 use crate::editor::Editor;
@@ -15,11 +15,12 @@ use w4_defs::{EditRefusal, Input};
 const MOST_INPUTS: usize = 36_000;
 
 impl Editor {
-    /// Replaces input `k`. Errors: NoFrame where there is no input `k`; OutOfMemory.
+    /// Replaces input `k`. No place is shown then. Errors: NoFrame where there is no input `k`; OutOfMemory.
+    /// After either nothing has changed.
     pub fn set(&mut self, alloc: Global, k: usize, input: Input) -> Result<(), EditRefusal>
         ensures ok { OnOk result (set_input kept_entries k input self.old.session ≡ Ok self.new.session) }
         ensures others { OnOk result (self.new ≡ with_session self.old self.new.session None) }
-        ensures refused { IfErr result (IsRefusedAs (set_input kept_entries k input self.old.session)) }
+        ensures refused { IfErr result (IsErrorOrMemory (set_input kept_entries k input self.old.session)) }
         ensures unchanged { OnErr result (self.new ≡ self.old) }
     {
         let inputs = self.recording.frames.as_slice();
@@ -31,12 +32,14 @@ impl Editor {
         Ok(())
     }
 
-    /// Puts an input before input `k`. Errors: NoFrame where k is past the end; FullRecording where there are
-    /// 36,000 inputs; OutOfMemory.
+    /// Puts an input before input `k`, or after the last one. No place is shown then. Errors: NoFrame where
+    /// `k` is past the end; FullRecording where there are 36,000 inputs; OutOfMemory. After each of them
+    /// nothing has changed.
     pub fn insert(&mut self, alloc: Global, k: usize, input: Input) -> Result<(), EditRefusal>
         ensures ok { OnOk result (insert_input kept_entries k input self.old.session ≡ Ok self.new.session) }
         ensures others { OnOk result (self.new ≡ with_session self.old self.new.session None) }
-        ensures refused { IfErr result (IsRefusedAs (insert_input kept_entries k input self.old.session)) }
+        ensures refused { IfErr result
+            (IsErrorOrMemory (insert_input kept_entries k input self.old.session)) }
         ensures unchanged { OnErr result (self.new ≡ self.old) }
     {
         let inputs = self.recording.frames.as_slice();
@@ -51,11 +54,12 @@ impl Editor {
         Ok(())
     }
 
-    /// Removes input `k`. Errors: NoFrame where there is no input `k`; OutOfMemory.
+    /// Removes input `k`. No place is shown then. Errors: NoFrame where there is no input `k`; OutOfMemory.
+    /// After either nothing has changed.
     pub fn delete(&mut self, alloc: Global, k: usize) -> Result<(), EditRefusal>
         ensures ok { OnOk result (delete_input kept_entries k self.old.session ≡ Ok self.new.session) }
         ensures others { OnOk result (self.new ≡ with_session self.old self.new.session None) }
-        ensures refused { IfErr result (IsRefusedAs (delete_input kept_entries k self.old.session)) }
+        ensures refused { IfErr result (IsErrorOrMemory (delete_input kept_entries k self.old.session)) }
         ensures unchanged { OnErr result (self.new ≡ self.old) }
     {
         let inputs = self.recording.frames.as_slice();

@@ -10,7 +10,8 @@ use std::alloc::Global;
 use w4_defs::EditRefusal;
 
 impl Editor {
-    /// Goes one draft back. Takes no memory. Errors: NothingToUndo where there is none.
+    /// Goes one draft back: its inputs, kept places, states and links. No place is shown then. Takes no
+    /// memory. Errors: NothingToUndo where there is none, and then nothing has changed.
     pub fn undo(&mut self, _alloc: Global) -> Result<(), EditRefusal>
         ensures ok { OnOk result (undo self.old.session ≡ Ok self.new.session) }
         ensures others { OnOk result (self.new ≡ with_session self.old self.new.session None) }
@@ -26,7 +27,8 @@ impl Editor {
         Ok(())
     }
 
-    /// Goes one draft on. Takes no memory. Errors: NothingToRedo where there is none.
+    /// Goes one draft on: its inputs, kept places, states and links. No place is shown then. Takes no memory.
+    /// Errors: NothingToRedo where there is none, and then nothing has changed.
     pub fn redo(&mut self, _alloc: Global) -> Result<(), EditRefusal>
         ensures ok { OnOk result (redo self.old.session ≡ Ok self.new.session) }
         ensures others { OnOk result (self.new ≡ with_session self.old self.new.session None) }

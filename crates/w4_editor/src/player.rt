@@ -157,7 +157,7 @@ pub(crate) fn has_types(player: &Player)
     let _budget = player.budget;
 }
 
-/// A snapshot of a state, which shares with one before what is equal. Its chunks are counted by nobody.
+/// A snapshot of a state, which shares with one before what is equal. How many chunks were copied isn't told.
 pub(crate) fn capture_alone(
     alloc: Global,
     before: Option<&Snap>,

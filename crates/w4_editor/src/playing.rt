@@ -1,7 +1,9 @@
 //! Showing, stepping, settling and keeping.
 
-ghost use Rattle.std.specs.Prelude.{◌≡◌, ◌≢◌, ℕ, ◌+◌, ◌-◌, ◌<◌, ◌≤◌, ◌↔◌, IfErr, IfOk, IsOk, IsTrue, None, OnErr, OnOk, Some, length};
-ghost use Rattle.w4_defs.specs.KeptList.{computed, kept_entries, last_up_to, relinked_at, replaced_at, state_at};
+ghost use Rattle.std.specs.Prelude.{◌≡◌, ◌≢◌, ℕ, ◌+◌, ◌-◌, ◌<◌, ◌≤◌, ◌↔◌, IfErr, IfOk, IsOk, IsTrue, None};
+ghost use Rattle.std.specs.Prelude.{OnErr, OnOk, Some, length};
+ghost use Rattle.w4_defs.specs.KeptList.{computed, kept_entries, last_up_to, relinked_at, replaced_at};
+ghost use Rattle.w4_defs.specs.KeptList.{state_at};
 ghost use Rattle.w4_defs.specs.State.{HasGlobals};
 ghost use Rattle.w4_defs.specs.Run.{run_state};
 ghost use Rattle.w4_defs.specs.Session.{keep_refusal, place_refusal, with_list};
@@ -16,7 +18,7 @@ ghost use Rattle.w4_editor.specs.Showing.{
   IsAtEnd,
   IsKeptAt,
   IsPut,
-  IsRefusal,
+  IsCauseOrMemory,
   IsShown,
   IsStepped,
   KeepsRecording,
@@ -40,9 +42,11 @@ impl Editor {
     ghost use Rattle.std.specs.Io.BufRead.{Rests};
     ghost use Rattle.w4_editor.specs.contracts.editor.Editor.{the_row};
 
-    /// The state at place `p`. Kept places up to it are brought up to date first, where that is owed; each
-    /// frame is one tick. Takes no memory where the kept places up to `p` are linked. Errors: NoFrame where
-    /// there is no such place; OutOfMemory.
+    /// The state at place `p`, which is shown then. Kept places up to it are brought up to date first, where
+    /// that is owed; each frame is one tick. Takes no memory where the kept places up to `p` are linked.
+    /// Errors: NoFrame where there is no such place, and then nothing has changed; OutOfMemory, and then no
+    /// place is shown, kept states and links may be newer, and recording, history and kept places are
+    /// unchanged.
     pub fn show<L: Ledger>(
         &mut self,
         alloc: Global,
@@ -52,10 +56,11 @@ impl Editor {
         ensures* after { sem 𝓛 (Rests the_row self.entry (λ n.
             OnOk result (IsShown p steps.old steps.new self.old n)
             × OnErr result (KeepsRecording self.old n)
-            × IfErr result (λ refusal. refusal ≢ NoMemory → n ≡ self.old))) }
+            × IfErr result (λ refusal. refusal ≢ NoMemory → (n ≡ self.old) × (steps.new ≡ steps.old))
+            × IfErr result (λ refusal. refusal ≡ NoMemory → n.at ≡ None))) }
         ensures state { IfOk result (λ state. run_state (editing_setup self.old) self.old.disk
             self.old.session.current.inputs p ≡ Some state.now) }
-        ensures refused { IfErr result (IsRefusal (place_refusal p self.old.session.current)) }
+        ensures refused { IfErr result (IsCauseOrMemory (place_refusal p self.old.session.current)) }
         ensures accepted { OnOk result (place_refusal p self.old.session.current ≡ None) }
         ensures linked { p ≤ length self.old.session.current.inputs
             → AreLinked (last_up_to p self.old.session.current.kept) self.old.session.current.kept
@@ -68,7 +73,7 @@ impl Editor {
         Ok(self.state())
     }
 
-    /// Goes to a place that is there.
+    /// Goes to a place that is there. Errors: OutOfMemory, and then no place is shown.
     fn go_to<L: Ledger>(
         &mut self,
         alloc: Global,
@@ -78,6 +83,7 @@ impl Editor {
         requires { p ≤ length self.old.session.current.inputs }
         ensures ok { OnOk result (IsShown p steps.old steps.new self.old self.new) }
         ensures err { OnErr result (KeepsRecording self.old self.new) }
+        ensures at { OnErr result (self.new.at ≡ None) }
         ensures linked { AreLinked (last_up_to p self.old.session.current.kept) self.old.session.current.kept
             → IsOk result }
     {
@@ -103,8 +109,9 @@ impl Editor {
         self.player.state()
     }
 
-    /// The state at the place after the one that is shown, and in `made` its record. Runs one frame, and
-    /// takes no memory. Errors: NoFrame where no place is shown, or the last one.
+    /// The state at the place after the one that is shown, and in `made` its record. That place is shown
+    /// then. Runs one frame, and takes no memory. Errors: NoFrame where no place is shown, or the last one,
+    /// and then nothing has changed.
     pub fn step<L: Ledger>(
         &mut self,
         made: &mut FrameRecord,
@@ -117,6 +124,7 @@ impl Editor {
             → run_state (editing_setup self.old) self.old.disk self.old.session.current.inputs (p + 1)
             ≡ Some state.now) }
         ensures ticks { OnOk result (steps.new ≡ steps.old + 1) }
+        ensures idle { OnErr result ((steps.new ≡ steps.old) × (made.new ≡ made.old)) }
         ensures refused { IfErr result (λ refusal. (refusal ≡ NoFrame) × IsAtEnd self.old) }
     {
         self.go_on(made, steps)?;
@@ -131,6 +139,7 @@ impl Editor {
     ) -> Result<(), EditRefusal>
         ensures ok { OnOk result (IsStepped (record_of made.new) self.old self.new) }
         ensures ticks { OnOk result (steps.new ≡ steps.old + 1) }
+        ensures idle { OnErr result ((steps.new ≡ steps.old) × (made.new ≡ made.old)) }
         ensures refused { IfErr result (λ refusal. (refusal ≡ NoFrame) × IsAtEnd self.old) }
         ensures unchanged { OnErr result (self.new ≡ self.old) }
     {
@@ -143,7 +152,8 @@ impl Editor {
     }
 
     /// Brings all kept places up to date; each frame is one tick. No place is shown then. Takes no memory
-    /// where they are linked. Errors: OutOfMemory.
+    /// where they are linked. Errors: OutOfMemory, and then no place is shown either, kept states and links
+    /// may be newer, and recording, history and kept places are unchanged.
     pub fn settle<L: Ledger>(
         &mut self,
         alloc: Global,
@@ -152,6 +162,7 @@ impl Editor {
         ensures ok { OnOk result (IsAllSettled steps.old steps.new self.old self.new) }
         ensures states { OnOk result (AreOfRun self.new) }
         ensures err { OnErr result (KeepsRecording self.old self.new) }
+        ensures at { OnErr result (self.new.at ≡ None) }
         ensures refused { IfErr result (λ refusal. refusal ≡ NoMemory) }
         ensures linked { AreLinked (length self.old.session.current.kept - 1) self.old.session.current.kept
             → IsOk result }
@@ -171,7 +182,8 @@ impl Editor {
 /// Keeping.
 impl Editor {
     /// Shows place `p` and keeps it. Errors: NoFrame where there is no such place; Kept where it is kept;
-    /// FullSnapshots where 1,024 places are; OutOfMemory.
+    /// FullSnapshots where 1,024 places are; after these nothing has changed. OutOfMemory, and then no place
+    /// is shown, kept states and links may be newer, and recording, history and kept places are unchanged.
     pub fn keep<L: Ledger>(
         &mut self,
         alloc: Global,
@@ -180,9 +192,12 @@ impl Editor {
     ) -> Result<(), EditRefusal>
         ensures ok { OnOk result (IsKeptAt p steps.old steps.new self.old self.new) }
         ensures err { OnErr result (KeepsRecording self.old self.new) }
-        ensures refused { IfErr result (IsRefusal (keep_refusal kept_entries p self.old.session.current)) }
+        ensures at { IfErr result (λ refusal. refusal ≡ NoMemory → self.new.at ≡ None) }
+        ensures refused { IfErr result
+            (IsCauseOrMemory (keep_refusal kept_entries p self.old.session.current)) }
         ensures accepted { OnOk result (keep_refusal kept_entries p self.old.session.current ≡ None) }
         ensures unchanged { IfErr result (λ refusal. refusal ≢ NoMemory → self.new ≡ self.old) }
+        ensures idle { IfErr result (λ refusal. refusal ≢ NoMemory → steps.new ≡ steps.old) }
     {
         if let Some(refusal) = keep_refusal(&self.recording, &self.kept, p) {
             return Err(refusal);
@@ -192,13 +207,16 @@ impl Editor {
         Ok(())
     }
 
-    /// Keeps the place that is shown, where the entries below it are linked.
+    /// Keeps the place that is shown, where the entries below it are linked. Errors: OutOfMemory, and then no
+    /// place is shown.
     fn keep_shown(&mut self, alloc: Global, p: usize) -> Result<(), OutOfMemory>
         requires { CanKeep p self.old }
         ensures ok { OnOk result (IsPut p self.old self.new) }
-        ensures err { OnErr result (self.new ≡ self.old) }
+        ensures err { OnErr result (self.new ≡ with_session self.old self.old.session None) }
     {
+        self.at = None;
         keep(alloc, &self.player, &mut self.kept, p)?;
+        self.at = Some(p);
         Ok(())
     }
 

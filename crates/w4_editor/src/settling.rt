@@ -1,10 +1,11 @@
 //! Bringing a kept list up to date.
 
 ghost use Rattle.std.specs.Prelude.{◌≡◌, ℕ, ◌+◌, ◌-◌, ◌<◌, ◌≤◌, true, IsOk, OnErr, OnOk, length, Some};
-ghost use Rattle.w4_defs.specs.KeptList.{IsSettled, SamePlaces, computed, doubtful, kept_entry_at, linked_at, place_at};
+ghost use Rattle.w4_defs.specs.KeptList.{IsSettled, SamePlaces, computed, doubtful, kept_entry_at, linked_at};
+ghost use Rattle.w4_defs.specs.KeptList.{place_at};
 ghost use Rattle.w4_defs.specs.State.{HasGlobals};
 ghost use Rattle.w4_editor.specs.Playing.{in_state, setup_of};
-ghost use Rattle.w4_editor.specs.Settling.{AreLinked, AreTrue, IsComputed, StaysConsistent};
+ghost use Rattle.w4_editor.specs.Settling.{AreLinked, HasTrueLinks, IsComputed, StaysConsistent};
 
 use crate::kept::Kept;
 use crate::kept_list::{entry_at, link_at, replace_at};
@@ -22,7 +23,7 @@ fn compute<L: Ledger>(
     steps: &mut Steps<L>,
 )
     requires there { i + 1 < length kept.now }
-    requires kept { AreTrue (setup_of player.old) inputs.now kept.now }
+    requires kept { HasTrueLinks (setup_of player.old) inputs.now kept.now }
     ensures computed { computed (setup_of player.old) inputs.now kept.now i ≡ Some player.new.state }
     ensures same { player.new ≡ in_state player.old player.new.state }
     ensures globals { HasGlobals player.new.cart player.new.state }
@@ -45,7 +46,7 @@ fn settle_one<L: Ledger>(
     steps: &mut Steps<L>,
 ) -> Result<(), OutOfMemory>
     requires there { i + 1 < length kept.old }
-    requires kept { AreTrue (setup_of player.old) inputs.now kept.old }
+    requires kept { HasTrueLinks (setup_of player.old) inputs.now kept.old }
     ensures ok { OnOk result (IsComputed (setup_of player.old) inputs.now i kept.old kept.new) }
     ensures err { OnErr result (kept.new ≡ kept.old) }
     ensures same { player.new ≡ in_state player.old player.new.state }
@@ -73,8 +74,8 @@ pub(crate) fn settle<L: Ledger>(
 ) -> Result<(), OutOfMemory>
     requires there { last < length kept.old }
     requires first { linked_at kept.old 0 ≡ true }
-    requires kept { AreTrue (setup_of player.old) inputs.now kept.old }
-    ensures kept { AreTrue (setup_of player.old) inputs.now kept.new }
+    requires kept { HasTrueLinks (setup_of player.old) inputs.now kept.old }
+    ensures kept { HasTrueLinks (setup_of player.old) inputs.now kept.new }
     ensures places { SamePlaces kept.old kept.new }
     ensures consistent { StaysConsistent (setup_of player.old) inputs.now kept.old kept.new }
     ensures settled { OnOk result (IsSettled last kept.old kept.new) }

@@ -1,12 +1,15 @@
 //! What is done to a recording's kept list and to the player: showing, moving on, settling and keeping.
 
-ghost use Rattle.std.specs.Prelude.{◌≡◌, ℕ, ◌+◌, ◌-◌, ◌<◌, ◌≤◌, true, IfNone, IfSome, IsOk, OnErr, OnOk, length, Some};
+ghost use Rattle.std.specs.Prelude.{◌≡◌, ℕ, ◌+◌, ◌-◌, ◌<◌, ◌≤◌, true, IfNone, IfSome, IsOk, OnErr, OnOk};
+ghost use Rattle.std.specs.Prelude.{length, Some};
 ghost use Rattle.w4_console.specs.ConsoleCalls.{moment};
-ghost use Rattle.w4_defs.specs.KeptList.{IsSettled, SamePlaces, kept_entries, last_up_to, linked_at, place_at, relinked_at, replaced_at, settle_frames, show_frames};
+ghost use Rattle.w4_defs.specs.KeptList.{IsSettled, SamePlaces, kept_entries, last_up_to, linked_at};
+ghost use Rattle.w4_defs.specs.KeptList.{place_at, relinked_at, replaced_at, settle_frames, show_frames};
 ghost use Rattle.w4_defs.specs.State.{HasGlobals};
 ghost use Rattle.w4_defs.specs.Session.{keep_refusal, with_kept};
 ghost use Rattle.w4_editor.specs.Playing.{in_state, setup_of};
-ghost use Rattle.w4_editor.specs.Settling.{AreLinked, AreTrue, IsOfRun, MovesOn, ShowsFrom, StaysConsistent, entry_of};
+ghost use Rattle.w4_editor.specs.Settling.{AreLinked, HasTrueLinks, IsOfRun, MovesOn, ShowsFrom};
+ghost use Rattle.w4_editor.specs.Settling.{StaysConsistent, linked_entry};
 
 use crate::kept::Kept;
 use crate::kept_list::{entry_at, first_above, is_kept, link_at, put, replace_at};
@@ -35,7 +38,7 @@ pub(crate) fn show<L: Ledger>(
     requires some { 0 < length kept.old.items }
     requires begin { place_at kept.old.items 0 ≡ 0 }
     requires first { linked_at kept.old.items 0 ≡ true }
-    requires kept { AreTrue (setup_of player.old) recording.now.frames kept.old.items }
+    requires kept { HasTrueLinks (setup_of player.old) recording.now.frames kept.old.items }
     ensures consistent { StaysConsistent (setup_of player.old) recording.now.frames
         kept.old.items kept.new.items }
     ensures places { SamePlaces kept.old.items kept.new.items }
@@ -60,7 +63,7 @@ pub(crate) fn settle_all<L: Ledger>(
 ) -> Result<(), OutOfMemory>
     requires some { 0 < length kept.old.items }
     requires first { linked_at kept.old.items 0 ≡ true }
-    requires kept { AreTrue (setup_of player.old) recording.now.frames kept.old.items }
+    requires kept { HasTrueLinks (setup_of player.old) recording.now.frames kept.old.items }
     ensures consistent { StaysConsistent (setup_of player.old) recording.now.frames
         kept.old.items kept.new.items }
     ensures places { SamePlaces kept.old.items kept.new.items }
@@ -87,7 +90,7 @@ fn show_place<L: Ledger>(
     requires some { 0 < length kept.old }
     requires begin { place_at kept.old 0 ≡ 0 }
     requires first { linked_at kept.old 0 ≡ true }
-    requires kept { AreTrue (setup_of player.old) inputs.now kept.old }
+    requires kept { HasTrueLinks (setup_of player.old) inputs.now kept.old }
     ensures consistent { StaysConsistent (setup_of player.old) inputs.now kept.old kept.new }
     ensures places { SamePlaces kept.old kept.new }
     ensures settled { OnOk result (IsSettled (last_up_to p kept.old) kept.old kept.new) }
@@ -98,7 +101,7 @@ fn show_place<L: Ledger>(
 {
     let last = last_up_to(kept, p);
     settle(alloc, player, inputs, kept, last, steps)?;
-    go_on(player, inputs, kept, last, p, steps);
+    run_from_entry(player, inputs, kept, last, p, steps);
     Ok(())
 }
 
@@ -110,7 +113,7 @@ fn last_up_to(kept: &[Kept], p: usize) -> usize
 }
 
 /// Puts the state at place `p`, from entry `i`.
-fn go_on<L: Ledger>(
+fn run_from_entry<L: Ledger>(
     player: &mut Player,
     inputs: &[Input],
     kept: &[Kept],
@@ -121,7 +124,7 @@ fn go_on<L: Ledger>(
     requires there { i < length kept.now }
     requires from { place_at kept.now i ≤ p }
     requires place { p ≤ length inputs.now }
-    requires kept { AreTrue (setup_of player.old) inputs.now kept.now }
+    requires kept { HasTrueLinks (setup_of player.old) inputs.now kept.now }
     ensures state { ShowsFrom (setup_of player.old) inputs.now kept.now i p player.new.state }
     ensures same { player.new ≡ in_state player.old player.new.state }
     ensures ticks { steps.new ≡ steps.old + (p - place_at kept.now i) }
@@ -174,7 +177,7 @@ pub(crate) fn keep(
 ) -> Result<(), OutOfMemory>
     requires { 0 < length kept.old.items }
     ensures ok { OnOk result (kept.new.items
-        ≡ with_kept kept_entries (entry_of p player.now.state) kept.old.items) }
+        ≡ with_kept kept_entries (linked_entry p player.now.state) kept.old.items) }
     ensures err { OnErr result (kept.new.items ≡ kept.old.items) }
     ensures globals { HasGlobals player.now.cart player.now.state }
 {

@@ -1,24 +1,26 @@
-//! The writer of images.
+//! The writer of images. A byte of the framebuffer has four pixels, and so twelve bytes of the image.
 
-ghost use Rattle.std.specs.Prelude.{◌+◌, ◌*◌, ◌/◌, ◌%◌, ◌++◌, ◌<◌, ◌≡◌, ◌≤◌, drop};
+ghost use Rattle.std.specs.Prelude.{◌+◌, ◌*◌, ◌++◌, ◌<◌, ◌≡◌, ◌≤◌, drop};
 ghost use Rattle.w4_defs.specs.Bytes.{replaced};
-ghost use Rattle.w4_defs.specs.Framebuffer.{pixel};
-ghost use Rattle.w4_defs.specs.Image.{image, image_header, pixel_colour};
+ghost use Rattle.w4_defs.specs.Image.{image, image_header, pixel_colours};
 ghost use Rattle.w4_defs.specs.MemoryMap.{palette};
 
 use w4_defs::PageBytes;
-use w4_pixels::pixel;
 
 /// The bytes of an image: 15 of its head, then three for each of 25,600 pixels.
 pub const IMAGE_LEN: usize = 76815;
+
+/// Red, green and blue of each of the four palette indices.
+type Colors = [u8; 12];
 
 /// Writes the page's image.
 pub fn image_into(page: &PageBytes, out: &mut [u8; IMAGE_LEN])
     ensures { out.new ≡ image page.now }
 {
     put_header(out);
-    for n in 0..25600 {
-        put_color(out, 15 + 3 * n, color_at(page, n));
+    let colors = palette_colors(page);
+    for q in 0..6400 {
+        put_four(out, 15 + 12 * q, four_pixels(page, &colors, q));
     }
 }
 
@@ -29,26 +31,45 @@ fn put_header(out: &mut [u8; IMAGE_LEN])
     out[0..15].copy_from_slice(b"P6\n160 160\n255\n");
 }
 
-/// Red, green and blue of the n-th pixel in rows from the top.
-fn color_at(page: &PageBytes, n: usize) -> [u8; 3]
-    requires { n < 25600 }
-    ensures { result ≡ pixel_colour page.now n }
+/// The page has blue first, then green and red.
+fn palette_colors(page: &PageBytes) -> Colors
+    ensures { result ≡ palette page.now 0 ++ palette page.now 1 ++ palette page.now 2 ++ palette page.now 3 }
 {
-    palette(page, pixel(page, (n % 160) as u32, (n / 160) as u32))
+    [
+        page[6], page[5], page[4], page[10], page[9], page[8], page[14], page[13], page[12],
+        page[18], page[17], page[16],
+    ]
 }
 
-/// Red, green and blue by a palette index, which the page has as blue, green and red.
-fn palette(page: &PageBytes, index: u8) -> [u8; 3]
-    requires { index < 4 }
-    ensures { result ≡ palette page.now index }
+/// The colours of the four pixels in framebuffer byte `q`.
+fn four_pixels(page: &PageBytes, colors: &Colors, q: usize) -> [u8; 12]
+    requires byte { q < 6400 }
+    requires colors { colors.now
+        ≡ palette page.now 0 ++ palette page.now 1 ++ palette page.now 2 ++ palette page.now 3 }
+    ensures { result ≡ pixel_colours page.now (4 * q) 4 }
 {
-    let at = 4 + 4 * index as usize;
-    [page[at + 2], page[at + 1], page[at]]
+    let byte = page[160 + q] as usize;
+    let (a, b) = (3 * (byte % 4), 3 * (byte / 4 % 4));
+    let (c, d) = (3 * (byte / 16 % 4), 3 * (byte / 64 % 4));
+    [
+        colors[a],
+        colors[a + 1],
+        colors[a + 2],
+        colors[b],
+        colors[b + 1],
+        colors[b + 2],
+        colors[c],
+        colors[c + 1],
+        colors[c + 2],
+        colors[d],
+        colors[d + 1],
+        colors[d + 2],
+    ]
 }
 
-fn put_color(out: &mut [u8; IMAGE_LEN], at: usize, color: [u8; 3])
-    requires { at + 3 ≤ 76815 }
-    ensures { out.new ≡ replaced out.old at 3 color }
+fn put_four(out: &mut [u8; IMAGE_LEN], at: usize, pixels: [u8; 12])
+    requires { at + 12 ≤ 76815 }
+    ensures { out.new ≡ replaced out.old at 12 pixels }
 {
-    out[at..at + 3].copy_from_slice(&color);
+    out[at..at + 12].copy_from_slice(&pixels);
 }

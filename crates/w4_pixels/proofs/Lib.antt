@@ -1,3 +1,4 @@
 -- Lemmas of the pixels.
+mod DigitLaws
 mod PackedLaws
 pub mod ClippingLaws

@@ -10,7 +10,7 @@ use Rattle.w4_defs.specs.Framebuffer.{painted_pixel, paint}
 use Rattle.w4_defs.specs.Shapes.{only_if, span_painter}
 use Rattle.w4_defs.proofs.PaintLaws.{paint_only}
 use Rattle.w4_defs.proofs.RegisterLaws.{spliced}
-use Rattle.w4_pixels.specs.Packed.{part_painter, row_painter, zero_painter}
+use Rattle.w4_pixels.specs.Packed.{dot_painter, one_of_four, part_painter, quad_painter, row_painter, zero_painter}
 
 chosen_index : (test : Bool) (index digit : ℕ) → index < 4 → digit < 4
     → cond test index digit ≡ unwrap_or (only_if test (Some index)) digit % 4
@@ -31,6 +31,29 @@ part_digit page q first end row index low high k digit some left here hq hrow he
     rw (place, which, test)
     (e ∙ chosen_index (nat_le low k && nat_lt k high) index
     (get_or page (160 + (40 * row + q)) 0 / 4 ^ k % 4) hentry (omega arith))
+
+-- one pixel of a byte
+pub dot_digit : (page : List ℕ) (u v k index digit : ℕ) → u < 160 → index < 4 → k < 4
+    → digit ≡ (if k == u % 4 then index else get_or page (160 + (40 * v + u / 4)) 0 / 4 ^ k % 4)
+    → digit ≡ painted_pixel page (dot_painter u v (Some index)) (4 * (u / 4) + k) v
+dot_digit page u v k index digit hu hi hk e =
+    let place : (160 * v + (4 * (u / 4) + k)) / 4 ≡ 40 * v + u / 4 = omega arith in
+    let which : (4 * (u / 4) + k) % 4 ≡ k = omega arith in
+    let test : (4 * (u / 4) + k == u && v == v) ≡ (k == u % 4) = grind (arith, nat_tests) in
+    rw (place, which, test)
+    (e ∙ chosen_index (k == u % 4) index (get_or page (160 + (40 * v + u / 4)) 0 / 4 ^ k % 4) hi (omega
+    arith))
+
+-- the pixels of a byte, each by itself
+pub quad_digit : (page : List ℕ) (q row k digit : ℕ) (first second third fourth : Option ℕ) → k < 4
+    → digit ≡ unwrap_or (one_of_four k first second third fourth)
+    (get_or page (160 + (40 * row + q)) 0 / 4 ^ k % 4) % 4
+    → digit ≡ painted_pixel page (quad_painter q row first second third fourth) (4 * q + k) row
+quad_digit page q row k digit first second third fourth hk e =
+    let place : (160 * row + (4 * q + k)) / 4 ≡ 40 * row + q = omega arith in
+    let which : (4 * q + k) % 4 ≡ k = omega arith in
+    let test : ((4 * q + k) / 4 == q && row == row) ≡ true = grind (arith, nat_tests) in
+    rw (place, which, test) e
 
 -- a span in columns of the screen is the span of the coordinates
 pub span_row : (x0 x1 y : ℤ) (first end row u v : ℕ) (index : Option ℕ)

@@ -24,10 +24,6 @@ fn nibble_of(colors: u16, number: u8) -> u8
     requires to_four { number ≤ 4 }
     ensures { result ≡ colors / 16 ^ (number - 1) % 16 }
 {
-    match number {
-        1 => (colors % 16) as u8,
-        2 => (colors / 16 % 16) as u8,
-        3 => (colors / 256 % 16) as u8,
-        _ => (colors / 4096 % 16) as u8,
-    }
+    let shifted = colors >> (4 * u32::from(number - 1));
+    (shifted % 16) as u8
 }

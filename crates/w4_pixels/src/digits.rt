@@ -1,17 +1,36 @@
 //! A byte of the framebuffer as its four two-bit digits, the lowest first.
 
-ghost use Rattle.std.specs.Prelude.{◌/◌, ◌%◌, ◌&&◌, ◌<◌, ◌≡◌, ◌≤◌, ◌^◌, ℕ, if◌then◌else◌, nat_le, nat_lt};
+ghost use Rattle.std.specs.Prelude.{◌/◌, ◌%◌, ◌&&◌, ◌<◌, ◌==◌, ◌≡◌, ◌≤◌, ◌^◌, ℕ, if◌then◌else◌, nat_le, nat_lt};
 
 /// The k-th digit of a byte.
 pub fn digit(byte: u8, k: u32) -> u8
     requires { k < 4 }
     ensures { result ≡ byte / 4 ^ k % 4 }
 {
+    (byte >> (2 * k)) % 4
+}
+
+/// The byte with the palette index as its k-th digit.
+pub fn with_digit(byte: u8, k: u32, index: u8) -> u8
+    requires digit { k < 4 }
+    requires index { index < 4 }
+    ensures { (j : ℕ) → j < 4
+        → result / 4 ^ j % 4 ≡ (if j == k then index else byte / 4 ^ j % 4) }
+{
+    let weight = weight(k);
+    byte - digit(byte, k) * weight + index * weight
+}
+
+/// What the k-th digit counts.
+fn weight(k: u32) -> u8
+    requires { k < 4 }
+    ensures { result ≡ 4 ^ k }
+{
     match k {
-        0 => byte % 4,
-        1 => byte / 4 % 4,
-        2 => byte / 16 % 4,
-        _ => byte / 64,
+        0 => 1,
+        1 => 4,
+        2 => 16,
+        _ => 64,
     }
 }
 

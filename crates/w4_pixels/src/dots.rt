@@ -1,11 +1,12 @@
 //! Single pixels.
 
-ghost use Rattle.std.specs.Prelude.{◌/◌, ◌%◌, ◌<◌, ◌≡◌, ◌^◌, Some};
+ghost use Rattle.std.specs.Prelude.{◌+◌, ◌/◌, ◌%◌, ◌<◌, ◌≡◌, ◌≤◌, ◌^◌, Some};
 ghost use Rattle.w4_defs.specs.Framebuffer.{paint, pixel};
 ghost use Rattle.w4_defs.specs.Shapes.{point_painter};
+ghost use Rattle.w4_pixels.specs.Clipping.{clipped};
+ghost use Rattle.w4_pixels.specs.Packed.{dot_painter};
 
-use crate::digits::digit;
-use crate::runs::put_part;
+use crate::digits::{digit, with_digit};
 use w4_defs::PageBytes;
 
 /// The palette index, 0 to 3, of the pixel at column `x` and row `y`.
@@ -24,7 +25,29 @@ pub fn point(page: &mut PageBytes, x: i64, y: i64, index: u8)
     ensures { page.new ≡ paint page.old (point_painter x y (Some index)) }
 {
     if 0 <= x && x < 160 && 0 <= y && y < 160 {
-        let column = x as usize;
-        put_part(page, column / 4, column, column + 1, y as usize, index);
+        put_dot(page, x as usize, y as usize, index);
+    }
+}
+
+/// Paints the pixel at column `u` and row `v` of the screen.
+pub(crate) fn put_dot(page: &mut PageBytes, u: usize, v: usize, index: u8)
+    requires column { u < 160 }
+    requires row { v < 160 }
+    requires index { index < 4 }
+    ensures { page.new ≡ paint page.old (dot_painter u v (Some index)) }
+{
+    let at = 160 + (40 * v + u / 4);
+    page[at] = with_digit(page[at], (u % 4) as u32, index);
+}
+
+/// Paints the pixels of column `u` of the screen from row `top` up to `bottom`, which is left out.
+pub fn column(page: &mut PageBytes, u: usize, top: usize, bottom: usize, index: u8)
+    requires column { u < 160 }
+    requires rows { bottom ≤ 160 }
+    requires index { index < 4 }
+    ensures { page.new ≡ paint page.old (clipped (λ a b. Some index) u (u + 1) top bottom) }
+{
+    for v in top..bottom {
+        put_dot(page, u, v, index);
     }
 }

@@ -5,10 +5,12 @@
 pub mod colour;
 mod digits;
 pub mod dots;
+pub mod quads;
 pub mod runs;
 pub mod screen;
 
 pub use colour::entry_of;
-pub use dots::{pixel, point};
+pub use dots::{column, pixel, point};
+pub use quads::put_quad;
 pub use runs::{clear, span};
 pub use screen::{cell, on_screen, screen_part};

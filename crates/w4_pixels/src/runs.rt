@@ -41,14 +41,7 @@ fn put_span(page: &mut PageBytes, first: usize, end: usize, row: usize, index: u
 }
 
 /// Paints those pixels of a row's span that are in the row's byte `q`.
-pub(crate) fn put_part(
-    page: &mut PageBytes,
-    q: usize,
-    first: usize,
-    end: usize,
-    row: usize,
-    index: u8,
-)
+fn put_part(page: &mut PageBytes, q: usize, first: usize, end: usize, row: usize, index: u8)
     requires some { first < end }
     requires left { first < 4 * q + 4 }
     requires here { 4 * q < end }

@@ -5,7 +5,7 @@ ghost use Rattle.std.specs.Prelude.{◌&&◌, ◌+ℤ◌, ◌<◌, ◌==◌, ◌
 ghost use Rattle.w4_defs.specs.Framebuffer.{paint};
 ghost use Rattle.w4_defs.specs.Shapes.{only_if};
 
-use crate::runs::put_part;
+use crate::dots::put_dot;
 use w4_defs::PageBytes;
 
 /// The first column or row of the screen that is at least `x`; 160 where there is none.
@@ -35,6 +35,6 @@ pub fn cell(page: &mut PageBytes, u: usize, v: usize, index: Option<u8>)
     ensures { page.new ≡ paint page.old (λ a b. only_if (a == u && b == v) index) }
 {
     if let Some(index) = index {
-        put_part(page, u / 4, u, u + 1, v, index);
+        put_dot(page, u, v, index);
     }
 }

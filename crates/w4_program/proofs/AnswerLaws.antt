@@ -8,7 +8,8 @@ use Rattle.w4_defs.specs.Reset.{Setup}
 use Rattle.w4_defs.specs.Session.{Session}
 use Rattle.w4_editor.specs.Editing.{Editing, editing_setup}
 use Rattle.w4_house.specs.World.{World, Appends}
-use Rattle.w4_program.specs.Answering.{Answered, answer, answers}
+use Rattle.w4_program.specs.Answering.{answer, answers}
+use Rattle.w4_program.specs.Answers.{Answered, answer_text, answers_by}
 use Rattle.w4_program.specs.Editors.{KeepsRest, IsAnswered, answer_by, place_session}
 use Rattle.w4_program.proofs.OwesLaws.{Owes, owes_less, owes_nothing}
 use Rattle.w4_program.proofs.SessionLaws.{same_setup, same_disk}
@@ -23,65 +24,63 @@ pub answered_at_first : (now after : World) (first old new : Editing) (order : O
     → IsAnswered now after old new (answer_by old order)
     → IsAnswered now after old new (answer (editing_setup first) first.disk (place_session old) order)
 answered_at_first now after first old new order rest h =
-    subst (λ (a : Answered). IsAnswered now after old new a)
+    subst (λ (a : Answered (Session ℕ)). IsAnswered now after old new a)
     (λ i. answer (same_setup first old rest i) (same_disk first old rest i) (place_session old) order) h
 
 -- the first order's answer, and those of the rest over the session that it leaves
-answers-step : (setup : Setup) (disk : List ℕ) (s next : Session ℕ) (orders : List Order) (i : ℕ) (d : Order)
+answers-step : {S O : Type 0} (answer_of : S → O → Answered S) (s next : S) (orders : List O) (i : ℕ) (d : O)
     → i < length orders
-    → next ≡ (answer setup disk s (get_or orders i d)).session
-    → answers setup disk s (drop i orders)
+    → next ≡ (answer_of s (get_or orders i d)).session
+    → answers_by answer_of s (drop i orders)
     ≡ record {
-      out = (answer setup disk s (get_or orders i d)).out ++ (answers setup disk next (drop (i + 1)
-          orders)).out;
-      session = (answers setup disk next (drop (i + 1) orders)).session;
+      out = (answer_of s (get_or orders i d)).out ++ (answers_by answer_of next (drop (i + 1) orders)).out;
+      session = (answers_by answer_of next (drop (i + 1) orders)).session;
     }
-unfolding answers
-answers-step setup disk s next orders i d lt e =
+unfolding answers_by
+answers-step answer_of s next orders i d lt e =
     let first : drop i orders ≡ get_or orders i d ∷ drop (i + 1) orders =
     rw (add-one i) (drop-cons orders i d lt) in
     rw (first, e) refl
 
-pub answers-out-step : (first now after : World) (setup : Setup) (disk : List ℕ) (s next : Session ℕ)
-    (orders : List Order) (i : ℕ) (d : Order) (whole : List ℕ)
+pub answers-out-step : {S O : Type 0} (first now after : World) (answer_of : S → O → Answered S) (s next : S)
+    (orders : List O) (i : ℕ) (d : O) (whole : List ℕ)
     → i < length orders
-    → next ≡ (answer setup disk s (get_or orders i d)).session
-    → Appends now.out after.out (answer setup disk s (get_or orders i d)).out
-    → Owes first now (answers setup disk s (drop i orders)).out whole
-    → Owes first after (answers setup disk next (drop (i + 1) orders)).out whole
-answers-out-step first now after setup disk s next orders i d whole lt e more so_far =
-    owes_less first now after (answer setup disk s (get_or orders i d)).out
-    (answers setup disk next (drop (i + 1) orders)).out whole more
-    (subst (λ (a : Answered). Owes first now a.out whole) (answers-step setup disk s next orders i d lt e)
-    so_far)
+    → next ≡ (answer_of s (get_or orders i d)).session
+    → Appends now.out after.out (answer_of s (get_or orders i d)).out
+    → Owes first now (answers_by answer_of s (drop i orders)).out whole
+    → Owes first after (answers_by answer_of next (drop (i + 1) orders)).out whole
+answers-out-step first now after answer_of s next orders i d whole lt e more so_far =
+    owes_less first now after (answer_of s (get_or orders i d)).out
+    (answers_by answer_of next (drop (i + 1) orders)).out whole more
+    (subst (λ a. Owes first now a.out whole) (answers-step answer_of s next orders i d lt e) so_far)
 
-pub answers-session-step : (setup : Setup) (disk : List ℕ) (s next : Session ℕ) (orders : List Order) (i : ℕ)
-    (d : Order) (whole : Session ℕ)
+pub answers-session-step : {S O : Type 0} (answer_of : S → O → Answered S) (s next : S) (orders : List O)
+    (i : ℕ) (d : O) (whole : S)
     → i < length orders
-    → next ≡ (answer setup disk s (get_or orders i d)).session
-    → (answers setup disk s (drop i orders)).session ≡ whole
-    → (answers setup disk next (drop (i + 1) orders)).session ≡ whole
-answers-session-step setup disk s next orders i d whole lt e so_far =
-    sym (ap (λ (a : Answered). a.session) (answers-step setup disk s next orders i d lt e)) ∙ so_far
+    → next ≡ (answer_of s (get_or orders i d)).session
+    → (answers_by answer_of s (drop i orders)).session ≡ whole
+    → (answers_by answer_of next (drop (i + 1) orders)).session ≡ whole
+answers-session-step answer_of s next orders i d whole lt e so_far =
+    sym (ap (λ a. a.session) (answers-step answer_of s next orders i d lt e)) ∙ so_far
 
-answers-end : (setup : Setup) (disk : List ℕ) (s : Session ℕ) (orders : List Order) (i : ℕ)
-    → length orders ≤ i → answers setup disk s (drop i orders) ≡ record { out = []; session = s }
-unfolding answers
-answers-end setup disk s orders i le = rw (drop_of_length-le orders le) refl
+pub answers-end : {S O : Type 0} (answer_of : S → O → Answered S) (s : S) (orders : List O) (i : ℕ)
+    → length orders ≤ i → answers_by answer_of s (drop i orders) ≡ answer_text s []
+unfolding answers_by
+answers-end answer_of s orders i le = rw (drop_of_length-le orders le) refl
 
 -- all are answered
 pub answers-done : (before after : World) (old new : Editing) (setup : Setup) (disk : List ℕ)
-    (orders : List Order) (i : ℕ) (whole : Answered)
+    (orders : List Order) (i : ℕ) (whole : Answered (Session ℕ))
     → length orders ≤ i
     → Owes before after (answers setup disk (place_session new) (drop i orders)).out whole.out
     → (answers setup disk (place_session new) (drop i orders)).session ≡ whole.session
     → KeepsRest old new → IsAnswered before after old new whole
 answers-done before after old new setup disk orders i whole le owed so_far rest =
-    let end = answers-end setup disk (place_session new) orders i le in record {
+    let end = answers-end (answer setup disk) (place_session new) orders i le in record {
       out =
           owes_nothing before after (answers setup disk (place_session new) (drop i orders)).out whole.out
-          (ap (λ (a : Answered). a.out) end) owed;
-      session = sym (ap (λ (a : Answered). a.session) end) ∙ so_far;
+          (ap (λ (a : Answered (Session ℕ)). a.out) end) owed;
+      session = sym (ap (λ (a : Answered (Session ℕ)). a.session) end) ∙ so_far;
       rest = rest;
     }
 
@@ -93,3 +92,7 @@ pub if_ok_map : {X E : Type 0} {P Q : X → Type 0} (result : Result X E) → ((
     → IfOk result P → IfOk result Q
 if_ok_map (Ok x) f h = f x h
 if_ok_map (Err e) f h = h
+
+pub on_ok_map : {X E : Type 0} {P Q : Type 0} (result : Result X E) → (P → Q) → OnOk result P → OnOk result Q
+on_ok_map (Ok x) f h = f h
+on_ok_map (Err e) f h = tt

@@ -8,10 +8,10 @@ use Rattle.w4_console.specs.Meaning.{RunsHaveMeaning, AcceptedRunsHaveMeaning}
 use Rattle.w4_house.specs.World.{Files, World}
 use Rattle.w4_program.specs.declared.status.Status.{Status}
 use Rattle.w4_program.specs.declared.status.Status.TheVariants.{CartRefused}
-use Rattle.w4_program.specs.Endings.{Manner, AllWritten, NoCommand, ReadFailed, WriteFailed, NoMemory, Refused}
+use Rattle.w4_program.specs.Endings.{Manner, AllWritten, NoCommand, ReadFailed, WriteFailed, MemoryRefused, Refused}
 use Rattle.w4_program.specs.Output.{CartFile, JudgedCart, CartIn, reading}
 use Rattle.w4_program.specs.CartRuns.{CartRunsHaveMeaning}
-use Rattle.w4_program.specs.Causes.{ResultsIn, Refuses, Stops}
+use Rattle.w4_program.specs.Causes.{ResultsIn, StepRefuses, Stops}
 
 pub cart_unread : (old new : World) (why : Manner) (name : List ℕ)
     → Stops old new why (ResultsIn (λ files. reading files name 65537))
@@ -21,7 +21,7 @@ cart_unread old new NoCommand name h = h
 cart_unread old new ReadFailed name (inl rise) = inl rise
 cart_unread old new ReadFailed name (inr (files, texts, none)) = inr (files, texts, rw none refl)
 cart_unread old new WriteFailed name h = h
-cart_unread old new NoMemory name h = tt
+cart_unread old new MemoryRefused name h = tt
 cart_unread old new (Refused refusal) name h = λ files texts. rw (h files texts) refl
 
 pub cart_given : (old : World) (name bytes : List ℕ) (cart : CartFile)
@@ -32,7 +32,7 @@ cart_given old name bytes cart given is digest = λ files texts. rw (given files
 
 pub cart_refused : (old : World) (name bytes : List ℕ) (kind : CartKind)
     → ForSome old.files (λ files. reading files name 65537 ≡ Ok bytes) → IsRefused bytes kind
-    → Refuses old (CartRefused kind) (λ files cart. CartIn name files cart)
+    → StepRefuses old (CartRefused kind) (λ files cart. CartIn name files cart)
 cart_refused old name bytes kind given refused = λ files texts. rw (given files texts) refused
 
 not_both : (cart : CartFile) (refusal : Status) (found : Result CartFile Status) → found ≡ Ok cart

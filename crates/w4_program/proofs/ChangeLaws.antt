@@ -6,13 +6,13 @@ use Rattle.w4_defs.specs.declared.editing.EditRefusal.{EditRefusal}
 use Rattle.w4_defs.specs.declared.editing.EditRefusal.TheVariants.{OutOfMemory}
 use Rattle.w4_defs.specs.declared.order.Order.{Order}
 use Rattle.w4_defs.specs.declared.order.Order.TheVariants as order
-use Rattle.w4_defs.specs.KeptList.{Entry, kept_entries, nowhere}
+use Rattle.w4_defs.specs.KeptList.{Entry, kept_entries}
 use Rattle.w4_defs.specs.Reset.{Setup}
 use Rattle.w4_defs.specs.Session.{Session, PlacesDecide, places_alone, session_of_places, result_of_places, keep, keep_refusal, unless, with_kept, with_list}
 use Rattle.w4_defs.specs.State.{blank_state}
-use Rattle.w4_editor.specs.Editing.{Editing, IsRefusedAs, with_session}
-use Rattle.w4_editor.specs.Settling.{entry_of}
-use Rattle.w4_editor.specs.Showing.{IsKeptAt, IsAllSettled, IsRefusal}
+use Rattle.w4_editor.specs.Editing.{Editing, IsErrorOrMemory, with_session}
+use Rattle.w4_editor.specs.Settling.{linked_entry}
+use Rattle.w4_editor.specs.Showing.{IsKeptAt, IsAllSettled, IsCauseOrMemory}
 use Rattle.w4_house.specs.World.{World, Appends}
 use Rattle.w4_program.specs.Answering.{answer, answer_change, refused_line, refusal_words}
 use Rattle.w4_program.specs.Editors.{KeepsRest, IsAnswered, IsChanged, changed, place_session}
@@ -39,7 +39,7 @@ pub unmade : (wanted : Made) (alone : Alone) (refusal : EditRefusal)
     → result_of_places kept_entries wanted ≡ alone → wanted ≡ Err refusal → alone ≡ Err refusal
 unmade wanted alone refusal law is = sym law ∙ ap (λ (m : Made). result_of_places kept_entries m) is
 
-pub refused_as : (wanted : Made) (refusal : EditRefusal) → IsRefusedAs wanted refusal
+pub refused_as : (wanted : Made) (refusal : EditRefusal) → IsErrorOrMemory wanted refusal
     → refusal ≢ OutOfMemory → wanted ≡ Err refusal
 refused_as wanted refusal (inl is) other = is
 refused_as wanted refusal (inr memory) other = absurd (other memory.0)
@@ -49,7 +49,7 @@ pub changed_by : {X : Type 0} (result : Result X EditRefusal) (wanted : Made) (a
     (old new : Editing) (at : Option ℕ)
     → result_of_places kept_entries wanted ≡ alone
     → OnOk result (wanted ≡ Ok new.session) → OnOk result (new ≡ with_session old new.session at)
-    → IfErr result (IsRefusedAs wanted) → OnErr result (new ≡ old)
+    → IfErr result (IsErrorOrMemory wanted) → OnErr result (new ≡ old)
     → IsChanged result old new alone
 changed_by (Ok x) wanted alone old new at law ok rest refused unchanged =
     (made wanted alone new.session law ok, rest_at old new at rest)
@@ -75,7 +75,7 @@ pub kept_made : PlacesDecide kept_entries → (p before after : ℕ) (old new : 
     → keep places_alone p (place_session old) ≡ Ok (place_session new)
 kept_made decides p before after old new h =
     let shown = h.shown in
-    let entry = entry_of p h.put.state in
+    let entry = linked_entry p h.put.state in
     let law = (decides shown.session 0 no_input entry).5 in
     let same = (only_shows old shown h.is_shown.recording).session in
     sym (ap (λ (s : Session ℕ). keep places_alone p s) same)
@@ -88,11 +88,11 @@ kept_rest p before after old new h =
     rest_then old h.shown new h.is_shown.recording.same (rest_at h.shown new h.shown.at h.put.same)
 
 pub unkept : PlacesDecide kept_entries → (p : ℕ) (session : Session Entry) (refusal : EditRefusal)
-    → IsRefusal (keep_refusal kept_entries p session.current) refusal → refusal ≢ OutOfMemory
+    → IsCauseOrMemory (keep_refusal kept_entries p session.current) refusal → refusal ≢ OutOfMemory
     → keep places_alone p (session_of_places kept_entries session) ≡ Err refusal
 unkept decides p session refusal (inr memory) other = absurd (other memory.0)
 unkept decides p session refusal (inl is) other =
-    let entry = entry_of p (blank_state []) in
+    let entry = linked_entry p (blank_state []) in
     unmade (keep kept_entries entry session) (keep places_alone p (session_of_places kept_entries session))
     refusal (decides session 0 no_input entry).5
     (ap (λ (r : Option EditRefusal).
@@ -101,7 +101,7 @@ unkept decides p session refusal (inl is) other =
 pub changed_by_keep : {X : Type 0} (result : Result X EditRefusal) → PlacesDecide kept_entries
     → (p before after : ℕ) (old new : Editing)
     → OnOk result (IsKeptAt p before after old new)
-    → IfErr result (IsRefusal (keep_refusal kept_entries p old.session.current))
+    → IfErr result (IsCauseOrMemory (keep_refusal kept_entries p old.session.current))
     → IfErr result (λ refusal. refusal ≢ OutOfMemory → new ≡ old)
     → IsChanged result old new (keep places_alone p (place_session old))
 changed_by_keep (Ok x) decides p before after old new ok refused unchanged =

@@ -6,9 +6,10 @@ use Rattle.w4_house.specs.World.{Files, World, Rises, LeavesReading, LeavesPrint
 use Rattle.w4_house.proofs.WorldLaws.{rises_later}
 use Rattle.w4_program.specs.declared.status.Status.{Status}
 use Rattle.w4_program.specs.declared.status.Status.TheVariants as status
-use Rattle.w4_program.specs.Endings.{Manner, AllWritten, NoCommand, ReadFailed, WriteFailed, NoMemory, Refused, manner_of}
+use Rattle.w4_program.specs.Endings.{Manner, AllWritten, NoCommand, ReadFailed, WriteFailed, MemoryRefused, Refused, manner_of}
 use Rattle.w4_program.specs.Forms.{EditWords}
-use Rattle.w4_program.specs.Output.{◌>>=◌, CartFile, Output, Loaded, edit_files, edit_answers, edited_recording, only_printed, edit_result, edit_output, CartIn, OverCart}
+use Rattle.w4_program.specs.Output.{◌>>=◌, CartFile, Output, Loaded, edit_files, edit_answers, edited_recording, only_printed, edit_result, edit_output, CartIn}
+use Rattle.w4_program.specs.Outputs.{OverCart}
 use Rattle.w4_program.specs.Causes.{ResultsIn, ReadFails, Stops, StopsWriting, LeavesOutputs, Writes, Ends, Carries, Prints}
 use Rattle.w4_program.proofs.StepLaws.{stops_first}
 
@@ -20,7 +21,7 @@ stops_writing_later first second third NoCommand le h = h
 stops_writing_later first second third ReadFailed le h = h
 stops_writing_later first second third WriteFailed le h =
     rises_later first.write_faults second.write_faults third.write_faults le h
-stops_writing_later first second third NoMemory le h = tt
+stops_writing_later first second third MemoryRefused le h = tt
 stops_writing_later first second third (Refused refusal) le h = h
 
 pub carries_stopped : (old new : World) (why : Manner) (out name bytes : List ℕ) → StopsWriting old new why
@@ -29,7 +30,7 @@ carries_stopped old new AllWritten out name bytes h = absurd h
 carries_stopped old new NoCommand out name bytes h = h
 carries_stopped old new ReadFailed out name bytes h = h
 carries_stopped old new WriteFailed out name bytes h = h
-carries_stopped old new NoMemory out name bytes h = tt
+carries_stopped old new MemoryRefused out name bytes h = tt
 carries_stopped old new (Refused refusal) out name bytes h = h
 
 pub prints_stopped : (old new : World) (why : Manner) (out : List ℕ) → StopsWriting old new why
@@ -38,7 +39,7 @@ prints_stopped old new AllWritten out h = absurd h
 prints_stopped old new NoCommand out h = h
 prints_stopped old new ReadFailed out h = h
 prints_stopped old new WriteFailed out h = h
-prints_stopped old new NoMemory out h = tt
+prints_stopped old new MemoryRefused out h = tt
 prints_stopped old new (Refused refusal) out h = h
 
 -- only words are refused as such
@@ -66,7 +67,7 @@ ends_unjudged old new ReadFailed name make leaves (inl rise) = (inl rise, (leave
 ends_unjudged old new ReadFailed name make leaves (inr (files, texts, none)) =
     (inr (files, texts, (Err status.ReadFault, none, refl)), (leaves.out, leaves.files))
 ends_unjudged old new WriteFailed name make leaves h = absurd h
-ends_unjudged old new NoMemory name make leaves h = tt
+ends_unjudged old new MemoryRefused name make leaves h = tt
 ends_unjudged old new (Refused refusal) name make leaves h =
     ((λ files texts. (Err refusal, h files texts, refl)), (leaves.out, leaves.files))
 
@@ -97,7 +98,7 @@ ends_judged first second third WriteFailed name cart make leaves given h = (
   λ files texts. let made = h.1 files (leaves.files ∙ texts) in
       (made.0, (Ok cart, given files texts, made.1)),
 )
-ends_judged first second third NoMemory name cart make leaves given h = tt
+ends_judged first second third MemoryRefused name cart make leaves given h = tt
 ends_judged first second third (Refused refusal) name cart make leaves given h = (
   (λ files texts. (Ok cart, given files texts, h.0 files (leaves.files ∙ texts))),
   (h.1.0 ∙ leaves.out, h.1.1 ∙ leaves.files),
@@ -114,7 +115,7 @@ ends_untold old new NoCommand step make leaves h = absurd h
 ends_untold old new ReadFailed step make leaves h =
     (stops_first old new ReadFailed step (λ files g. Ok (make files g)) h, (leaves.out, leaves.files))
 ends_untold old new WriteFailed step make leaves h = absurd h
-ends_untold old new NoMemory step make leaves h = tt
+ends_untold old new MemoryRefused step make leaves h = tt
 ends_untold old new (Refused refusal) step make leaves h =
     (stops_first old new (Refused refusal) step (λ files g. Ok (make files g)) h, (leaves.out, leaves.files))
 
@@ -126,7 +127,7 @@ ends_printed old new AllWritten out same h = λ files texts. (only_printed out f
 ends_printed old new NoCommand out same h = absurd h
 ends_printed old new ReadFailed out same h = absurd h
 ends_printed old new WriteFailed out same h = (h, λ files texts. (only_printed out files, refl))
-ends_printed old new NoMemory out same h = tt
+ends_printed old new MemoryRefused out same h = tt
 ends_printed old new (Refused refusal) out same h = absurd h
 
 pub ends_texts : {G : Type 0} (first second third : World) (why : Manner) (step : Files → Result G Status)
@@ -146,7 +147,7 @@ ends_texts first second third WriteFailed step g out leaves rest given h = (
   subst (λ n. Rises n third.write_faults) leaves.writes h,
   λ files texts. (only_printed (out g) files, rw (given files texts) refl),
 )
-ends_texts first second third NoMemory step g out leaves rest given h = tt
+ends_texts first second third MemoryRefused step g out leaves rest given h = tt
 ends_texts first second third (Refused refusal) step g out leaves rest given h = absurd h
 
 -- it was, and an edit was carried out
@@ -169,7 +170,7 @@ ends_carried first second third WriteFailed words cart l leaves given h = (
   subst (λ n. Rises n third.write_faults) leaves.writes h,
   λ files texts. (edit_result cart.code l words.out files, rw (given files texts) refl),
 )
-ends_carried first second third NoMemory words cart l leaves given h = tt
+ends_carried first second third MemoryRefused words cart l leaves given h = tt
 ends_carried first second third (Refused refusal) words cart l leaves given h = absurd h
 
 writes_reported : (old mid new : World) (made : Output) → LeavesReporting mid new → Writes old mid made
@@ -197,7 +198,7 @@ ends_kept old mid new ReadFailed step leaves h =
     (read_fails_reported old mid new step leaves h.0, untouched_reported old mid new leaves h.1)
 ends_kept old mid new WriteFailed step leaves h =
     (subst (λ n. Rises old.write_faults n) (sym leaves.writes) h.0, h.1)
-ends_kept old mid new NoMemory step leaves h = tt
+ends_kept old mid new MemoryRefused step leaves h = tt
 ends_kept old mid new (Refused refusal) step leaves h = (h.0, untouched_reported old mid new leaves h.1)
 
 -- after the report, too

@@ -11,9 +11,10 @@ use Rattle.w4_defs.specs.Cart.{IsInvalid, IsCart, IsRefused}
 use Rattle.wasm_read.specs.Unique.{AtMostOneModule}
 use Rattle.w4_house.specs.World.{Files}
 use Rattle.w4_program.specs.declared.status.Status.{Status}
-use Rattle.w4_program.specs.declared.status.Status.TheVariants.{Done, Usage, ReadFault, WriteFault, OutOfMemory, CartRefused, RecordingRefused, FontRefused, ScriptRefused, FrameRefused}
-use Rattle.w4_program.specs.Forms.{Form, Check, Blank, Frames, Tones, Trace, Disk, Edit, Make, form_of}
-use Rattle.w4_program.specs.Output.{CartFile, Output, ◌>>=◌, JudgedCart, OutputsAlone, OverFile, OutputsForm, cart_word, output_of}
+use Rattle.w4_program.specs.declared.status.Status.TheVariants.{Done, Usage, ReadFault, WriteFault, OutOfMemory, CartRefused, RecordingRefused, FontRefused, ScriptRefused, FrameRefused, ListRefused}
+use Rattle.w4_program.specs.Forms.{Form, Check, Blank, Frames, Tones, Trace, Disk, Edit, Make, Net, Ram, Wave, Batch, form_of}
+use Rattle.w4_program.specs.Output.{CartFile, Output, ◌>>=◌, JudgedCart}
+use Rattle.w4_program.specs.Outputs.{OutputsAlone, OverFile, OutputsForm, cart_word, output_of}
 use Rattle.w4_program.specs.OneOutput.{AtMostOneOutput}
 
 -- the first function without a typing is one
@@ -108,6 +109,7 @@ judged_once unique (Ok bytes) (Ok cart) (Err (RecordingRefused kind)) one two = 
 judged_once unique (Ok bytes) (Ok cart) (Err FontRefused) one two = absurd two
 judged_once unique (Ok bytes) (Ok cart) (Err (ScriptRefused kind)) one two = absurd two
 judged_once unique (Ok bytes) (Ok cart) (Err (FrameRefused number n)) one two = absurd two
+judged_once unique (Ok bytes) (Ok cart) (Err (ListRefused kind)) one two = absurd two
 judged_once unique (Ok bytes) (Err (CartRefused k)) (Ok cart) one two =
     absurd (never_both unique bytes cart.code k two.0 one)
 judged_once unique (Ok bytes) (Err (CartRefused k)) (Err (CartRefused l)) one two =
@@ -121,6 +123,7 @@ judged_once unique (Ok bytes) (Err (CartRefused k)) (Err (RecordingRefused kind)
 judged_once unique (Ok bytes) (Err (CartRefused k)) (Err FontRefused) one two = absurd two
 judged_once unique (Ok bytes) (Err (CartRefused k)) (Err (ScriptRefused kind)) one two = absurd two
 judged_once unique (Ok bytes) (Err (CartRefused k)) (Err (FrameRefused number n)) one two = absurd two
+judged_once unique (Ok bytes) (Err (CartRefused k)) (Err (ListRefused kind)) one two = absurd two
 judged_once unique (Ok bytes) (Err Usage) other one two = absurd one
 judged_once unique (Ok bytes) (Err Done) other one two = absurd one
 judged_once unique (Ok bytes) (Err WriteFault) other one two = absurd one
@@ -130,12 +133,17 @@ judged_once unique (Ok bytes) (Err (RecordingRefused kind)) other one two = absu
 judged_once unique (Ok bytes) (Err FontRefused) other one two = absurd one
 judged_once unique (Ok bytes) (Err (ScriptRefused kind)) other one two = absurd one
 judged_once unique (Ok bytes) (Err (FrameRefused number n)) other one two = absurd one
+judged_once unique (Ok bytes) (Err (ListRefused kind)) other one two = absurd one
 
 alone_once : (form : Form) (files : Files) (made other : Result Output Status)
     → OutputsAlone form files made → OutputsAlone form files other → made ≡ other
 alone_once (Make number) files made other one two = sym one ∙ two
 alone_once (Check cart) files made other one two = absurd one
 alone_once (Blank cart budget) files made other one two = absurd one
+alone_once (Net words) files made other one two = absurd one
+alone_once (Ram words query) files made other one two = absurd one
+alone_once (Wave words) files made other one two = absurd one
+alone_once (Batch words) files made other one two = absurd one
 alone_once (Frames words from to) files made other one two = absurd one
 alone_once (Tones words) files made other one two = absurd one
 alone_once (Trace words) files made other one two = absurd one

@@ -1,15 +1,15 @@
 -- An editor's session of places, and what its runs have in common, from one call to the next.
-use Rattle.std.proofs.Common.{◌≡◌, ℕ, suc, ◌-◌, ◌≤◌, Some, inl, inr, List, [], ◌∷◌, map, length, Option, refl, sym, ap, ◌∙◌, arith, subst}
+use Rattle.std.proofs.Common.{◌≡◌, ℕ, suc, ◌-◌, ◌≤◌, Some, inl, inr, List, [], ◌∷◌, ◌++◌, map, length, Option, refl, sym, ap, ◌∙◌, arith, subst}
 use Rattle.std.specs.Prelude.{Result, Ok, Err, OnOk}
-use Rattle.w4_defs.specs.declared.console.Input.{Input}
+use Rattle.std.proofs.lemmas.List.{append-nil}
 use Rattle.w4_defs.specs.KeptList.{Entry, kept_entries, place_at}
-use Rattle.w4_defs.specs.Reset.{Setup}
-use Rattle.w4_defs.specs.Session.{Draft, Session, draft_of_places}
+use Rattle.w4_defs.specs.Session.{Session, draft_of_places}
 use Rattle.w4_editor.specs.Editing.{Editing, editing_setup, with_session}
 use Rattle.w4_editor.specs.Showing.{KeepsRecording, IsAtEnd}
 use Rattle.w4_house.specs.World.{World, Appends}
 use Rattle.w4_program.specs.declared.place_text.PlaceText.{PlaceText}
-use Rattle.w4_program.specs.Answering.{one_text, answer_text}
+use Rattle.w4_program.specs.Answering.{one_text}
+use Rattle.w4_program.specs.Answers.{answer_text}
 use Rattle.w4_program.specs.Editors.{KeepsRest, OnlyShows, IsAnswered, place_session, text_by}
 
 -- ---- cart, font, digest, budget and disk
@@ -73,6 +73,9 @@ shows_at old new at e =
 pub shows_none : (e : Editing) → OnlyShows e e
 shows_none e = record { session = refl; rest = refl }
 
+pub shows_same : (old new : Editing) → new ≡ old → OnlyShows old new
+shows_same old new same = subst (λ (e : Editing). OnlyShows old e) (sym same) (shows_none old)
+
 pub shows_then : (first second third : Editing) → OnlyShows first second → OnlyShows second third
     → OnlyShows first third
 shows_then first second third one next =
@@ -88,6 +91,12 @@ pub same_text : (old new : Editing) (wanted : PlaceText) (p : ℕ) → OnlyShows
 same_text old new wanted p shows =
     λ i. one_text (same_setup old new shows.rest i) (same_disk old new shows.rest i) (shows.session i)
     wanted p
+
+-- where nothing is to be written
+pub appends_nothing : (world : World) (out : List ℕ) → out ≡ [] → Appends world.out world.out out
+appends_nothing world out none = λ before texts.
+    texts ∙ ap (λ (bytes : List ℕ). Some bytes)
+    (sym (ap (λ (bytes : List ℕ). before ++ bytes) none ∙ append-nil before))
 
 -- an order that tells something and changes nothing
 pub told : (before after : World) (old new : Editing) (out : List ℕ) → OnlyShows old new

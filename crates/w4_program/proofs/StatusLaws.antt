@@ -9,7 +9,7 @@ use Rattle.w4_program.specs.declared.status.Status.{Status}
 use Rattle.w4_program.specs.declared.status.Status.TheVariants as status
 use Rattle.w4_program.specs.Endings.{manner_of}
 use Rattle.w4_program.specs.Output.{Output}
-use Rattle.w4_program.specs.Causes.{ReadFails, Refuses, LeavesOutputs, Ends, IsExact, IsRefusal, Reports, LeavesErr}
+use Rattle.w4_program.specs.Causes.{ReadFails, StepRefuses, LeavesOutputs, Ends, IsExact, ChangesNothing, Reports, LeavesErr}
 
 pub done : (old new : World) (result : Status) (step : Files → Result Output Status → Type 0)
     (Means : Files → Type 0)
@@ -33,32 +33,39 @@ read_fault old new result step h e = (subst (λ s. Ends old new (manner_of s) st
 
 pub cart_refused : (old new : World) (result : Status) (step : Files → Result Output Status → Type 0)
     → Ends old new (manner_of result) step
-    → (kind : CartKind) → result ≡ status.CartRefused kind → Refuses old (status.CartRefused kind) step
+    → (kind : CartKind) → result ≡ status.CartRefused kind → StepRefuses old (status.CartRefused kind) step
 cart_refused old new result step h kind e = (subst (λ s. Ends old new (manner_of s) step) e h).0
 
 pub recording_refused : (old new : World) (result : Status) (step : Files → Result Output Status → Type 0)
     → Ends old new (manner_of result) step
     → (kind : RecordingKind) → result ≡ status.RecordingRefused kind
-    → Refuses old (status.RecordingRefused kind) step
+    → StepRefuses old (status.RecordingRefused kind) step
 recording_refused old new result step h kind e = (subst (λ s. Ends old new (manner_of s) step) e h).0
 
 pub font_refused : (old new : World) (result : Status) (step : Files → Result Output Status → Type 0)
     → Ends old new (manner_of result) step
-    → result ≡ status.FontRefused → Refuses old status.FontRefused step
+    → result ≡ status.FontRefused → StepRefuses old status.FontRefused step
 font_refused old new result step h e = (subst (λ s. Ends old new (manner_of s) step) e h).0
 
 pub script_refused : (old new : World) (result : Status) (step : Files → Result Output Status → Type 0)
     → Ends old new (manner_of result) step
-    → (kind : ScriptKind) → result ≡ status.ScriptRefused kind → Refuses old (status.ScriptRefused kind) step
+    → (kind : ScriptKind) → result ≡ status.ScriptRefused kind → StepRefuses old (status.ScriptRefused
+    kind) step
 script_refused old new result step h kind e = (subst (λ s. Ends old new (manner_of s) step) e h).0
 
 pub frame_refused : (old new : World) (result : Status) (step : Files → Result Output Status → Type 0)
     → Ends old new (manner_of result) step
-    → (number n : ℕ) → result ≡ status.FrameRefused number n → Refuses old (status.FrameRefused number n) step
+    → (number n : ℕ) → result ≡ status.FrameRefused number n → StepRefuses old (status.FrameRefused number
+    n) step
 frame_refused old new result step h number n e = (subst (λ s. Ends old new (manner_of s) step) e h).0
 
+pub list_refused : (old new : World) (result : Status) (step : Files → Result Output Status → Type 0)
+    → Ends old new (manner_of result) step
+    → (kind : ScriptKind) → result ≡ status.ListRefused kind → StepRefuses old (status.ListRefused kind) step
+list_refused old new result step h kind e = (subst (λ s. Ends old new (manner_of s) step) e h).0
+
 pub refused : (old new : World) (result : Status) (step : Files → Result Output Status → Type 0)
-    → Ends old new (manner_of result) step → IsRefusal result → LeavesOutputs old new
+    → Ends old new (manner_of result) step → ChangesNothing result → LeavesOutputs old new
 refused old new status.Done step h r = absurd r
 refused old new status.Usage step h r = h.1
 refused old new (status.CartRefused kind) step h r = h.1
@@ -69,6 +76,7 @@ refused old new status.ReadFault step h r = h.1
 refused old new status.WriteFault step h r = absurd r
 refused old new status.OutOfMemory step h r = absurd r
 refused old new (status.FrameRefused number n) step h r = h.1
+refused old new (status.ListRefused kind) step h r = h.1
 
 pub line_reported : (old mid new : World) (line : List ℕ) → LeavesErr old mid → Reports mid new line
     → Reports old new line
@@ -114,6 +122,8 @@ exact old new status.WriteFault step h = λ files texts reads writes. absurd (wr
 exact old new status.OutOfMemory step h = λ files texts reads writes. inl refl
 exact old new (status.FrameRefused number n) step h =
     λ files texts reads writes. inr (Err (status.FrameRefused number n), h.0 files texts, refl)
+exact old new (status.ListRefused kind) step h =
+    λ files texts reads writes. inr (Err (status.ListRefused kind), h.0 files texts, refl)
 
 -- a status that stands, or memory that ran out while it was reported
 pub texts_or_memory : (texts why result : Status) → texts ≡ why → (result ≡ texts)

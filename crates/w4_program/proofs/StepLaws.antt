@@ -4,7 +4,7 @@ use Rattle.std.specs.Option.{ForSome}
 use Rattle.w4_house.specs.World.{Files, World, LeavesReading}
 use Rattle.w4_house.proofs.WorldLaws.{rises_later}
 use Rattle.w4_program.specs.declared.status.Status.{Status}
-use Rattle.w4_program.specs.Endings.{Manner, AllWritten, NoCommand, ReadFailed, WriteFailed, NoMemory, Refused, manner_of}
+use Rattle.w4_program.specs.Endings.{Manner, AllWritten, NoCommand, ReadFailed, WriteFailed, MemoryRefused, Refused, manner_of}
 use Rattle.w4_program.specs.Output.{◌>>=◌, reading, judged}
 use Rattle.w4_program.specs.Reads.{GivesRefusal, GivesValue}
 use Rattle.w4_program.specs.Causes.{ResultsIn, Stops, StepGives}
@@ -18,7 +18,7 @@ stops_first old new NoCommand step next h = h
 stops_first old new ReadFailed step next (inl rise) = inl rise
 stops_first old new ReadFailed step next (inr (files, texts, e)) = inr (files, texts, rw e refl)
 stops_first old new WriteFailed step next h = h
-stops_first old new NoMemory step next h = tt
+stops_first old new MemoryRefused step next h = tt
 stops_first old new (Refused refusal) step next h = λ files texts. rw (h files texts) refl
 
 -- what stops a later step stops what went before it
@@ -34,7 +34,7 @@ stops_later first second third ReadFailed step x next leaves given (inl rise) =
 stops_later first second third ReadFailed step x next leaves given (inr (files, texts, e)) =
     inr (files, sym leaves.files ∙ texts, rw (given files (sym leaves.files ∙ texts)) e)
 stops_later first second third WriteFailed step x next leaves given h = h
-stops_later first second third NoMemory step x next leaves given h = tt
+stops_later first second third MemoryRefused step x next leaves given h = tt
 stops_later first second third (Refused refusal) step x next leaves given h =
     λ files texts. rw (given files texts) (h files (leaves.files ∙ texts))
 
@@ -58,7 +58,7 @@ unread_stops old new AllWritten judge limit name bytes given h = absurd h
 unread_stops old new NoCommand judge limit name bytes given h = absurd h
 unread_stops old new ReadFailed judge limit name bytes given h = absurd h
 unread_stops old new WriteFailed judge limit name bytes given h = absurd h
-unread_stops old new NoMemory judge limit name bytes given h = tt
+unread_stops old new MemoryRefused judge limit name bytes given h = tt
 unread_stops old new (Refused refusal) judge limit name bytes given h =
     λ files texts. rw (given files texts) h
 

@@ -1,5 +1,5 @@
 -- What is told of places: by the state or the record of a run, and by the number of the last place.
-use Rattle.std.proofs.Common.{◌≡◌, ℕ, zero, suc, ◌+◌, ◌-◌, ◌<◌, ◌≤◌, Bool, true, false, cond, List, [], ◌∷◌, ◌++◌, map, length, drop, Option, Some, None, option_map, refl, sym, ap, ◌∙◌, arith, subst, append_assoc, append-nil, leb, ltb}
+use Rattle.std.proofs.Common.{◌≡◌, ℕ, zero, suc, ◌+◌, ◌-◌, ◌<◌, ◌≤◌, true, false, List, [], ◌++◌, map, length, drop, Option, Some, None, option_map, refl, sym, ap, ◌∙◌, arith, subst, append_assoc, append-nil}
 use Rattle.std.specs.Prelude.{Result, OnOk, flat_map, nat_lt}
 use Rattle.std.specs.Option.{option_and_then}
 use Rattle.std.proofs.Math.ListN.{drop_of_length-le}
@@ -18,7 +18,8 @@ use Rattle.w4_house.specs.World.{World, Appends}
 use Rattle.w4_program.specs.declared.place_text.PlaceText.{PlaceText}
 use Rattle.w4_program.specs.declared.place_text.PlaceText.TheVariants.{Image, Schedule, Traces, DiskBytes}
 use Rattle.w4_program.specs.Texts.{place_text, place_texts, state_text}
-use Rattle.w4_program.specs.Answering.{if_place, film_text, range_text, answer_text, too_long, no_frame}
+use Rattle.w4_program.specs.Answering.{if_place, film_text, range_text, too_long, no_frame}
+use Rattle.w4_program.specs.Answers.{answer_text}
 use Rattle.w4_program.specs.Editors.{IsAnswered, place_session, text_by}
 use Rattle.w4_program.proofs.KeepEveryLaws.{places_from}
 use Rattle.w4_program.proofs.OwesLaws.{Owes, owes_less, owes_nothing}

@@ -14,12 +14,8 @@ use Rattle.w4_defs.specs.Run.{run}
 use Rattle.w4_defs.specs.Session.{Session, places_alone, new_session, set_input, insert_input, delete_input, undo, redo, keep, keep_every, drop_kept}
 use Rattle.w4_program.specs.declared.place_text.PlaceText.{PlaceText}
 use Rattle.w4_program.specs.declared.place_text.PlaceText.TheVariants.{Image, Schedule, Traces, DiskBytes}
+use Rattle.w4_program.specs.Answers.{Answered, answer_text, answers_by}
 use Rattle.w4_program.specs.Texts.{state_text, place_text, place_texts}
-
--- what was written, and the session that is left
-pub record Answered : Type 0 where
-  pub out : List ℕ
-  pub session : Session ℕ
 
 -- ---- refusals
 
@@ -47,16 +43,13 @@ too_long = refused_line (codes "too long")
 -- ---- answers
 
 -- a change of the session, or the line that refuses it
-abbrev pub answer_change : Session ℕ → Result (Session ℕ) EditRefusal → Answered
+abbrev pub answer_change : Session ℕ → Result (Session ℕ) EditRefusal → Answered (Session ℕ)
 answer_change session (Ok after) = record { out = []; session = after }
 answer_change session (Err refusal) = record { out = refused_line (refusal_words refusal); session = session }
 
 -- what is told of places up to this one, where the recording has it
 abbrev pub if_place : Session ℕ → ℕ → List ℕ → List ℕ
 if_place session last out = if nat_le last (length session.current.inputs) then out else no_frame
-
-abbrev pub answer_text : Session ℕ → List ℕ → Answered
-answer_text session out = record { out = out; session = session }
 
 -- the text of place P of the recording as it is, and those of places A to B one after another
 abbrev pub one_text : Setup → List ℕ → Session ℕ → PlaceText → ℕ → List ℕ
@@ -76,7 +69,7 @@ state_answer setup disk session p =
     session.current.kept
 
 -- the answer of one order. How many workers a `film` or `settle` has doesn't matter
-abbrev pub answer : Setup → List ℕ → Session ℕ → Order → Answered
+abbrev pub answer : Setup → List ℕ → Session ℕ → Order → Answered (Session ℕ)
 answer setup disk s (order.Set k input) = answer_change s (set_input places_alone k input s)
 answer setup disk s (order.Insert k input) = answer_change s (insert_input places_alone k input s)
 answer setup disk s (order.Delete k) = answer_change s (delete_input places_alone k s)
@@ -94,15 +87,11 @@ answer setup disk s (order.DiskAt p) = answer_text s (if_place s p (one_text set
 answer setup disk s (order.StateAt p) = answer_text s (if_place s p (state_answer setup disk s p))
 
 -- all answers in order
-unfoldable pub answers : Setup → List ℕ → Session ℕ → List Order → Answered
-answers setup disk session [] = answer_text session []
-answers setup disk session (order ∷ orders) =
-    let first = answer setup disk session order in
-    let rest = answers setup disk first.session orders in
-    record { out = first.out ++ rest.out; session = rest.session }
+abbrev pub answers : Setup → List ℕ → Session ℕ → List Order → Answered (Session ℕ)
+answers setup disk session orders = answers_by (answer setup disk) session orders
 
 -- those of a script over a recording of these inputs, whose place 0 alone is kept
-abbrev pub script_answers : Setup → List ℕ → List Input → List Order → Answered
+abbrev pub script_answers : Setup → List ℕ → List Input → List Order → Answered (Session ℕ)
 script_answers setup disk inputs orders = answers setup disk (new_session inputs 0) orders
 
 -- Worked cases, over any cart and a recording of two inputs: places that aren't there; what is kept; the
@@ -111,7 +100,7 @@ abbrev worked_input : ℕ → Input
 worked_input pad =
     record { pads = pad ∷ 0 ∷ 0 ∷ 0 ∷ []; mouse_x = pos 0; mouse_y = pos 0; buttons = 0; reset = false }
 
-abbrev worked_answers : Setup → ℕ → List Order → Answered
+abbrev worked_answers : Setup → ℕ → List Order → Answered (Session ℕ)
 worked_answers setup count orders = script_answers setup [] (replicate count (worked_input 0)) orders
 
 abbrev pub AnswerCases : Type 0
@@ -137,5 +126,5 @@ AnswerCases = (setup : Setup) →
     × ((worked_answers setup 600 (order.Film 0 600 16 ∷ [])).out ≡ codes "refused too long\n")
 
 pub answer-cases : AnswerCases
-unfolding answers
+unfolding answers_by
 answer-cases setup = (refl, refl, refl, refl, refl, refl, refl)

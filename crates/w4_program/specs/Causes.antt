@@ -5,7 +5,7 @@ use Rattle.std.specs.Option.{ForSome}
 use Rattle.w4_house.specs.World.{Files, World, Rises, Appends, AppendsFront, Puts}
 use Rattle.w4_program.specs.declared.status.Status.{Status}
 use Rattle.w4_program.specs.declared.status.Status.TheVariants as status
-use Rattle.w4_program.specs.Endings.{Manner, AllWritten, NoCommand, ReadFailed, WriteFailed, NoMemory, Refused, manner_of}
+use Rattle.w4_program.specs.Endings.{Manner, AllWritten, NoCommand, ReadFailed, WriteFailed, MemoryRefused, Refused, manner_of}
 use Rattle.w4_program.specs.Output.{Output}
 
 -- a step that is a function of the files
@@ -18,8 +18,8 @@ ReadFails old new step = Rises old.read_faults new.read_faults
     ⊎ ((files : Files) × (old.files ≡ Some files) × step files (Err status.ReadFault))
 
 -- where the house tells its files, the step is refused so
-abbrev pub Refuses : {Y : Type 0} → World → Status → (Files → Result Y Status → Type 0) → Type 0
-Refuses old refusal step = ForSome old.files (λ files. step files (Err refusal))
+abbrev pub StepRefuses : {Y : Type 0} → World → Status → (Files → Result Y Status → Type 0) → Type 0
+StepRefuses old refusal step = ForSome old.files (λ files. step files (Err refusal))
 
 -- why a step that only reads stopped
 abbrev pub Stops : {Y : Type 0} → World → World → Manner → (Files → Result Y Status → Type 0) → Type 0
@@ -27,8 +27,8 @@ Stops old new AllWritten step = ⊥
 Stops old new NoCommand step = ⊥
 Stops old new ReadFailed step = ReadFails old new step
 Stops old new WriteFailed step = ⊥
-Stops old new NoMemory step = ⊤
-Stops old new (Refused refusal) step = Refuses old refusal step
+Stops old new MemoryRefused step = ⊤
+Stops old new (Refused refusal) step = StepRefuses old refusal step
 
 -- what such a step gave
 abbrev pub StepGives : {X Y : Type 0} → World → World → (X → Y) → Result X Status
@@ -42,7 +42,7 @@ StopsWriting old new AllWritten = ⊥
 StopsWriting old new NoCommand = ⊥
 StopsWriting old new ReadFailed = ⊥
 StopsWriting old new WriteFailed = Rises old.write_faults new.write_faults
-StopsWriting old new NoMemory = ⊤
+StopsWriting old new MemoryRefused = ⊤
 StopsWriting old new (Refused refusal) = ⊥
 
 -- standard output and all files are unchanged
@@ -57,20 +57,20 @@ Writes old new made = Appends old.out new.out made.out × (new.files ≡ Some ma
 abbrev pub Ends : World → World → Manner → (Files → Result Output Status → Type 0) → Type 0
 Ends old new AllWritten step =
     ForSome old.files (λ files. (made : Output) × step files (Ok made) × Writes old new made)
-Ends old new NoCommand step = Refuses old status.Usage step × LeavesOutputs old new
+Ends old new NoCommand step = StepRefuses old status.Usage step × LeavesOutputs old new
 Ends old new ReadFailed step = ReadFails old new step × LeavesOutputs old new
 Ends old new WriteFailed step =
     Rises old.write_faults new.write_faults
     × ForSome old.files (λ files. (made : Output) × step files (Ok made))
-Ends old new NoMemory step = ⊤
-Ends old new (Refused refusal) step = Refuses old refusal step × LeavesOutputs old new
+Ends old new MemoryRefused step = ⊤
+Ends old new (Refused refusal) step = StepRefuses old refusal step × LeavesOutputs old new
 
 -- a refusal or a failed read, which leaves standard output and all files as they were
-abbrev pub IsRefusal : Status → Type 0
-IsRefusal status.Done = ⊥
-IsRefusal status.WriteFault = ⊥
-IsRefusal status.OutOfMemory = ⊥
-IsRefusal other = ⊤
+abbrev pub ChangesNothing : Status → Type 0
+ChangesNothing status.Done = ⊥
+ChangesNothing status.WriteFault = ⊥
+ChangesNothing status.OutOfMemory = ⊥
+ChangesNothing other = ⊤
 
 -- statuses whose line is on standard error
 abbrev pub IsReported : Status → Type 0
@@ -103,7 +103,7 @@ Carries old new AllWritten out name bytes = Appends old.out new.out out × Puts 
 Carries old new NoCommand out name bytes = ⊥
 Carries old new ReadFailed out name bytes = ⊥
 Carries old new WriteFailed out name bytes = Rises old.write_faults new.write_faults
-Carries old new NoMemory out name bytes = ⊤
+Carries old new MemoryRefused out name bytes = ⊤
 Carries old new (Refused refusal) out name bytes = ⊥
 
 -- how work that only writes to standard output ended
@@ -112,5 +112,5 @@ Prints old new AllWritten out = Appends old.out new.out out
 Prints old new NoCommand out = ⊥
 Prints old new ReadFailed out = ⊥
 Prints old new WriteFailed out = Rises old.write_faults new.write_faults
-Prints old new NoMemory out = ⊤
+Prints old new MemoryRefused out = ⊤
 Prints old new (Refused refusal) out = ⊥

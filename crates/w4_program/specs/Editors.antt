@@ -10,7 +10,8 @@ use Rattle.w4_defs.specs.Session.{Session, places_alone, session_of_places, set_
 use Rattle.w4_editor.specs.Editing.{Editing, editing_setup, with_session}
 use Rattle.w4_house.specs.World.{World, Appends}
 use Rattle.w4_program.specs.declared.place_text.PlaceText.{PlaceText}
-use Rattle.w4_program.specs.Answering.{Answered, answer, one_text}
+use Rattle.w4_program.specs.Answering.{answer, one_text}
+use Rattle.w4_program.specs.Answers.{Answered}
 
 -- the session of its places, without states and links
 abbrev pub place_session : Editing → Session ℕ
@@ -26,17 +27,18 @@ pub record OnlyShows (old new : Editing) : Type 0 where
   pub rest : KeepsRest old new
 
 -- the answer of an order, and what is told of a place
-abbrev pub answer_by : Editing → Order → Answered
+abbrev pub answer_by : Editing → Order → Answered (Session ℕ)
 answer_by e order = answer (editing_setup e) e.disk (place_session e) order
 
 abbrev pub text_by : Editing → PlaceText → ℕ → List ℕ
 text_by e wanted p = one_text (editing_setup e) e.disk (place_session e) wanted p
 
 -- an order was answered so: standard output has got the answer, and the session is the one that is left
-pub record IsAnswered (before after : World) (old new : Editing) (wanted : Answered) : Type 0 where
-  pub out : Appends before.out after.out wanted.out
-  pub session : place_session new ≡ wanted.session
-  pub rest : KeepsRest old new
+pub record IsAnswered (before after : World) (old new : Editing) (wanted : Answered (Session ℕ)) : Type 0
+  where
+    pub out : Appends before.out after.out wanted.out
+    pub session : place_session new ≡ wanted.session
+    pub rest : KeepsRest old new
 
 -- what an order makes of a session, or why it is refused; an order that only tells makes nothing of it
 abbrev pub changed : Order → Session ℕ → Result (Session ℕ) EditRefusal

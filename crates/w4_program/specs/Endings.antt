@@ -10,7 +10,7 @@ pub data Manner : Type 0 where
   NoCommand : Manner
   ReadFailed : Manner
   WriteFailed : Manner
-  NoMemory : Manner
+  MemoryRefused : Manner
   Refused : Status → Manner
 
 abbrev pub manner_of : Status → Manner
@@ -18,5 +18,5 @@ manner_of status.Done = AllWritten
 manner_of status.Usage = NoCommand
 manner_of status.ReadFault = ReadFailed
 manner_of status.WriteFault = WriteFailed
-manner_of status.OutOfMemory = NoMemory
+manner_of status.OutOfMemory = MemoryRefused
 manner_of refusal = Refused refusal

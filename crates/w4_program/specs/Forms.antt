@@ -1,6 +1,6 @@
 -- The commands, as the program's arguments (project rule). A number has 1 to 10 decimal digits and is
 -- at most 4,294,967,295. Arguments that match no command are refused.
-use Rattle.std.specs.Prelude.{◌≡◌, ℕ, List, [], ◌∷◌, codes, nat_le, Option, Some, None, bytes_eq, if◌then◌else◌, refl}
+use Rattle.std.specs.Prelude.{◌≡◌, ◌&&◌, ℕ, List, [], ◌∷◌, codes, nat_le, Option, Some, None, bytes_eq, if◌then◌else◌, refl}
 use Rattle.w4_defs.specs.Reading.{◌>>=◌}
 use Rattle.w4_defs.specs.Lines.{number_of}
 
@@ -16,6 +16,20 @@ pub record EditWords : Type 0 where
   pub script : List ℕ
   pub out : List ℕ
 
+-- the names of a cart, a font and a log, and the budget
+pub record NetWords : Type 0 where
+  pub cart : List ℕ
+  pub font : List ℕ
+  pub budget : ℕ
+  pub log : List ℕ
+
+-- the names of a cart, a font and a list of recordings, and how many workers run them
+pub record BatchWords : Type 0 where
+  pub cart : List ℕ
+  pub font : List ℕ
+  pub list : List ℕ
+  pub workers : ℕ
+
 pub data Form : Type 0 where
   Check : List ℕ → Form
   Blank : List ℕ → ℕ → Form
@@ -25,6 +39,10 @@ pub data Form : Type 0 where
   Disk : RunWords → ℕ → Form
   Edit : EditWords → Form
   Make : ℕ → Form
+  Net : NetWords → Form
+  Ram : RunWords → List ℕ → Form
+  Wave : RunWords → Form
+  Batch : BatchWords → Form
 
 -- `check CART`
 abbrev pub check_form : List (List ℕ) → Option Form
@@ -79,6 +97,32 @@ make_form (number ∷ []) = do
   Some (Make number)
 make_form words = None
 
+-- `net CART FONT BUDGET LOG`, BUDGET at least 1
+unfoldable pub net_form : List (List ℕ) → Option Form
+net_form (cart ∷ font ∷ budget ∷ log ∷ []) = do
+  budget ← number_of budget
+  if nat_le 1 budget then Some (Net (record { cart = cart; font = font; budget = budget; log = log }))
+      else None
+net_form words = None
+
+-- `ram CART REC FONT QUERY`
+abbrev pub ram_form : List (List ℕ) → Option Form
+ram_form (cart ∷ recording ∷ font ∷ query ∷ []) = Some (Ram (run_words cart recording font) query)
+ram_form words = None
+
+-- `wave CART REC FONT`
+abbrev pub wave_form : List (List ℕ) → Option Form
+wave_form (cart ∷ recording ∷ font ∷ []) = Some (Wave (run_words cart recording font))
+wave_form words = None
+
+-- `batch CART FONT LIST WORKERS`, WORKERS 1 to 16
+unfoldable pub batch_form : List (List ℕ) → Option Form
+batch_form (cart ∷ font ∷ list ∷ workers ∷ []) = do
+  workers ← number_of workers
+  if nat_le 1 workers && nat_le workers 16
+      then Some (Batch (record { cart = cart; font = font; list = list; workers = workers })) else None
+batch_form words = None
+
 -- the form that the words have, or None
 unfoldable pub form_of : List (List ℕ) → Option Form
 form_of [] = None
@@ -91,6 +135,10 @@ form_of (name ∷ words) =
     else if bytes_eq name (codes "disk") then disk_form words
     else if bytes_eq name (codes "edit") then edit_form words
     else if bytes_eq name (codes "make") then make_form words
+    else if bytes_eq name (codes "net") then net_form words
+    else if bytes_eq name (codes "ram") then ram_form words
+    else if bytes_eq name (codes "wave") then wave_form words
+    else if bytes_eq name (codes "batch") then batch_form words
     else None
 
 -- Worked cases: a form with numbers; FROM above TO; a budget of 0; a word too many.
@@ -105,3 +153,22 @@ FormCases =
 pub form-cases : FormCases
 unfolding form_of disk_form frames_form blank_form number_of
 form-cases = (refl, refl, refl, refl)
+
+-- Worked cases: each of the four further commands; a budget of 0; 17 workers; a word too many.
+abbrev pub ToolFormCases : Type 0
+ToolFormCases =
+    (form_of (codes "net" ∷ codes "c" ∷ codes "f" ∷ codes "01" ∷ codes "l" ∷ [])
+    ≡ Some (Net (record { cart = codes "c"; font = codes "f"; budget = 1; log = codes "l" })))
+    × (form_of (codes "ram" ∷ codes "c" ∷ codes "r" ∷ codes "f" ∷ codes "q" ∷ [])
+    ≡ Some (Ram (run_words (codes "c") (codes "r") (codes "f")) (codes "q")))
+    × (form_of (codes "wave" ∷ codes "c" ∷ codes "r" ∷ codes "f" ∷ [])
+    ≡ Some (Wave (run_words (codes "c") (codes "r") (codes "f"))))
+    × (form_of (codes "batch" ∷ codes "c" ∷ codes "f" ∷ codes "l" ∷ codes "16" ∷ [])
+    ≡ Some (Batch (record { cart = codes "c"; font = codes "f"; list = codes "l"; workers = 16 })))
+    × (form_of (codes "net" ∷ codes "c" ∷ codes "f" ∷ codes "0" ∷ codes "l" ∷ []) ≡ None)
+    × (form_of (codes "batch" ∷ codes "c" ∷ codes "f" ∷ codes "l" ∷ codes "17" ∷ []) ≡ None)
+    × (form_of (codes "wave" ∷ codes "c" ∷ codes "r" ∷ codes "f" ∷ codes "o" ∷ []) ≡ None)
+
+pub tool-form-cases : ToolFormCases
+unfolding form_of net_form batch_form number_of
+tool-form-cases = (refl, refl, refl, refl, refl, refl, refl)

@@ -12,7 +12,7 @@ use Rattle.w4_program.specs.declared.status.RecordingKind.TheVariants.{Bad, Wron
 use Rattle.w4_program.specs.declared.status.ScriptKind.{ScriptKind}
 use Rattle.w4_program.specs.declared.status.ScriptKind.TheVariants.{TooLong, BadLine}
 use Rattle.w4_program.specs.declared.status.Status.{Status}
-use Rattle.w4_program.specs.declared.status.Status.TheVariants.{Done, Usage, CartRefused, RecordingRefused, FontRefused, ScriptRefused, ReadFault, WriteFault, OutOfMemory, FrameRefused}
+use Rattle.w4_program.specs.declared.status.Status.TheVariants.{Done, Usage, CartRefused, RecordingRefused, FontRefused, ScriptRefused, ReadFault, WriteFault, OutOfMemory, FrameRefused, ListRefused}
 
 abbrev pub number_of_status : Status → ℕ
 number_of_status Done = 0
@@ -25,6 +25,7 @@ number_of_status ReadFault = 7
 number_of_status WriteFault = 8
 number_of_status OutOfMemory = 9
 number_of_status (FrameRefused number n) = 10
+number_of_status (ListRefused kind) = 12
 
 abbrev pub profile_words : ProfileRefusal → List ℕ
 profile_words profile.Floats = codes "floats"
@@ -67,6 +68,7 @@ status_words ReadFault = codes "cannot read"
 status_words WriteFault = codes "cannot write"
 status_words OutOfMemory = codes "out of memory"
 status_words (FrameRefused number n) = codes "frame" ++ (spaced number ++ (codes " of" ++ spaced n))
+status_words (ListRefused kind) = codes "list: " ++ script_words kind
 
 abbrev pub status_line : Status → List ℕ
 status_line status = codes "w4: " ++ status_words status ++ line_end
@@ -83,7 +85,8 @@ StatusLineCases =
     × (status_line (ScriptRefused (BadLine 2)) ≡ codes "w4: script: line 2\n")
     × (status_line (FrameRefused 2 1) ≡ codes "w4: frame 2 of 1\n")
     × (status_line ReadFault ≡ codes "w4: cannot read\n")
+    × (status_line (ListRefused TooLong) ≡ codes "w4: list: too long\n")
 
 pub status-line-cases : StatusLineCases
 unfolding digits
-status-line-cases = (refl, refl, refl, refl, refl, refl, refl, refl)
+status-line-cases = (refl, refl, refl, refl, refl, refl, refl, refl, refl)

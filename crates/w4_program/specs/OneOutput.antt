@@ -3,7 +3,8 @@
 use Rattle.std.specs.Prelude.{◌≡◌, ℕ, List, Result}
 use Rattle.w4_house.specs.World.{Files}
 use Rattle.w4_program.specs.declared.status.Status.{Status}
-use Rattle.w4_program.specs.Output.{Output, Outputs}
+use Rattle.w4_program.specs.Output.{Output}
+use Rattle.w4_program.specs.Outputs.{Outputs}
 
 abbrev pub AtMostOneOutput : Type 0
 AtMostOneOutput = (words : List (List ℕ)) (files : Files) (made other : Result Output Status)

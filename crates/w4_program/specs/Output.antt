@@ -19,18 +19,20 @@ use Rattle.w4_defs.specs.Script.{script_of}
 use Rattle.w4_defs.specs.Board.{console_setup}
 use Rattle.w4_defs.specs.Reset.{Setup}
 use Rattle.w4_defs.specs.Run.{run}
+use Rattle.w4_defs.specs.Session.{Session}
 use Rattle.w4_defs.specs.State.{Moment}
 use Rattle.wasm_write.specs.EncodeModule.{module_bytes}
 use Rattle.w4_house.specs.World.{Files, front_of}
 use Rattle.w4_program.specs.declared.place_text.PlaceText.{PlaceText}
-use Rattle.w4_program.specs.declared.place_text.PlaceText.TheVariants.{Image, Schedule, Traces, DiskBytes}
+use Rattle.w4_program.specs.declared.place_text.PlaceText.TheVariants.{Image, DiskBytes}
 use Rattle.w4_program.specs.declared.status.RecordingKind.TheVariants.{Bad, WrongCart}
 use Rattle.w4_program.specs.declared.status.ScriptKind.TheVariants as script
 use Rattle.w4_program.specs.declared.status.Status.{Status}
-use Rattle.w4_program.specs.declared.status.Status.TheVariants.{Usage, ReadFault, CartRefused, RecordingRefused, FontRefused, ScriptRefused, FrameRefused}
-use Rattle.w4_program.specs.Forms.{RunWords, EditWords, Form, Check, Blank, Frames, Tones, Trace, Disk, Edit, Make, form_of}
+use Rattle.w4_program.specs.declared.status.Status.TheVariants.{ReadFault, CartRefused, RecordingRefused, FontRefused, ScriptRefused, FrameRefused}
+use Rattle.w4_program.specs.Forms.{RunWords, EditWords}
 use Rattle.w4_program.specs.Texts.{place_text, place_texts}
-use Rattle.w4_program.specs.Answering.{Answered, script_answers}
+use Rattle.w4_program.specs.Answering.{script_answers}
+use Rattle.w4_program.specs.Answers.{Answered}
 
 -- what standard output gets, and all files afterwards
 pub record Output : Type 0 where
@@ -85,7 +87,8 @@ font_of bytes = if length bytes == 1792 then Ok bytes else Err FontRefused
 unfoldable pub font_in : Files → List ℕ → Result (List ℕ) Status
 font_in = judged 1792 font_of
 
-abbrev pub or_script_refused : Result (List Order) ScriptFault → Result (List Order) Status
+-- the lines of a script, a log or a query, or why it is refused
+abbrev pub or_script_refused : {A : Type 0} → Result A ScriptFault → Result A Status
 or_script_refused (Ok orders) = Ok orders
 or_script_refused (Err TooLong) = Err (ScriptRefused script.TooLong)
 or_script_refused (Err (BadLine number)) = Err (ScriptRefused (script.BadLine number))
@@ -93,8 +96,8 @@ or_script_refused (Err (BadLine number)) = Err (ScriptRefused (script.BadLine nu
 unfoldable pub orders_of : List ℕ → Result (List Order) Status
 orders_of bytes = or_script_refused (script_of bytes)
 
-unfoldable pub orders_in : Files → List ℕ → Result (List Order) Status
-orders_in = judged 1048576 orders_of
+unfoldable pub script_in : Files → List ℕ → Result (List Order) Status
+script_in = judged 1048576 orders_of
 
 -- what a run is made of besides the cart
 pub record Played : Type 0 where
@@ -121,15 +124,15 @@ pub record Loaded : Type 0 where
 unfoldable pub edit_files : List ℕ → EditWords → Files → Result Loaded Status
 edit_files digest words files = do
   run ← run_files digest words.run files
-  orders ← orders_in files words.script
+  orders ← script_in files words.script
   Ok (record { run = run; orders = orders })
 
-abbrev pub setup_of : WasmModule → Played → Setup
-setup_of m p = console_setup m p.font p.recording.budget
+abbrev pub run_setup : WasmModule → Played → Setup
+run_setup m p = console_setup m p.font p.recording.budget
 
 -- a place of the run
 abbrev pub moment_at : WasmModule → Played → ℕ → Option Moment
-moment_at m p place = run (setup_of m p) p.recording.disk p.recording.frames place
+moment_at m p place = run (run_setup m p) p.recording.disk p.recording.frames place
 
 -- what is told of places one after another
 abbrev pub place_texts_from : PlaceText → WasmModule → Played → ℕ → ℕ → List ℕ
@@ -137,8 +140,8 @@ place_texts_from wanted m p from count =
     place_texts (λ place. place_text wanted place (moment_at m p place)) from count
 
 -- the answers of all orders
-abbrev pub edit_answers : WasmModule → Loaded → Answered
-edit_answers m l = script_answers (setup_of m l.run) l.run.recording.disk l.run.recording.frames l.orders
+abbrev pub edit_answers : WasmModule → Loaded → Answered (Session ℕ)
+edit_answers m l = script_answers (run_setup m l.run) l.run.recording.disk l.run.recording.frames l.orders
 
 -- the recording left
 abbrev pub edited_recording : WasmModule → Loaded → Recording
@@ -191,48 +194,3 @@ made_text number = unwrap_or (made_summary sha256 number (length (module_bytes (
 
 abbrev pub make_output : ℕ → Files → Result Output Status
 make_output number files = Ok (only_printed (made_text number) files)
-
--- the file that is judged as a cart, where the form names one
-abbrev pub cart_word : Form → Option (List ℕ)
-cart_word (Check cart) = Some cart
-cart_word (Blank cart budget) = Some cart
-cart_word (Frames words from to) = Some words.cart
-cart_word (Tones words) = Some words.cart
-cart_word (Trace words) = Some words.cart
-cart_word (Disk words place) = Some words.cart
-cart_word (Edit words) = Some words.run.cart
-cart_word (Make number) = None
-
--- what is made of a cart and of the files
-abbrev pub output_of : Form → CartFile → Files → Result Output Status
-output_of (Check name) cart files = Ok (only_printed checked files)
-output_of (Blank name budget) cart files = blank_output budget cart files
-output_of (Frames words from to) cart files = images_output words from to cart files
-output_of (Tones words) cart files = texts_output Schedule words cart files
-output_of (Trace words) cart files = texts_output Traces words cart files
-output_of (Disk words place) cart files = disk_output words place cart files
-output_of (Edit words) cart files = edit_output words cart files
-output_of (Make number) cart files = make_output number files
-
--- what is made by a form that names no cart, which is `make` alone
-abbrev pub OutputsAlone : Form → Files → Result Output Status → Type 0
-OutputsAlone (Make number) files made = make_output number files ≡ made
-OutputsAlone form files made = ⊥
-
--- the cart is judged, and then the rest
-abbrev pub OverCart : List ℕ → (CartFile → Files → Result Output Status) → Files → Result Output Status
-    → Type 0
-OverCart name make files made =
-    (cart : Result CartFile Status) × CartIn name files cart × ((cart >>= λ c. make c files) ≡ made)
-
-abbrev pub OverFile : Option (List ℕ) → Form → Files → Result Output Status → Type 0
-OverFile (Some name) form files made = OverCart name (output_of form) files made
-OverFile None form files made = OutputsAlone form files made
-
-abbrev pub OutputsForm : Option Form → Files → Result Output Status → Type 0
-OutputsForm None files made = made ≡ Err Usage
-OutputsForm (Some form) files made = OverFile (cart_word form) form files made
-
--- what the program makes of these words and files
-abbrev pub Outputs : List (List ℕ) → Files → Result Output Status → Type 0
-Outputs words files made = OutputsForm (form_of words) files made

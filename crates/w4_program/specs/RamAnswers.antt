@@ -15,6 +15,7 @@ use Rattle.w4_defs.specs.Run.{run}
 use Rattle.w4_defs.specs.Search.{Search, begin, narrow}
 use Rattle.w4_defs.specs.Bytes.{number_at}
 use Rattle.w4_defs.specs.State.{Moment}
+use Rattle.w4_program.specs.Answers.{Answered, answer_text, answers_by}
 use Rattle.w4_program.specs.Answering.{refused_line, no_frame}
 
 abbrev pub no_search : List ℕ
@@ -22,14 +23,6 @@ no_search = refused_line (codes "no search")
 
 abbrev pub outside : List ℕ
 outside = refused_line (codes "outside")
-
--- what was written, and the search that is left
-pub record RamAnswered : Type 0 where
-  pub out : List ℕ
-  pub search : Option Search
-
-abbrev pub leaves : Option Search → List ℕ → RamAnswered
-leaves search out = record { out = out; search = search }
 
 -- the page of a place; a run of an accepted cart always comes to one
 abbrev pub page_of : Option Moment → List ℕ
@@ -56,15 +49,16 @@ watch_text pages address width a b =
     if nat_lt 65536 (address + width) then outside else
     watched pages address width a b
 
-abbrev pub answer_start : Pages → Option Search → ℕ → ℕ → RamAnswered
+abbrev pub answer_start : Pages → Option Search → ℕ → ℕ → Answered (Option Search)
 answer_start pages search width p =
-    if nat_le p pages.last then leaves (Some (begin width (pages.at p))) [] else leaves search no_frame
+    if nat_le p pages.last then answer_text (Some (begin width (pages.at p))) [] else answer_text search
+    no_frame
 
-abbrev pub answer_narrow : Pages → Option Search → ℕ → Test → RamAnswered
-answer_narrow pages None p test = leaves None no_search
+abbrev pub answer_narrow : Pages → Option Search → ℕ → Test → Answered (Option Search)
+answer_narrow pages None p test = answer_text None no_search
 answer_narrow pages (Some search) p test =
-    if nat_le p pages.last then leaves (Some (narrow search (pages.at p, test))) []
-    else leaves (Some search) no_frame
+    if nat_le p pages.last then answer_text (Some (narrow search (pages.at p, test))) []
+    else answer_text (Some search) no_frame
 
 -- how many addresses are left, and each in a line
 abbrev pub found_text : List ℕ → List ℕ
@@ -76,18 +70,16 @@ list_text None = no_search
 list_text (Some search) = found_text search.candidates
 
 -- the answer of one line
-abbrev pub ram_answer : Pages → Option Search → Ask → RamAnswered
-ram_answer pages search (ask.Watch address width a b) = leaves search (watch_text pages address width a b)
+abbrev pub ram_answer : Pages → Option Search → Ask → Answered (Option Search)
+ram_answer pages search (ask.Watch address width a b) = answer_text search (watch_text pages address width
+    a b)
 ram_answer pages search (ask.Start width p) = answer_start pages search width p
 ram_answer pages search (ask.Narrow p test) = answer_narrow pages search p test
-ram_answer pages search ask.List = leaves search (list_text search)
+ram_answer pages search ask.List = answer_text search (list_text search)
 
 -- the answers of a query, in order
-unfoldable pub ram_answers : Pages → Option Search → List Ask → List ℕ
-ram_answers pages search [] = []
-ram_answers pages search (line ∷ lines) =
-    let first = ram_answer pages search line in
-    first.out ++ ram_answers pages first.search lines
+abbrev pub ram_answers : Pages → Option Search → List Ask → Answered (Option Search)
+ram_answers pages search lines = answers_by (ram_answer pages) search lines
 
 -- Worked cases, over three pages of four bytes: what stands before a search; a value of two bytes at each
 -- place; an address at the page's end; a place that isn't there; and a `start` that is refused, which leaves
@@ -100,14 +92,14 @@ short_search = Some (record { width = 1; page = short_pages.at 0; candidates = 0
 
 abbrev pub RamAnswerCases : Type 0
 RamAnswerCases =
-    (ram_answers short_pages None (ask.List ∷ ask.Narrow 9 Same ∷ [])
+    ((ram_answers short_pages None (ask.List ∷ ask.Narrow 9 Same ∷ [])).out
     ≡ codes "refused no search\nrefused no search\n")
-    × (ram_answers short_pages None (ask.Watch 0 2 0 2 ∷ []) ≡ codes "watch 0 256 257 258\n")
-    × (ram_answers short_pages None (ask.Watch 65535 2 0 0 ∷ ask.Watch 0 1 0 3 ∷ ask.Start 4 3 ∷ [])
+    × ((ram_answers short_pages None (ask.Watch 0 2 0 2 ∷ [])).out ≡ codes "watch 0 256 257 258\n")
+    × ((ram_answers short_pages None (ask.Watch 65535 2 0 0 ∷ ask.Watch 0 1 0 3 ∷ ask.Start 4 3 ∷ [])).out
     ≡ codes "refused outside\nrefused no frame\nrefused no frame\n")
-    × (ram_answers short_pages short_search (ask.Start 1 3 ∷ ask.Narrow 2 Same ∷ ask.List ∷ [])
+    × ((ram_answers short_pages short_search (ask.Start 1 3 ∷ ask.Narrow 2 Same ∷ ask.List ∷ [])).out
     ≡ codes "refused no frame\nfound 2\n1\n2\n")
 
 pub ram-answer-cases : RamAnswerCases
-unfolding ram_answers digits
+unfolding answers_by digits
 ram-answer-cases = (refl, refl, refl, refl)

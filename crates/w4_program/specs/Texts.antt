@@ -1,6 +1,7 @@
 -- What is written of a place of a run: its image, its schedule of tones, its trace lines, its disk, or the
 -- line of its state (project rule). A run of an accepted cart always comes to a moment.
-use Rattle.std.specs.Prelude.{ℕ, zero, suc, ◌+◌, List, [], ◌++◌, Option, Some, None}
+use Rattle.std.specs.Prelude.{ℕ, List, [], flat_map, Option, Some, None}
+use Rattle.std.specs.List.{range_with_len}
 use Rattle.w4_defs.specs.Image.{image}
 use Rattle.w4_defs.specs.FrameTexts.{schedule_text, trace_text, state_line}
 use Rattle.w4_defs.specs.State.{Moment}
@@ -24,5 +25,4 @@ place_text wanted place None = []
 
 -- the texts of so many places, one after another
 abbrev pub place_texts : (ℕ → List ℕ) → ℕ → ℕ → List ℕ
-place_texts text from zero = []
-place_texts text from (suc count) = text from ++ place_texts text (from + 1) count
+place_texts text from count = flat_map text (range_with_len from count)

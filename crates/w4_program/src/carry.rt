@@ -15,8 +15,10 @@ use crate::status::Status;
 use std::alloc::Global;
 use std::marker::Brand;
 use std::sync::ledger::Blank;
+use std::thread::Threads;
 use w4_house::{House, WriteRefusal};
 use w4_record::write_recording;
+use w4_segments::Gate;
 use wasm_valid::Cart;
 
 /// Makes a file of just these bytes.
@@ -35,12 +37,14 @@ fn save<H: House>(alloc: Global, house: &mut H, name: &str, bytes: &[u8]) -> Res
 }
 
 /// Answers all orders, and saves the recording left once the last of them is answered.
-fn work<H: House>(
+fn work<R: Threads + Sync, H: House, G: Gate + Sync>(
+    rt: &R,
     alloc: Global,
     house: &mut H,
     cart: Cart,
     loaded: Loaded,
     name: &str,
+    gate: &G,
 ) -> Result<(), Status>
     ensures out { OnOk result (Appends (H.world house.old).out (H.world house.new).out
         (edit_answers cart (loaded_view loaded)).out) }
@@ -54,25 +58,28 @@ fn work<H: House>(
     let Played { recording, font } = run;
     let mut desk = new_desk(alloc, cart, font, recording)?;
     let blank = Blank::new(1);
-    answer_script::<Brand, H>(alloc, house, &mut desk, orders.as_slice(), blank)?;
+    let lines = orders.as_slice();
+    answer_script::<Brand, R, H, G>(rt, alloc, house, &mut desk, lines, gate, blank)?;
     let bytes = write_recording(alloc, desk.editor.recording())?;
     save(alloc, house, name, bytes.as_slice())
 }
 
 /// The work of an edit whose files are right.
-pub fn carry_out<H: House>(
+pub fn carry_out<R: Threads + Sync, H: House, G: Gate + Sync>(
+    rt: &R,
     alloc: Global,
     house: &mut H,
     cart: Cart,
     loaded: Loaded,
     name: &str,
+    gate: &G,
 ) -> Status
     ensures ends { Carries (H.world house.old) (H.world house.new) (manner_of result)
         (edit_answers cart (loaded_view loaded)).out name.now
         (encoding 2 (edited_recording cart (loaded_view loaded))) }
     ensures err { LeavesErr (H.world house.old) (H.world house.new) }
 {
-    match work(alloc, house, cart, loaded, name) {
+    match work(rt, alloc, house, cart, loaded, name, gate) {
         Ok(()) => Status::Done,
         Err(status) => status,
     }

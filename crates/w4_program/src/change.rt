@@ -56,7 +56,6 @@ fn change<L: Ledger>(
         Order::Keep { p } => editor.keep(alloc, p as usize, steps),
         Order::KeepEvery { every } => keep_every(alloc, editor, every, steps),
         Order::DropKept { p } => editor.drop_kept(p as usize),
-        Order::Settle { workers: _ } => editor.settle(alloc, steps),
         _ => Ok(()),
     }
 }

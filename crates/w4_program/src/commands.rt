@@ -4,20 +4,8 @@ ghost use Rattle.std.specs.Prelude.{◌≡◌, ◌+◌, ◌-◌, ◌≤◌, leng
 ghost use Rattle.w4_defs.specs.Recording.{encoding};
 ghost use Rattle.w4_house.specs.World.{Appends, LeavesPrinting};
 ghost use Rattle.w4_program.specs.Endings.{manner_of};
-ghost use Rattle.w4_program.specs.Output.{
-  OutputsForm,
-  OverCart,
-  blank_output,
-  blank_recording,
-  checked,
-  disk_output,
-  edit_output,
-  images_output,
-  output_of,
-  only_printed,
-  texts_output,
-  place_texts_from,
-};
+ghost use Rattle.w4_program.specs.Output.{blank_output, blank_recording, checked, disk_output, edit_output, images_output, only_printed, texts_output, place_texts_from};
+ghost use Rattle.w4_program.specs.Outputs.{OutputsForm, OverCart, output_of};
 ghost use Rattle.w4_program.specs.Causes.{Ends, LeavesErr, Prints, ResultsIn, StopsWriting};
 ghost use Rattle.w4_program.specs.Views.{cart_view, edit_view, form_view, played_view, run_view};
 
@@ -26,52 +14,82 @@ use crate::carry::carry_out;
 use crate::cart::CartFile;
 use crate::load::{Played, frame_count, load_cart, load_edit, load_run, load_run_to};
 use crate::made::make_cart;
+use crate::net::net;
 use crate::place_text::{PlaceText, write_places};
 use crate::places::Places;
 use crate::printing::print;
+use crate::ram::ram;
+use crate::rows::run_list;
 use crate::scene::Scene;
+use crate::sound::wave;
 use crate::stage::new_stage;
 use crate::status::Status;
 use crate::words::{EditNames, Form, RunNames};
 use std::alloc::Global;
+use std::thread::Threads;
 use w4_house::House;
 use w4_record::{Recording, write_recording};
+use w4_segments::Gate;
 use wasm_valid::Cart;
 
 /// Does what a form asks for. Nothing is written to standard error.
-pub fn run_form<H: House>(alloc: Global, house: &mut H, form: Form<'_>) -> Status
+pub fn run_form<R: Threads + Sync, H: House, G: Gate + Sync>(
+    rt: &R,
+    alloc: Global,
+    house: &mut H,
+    form: Form<'_>,
+    gate: &G,
+) -> Status
     ensures ends { Ends (H.world house.old) (H.world house.new) (manner_of result)
         (λ files made. OutputsForm (Some (form_view form.entry)) files made) }
     ensures formed { result ≡ Status.Usage → ⊥ }
     ensures err { LeavesErr (H.world house.old) (H.world house.new) }
 {
     match form {
-        Form::Check(cart) => over_cart(alloc, house, cart, form),
-        Form::Blank(cart, _) => over_cart(alloc, house, cart, form),
-        Form::Frames(names, _) => over_cart(alloc, house, names.cart, form),
-        Form::Tones(names) => over_cart(alloc, house, names.cart, form),
-        Form::Trace(names) => over_cart(alloc, house, names.cart, form),
-        Form::Disk(names, _) => over_cart(alloc, house, names.cart, form),
-        Form::Edit(names) => over_cart(alloc, house, names.run.cart, form),
+        Form::Check(cart) => over_cart(rt, alloc, house, cart, form, gate),
+        Form::Blank(cart, _) => over_cart(rt, alloc, house, cart, form, gate),
+        Form::Frames(names, _) => over_cart(rt, alloc, house, names.cart, form, gate),
+        Form::Tones(names) => over_cart(rt, alloc, house, names.cart, form, gate),
+        Form::Trace(names) => over_cart(rt, alloc, house, names.cart, form, gate),
+        Form::Disk(names, _) => over_cart(rt, alloc, house, names.cart, form, gate),
+        Form::Edit(names) => over_cart(rt, alloc, house, names.run.cart, form, gate),
         Form::Make(number) => make_cart(alloc, house, number),
+        Form::Net(names) => over_cart(rt, alloc, house, names.cart, form, gate),
+        Form::Ram(names, _) => over_cart(rt, alloc, house, names.cart, form, gate),
+        Form::Wave(names) => over_cart(rt, alloc, house, names.cart, form, gate),
+        Form::Batch(names) => over_cart(rt, alloc, house, names.cart, form, gate),
     }
 }
 
 /// Judges the cart, and does the rest with it.
-fn over_cart<H: House>(alloc: Global, house: &mut H, name: &str, form: Form<'_>) -> Status
+fn over_cart<R: Threads + Sync, H: House, G: Gate + Sync>(
+    rt: &R,
+    alloc: Global,
+    house: &mut H,
+    name: &str,
+    form: Form<'_>,
+    gate: &G,
+) -> Status
     ensures ends { Ends (H.world house.old) (H.world house.new) (manner_of result)
         (λ files made. OverCart name.now (output_of (form_view form.entry)) files made) }
     ensures formed { result ≡ Status.Usage → ⊥ }
     ensures err { LeavesErr (H.world house.old) (H.world house.new) }
 {
     match load_cart(alloc, house, name) {
-        Ok(file) => make(alloc, house, file, form),
+        Ok(file) => make(rt, alloc, house, file, form, gate),
         Err(status) => status,
     }
 }
 
 /// What a form makes of a cart.
-fn make<H: House>(alloc: Global, house: &mut H, file: CartFile, form: Form<'_>) -> Status
+fn make<R: Threads + Sync, H: House, G: Gate + Sync>(
+    rt: &R,
+    alloc: Global,
+    house: &mut H,
+    file: CartFile,
+    form: Form<'_>,
+    gate: &G,
+) -> Status
     ensures ends { Ends (H.world house.old) (H.world house.new) (manner_of result)
         (ResultsIn (λ files. output_of (form_view form.entry) (cart_view file) files)) }
     ensures formed { result ≡ Status.Usage → ⊥ }
@@ -84,8 +102,12 @@ fn make<H: House>(alloc: Global, house: &mut H, file: CartFile, form: Form<'_>) 
         Form::Tones(names) => texts(alloc, house, &file, names, PlaceText::Schedule),
         Form::Trace(names) => texts(alloc, house, &file, names, PlaceText::Traces),
         Form::Disk(names, place) => disk(alloc, house, &file, names, place),
-        Form::Edit(names) => edit(alloc, house, file, names),
+        Form::Edit(names) => edit(rt, alloc, house, file, names, gate),
         Form::Make(number) => make_cart(alloc, house, number),
+        Form::Net(names) => net(alloc, house, file, names),
+        Form::Ram(names, query) => ram(alloc, house, file, names, query),
+        Form::Wave(names) => wave(alloc, house, &file, names),
+        Form::Batch(names) => run_list(rt, alloc, house, &file, names, gate),
     }
 }
 
@@ -201,14 +223,21 @@ fn disk<H: House>(
 
 /// `edit CART REC FONT SCRIPT OUT`.
 #[tactic(auto, unfolding(crate::specs::Output::edit_output))]
-fn edit<H: House>(alloc: Global, house: &mut H, file: CartFile, names: EditNames<'_>) -> Status
+fn edit<R: Threads + Sync, H: House, G: Gate + Sync>(
+    rt: &R,
+    alloc: Global,
+    house: &mut H,
+    file: CartFile,
+    names: EditNames<'_>,
+    gate: &G,
+) -> Status
     ensures ends { Ends (H.world house.old) (H.world house.new) (manner_of result)
         (ResultsIn (λ files. edit_output (edit_view names.entry) (cart_view file) files)) }
     ensures formed { result ≡ Status.Usage → ⊥ }
     ensures err { LeavesErr (H.world house.old) (H.world house.new) }
 {
     match load_edit(alloc, house, &file.digest, names) {
-        Ok(loaded) => carry_out(alloc, house, file.cart, loaded, names.out),
+        Ok(loaded) => carry_out(rt, alloc, house, file.cart, loaded, names.out, gate),
         Err(status) => status,
     }
 }

@@ -6,7 +6,7 @@ ghost use Rattle.w4_defs.specs.KeptList.{state_at};
 ghost use Rattle.w4_defs.specs.Run.{run, run_state};
 ghost use Rattle.w4_defs.specs.State.{Moment, State};
 ghost use Rattle.w4_devices.specs.Records.{record_of};
-ghost use Rattle.w4_editor.specs.Editing.{editing_setup, opened};
+ghost use Rattle.w4_editor.specs.Editing.{editing_setup, new_editing};
 ghost use Rattle.w4_program.specs.Editors.{OnlyShows, text_by};
 ghost use Rattle.w4_program.specs.declared.place_text.PlaceText.TheVariants.{Image, Schedule, Traces};
 
@@ -36,7 +36,7 @@ pub fn new_desk(
     recording: Recording,
 ) -> Result<Desk, OutOfMemory>
     ensures { IfOk result (λ desk. desk.editor
-        ≡ opened cart font recording (state_at desk.editor.session.current.kept 0)) }
+        ≡ new_editing cart font recording (state_at desk.editor.session.current.kept 0)) }
 {
     let image = Box::new(alloc, [0; IMAGE_LEN])?;
     let editor = Editor::new(alloc, cart, font, recording)?;

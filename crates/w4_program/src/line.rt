@@ -100,6 +100,13 @@ fn add_refused_script(text: &mut Vec<u8>, kind: ScriptKind) -> Result<(), OutOfM
     add_script(text, kind)
 }
 
+fn add_refused_list(text: &mut Vec<u8>, kind: ScriptKind) -> Result<(), OutOfMemory>
+    ensures { OnOk result (text.new.items ≡ text.old.items ++ status_words (Status.ListRefused kind)) }
+{
+    add_words(text, b"list: ")?;
+    add_script(text, kind)
+}
+
 fn add_refused_frame(text: &mut Vec<u8>, number: u32, n: usize) -> Result<(), OutOfMemory>
     ensures { OnOk result (text.new.items ≡ text.old.items ++ status_words (Status.FrameRefused number n)) }
 {
@@ -121,6 +128,7 @@ fn add_status(text: &mut Vec<u8>, status: Status) -> Result<(), OutOfMemory>
         Status::WriteFault => add_words(text, b"cannot write"),
         Status::OutOfMemory => add_words(text, b"out of memory"),
         Status::FrameRefused { number, n } => add_refused_frame(text, number, n),
+        Status::ListRefused(kind) => add_refused_list(text, kind),
     }
 }
 

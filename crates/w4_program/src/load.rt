@@ -9,7 +9,7 @@ ghost use Rattle.w4_program.specs.Output.{
   edit_files,
   font_in,
   font_of,
-  orders_in,
+  script_in,
   orders_of,
   reading,
   recording_in,
@@ -52,7 +52,7 @@ pub struct Loaded {
 }
 
 /// The first `most` bytes of a file, or all.
-fn read_file<H: House>(
+pub fn read_file<H: House>(
     alloc: Global,
     house: &mut H,
     name: &str,
@@ -143,7 +143,7 @@ fn load_recording<H: House>(
 }
 
 #[tactic(auto, unfolding(crate::specs::Output::font_in))]
-fn load_font<H: House>(alloc: Global, house: &mut H, name: &str) -> Result<Font, Status>
+pub fn load_font<H: House>(alloc: Global, house: &mut H, name: &str) -> Result<Font, Status>
     ensures gives { StepGives (H.world house.old) (H.world house.new) (λ font. font) result
         (ResultsIn (λ files. font_in files name.now)) }
     ensures rest { LeavesReading (H.world house.old) (H.world house.new) }
@@ -152,10 +152,10 @@ fn load_font<H: House>(alloc: Global, house: &mut H, name: &str) -> Result<Font,
     judge_font(bytes.as_slice())
 }
 
-#[tactic(auto, unfolding(crate::specs::Output::orders_in))]
+#[tactic(auto, unfolding(crate::specs::Output::script_in))]
 fn load_orders<H: House>(alloc: Global, house: &mut H, name: &str) -> Result<Vec<Order>, Status>
     ensures gives { StepGives (H.world house.old) (H.world house.new) (λ orders. orders.items) result
-        (ResultsIn (λ files. orders_in files name.now)) }
+        (ResultsIn (λ files. script_in files name.now)) }
     ensures rest { LeavesReading (H.world house.old) (H.world house.new) }
 {
     let bytes = read_file(alloc, house, name, 1_048_577)?;

@@ -4,7 +4,9 @@
 //! the system's. What it makes of words and files is said by the definitions of `specs/`.
 #![tactic(auto)]
 
+mod asking;
 mod budget;
+mod by_workers;
 mod carry;
 mod cart;
 mod change;
@@ -13,14 +15,20 @@ mod desk;
 mod keep_every;
 mod line;
 mod load;
+mod load_tools;
 mod made;
+mod net;
 mod orders;
 mod place_text;
 mod places;
 mod printing;
+mod ram;
 mod refusal;
+mod rolling;
+mod rows;
 mod run;
 mod scene;
+mod sound;
 mod stage;
 mod state_answer;
 mod state_line;
@@ -31,6 +39,7 @@ mod telling;
 mod tests;
 mod text;
 mod words;
+mod workers;
 
 use crate::run::w4_run;
 use crate::status::number;

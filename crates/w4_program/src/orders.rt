@@ -8,23 +8,28 @@ ghost use Rattle.w4_program.specs.Causes.{StopsWriting};
 ghost use Rattle.w4_program.specs.Editors.{IsAnswered, answer_by, place_session};
 ghost use Rattle.w4_program.specs.Endings.{manner_of};
 
+use crate::by_workers::{settle, tell_film};
 use crate::change::answer_change;
 use crate::desk::Desk;
 use crate::place_text::PlaceText;
 use crate::state_answer::tell_state;
 use crate::status::Status;
-use crate::telling::{film, tell_range};
+use crate::telling::tell_range;
 use std::alloc::Global;
 use std::sync::ledger::{Blank, Ledger};
+use std::thread::Threads;
 use w4_defs::{Order, Steps};
 use w4_house::House;
+use w4_segments::Gate;
 
 /// Answers all orders of a script. The frames that are run for them have a count of their own.
-pub fn answer_script<L: Ledger, H: House>(
+pub fn answer_script<L: Ledger, R: Threads + Sync, H: House, G: Gate + Sync>(
+    rt: &R,
     alloc: Global,
     house: &mut H,
     desk: &mut Desk,
     orders: &[Order],
+    gate: &G,
     blank: Blank,
 ) -> Result<(), Status>
     requires name { blank.name ≡ L.name }
@@ -39,15 +44,17 @@ pub fn answer_script<L: Ledger, H: House>(
     ensures rest { LeavesPrinting (H.world house.old) (H.world house.new) }
 {
     let mut steps: Steps<L> = Steps::new(blank);
-    answer_all(alloc, house, desk, orders, &mut steps)
+    answer_all(rt, alloc, house, desk, orders, gate, &mut steps)
 }
 
 /// Answers all orders, one after another, up to the first write that fails.
-fn answer_all<L: Ledger, H: House>(
+fn answer_all<L: Ledger, R: Threads + Sync, H: House, G: Gate + Sync>(
+    rt: &R,
     alloc: Global,
     house: &mut H,
     desk: &mut Desk,
     orders: &[Order],
+    gate: &G,
     steps: &mut Steps<L>,
 ) -> Result<(), Status>
     ensures answered { OnOk result (IsAnswered (H.world house.old) (H.world house.new)
@@ -59,17 +66,19 @@ fn answer_all<L: Ledger, H: House>(
     ensures rest { LeavesPrinting (H.world house.old) (H.world house.new) }
 {
     for order in orders {
-        answer(alloc, house, desk, order, steps)?;
+        answer(rt, alloc, house, desk, order, gate, steps)?;
     }
     Ok(())
 }
 
 /// Answers one order.
-fn answer<L: Ledger, H: House>(
+fn answer<L: Ledger, R: Threads + Sync, H: House, G: Gate + Sync>(
+    rt: &R,
     alloc: Global,
     house: &mut H,
     desk: &mut Desk,
     order: &Order,
+    gate: &G,
     steps: &mut Steps<L>,
 ) -> Result<(), Status>
     ensures answered { OnOk result (IsAnswered (H.world house.old) (H.world house.new)
@@ -80,7 +89,13 @@ fn answer<L: Ledger, H: House>(
 {
     match *order {
         Order::Show { p } => tell_range(alloc, house, desk, PlaceText::Image, p, p, steps),
-        Order::Film { a, b, workers: _ } => film(alloc, house, desk, a, b, steps),
+        Order::Film { a, b, workers } => {
+            tell_film(rt, alloc, house, &mut desk.editor, a, b, workers, gate)
+        }
+        Order::Settle { workers } => {
+            settle(rt, alloc, &mut desk.editor, workers, gate)?;
+            Ok(())
+        }
         Order::Tones { a, b } => tell_range(alloc, house, desk, PlaceText::Schedule, a, b, steps),
         Order::Traces { a, b } => tell_range(alloc, house, desk, PlaceText::Traces, a, b, steps),
         Order::DiskAt { p } => tell_range(alloc, house, desk, PlaceText::DiskBytes, p, p, steps),

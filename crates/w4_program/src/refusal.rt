@@ -1,7 +1,7 @@
 //! The line of a refused order.
 
 ghost use Rattle.std.specs.Prelude.{◌≢◌, OnOk, IfErr};
-ghost use Rattle.w4_defs.specs.declared.editing.EditRefusal.TheVariants.{OutOfMemory as NoMemory};
+ghost use Rattle.w4_defs.specs.declared.editing.EditRefusal.TheVariants.{OutOfMemory as MemoryRefused};
 ghost use Rattle.w4_house.specs.World.{Appends, LeavesPrinting};
 ghost use Rattle.w4_program.specs.Answering.{refusal_words, refused_line};
 ghost use Rattle.w4_program.specs.Causes.{StopsWriting};
@@ -17,7 +17,7 @@ use w4_house::House;
 pub fn refuse<H: House>(alloc: Global, house: &mut H, refusal: EditRefusal) -> Result<(), Status>
     ensures out { OnOk result (Appends (H.world house.old).out (H.world house.new).out
         (refused_line (refusal_words refusal))) }
-    ensures cause { OnOk result (refusal ≢ NoMemory) }
+    ensures cause { OnOk result (refusal ≢ MemoryRefused) }
     ensures stops { IfErr result (λ why.
         StopsWriting (H.world house.old) (H.world house.new) (manner_of why)) }
     ensures rest { LeavesPrinting (H.world house.old) (H.world house.new) }

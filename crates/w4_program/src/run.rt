@@ -18,14 +18,15 @@ ghost use Rattle.w4_program.specs.Forms.{form_of};
 ghost use Rattle.w4_program.specs.declared.status.RecordingKind.{RecordingKind};
 ghost use Rattle.w4_program.specs.declared.status.ScriptKind.{ScriptKind};
 ghost use Rattle.w4_program.specs.Endings.{manner_of};
-ghost use Rattle.w4_program.specs.Output.{Output, Outputs};
+ghost use Rattle.w4_program.specs.Output.{Output};
+ghost use Rattle.w4_program.specs.Outputs.{Outputs};
 ghost use Rattle.w4_program.specs.OneOutput.{AtMostOneOutput};
 ghost use Rattle.w4_program.specs.CartRuns.{CartRunsHaveMeaning};
 ghost use Rattle.w4_program.specs.Causes.{
   ReadFails,
   Ends,
   IsExact,
-  IsRefusal,
+  ChangesNothing,
   IsReported,
   Reports,
   LeavesErr,
@@ -39,6 +40,7 @@ use std::alloc::Global;
 use std::thread::Threads;
 use w4_console::laws::accepted_runs_have_meaning;
 use w4_house::{House, WriteRefusal};
+use w4_segments::{Gate, OpenGate};
 use wasm_read::at_most_one;
 
 /// Does all that the program does for these words, and says how it ended.
@@ -46,7 +48,7 @@ use wasm_read::at_most_one;
 /// The words are those after the program's name. What it makes of them and of the files is `Outputs` of
 /// the contract. Any status may give way to `OutOfMemory`.
 pub fn w4_run<R: Threads + Sync, H: House>(
-    _rt: &R,
+    rt: &R,
     alloc: Global,
     words: &[String],
     house: &mut H,
@@ -79,6 +81,9 @@ pub fn w4_run<R: Threads + Sync, H: House>(
     ensures frame_refused { (number n : ℕ) → result ≡ Status.FrameRefused number n →
         ForSome (H.world house.old).files (λ files.
         Outputs (map string_bytes words.now) files (Err (Status.FrameRefused number n))) }
+    ensures list_refused { (kind : ScriptKind) → result ≡ Status.ListRefused kind →
+        ForSome (H.world house.old).files (λ files.
+        Outputs (map string_bytes words.now) files (Err (Status.ListRefused kind))) }
     // A read failed, or a file whose turn came is absent.
     ensures read_fault { result ≡ Status.ReadFault → ReadFails (H.world house.old) (H.world house.new)
         (λ files made. Outputs (map string_bytes words.now) files made) }
@@ -88,8 +93,8 @@ pub fn w4_run<R: Threads + Sync, H: House>(
     ensures write_fault_made { result ≡ Status.WriteFault → ForSome (H.world house.old).files (λ files.
         (made : Output) × Outputs (map string_bytes words.now) files (Ok made)) }
     // A refusal leaves standard output and all files.
-    ensures refused_out { IsRefusal result → (H.world house.new).out ≡ (H.world house.old).out }
-    ensures refused_files { IsRefusal result → (H.world house.new).files ≡ (H.world house.old).files }
+    ensures refused_out { ChangesNothing result → (H.world house.new).out ≡ (H.world house.old).out }
+    ensures refused_files { ChangesNothing result → (H.world house.new).files ≡ (H.world house.old).files }
     // Standard error gets the status's line, or a first part of it where a write to it failed.
     ensures line { IsReported result → Reports (H.world house.old) (H.world house.new) (status_line result) }
     // Where no count has risen, it is the definition's answer, or memory ran out.
@@ -98,13 +103,72 @@ pub fn w4_run<R: Threads + Sync, H: House>(
         ¬ Rises (H.world house.old).write_faults (H.world house.new).write_faults →
         IsExact result (λ made. Outputs (map string_bytes words.now) files made)) }
 {
+    w4_run_gated(rt, alloc, words, house, &OpenGate)
+}
+
+/// The same work as `w4_run`, where each recording of a batch, each piece of a film and each segment that
+/// `settle` brings up to date passes a gate as it begins. A gate has no effect on what is done.
+pub fn w4_run_gated<R: Threads + Sync, H: House, G: Gate + Sync>(
+    rt: &R,
+    alloc: Global,
+    words: &[String],
+    house: &mut H,
+    gate: &G,
+) -> Status
+    ensures done { result ≡ Status.Done → ForSome (H.world house.old).files (λ files.
+        (made : Output) × Outputs (map string_bytes words.now) files (Ok made)
+        × Appends (H.world house.old).out (H.world house.new).out made.out
+        × ((H.world house.new).files ≡ Some made.files)
+        × CartRunsHaveMeaning (map string_bytes words.now) files) }
+    ensures done_err { result ≡ Status.Done → (H.world house.new).err ≡ (H.world house.old).err }
+    ensures usage { result ≡ Status.Usage → form_of (map string_bytes words.now) ≡ None }
+    ensures no_form { form_of (map string_bytes words.now) ≡ None →
+        (result ≡ Status.Usage) ⊎ (result ≡ Status.OutOfMemory) }
+    ensures cart_refused { (kind : CartKind) → result ≡ Status.CartRefused kind →
+        ForSome (H.world house.old).files (λ files.
+        Outputs (map string_bytes words.now) files (Err (Status.CartRefused kind))) }
+    ensures recording_refused { (kind : RecordingKind) → result ≡ Status.RecordingRefused kind →
+        ForSome (H.world house.old).files (λ files.
+        Outputs (map string_bytes words.now) files (Err (Status.RecordingRefused kind))) }
+    ensures font_refused { result ≡ Status.FontRefused →
+        ForSome (H.world house.old).files (λ files.
+        Outputs (map string_bytes words.now) files (Err Status.FontRefused)) }
+    ensures script_refused { (kind : ScriptKind) → result ≡ Status.ScriptRefused kind →
+        ForSome (H.world house.old).files (λ files.
+        Outputs (map string_bytes words.now) files (Err (Status.ScriptRefused kind))) }
+    ensures frame_refused { (number n : ℕ) → result ≡ Status.FrameRefused number n →
+        ForSome (H.world house.old).files (λ files.
+        Outputs (map string_bytes words.now) files (Err (Status.FrameRefused number n))) }
+    ensures list_refused { (kind : ScriptKind) → result ≡ Status.ListRefused kind →
+        ForSome (H.world house.old).files (λ files.
+        Outputs (map string_bytes words.now) files (Err (Status.ListRefused kind))) }
+    ensures read_fault { result ≡ Status.ReadFault → ReadFails (H.world house.old) (H.world house.new)
+        (λ files made. Outputs (map string_bytes words.now) files made) }
+    ensures write_fault { result ≡ Status.WriteFault →
+        Rises (H.world house.old).write_faults (H.world house.new).write_faults }
+    ensures write_fault_made { result ≡ Status.WriteFault → ForSome (H.world house.old).files (λ files.
+        (made : Output) × Outputs (map string_bytes words.now) files (Ok made)) }
+    ensures refused_out { ChangesNothing result → (H.world house.new).out ≡ (H.world house.old).out }
+    ensures refused_files { ChangesNothing result → (H.world house.new).files ≡ (H.world house.old).files }
+    ensures line { IsReported result → Reports (H.world house.old) (H.world house.new) (status_line result) }
+    ensures exact { ForSome (H.world house.old).files (λ files.
+        ¬ Rises (H.world house.old).read_faults (H.world house.new).read_faults →
+        ¬ Rises (H.world house.old).write_faults (H.world house.new).write_faults →
+        IsExact result (λ made. Outputs (map string_bytes words.now) files made)) }
+{
     accepted_runs_have_meaning();
-    let status = obey(alloc, words, house);
+    let status = obey(rt, alloc, words, house, gate);
     report(alloc, house, status)
 }
 
 /// What the words ask for. Nothing is written to standard error.
-fn obey<H: House>(alloc: Global, words: &[String], house: &mut H) -> Status
+fn obey<R: Threads + Sync, H: House, G: Gate + Sync>(
+    rt: &R,
+    alloc: Global,
+    words: &[String],
+    house: &mut H,
+    gate: &G,
+) -> Status
     ensures ends { Ends (H.world house.old) (H.world house.new) (manner_of result)
         (λ files made. Outputs (map string_bytes words.now) files made) }
     ensures usage { result ≡ Status.Usage → form_of (map string_bytes words.now) ≡ None }
@@ -112,7 +176,7 @@ fn obey<H: House>(alloc: Global, words: &[String], house: &mut H) -> Status
     ensures err { LeavesErr (H.world house.old) (H.world house.new) }
 {
     match form_of_words(words) {
-        Some(form) => run_form(alloc, house, form),
+        Some(form) => run_form(rt, alloc, house, form, gate),
         None => Status::Usage,
     }
 }

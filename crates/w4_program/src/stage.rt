@@ -7,6 +7,7 @@ ghost use Rattle.w4_program.specs.Scenes.{IsAtPlace, scene_setup, stage_moment};
 ghost use Rattle.w4_defs.specs.FrameTexts.{schedule_text, trace_text};
 ghost use Rattle.w4_defs.specs.Image.{image};
 ghost use Rattle.w4_defs.specs.MadeSummary.{lit_pixels};
+ghost use Rattle.w4_defs.specs.Sound.{after_frame, rendered};
 
 use crate::scene::Scene;
 use crate::summary::lit_pixels;
@@ -18,6 +19,7 @@ use w4_defs::console_laws::runs_in_parts;
 use w4_defs::{Halt, Input, OutOfMemory, Steps};
 use w4_devices::{FrameRecord, schedule_text, trace_text};
 use w4_image::{IMAGE_LEN, ppm_into};
+use w4_wave::{FRAME_LEN, Wave};
 use wasm_valid::Cart;
 
 /// A console, what its last reset or frame left behind, and the image of its page.
@@ -156,4 +158,12 @@ pub fn traces(alloc: Global, stage: &Stage, place: usize) -> Result<Vec<u8>, Out
     let mut text = Vec::new(alloc);
     trace_text(alloc, place, &stage.made, &mut text)?;
     Ok(text)
+}
+
+/// Renders the sound of the frame that led to this place.
+pub fn render(stage: &Stage, wave: &mut Wave, samples: &mut [u8; FRAME_LEN])
+    ensures samples { samples.new ≡ rendered (stage_moment stage.now).made wave.old }
+    ensures wave { wave.new ≡ after_frame (stage_moment stage.now).made wave.old }
+{
+    wave.render(&stage.made, samples);
 }

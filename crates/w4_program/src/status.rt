@@ -15,10 +15,10 @@ pub enum RecordingKind {
     WrongCart,
 }
 
-/// Why a script is refused.
+/// Why a file of lines is refused: a script, a log, a query or a list.
 #[derive(Clone, Copy, PartialEq, Eq, Debug)]
 pub enum ScriptKind {
-    /// There are more than 1,048,576 bytes.
+    /// There are more than 1,048,576 bytes, or 65,536 of a list.
     TooLong,
     /// This line, counted from 1, is the first bad one.
     BadLine(u32),
@@ -37,7 +37,7 @@ pub enum Status {
     RecordingRefused(RecordingKind),
     /// The font hasn't 1,792 bytes.
     FontRefused,
-    /// The script is too long or has a bad line.
+    /// The script, log or query is too long or has a bad line.
     ScriptRefused(ScriptKind),
     /// A file couldn't be read, or isn't there.
     ReadFault,
@@ -47,12 +47,14 @@ pub enum Status {
     OutOfMemory,
     /// The words name a place past the last, `n`.
     FrameRefused { number: u32, n: usize },
+    /// The list is too long or has a bad line.
+    ListRefused(ScriptKind),
 }
 
 impl From<OutOfMemory> for Status {
-    ghost use Rattle.w4_program.specs.declared.status.Status.TheVariants.{OutOfMemory as NoMemory};
+    ghost use Rattle.w4_program.specs.declared.status.Status.TheVariants.{OutOfMemory as MemoryRefused};
 
-    ghost from_gives = { λ _ status. status ≡ NoMemory };
+    ghost from_gives = { λ _ status. status ≡ MemoryRefused };
 
     fn from(_refusal: OutOfMemory) -> Status {
         Status::OutOfMemory
@@ -60,9 +62,9 @@ impl From<OutOfMemory> for Status {
 }
 
 impl From<AllocError> for Status {
-    ghost use Rattle.w4_program.specs.declared.status.Status.TheVariants.{OutOfMemory as NoMemory};
+    ghost use Rattle.w4_program.specs.declared.status.Status.TheVariants.{OutOfMemory as MemoryRefused};
 
-    ghost from_gives = { λ _ status. status ≡ NoMemory };
+    ghost from_gives = { λ _ status. status ≡ MemoryRefused };
 
     fn from(_refusal: AllocError) -> Status {
         Status::OutOfMemory
@@ -70,9 +72,9 @@ impl From<AllocError> for Status {
 }
 
 impl<T: Drop> From<AllocFailed<T>> for Status {
-    ghost use Rattle.w4_program.specs.declared.status.Status.TheVariants.{OutOfMemory as NoMemory};
+    ghost use Rattle.w4_program.specs.declared.status.Status.TheVariants.{OutOfMemory as MemoryRefused};
 
-    ghost from_gives = { λ _ status. status ≡ NoMemory };
+    ghost from_gives = { λ _ status. status ≡ MemoryRefused };
 
     fn from(_refusal: AllocFailed<T>) -> Status {
         Status::OutOfMemory
@@ -94,5 +96,6 @@ pub fn number(status: Status) -> u8
         Status::WriteFault => 8,
         Status::OutOfMemory => 9,
         Status::FrameRefused { number: _, n: _ } => 10,
+        Status::ListRefused(_) => 12,
     }
 }

@@ -58,7 +58,7 @@ fn hex_digit(number: u8) -> u8
 }
 
 /// Adds bytes, each as two hexadecimal digits.
-fn add_hexadecimal(text: &mut Vec<u8>, bytes: &[u8]) -> Result<(), OutOfMemory>
+pub fn add_hexadecimal(text: &mut Vec<u8>, bytes: &[u8]) -> Result<(), OutOfMemory>
     ensures { OnOk result (text.new.items ≡ text.old.items ++ hexadecimal bytes.now) }
 {
     for byte in bytes {

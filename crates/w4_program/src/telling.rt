@@ -1,8 +1,9 @@
 //! What is told of places of the recording as the edits so far leave it.
 
-ghost use Rattle.std.specs.Prelude.{◌≡◌, ◌+◌, ◌-◌, ◌≤◌, IfErr, OnOk, length, nat_lt};
+ghost use Rattle.std.specs.Prelude.{◌≡◌, ◌+◌, ◌-◌, ◌≤◌, IfErr, OnOk, length};
 ghost use Rattle.w4_house.specs.World.{Appends, LeavesPrinting};
-ghost use Rattle.w4_program.specs.Answering.{answer_text, film_text, if_place, range_text};
+ghost use Rattle.w4_program.specs.Answering.{if_place, range_text};
+ghost use Rattle.w4_program.specs.Answers.{answer_text};
 ghost use Rattle.w4_program.specs.Causes.{StopsWriting};
 ghost use Rattle.w4_program.specs.Editors.{IsAnswered, OnlyShows, place_session, text_by};
 ghost use Rattle.w4_program.specs.Endings.{manner_of};
@@ -44,40 +45,6 @@ pub fn tell_range<L: Ledger, H: House>(
         return refuse(alloc, house, EditRefusal::NoFrame);
     }
     write_all(alloc, house, desk, wanted, a, b, steps)
-}
-
-/// The answer of `film`: at most 600 images.
-pub fn film<L: Ledger, H: House>(
-    alloc: Global,
-    house: &mut H,
-    desk: &mut Desk,
-    a: u32,
-    b: u32,
-    steps: &mut Steps<L>,
-) -> Result<(), Status>
-    ensures answered { OnOk result (IsAnswered (H.world house.old) (H.world house.new)
-        desk.old.editor desk.new.editor
-        (answer_text (place_session desk.old.editor) (if_place (place_session desk.old.editor) b
-        (film_text (editing_setup desk.old.editor) desk.old.editor.disk
-        (place_session desk.old.editor) a b)))) }
-    ensures stops { IfErr result (λ why.
-        StopsWriting (H.world house.old) (H.world house.new) (manner_of why)) }
-    ensures rest { LeavesPrinting (H.world house.old) (H.world house.new) }
-{
-    if b as usize > last_place(&desk.editor) {
-        return refuse(alloc, house, EditRefusal::NoFrame);
-    }
-    if is_long(a, b) {
-        return print(alloc, house, b"refused too long\n");
-    }
-    write_all(alloc, house, desk, PlaceText::Image, a, b, steps)
-}
-
-/// Whether the places `a` to `b` are more than 600.
-fn is_long(a: u32, b: u32) -> bool
-    ensures { result ≡ nat_lt 600 (b + 1 - a) }
-{
-    (b as usize + 1).saturating_sub(a as usize) > 600
 }
 
 /// Writes what is told of the places `a` to `b`, one after another, so that memory doesn't grow with them.

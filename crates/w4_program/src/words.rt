@@ -2,6 +2,7 @@
 
 ghost use Rattle.std.specs.Prelude.{◌≡◌, map, option_map, string_bytes};
 ghost use Rattle.w4_program.specs.Forms.{
+  batch_form,
   blank_form,
   check_form,
   disk_form,
@@ -9,14 +10,18 @@ ghost use Rattle.w4_program.specs.Forms.{
   form_of,
   frames_form,
   make_form,
+  net_form,
+  ram_form,
   run_words,
   tones_form,
   trace_form,
+  wave_form,
 };
 ghost use Rattle.w4_program.specs.Views.{form_view, run_view};
 
 use crate::budget::Budget;
 use crate::places::Places;
+use crate::workers::Workers;
 use w4_script::number_of;
 
 /// The names of the three files that a run is made of.
@@ -33,6 +38,24 @@ pub struct EditNames<'a> {
     pub run: RunNames<'a>,
     pub script: &'a str,
     pub out: &'a str,
+}
+
+/// The files of a session of rollback, and the budget of its cart.
+#[derive(Clone, Copy)]
+pub struct NetNames<'a> {
+    pub cart: &'a str,
+    pub font: &'a str,
+    pub budget: Budget,
+    pub log: &'a str,
+}
+
+/// The files of a batch: a list names the recordings.
+#[derive(Clone, Copy)]
+pub struct BatchNames<'a> {
+    pub cart: &'a str,
+    pub font: &'a str,
+    pub list: &'a str,
+    pub workers: Workers,
 }
 
 /// What the words ask for.
@@ -54,6 +77,14 @@ pub enum Form<'a> {
     Edit(EditNames<'a>),
     /// `make NUMBER`
     Make(u32),
+    /// `net CART FONT BUDGET LOG`
+    Net(NetNames<'a>),
+    /// `ram CART REC FONT QUERY`
+    Ram(RunNames<'a>, &'a str),
+    /// `wave CART REC FONT`
+    Wave(RunNames<'a>),
+    /// `batch CART FONT LIST WORKERS`
+    Batch(BatchNames<'a>),
 }
 
 /// The three names.
@@ -159,6 +190,62 @@ fn make(words: &[String]) -> Option<Form<'_>>
     Some(Form::Make(number))
 }
 
+#[tactic(auto, unfolding(crate::specs::Forms::net_form))]
+fn net(words: &[String]) -> Option<Form<'_>>
+    ensures { option_map form_view result ≡ net_form (map string_bytes words.now) }
+{
+    let [cart, font, budget, log] = words else {
+        return None;
+    };
+    let units = number_of(budget.as_bytes())?;
+    if units < 1 {
+        return None;
+    }
+    Some(Form::Net(NetNames {
+        cart: cart.as_str(),
+        font: font.as_str(),
+        budget: Budget { units },
+        log: log.as_str(),
+    }))
+}
+
+fn ram(words: &[String]) -> Option<Form<'_>>
+    ensures { option_map form_view result ≡ ram_form (map string_bytes words.now) }
+{
+    let [cart, recording, font, query] = words else {
+        return None;
+    };
+    Some(Form::Ram(run_names(cart, recording, font), query.as_str()))
+}
+
+fn wave(words: &[String]) -> Option<Form<'_>>
+    ensures { option_map form_view result ≡ wave_form (map string_bytes words.now) }
+{
+    let [cart, recording, font] = words else {
+        return None;
+    };
+    Some(Form::Wave(run_names(cart, recording, font)))
+}
+
+#[tactic(auto, unfolding(crate::specs::Forms::batch_form))]
+fn batch(words: &[String]) -> Option<Form<'_>>
+    ensures { option_map form_view result ≡ batch_form (map string_bytes words.now) }
+{
+    let [cart, font, list, workers] = words else {
+        return None;
+    };
+    let count = number_of(workers.as_bytes())?;
+    if count < 1 || count > 16 {
+        return None;
+    }
+    Some(Form::Batch(BatchNames {
+        cart: cart.as_str(),
+        font: font.as_str(),
+        list: list.as_str(),
+        workers: Workers { count },
+    }))
+}
+
 /// The form of the words, or None where they have none.
 #[tactic(auto, unfolding(crate::specs::Forms::form_of))]
 pub fn form_of_words(words: &[String]) -> Option<Form<'_>>
@@ -176,6 +263,10 @@ pub fn form_of_words(words: &[String]) -> Option<Form<'_>>
         "disk" => disk(rest),
         "edit" => edit(rest),
         "make" => make(rest),
+        "net" => net(rest),
+        "ram" => ram(rest),
+        "wave" => wave(rest),
+        "batch" => batch(rest),
         _ => None,
     }
 }

@@ -2,3 +2,4 @@ mod DigitLaws
 mod PieceLaws
 mod LineLaws
 mod OrderLaws
+mod NameLaws

@@ -11,7 +11,7 @@ abbrev pub with_orders : {Order : Type 0} → List Order → Result (List Order)
 with_orders before (Ok orders) = Ok (before ++ orders)
 with_orders before (Err fault) = Err fault
 
-regroup : {Order : Type 0} (before : List Order) (number : ℕ) (order : Order)
+pub regroup : {Order : Type 0} (before : List Order) (number : ℕ) (order : Order)
     (more : Result (List Order) ScriptFault)
     → with_orders before (with_order number (Some order) more) ≡ with_orders (before ++ order ∷ []) more
 regroup before number order (Ok more) = ap (λ orders. Ok orders) (sym (append_assoc before (order ∷ []) more))

@@ -5,6 +5,8 @@
 
 mod frame;
 mod lines;
+mod name_lines;
+mod names;
 pub mod number;
 mod order;
 mod order_file;
@@ -17,6 +19,7 @@ mod script_words;
 mod words;
 
 pub use lines::{Line, script_lines};
+pub use names::read_names;
 pub use number::number_of;
 pub use order_file::{LineOrder, read_orders};
 pub use refusal::ScriptRefusal;

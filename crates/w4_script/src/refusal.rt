@@ -9,10 +9,10 @@ use w4_defs::OutOfMemory as NoMemory;
 /// Why there are no orders. A text that is too long is refused first, then the first bad line.
 #[derive(Clone, Copy, PartialEq, Eq, Debug, Error)]
 pub enum ScriptRefusal {
-    /// The text has more than 1,048,576 bytes.
-    #[error("longer than 1048576 bytes")]
+    /// The text has more than 1,048,576 bytes, or a list more than 65,536.
+    #[error("too long")]
     TooLong,
-    /// The first line that is no order, counted from 1, skipped lines too.
+    /// The first line that is no order or no name, counted from 1, skipped lines too.
     #[error("line {0}")]
     BadLine(u32),
     /// Memory was refused; always permitted.

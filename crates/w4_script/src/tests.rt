@@ -1,7 +1,7 @@
 //! What no clause says: that the clauses mean the rule on lines, words, numbers and orders, and that each
 //! call that takes memory gives its answer where there is ample memory.
 
-use crate::{Line, Order, ScriptRefusal, number_of, read_script, script_lines};
+use crate::{Line, Order, ScriptRefusal, number_of, read_names, read_script, script_lines};
 use std::test::Fail;
 use std::vec::Vec;
 use w4_defs::Input;
@@ -24,6 +24,19 @@ fn lines_have_numbers_and_words(rt: HostRuntime) -> Result<(), Fail> {
     let lines = script_lines(rt.alloc(), b"\n# undo\r\n  redo   01 \r\n\r\n #")?;
     assert_eq!(rt; lines.len(), 1);
     assert!(rt; says(&lines[0], 3, &[b"redo", b"01"]), "line 3");
+    Ok(())
+}
+
+#[test]
+fn names_stand_as_they_are(rt: HostRuntime) -> Result<(), Fail> {
+    let names = read_names(rt.alloc(), b"a\r\n\n b #")?;
+    assert_eq!(rt; names.len(), 2);
+    assert!(rt;
+        names[0].as_str() == "a" && names[1].as_str() == " b #",
+        "two names"
+    );
+    let alone = read_names(rt.alloc(), b"\n\xff\n");
+    assert!(rt; matches!(alone, Err(ScriptRefusal::BadLine(2))), "no UTF-8");
     Ok(())
 }
 

@@ -14,7 +14,7 @@ pub struct Words<'a> {
 }
 
 /// The line without a byte 13 at its end.
-fn without_return(line: &[u8]) -> &[u8]
+pub fn without_return(line: &[u8]) -> &[u8]
     ensures { result.now ≡ strip_last 13 line.now }
 {
     match line {

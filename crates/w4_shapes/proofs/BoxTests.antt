@@ -7,6 +7,7 @@ use Rattle.std.proofs.lemmas.Int.{ints}
 use Rattle.w4_defs.specs.Framebuffer.{Painter, paint, over}
 use Rattle.w4_defs.proofs.PaintLaws.{paint-paint, paint_step}
 use Rattle.w4_defs.specs.Shapes.{only_if, is_at, is_inside, span_painter, column_painter, box_painter, outline_painter}
+use Rattle.w4_pixels.specs.Clipping.{clipped}
 use Rattle.w4_shapes.specs.Painted.{rows_painter}
 
 -- one palette index, where one test or the other holds
@@ -64,11 +65,18 @@ pub row_box : (x0 x1 y : ℤ) (u v : ℕ) (index : Option ℕ)
     → box_painter x0 x1 y (y +ℤ pos 1) index u v ≡ span_painter x0 x1 y index u v
 row_box x0 x1 y u v index = rw (one_from y v) refl
 
-pub column_box : (x y0 y1 : ℤ) (u v : ℕ) (index : Option ℕ)
-    → box_painter x (x +ℤ pos 1) y0 y1 index u v ≡ column_painter x y0 y1 index u v
-column_box x y0 y1 u v index =
-    rw (one_from x u) (ap (λ t. only_if t index)
-    (three (is_at x u) (int_le y0 (pos v)) (int_lt (pos v) y1)))
+-- a column of the screen is the column of the coordinate
+pub column_all : (x top bottom : ℤ) (column first end u v : ℕ) (index : Option ℕ) → x ≡ pos column
+    → nat_le first v ≡ int_le top (pos v) → nat_le end v ≡ int_le bottom (pos v)
+    → clipped (λ a b. index) column (column + 1) first end u v ≡ column_painter x top bottom index u v
+column_all x top bottom column first end u v index e ht hb =
+    let here : (nat_le column u && nat_lt u (column + 1)) ≡ is_at x u = grind (arith, ints, nat_tests) in
+    let bottom_end : nat_lt v end ≡ int_lt (pos v) bottom = grind (arith, ints, nat_tests) in
+    ap (λ t. only_if t index)
+    (ap (λ t. t && (nat_le first v && nat_lt v end)) here
+    ∙ ap (λ t. is_at x u && (t && nat_lt v end)) ht
+    ∙ ap (λ t. is_at x u && (int_le top (pos v) && t)) bottom_end
+    ∙ three (is_at x u) (int_le top (pos v)) (int_lt (pos v) bottom))
 
 -- the four sides together, where each side's cells are in the box
 sides : (columns rows left right top bottom : Bool) → (left && columns) ≡ left → (right && columns) ≡ right

@@ -1,8 +1,10 @@
 -- The steps of a line, one by one.
-use Rattle.std.proofs.Common.{◌≡◌, ℕ, zero, suc, ◌+◌, ◌-◌, ◌<◌, ◌≤◌, ◌⊎◌, Bool, true, false, ◌&&◌, ◌||◌, cond, Option, None, refl, sym, ◌∙◌, ap, inl, inr, arith}
+use Rattle.std.proofs.Common.{◌≡◌, ℕ, zero, suc, ◌+◌, ◌-◌, ◌*◌, ◌/◌, min, max, ◌<◌, ◌≤◌, ◌⊎◌, Bool, true, false, ◌&&◌, ◌||◌, cond, Option, None, refl, sym, ◌∙◌, ap, inl, inr, arith}
 use Rattle.std.specs.Prelude.{ℤ, nat_le}
 use Rattle.std.specs.List.{range_with_len, list_any}
 use Rattle.std.specs.Option.{option_or}
+use Rattle.std.proofs.lemmas.Nat.{div-mul-add}
+use Rattle.std.proofs.Math.Nat.{mul-le-mul_right}
 use Rattle.std.proofs.lemmas.Bool.{cases_lt}
 use Rattle.std.proofs.lemmas.Bool.Decides.{nat_tests}
 use Rattle.w4_defs.specs.Shapes.{only_if, is_at, point_painter, points_painter, apart, toward, moved, minor_step}
@@ -130,3 +132,31 @@ pub high_off : (x1 x2 y1 y2 : ℤ) (t u v : ℕ) → apart x1 x2 ≤ apart y1 y2
     && is_at (toward y1 y2 (moved (apart y1 y2) (apart x1 x2) t)) v) ≡ false
 high_off x1 x2 y1 y2 t u v h off =
     no_other _ _ (ap (λ k. is_at (toward y1 y2 k) v) (each_step (apart y1 y2) (apart x1 x2) t h) ∙ off)
+
+-- ---- the axis of the lesser distance, step by step
+
+-- what it has moved, where the sum is kept as a whole number of steps and a rest
+pub lesser_moved : (moved rest step less most own other : ℕ) → own < other → less ≡ min own other
+    → most ≡ max (max own other) 1 → moved * most + rest ≡ step * less + (most - 1) / 2 → rest < most
+    → moved ≡ minor_step step own other
+lesser_moved moved rest step less most own other h el em sum below =
+    let same_less : less ≡ own = omega arith in
+    let same_most : most ≡ other = omega arith in
+    sym (div-mul-add moved most rest below) ∙ ap (λ n. n / most) sum
+    ∙ ap (λ n. (step * n + (most - 1) / 2) / most) same_less
+    ∙ ap (λ n. (step * own + (n - 1) / 2) / n) same_most
+
+-- it never moves further than its distance
+pub lesser_small : (step less most moved rest : ℕ) → step ≤ most → rest < most
+    → moved * most + rest ≡ step * less + (most - 1) / 2 → moved ≤ less
+lesser_small step less most moved rest h below sum = elim (cases_lt less moved) [
+  | inl above ↦ (
+      let product : step * less ≤ most * less = mul-le-mul_right less h in
+      let further : suc less * most ≤ moved * most = mul-le-mul_right most above in
+      let split : suc less * most ≡ most * less + most = grind arith in
+      absurd (omega arith))
+  | inr at_most ↦ at_most
+]
+
+pub one_more_step : (step less : ℕ) → step * less + less ≡ (step + 1) * less
+one_more_step step less = grind arith

@@ -3,11 +3,11 @@
 ghost use Rattle.std.specs.Option.{ForSome};
 ghost use Rattle.std.specs.Prelude.{◌+ℤ◌, ◌<◌, ◌<ℤ◌, ◌≡◌, ◌≤◌, Some};
 ghost use Rattle.w4_defs.specs.Framebuffer.{paint};
-ghost use Rattle.w4_defs.specs.Shapes.{box_painter, hline_painter, outline_painter, rect_painter, vline_painter};
+ghost use Rattle.w4_defs.specs.Shapes.{box_painter, column_painter, hline_painter, outline_painter, rect_painter, vline_painter};
 ghost use Rattle.w4_shapes.specs.Painted.{rows_painter};
 
 use w4_defs::PageBytes;
-use w4_pixels::{entry_of, on_screen, span};
+use w4_pixels::{column, entry_of, on_screen, span};
 
 /// Paints `len` pixels in colour 1 from (x, y) to the right; none where `len` is below 1.
 pub fn hline(page: &mut PageBytes, colors: u16, x: i32, y: i32, len: i32)
@@ -22,7 +22,7 @@ pub fn vline(page: &mut PageBytes, colors: u16, x: i32, y: i32, len: i32)
     ensures { page.new ≡ paint page.old (vline_painter colors x y len) }
 {
     let (x, y) = (i64::from(x), i64::from(y));
-    fill(page, x, x + 1, y, y + i64::from(len), entry_of(colors, 1));
+    fill_column(page, x, y, y + i64::from(len), entry_of(colors, 1));
 }
 
 /// Fills `w` by `h` pixels from (x, y) on in colour 1, then paints their first and last columns and rows
@@ -45,6 +45,25 @@ fn fill(page: &mut PageBytes, left: i64, right: i64, top: i64, bottom: i64, inde
 {
     if let Some(index) = index {
         fill_rows(page, left, right, on_screen(top), on_screen(bottom), index);
+    }
+}
+
+/// Paints the rows from `top` up to `bottom` of column `x`.
+fn fill_column(page: &mut PageBytes, x: i64, top: i64, bottom: i64, index: Option<u8>)
+    requires { ForSome index (λ e. e < 4) }
+    ensures { page.new ≡ paint page.old (column_painter x top bottom index) }
+{
+    if let Some(index) = index {
+        put_column(page, x, top, bottom, index);
+    }
+}
+
+fn put_column(page: &mut PageBytes, x: i64, top: i64, bottom: i64, index: u8)
+    requires { index < 4 }
+    ensures { page.new ≡ paint page.old (column_painter x top bottom (Some index)) }
+{
+    if 0 <= x && x < 160 {
+        column(page, x as usize, on_screen(top), on_screen(bottom), index);
     }
 }
 

@@ -1,7 +1,7 @@
 //! The four channels: pulse 1, pulse 2, triangle and noise.
 
-ghost use Rattle.std.specs.Prelude.{◌≡◌, ◌<◌, None, option_map, slice_index_or};
-ghost use Rattle.w4_defs.specs.Tones.{IsTone, all_aged, channels_after_tone, silent, sound_of, sounds_at};
+ghost use Rattle.std.specs.Prelude.{◌≡◌, ◌<◌, All, length, None, option_map, slice_index_or};
+ghost use Rattle.w4_defs.specs.Tones.{IsPlaying, IsTone, all_aged, channels_after_tone, silent, sound_of, sounds_at};
 
 use crate::voice::{begun, channel_sound, one_frame_on};
 use std::marker::Model;
@@ -65,6 +65,17 @@ impl Channels {
         ensures { result ≡ option_map (sound_of tick) (slice_index_or self.now channel None) }
     {
         channel_sound(self.voices[channel], tick)
+    }
+
+    /// The tone that a channel plays. None if and only if the channel is silent. The other clauses say what
+    /// is true of all channels.
+    pub fn tone(&self, channel: usize) -> Option<Tone>
+        requires { channel < 4 }
+        ensures tone { result ≡ option_map (λ voice. voice.tone) (slice_index_or self.now channel None) }
+        ensures four { length self.now ≡ 4 }
+        ensures playing { All IsPlaying self.now }
+    {
+        self.voices[channel].map(|voice| voice.tone)
     }
 
     /// What all four channels sound at a tick of the present frame.

@@ -7,7 +7,7 @@ pub returns-in-Utf16 : goal.returns-in-Utf16
 returns-in-Utf16 c =
     let page = with_snapshot c.args.page.now c.args.snapshot.now in
     let ptr : c.from-in-Utf16.result ≡ c.in-Utf16.ptr = c.from-in-Utf16.ensures in
-    let within = rw c.in-Utf16.is at c.requires in
+    let within = rw c.in-Utf16.is at c.requires.there in
     rw (c.in-Utf16.is, c.from-in-Utf16-2.ensures, c.from-in-Utf16-3.ensures)
     (unit_at page c.in-Utf16.ptr c.in-Utf16.len c.args.k c.source_byte-low.result c.source_byte-high.result
     within

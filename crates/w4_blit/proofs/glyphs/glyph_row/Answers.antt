@@ -1,24 +1,35 @@
-use Rattle.std.proofs.Common.{◌+◌, arith}
-use Rattle.w4_defs.proofs.PaintLaws.{paint_off, paint_step}
-use Rattle.w4_pixels.proofs.ClippingLaws.{boxed_none, cell_more}
+use Rattle.std.proofs.Common.{◌≡◌, ℕ, ◌+◌, ◌-◌, ◌*◌, get_or, ap, ◌∙◌, arith, rules, w64, to_z, of_z}
+use Rattle.std.specs.Prelude.{pos, ◌-ℤ◌}
+use Rattle.w4_defs.specs.Shapes.{natural}
+use Rattle.w4_defs.proofs.PaintLaws.{paint_ext, paint_off}
+use Rattle.w4_pixels.proofs.ClippingLaws.{boxed_none}
 use Rattle.w4_blit.specs.Unclipped.{bits_painter}
+use Rattle.w4_blit.proofs.TextLaws.{row_of_glyph}
 use Rattle.w4_blit.proofs.glyphs.glyph_row.Goals as goal
 
-pub loop-u-init : goal.loop-u-init
-loop-u-init c =
+pub returns-then-left-right : goal.returns-then-left-right
+returns-then-left-right c =
     let g = c.args.glyph in
-    let f = bits_painter c.args.font.now g.colors g.code g.x g.y in (
-      paint_off c.args.page.now _ c.told-page c.fits-page
-          (λ a b ha hb. boxed_none f c.args.left c.args.left c.args.v (c.args.v + 1) a b (omega arith)),
-      omega arith,
-    )
+    let font = c.args.font.now in
+    let y : to_z w64 (of_z w64 g.y) ≡ g.y = search rules in
+    let x : to_z w64 (of_z w64 g.x) ≡ g.x = search rules in
+    let put = simp (x) at c.put_row.ensures in
+    let first : 8 * c.from-first.result ≡ 8 * (g.code - 32) =
+    ap (λ (n : ℕ). 8 * n) (c.from-first.ensures ∙ c.saturating_sub.ensures) in
+    let below : c.offset.result ≡ natural (pos c.args.v -ℤ g.y) =
+    c.offset.ensures.value ∙ ap (λ z. natural (pos c.args.v -ℤ z)) y in
+    let bits : c.byte.result ≡ get_or font (8 * (g.code - 32) + natural (pos c.args.v -ℤ g.y)) 0 =
+    c.byte.ensures ∙ ap (λ (n : ℕ). get_or font (n + c.offset.result) 0) first
+    ∙ ap (λ (n : ℕ). get_or font (8 * (g.code - 32) + n) 0) below in
+    put ∙ paint_ext c.args.page.now _ _ c.told-page
+    (λ a b ha hb. row_of_glyph font g.colors g.code c.byte.result c.entry_of.result
+    c.entry_of-then-left-right.result g.x
+    g.y c.args.left c.args.right c.args.v a b bits c.entry_of.ensures.value
+    c.entry_of-then-left-right.ensures.value)
 
-pub loop-u-preserved : goal.loop-u-preserved
-loop-u-preserved c =
+pub returns-else-left-right : goal.returns-else-left-right
+returns-else-left-right c =
     let g = c.args.glyph in
-    let f = bits_painter c.args.font.now g.colors g.code g.x g.y in (
-      rw (c.cell.ensures, c.bit_index-index.ensures.value, c.loop-u.invariant.0)
-          (paint_step c.args.page.now _ _ _ c.told-page
-          (λ a b ha hb. cell_more f c.args.left c.loop-u.u c.args.v a b c.loop-u.auto.u)),
-      omega arith,
-    )
+    paint_off c.args.page.now _ c.told-page c.fits-page
+    (λ a b ha hb. boxed_none (bits_painter c.args.font.now g.colors g.code g.x g.y) c.args.left c.args.right
+    c.args.v (c.args.v + 1) a b (omega arith))

@@ -3,6 +3,7 @@ use Rattle.std.proofs.lemmas.Int.{ints}
 use Rattle.std.specs.Prelude.{◌+ℤ◌, int_le}
 use Rattle.w4_defs.proofs.PaintLaws.{paint_off, paint_step, paint_ext}
 use Rattle.w4_pixels.proofs.ClippingLaws.{boxed_no_row, row_more, boxed_down, boxed_all}
+use Rattle.w4_blit.proofs.TextLaws.{first_column, last_column}
 use Rattle.w4_blit.specs.Unclipped.{bits_painter}
 use Rattle.w4_blit.proofs.glyphs.glyph_rows.Goals as goal
 
@@ -16,6 +17,20 @@ loop-v-init c =
           (omega arith)),
       omega arith,
     )
+
+pub glyph_row-requires-clause-from : goal.glyph_row-requires-clause-from
+glyph_row-requires-clause-from c = λ some.
+    let g = c.args.glyph in
+    let x : to_z w64 (of_z w64 g.x) ≡ g.x = omega (arith, ints) in
+    first_column g.x c.on_screen-left.result (omega (arith, c.on_screen-right.ensures.bound))
+    (λ u hu. c.on_screen-left.ensures.same u hu ∙ ap (λ z. int_le z (pos u)) x)
+
+pub glyph_row-requires-clause-to : goal.glyph_row-requires-clause-to
+glyph_row-requires-clause-to c = λ some.
+    let g = c.args.glyph in
+    let x8 : to_z w64 (of_z w64 (to_z w64 (of_z w64 g.x) +ℤ pos 8)) ≡ g.x +ℤ pos 8 = omega (arith, ints) in
+    last_column (g.x +ℤ pos 8) c.on_screen-right.result (omega arith) c.on_screen-right.ensures.bound
+    (λ u hu. c.on_screen-right.ensures.same u hu ∙ ap (λ z. int_le z (pos u)) x8)
 
 pub loop-v-preserved : goal.loop-v-preserved
 loop-v-preserved c =

@@ -27,7 +27,10 @@ code_at-code-requires c =
     let same : with_snapshot c.loop-k.page snapshot ≡ with_snapshot c.args.page.now snapshot =
     ap (λ (p : List ℕ). with_snapshot p snapshot) painted
     ∙ with_snapshot-paint c.args.page.now snapshot f in
-    rw same (omega (arith, c.code_count-count.ensures.value))
+    record {
+      there = rw same (omega (arith, c.code_count-count.ensures.value));
+      small = omega (arith, c.code_count-count.ensures.bound);
+    }
 
 pub loop-k-preserved : goal.loop-k-preserved
 loop-k-preserved c =

@@ -19,8 +19,8 @@ returns-in_err-settle-clause-linked g c all =
     (λ i le. all i (subst (λ (n : ℕ). i ≤ n) c.last_up_to-last.ensures le)) in
     absurd cc
 
-pub go_on-requires-clause-from : goal.go_on-requires-clause-from
-go_on-requires-clause-from g c =
+pub run_from_entry-requires-clause-from : goal.run_from_entry-requires-clause-from
+run_from_entry-requires-clause-from g c =
     let below = last_below c.args.p c.args.kept.now c.requires.begin in
     let same = c.settle.ensures.places.places c.last_up_to-last.result in
     let there = ap (place_at c.args.kept.now) c.last_up_to-last.ensures in
@@ -36,9 +36,10 @@ returns-clause-state g c disk is =
     let below = last_below c.args.p c.args.kept.now c.requires.begin in
     let same = c.settle.ensures.places.places last in
     let there = ap (place_at c.args.kept.now) last_is in
-    run_shown (setup_of c.args.player.now) disk c.args.inputs.now new last c.args.p c.go_on.new.player.state
+    run_shown (setup_of c.args.player.now) disk c.args.inputs.now new last c.args.p
+    c.run_from_entry.new.player.state
     (c.settle.ensures.consistent disk is)
     (omega (arith, within, last_is, long)) c.in_ok-settle.ensures.settled.linked
     (omega (arith, below, same, there))
-    (subst (λ (s : Setup). ShowsFrom s c.args.inputs.now new last c.args.p c.go_on.new.player.state)
-    (same_setup c.args.player.now c.settle.new.player c.settle.ensures.same) c.go_on.ensures.state)
+    (subst (λ (s : Setup). ShowsFrom s c.args.inputs.now new last c.args.p c.run_from_entry.new.player.state)
+    (same_setup c.args.player.now c.settle.new.player c.settle.ensures.same) c.run_from_entry.ensures.state)

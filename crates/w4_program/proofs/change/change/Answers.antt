@@ -2,7 +2,7 @@ use Rattle.std.proofs.Common.{None}
 use Rattle.w4_defs.specs.KeptList.{kept_entries, nowhere}
 use Rattle.w4_defs.specs.Session.{places_alone, set_input, insert_input, delete_input, undo, redo, drop_kept}
 use Rattle.w4_program.specs.Editors.{place_session}
-use Rattle.w4_program.proofs.ChangeLaws.{no_input, changed_by, changed_exactly, changed_by_keep, changed_by_settle}
+use Rattle.w4_program.proofs.ChangeLaws.{no_input, changed_by, changed_exactly, changed_by_keep}
 use Rattle.w4_program.proofs.change.change.Goals as goal
 
 pub returns-in-Set : goal.returns-in-Set
@@ -68,10 +68,3 @@ returns-in-DropKept g c =
     old c.drop_kept.new.self old.at (c.places_decide.ensures old.session c.in-DropKept.p no_input nowhere).6
     c.drop_kept.ensures.ok c.drop_kept.ensures.others c.drop_kept.ensures.refused
     c.drop_kept.ensures.unchanged)
-
-pub returns-in-Settle : goal.returns-in-Settle
-returns-in-Settle g c =
-    let old = c.args.editor.now in
-    rw c.in-Settle.is
-    (changed_by_settle c.settle.result c.args.steps.now c.settle.new.steps old c.settle.new.self
-    c.settle.ensures.ok c.settle.ensures.refused)

@@ -23,3 +23,15 @@ returns-in-Edit-clause-ends g c = rw c.in-Edit.is c.edit.ensures.ends
 
 pub returns-in-Make-clause-ends : goal.returns-in-Make-clause-ends
 returns-in-Make-clause-ends g c = rw c.in-Make.is c.make_cart.ensures.ends
+
+pub returns-in-Wave-clause-ends : goal.returns-in-Wave-clause-ends
+returns-in-Wave-clause-ends g c = rw c.in-Wave.is c.wave.ensures.ends
+
+pub returns-in-Net-clause-ends : goal.returns-in-Net-clause-ends
+returns-in-Net-clause-ends g c = rw c.in-Net.is c.net.ensures.ends
+
+pub returns-in-Ram-clause-ends : goal.returns-in-Ram-clause-ends
+returns-in-Ram-clause-ends g c = rw c.in-Ram.is c.ram.ensures.ends
+
+pub returns-in-Batch-clause-ends : goal.returns-in-Batch-clause-ends
+returns-in-Batch-clause-ends g c = rw c.in-Batch.is c.run_list.ensures.ends

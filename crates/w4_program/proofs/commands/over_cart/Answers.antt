@@ -1,5 +1,5 @@
 use Rattle.w4_program.specs.Endings.{manner_of}
-use Rattle.w4_program.specs.Output.{output_of}
+use Rattle.w4_program.specs.Outputs.{output_of}
 use Rattle.w4_program.specs.Views.{cart_view, form_view}
 use Rattle.w4_program.proofs.EndLaws.{ends_unjudged, ends_judged}
 use Rattle.w4_program.proofs.commands.over_cart.Goals as goal

@@ -37,3 +37,23 @@ returns-in-Edit-clause-ends g c =
 
 pub returns-in-Make-clause-ends : goal.returns-in-Make-clause-ends
 returns-in-Make-clause-ends g c = rw c.in-Make.is c.make_cart.ensures.ends
+
+pub returns-in-Net-clause-ends : goal.returns-in-Net-clause-ends
+returns-in-Net-clause-ends g c =
+    let ends = rw c.in-Net.is at c.over_cart-in-Net.ensures.ends in
+    rw c.in-Net.is ends
+
+pub returns-in-Ram-clause-ends : goal.returns-in-Ram-clause-ends
+returns-in-Ram-clause-ends g c =
+    let ends = rw c.in-Ram.is at c.over_cart-in-Ram.ensures.ends in
+    rw c.in-Ram.is ends
+
+pub returns-in-Wave-clause-ends : goal.returns-in-Wave-clause-ends
+returns-in-Wave-clause-ends g c =
+    let ends = rw c.in-Wave.is at c.over_cart-in-Wave.ensures.ends in
+    rw c.in-Wave.is ends
+
+pub returns-in-Batch-clause-ends : goal.returns-in-Batch-clause-ends
+returns-in-Batch-clause-ends g c =
+    let ends = rw c.in-Batch.is at c.over_cart-in-Batch.ensures.ends in
+    rw c.in-Batch.is ends

@@ -1,4 +1,4 @@
-use Rattle.std.proofs.Common.{◌≡◌, ◌+◌, ◌-◌, Some, sym, ◌∙◌, ap, arith, subst, option_map}
+use Rattle.std.proofs.Common.{◌≡◌, ◌+◌, ◌-◌, Some, arith, subst, option_map}
 use Rattle.w4_defs.specs.Run.{run}
 use Rattle.w4_defs.specs.State.{Moment}
 use Rattle.w4_devices.specs.Records.{record_of}

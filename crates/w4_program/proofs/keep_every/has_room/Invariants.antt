@@ -1,4 +1,4 @@
-use Rattle.std.proofs.Common.{◌≡◌, ◌+◌, length}
+use Rattle.std.proofs.Common.{◌+◌, length}
 use Rattle.w4_program.specs.Editors.{all_to_keep, place_session}
 use Rattle.w4_program.proofs.KeepEveryLaws.{Counted}
 use Rattle.w4_program.proofs.keep_every.has_room.Given as goal

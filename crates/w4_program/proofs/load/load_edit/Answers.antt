@@ -2,7 +2,7 @@
 use Rattle.std.proofs.Common.{Ok}
 use Rattle.std.proofs.lemmas.Result.{err_from_is_err_and}
 use Rattle.w4_program.specs.Endings.{manner_of}
-use Rattle.w4_program.specs.Output.{◌>>=◌, run_files, orders_in, edit_files}
+use Rattle.w4_program.specs.Output.{◌>>=◌, run_files, script_in, edit_files}
 use Rattle.w4_program.specs.Views.{run_view, played_view}
 use Rattle.w4_program.proofs.StepLaws.{stops_first, stops_later}
 use Rattle.w4_program.proofs.load.load_edit.Goals as goal
@@ -15,7 +15,7 @@ returns-in_err-run-clause-gives g c =
     (stops_first (g.H.House.world c.args.house.now) (g.H.House.world c.load_run.new.house)
     (manner_of c.in_err-run.field-0.0)
     (λ files. run_files c.args.digest.now (run_view c.args.names.run) files)
-    (λ files run. orders_in files c.args.names.script.now >>= λ orders.
+    (λ files run. script_in files c.args.names.script.now >>= λ orders.
     Ok (record { run = run; orders = orders }))
     c.in_err-run.ensures.gives)
 
@@ -29,9 +29,9 @@ returns-in_err-orders-clause-gives g c =
     (stops_later (g.H.House.world c.args.house.now) (g.H.House.world c.load_run.new.house)
     (g.H.House.world c.load_orders.new.house) (manner_of c.in_err-orders.field-0.0)
     (λ files. run_files c.args.digest.now (run_view c.args.names.run) files) run
-    (λ files run. orders_in files c.args.names.script.now >>= λ orders.
+    (λ files run. script_in files c.args.names.script.now >>= λ orders.
     Ok (record { run = run; orders = orders }))
     c.in_ok-run.ensures.rest c.in_ok-run.ensures.gives
     (stops_first (g.H.House.world c.load_run.new.house) (g.H.House.world c.load_orders.new.house)
-    (manner_of c.in_err-orders.field-0.0) (λ files. orders_in files c.args.names.script.now)
+    (manner_of c.in_err-orders.field-0.0) (λ files. script_in files c.args.names.script.now)
     (λ files orders. Ok (record { run = run; orders = orders })) c.in_err-orders.ensures.gives))

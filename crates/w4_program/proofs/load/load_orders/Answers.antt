@@ -1,11 +1,11 @@
 use Rattle.std.proofs.lemmas.Result.{err_from_is_err_and}
 use Rattle.w4_program.specs.Endings.{manner_of}
-use Rattle.w4_program.specs.Output.{reading, orders_of, orders_in}
+use Rattle.w4_program.specs.Output.{reading, orders_of, script_in}
 use Rattle.w4_program.proofs.StepLaws.{stops_first, judged_by}
 use Rattle.w4_program.proofs.load.load_orders.Goals as goal
 
 pub returns-in_err-bytes-clause-gives : goal.returns-in_err-bytes-clause-gives
-unfolding orders_in
+unfolding script_in
 returns-in_err-bytes-clause-gives g c =
     let p = err_from_is_err_and c.from_residual.result c.from_residual.ensures.1 in
     rw (p.1, p.2)
@@ -14,7 +14,7 @@ returns-in_err-bytes-clause-gives g c =
     (λ files bytes. orders_of bytes) c.in_err-bytes.ensures.gives)
 
 pub returns-clause-gives : goal.returns-clause-gives
-unfolding orders_in
+unfolding script_in
 returns-clause-gives g c =
     judged_by (g.H.House.world c.args.house.now) (g.H.House.world c.read_file.new.house)
     (λ orders. orders.items) c.judge_script.result orders_of 1048576 c.args.name.now

@@ -1,7 +1,8 @@
 use Rattle.std.proofs.Common.{sym, subst}
-use Rattle.std.specs.Prelude.{OnOk}
+use Rattle.std.specs.Prelude.{ℕ, OnOk}
+use Rattle.w4_defs.specs.Session.{Session}
 use Rattle.w4_editor.specs.Editing.{editing_setup}
-use Rattle.w4_program.specs.Answering.{Answered}
+use Rattle.w4_program.specs.Answers.{Answered}
 use Rattle.w4_program.specs.Editors.{IsAnswered, place_session}
 use Rattle.w4_program.proofs.ChangeLaws.{change_answers}
 use Rattle.w4_program.specs.declared.place_text.PlaceText.TheVariants.{Image, DiskBytes}
@@ -15,7 +16,7 @@ returns-in-Show-clause-answered g c =
     c.args.desk.now.editor c.tell_range.new.desk.editor Image c.in-Show.p c.tell_range.ensures.answered)
 
 pub returns-in-Film-clause-answered : goal.returns-in-Film-clause-answered
-returns-in-Film-clause-answered g c = rw c.in-Film.is c.film.ensures.answered
+returns-in-Film-clause-answered g c = rw c.in-Film.is c.tell_film.ensures.answered
 
 pub returns-in-Tones-clause-answered : goal.returns-in-Tones-clause-answered
 returns-in-Tones-clause-answered g c = rw c.in-Tones.is c.tell_range-in-Tones.ensures.answered
@@ -37,7 +38,8 @@ pub returns-in_default-clause-answered : goal.returns-in_default-clause-answered
 returns-in_default-clause-answered g c =
     let old = c.args.desk.now.editor in
     let other = c.in_default in
-    subst (λ (a : Answered). OnOk c.answer_change.result (IsAnswered (g.H.House.world c.args.house.now)
+    subst (λ (a : Answered (Session ℕ)). OnOk c.answer_change.result (IsAnswered (g.H.House.world
+    c.args.house.now)
     (g.H.House.world c.answer_change.new.house) old c.answer_change.new.editor a))
     (sym (change_answers (editing_setup old) old.disk (place_session old) c.args.order.now other.not-Show
     other.not-Film other.not-Tones other.not-Traces other.not-DiskAt other.not-StateAt))

@@ -1,7 +1,7 @@
 use Rattle.std.proofs.Common.{get_or}
 use Rattle.w4_editor.specs.Editing.{editing_setup}
 use Rattle.w4_house.proofs.WorldLaws.{printing_then}
-use Rattle.w4_program.specs.Answering.{answers}
+use Rattle.w4_program.specs.Answering.{answer, answers}
 use Rattle.w4_program.specs.Editors.{place_session}
 use Rattle.w4_program.proofs.AnswerLaws.{past_end, answered_at_first, answers-out-step, answers-session-step, answers-done}
 use Rattle.w4_program.proofs.SessionLaws.{rest_then}
@@ -20,10 +20,10 @@ loop-order-preserved g c =
     let rest = c.loop-order.invariant.2 in
     let order = get_or c.args.orders.now c.loop-order.order-index past_end in
     let one = answered_at_first before after first now next order rest c.in_ok-answer.ensures.answered in (
-      answers-out-step begin before after setup first.disk (place_session now) (place_session next)
+      answers-out-step begin before after (answer setup first.disk) (place_session now) (place_session next)
           c.args.orders.now c.loop-order.order-index past_end whole.out c.loop-order-test.true one.session
           one.out c.loop-order.invariant.0,
-      answers-session-step setup first.disk (place_session now) (place_session next)
+      answers-session-step (answer setup first.disk) (place_session now) (place_session next)
           c.args.orders.now c.loop-order.order-index past_end whole.session c.loop-order-test.true
           one.session c.loop-order.invariant.1,
       rest_then first now next rest one.rest,

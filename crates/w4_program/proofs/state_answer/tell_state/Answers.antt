@@ -1,7 +1,6 @@
-use Rattle.std.proofs.Common.{length, sym, ap, ◌∙◌}
+use Rattle.std.proofs.Common.{length, sym, ◌∙◌}
 use Rattle.w4_defs.specs.FrameTexts.{state_line}
 use Rattle.w4_defs.specs.Run.{run}
-use Rattle.w4_defs.specs.Session.{Session}
 use Rattle.w4_editor.specs.Editing.{editing_setup}
 use Rattle.w4_program.specs.Answering.{if_place, no_frame, state_answer}
 use Rattle.w4_program.specs.Editors.{place_session}

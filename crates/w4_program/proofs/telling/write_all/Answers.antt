@@ -1,8 +1,8 @@
-use Rattle.std.proofs.Common.{◌+◌, ◌-◌, arith}
+use Rattle.std.proofs.Common.{◌+◌, ◌-◌}
 use Rattle.w4_house.proofs.WorldLaws.{printing_then}
 use Rattle.w4_program.specs.Editors.{text_by}
 use Rattle.w4_program.specs.Texts.{place_texts}
-use Rattle.w4_program.proofs.SessionLaws.{same_inputs, same_text, shows_then}
+use Rattle.w4_program.proofs.SessionLaws.{same_text, shows_then}
 use Rattle.w4_program.proofs.TellLaws.{texts-more, texts-all}
 use Rattle.w4_program.proofs.telling.write_all.Goals as goal
 

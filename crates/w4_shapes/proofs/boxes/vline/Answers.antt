@@ -1,9 +1,6 @@
-use Rattle.std.proofs.Common.{◌≡◌, arith, w64, pos, to_z, of_z}
+use Rattle.std.proofs.Common.{◌≡◌, refl, arith, w64, to_z, of_z}
 use Rattle.std.specs.Prelude.{◌+ℤ◌}
 use Rattle.std.proofs.lemmas.Int.{ints}
-use Rattle.w4_defs.specs.Colours.{palette_index}
-use Rattle.w4_defs.proofs.PaintLaws.{paint_ext}
-use Rattle.w4_shapes.proofs.BoxTests.{column_box}
 use Rattle.w4_shapes.proofs.boxes.vline.Goals as goal
 
 pub returns : goal.returns
@@ -12,8 +9,5 @@ returns c =
     let x : to_z w64 (of_z w64 c.from-x.result) ≡ a.x = omega (arith, ints) in
     let y : to_z w64 (of_z w64 c.from-y.result) ≡ a.y = omega (arith, ints) in
     let len : to_z w64 (of_z w64 c.from.result) ≡ a.len = omega (arith, ints) in
-    let right : to_z w64 (of_z w64 (a.x +ℤ pos 1)) ≡ a.x +ℤ pos 1 = omega (arith, ints) in
     let below : to_z w64 (of_z w64 (a.y +ℤ a.len)) ≡ a.y +ℤ a.len = omega (arith, ints) in
-    rw (c.fill.ensures, x, y, len, right, below, c.entry_of.ensures.value)
-    (paint_ext a.page.now _ _ c.told-page
-    (λ u v hu hv. column_box a.x a.y (a.y +ℤ a.len) u v (palette_index a.colors 1)))
+    rw (c.fill_column.ensures, x, y, len, below, c.entry_of.ensures.value) refl

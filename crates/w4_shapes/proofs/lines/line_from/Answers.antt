@@ -5,13 +5,72 @@ use Rattle.w4_defs.specs.Framebuffer.{paint}
 use Rattle.w4_defs.specs.Shapes.{apart, toward, moved, point_painter, line_from}
 use Rattle.w4_shapes.specs.Painted.{steps_painter}
 use Rattle.w4_defs.proofs.PaintLaws.{paint_off, paint_step, paint_ext}
-use Rattle.w4_shapes.proofs.StepLaws.{steps_none, steps_more, steps_all}
+use Rattle.w4_shapes.proofs.StepLaws.{steps_none, steps_more, steps_all, lesser_moved, lesser_small, one_more_step}
 use Rattle.w4_shapes.proofs.lines.line_from.Goals as goal
 
 pub loop-step-init : goal.loop-step-init
-loop-step-init c =
-    paint_off c.args.page.now _ c.told-page c.fits-page
-    (λ u v hu hv. steps_none _ _ c.line_steps-first.result.0 u v c.args.index)
+loop-step-init c = record {
+  painted = paint_off c.args.page.now _ c.told-page c.fits-page
+      (λ u v hu hv. steps_none _ _ c.line_steps-first.result.0 u v c.args.index);
+  sum = c.slope_at-slope.ensures.sum;
+  rest = c.slope_at-slope.ensures.rest;
+}
+
+pub axis_at-x-requires-clause-lesser : goal.axis_at-x-requires-clause-lesser
+axis_at-x-requires-clause-lesser c = λ h.
+    lesser_moved c.loop-step.slope.moved c.loop-step.slope.rest c.loop-step.step c.min-less.result
+    c.max-most.result c.distance-wide.result c.distance-high.result h
+    (omega (arith, c.min-less.ensures)) (omega (arith, c.max-most.ensures, c.max.ensures))
+    c.loop-step.invariant.sum c.loop-step.invariant.rest
+
+pub axis_at-y-requires-clause-lesser : goal.axis_at-y-requires-clause-lesser
+axis_at-y-requires-clause-lesser c = λ h.
+    lesser_moved c.loop-step.slope.moved c.loop-step.slope.rest c.loop-step.step c.min-less.result
+    c.max-most.result c.distance-high.result c.distance-wide.result h
+    (omega (arith, c.min-less.ensures)) (omega (arith, c.max-most.ensures, c.max.ensures))
+    c.loop-step.invariant.sum c.loop-step.invariant.rest
+
+pub axis_at-x-requires-clause-small : goal.axis_at-x-requires-clause-small
+axis_at-x-requires-clause-small c =
+    let small = lesser_small c.loop-step.step c.min-less.result c.max-most.result c.loop-step.slope.moved
+    c.loop-step.slope.rest (omega (
+      arith,
+      c.line_steps-first.ensures.bound,
+      c.distance-wide.ensures.value,
+      c.distance-high.ensures.value,
+      c.max-most.ensures,
+      c.max.ensures,
+    )) c.loop-step.invariant.rest
+    c.loop-step.invariant.sum in
+    omega (arith, small, c.min-less.ensures)
+
+pub axis_at-y-requires-clause-small : goal.axis_at-y-requires-clause-small
+axis_at-y-requires-clause-small c =
+    let small = lesser_small c.loop-step.step c.min-less.result c.max-most.result c.loop-step.slope.moved
+    c.loop-step.slope.rest (omega (
+      arith,
+      c.line_steps-first.ensures.bound,
+      c.distance-wide.ensures.value,
+      c.distance-high.ensures.value,
+      c.max-most.ensures,
+      c.max.ensures,
+    )) c.loop-step.invariant.rest
+    c.loop-step.invariant.sum in
+    omega (arith, small, c.min-less.ensures)
+
+pub next_slope-slope-requires-clause-moved : goal.next_slope-slope-requires-clause-moved
+next_slope-slope-requires-clause-moved c =
+    let small = lesser_small c.loop-step.step c.min-less.result c.max-most.result c.loop-step.slope.moved
+    c.loop-step.slope.rest (omega (
+      arith,
+      c.line_steps-first.ensures.bound,
+      c.distance-wide.ensures.value,
+      c.distance-high.ensures.value,
+      c.max-most.ensures,
+      c.max.ensures,
+    )) c.loop-step.invariant.rest
+    c.loop-step.invariant.sum in
+    omega (arith, small, c.min-less.ensures)
 
 pub loop-step-preserved : goal.loop-step-preserved
 loop-step-preserved c =
@@ -25,7 +84,7 @@ loop-step-preserved c =
     let first = c.line_steps-first.result.0 in
     let step = c.loop-step.step in
     let before : c.loop-step.page ≡ paint a.page.now (steps_painter xs ys first step a.index) =
-    c.loop-step.invariant in
+    c.loop-step.invariant.painted in
     let wide : c.distance-wide.result ≡ apart x1 x2 = c.distance-wide.ensures.value in
     let high : c.distance-high.result ≡ apart y1 y2 = c.distance-high.ensures.value in
     let x_bits : to_z w64 (of_z w64 c.axis_at-x.result) ≡ c.axis_at-x.result = omega (arith, ints) in
@@ -41,9 +100,18 @@ loop-step-preserved c =
     ∙ ap (λ z. paint c.loop-step.page (point_painter z (to_z w64 (of_z w64 c.axis_at-y.result)) a.index))
     (x_bits ∙ x)
     ∙ ap (λ z. paint c.loop-step.page (point_painter (xs step) z a.index)) (y_bits ∙ y) in
-    dotted ∙ ap (λ p. paint p (point_painter (xs step) (ys step) a.index)) before
-    ∙ paint_step a.page.now _ _ _ c.told-page
-    (λ u v hu hv. steps_more xs ys first step u v a.index c.loop-step.auto.step)
+    record {
+      painted = dotted ∙ ap (λ p. paint p (point_painter (xs step) (ys step) a.index)) before
+          ∙ paint_step a.page.now _ _ _ c.told-page
+          (λ u v hu hv. steps_more xs ys first step u v a.index c.loop-step.auto.step);
+      sum = omega (
+        arith,
+        c.next_slope-slope.ensures.sum,
+        c.loop-step.invariant.sum,
+        one_more_step c.loop-step.step c.min-less.result,
+      );
+      rest = c.next_slope-slope.ensures.rest;
+    }
 
 pub returns : goal.returns
 returns c =
@@ -59,7 +127,7 @@ returns c =
     let last : c.loop-step.step ≡ end =
     omega (arith, c.line_steps-first.ensures.order, c.loop-step.auto.step-end) in
     let before : c.loop-step.page ≡ paint a.page.now (steps_painter xs ys first c.loop-step.step a.index) =
-    c.loop-step.invariant in
+    c.loop-step.invariant.painted in
     let whole : c.loop-step.page ≡ paint a.page.now (line_from x1 y1 x2 y2 a.index) =
     before ∙ ap (λ k. paint a.page.now (steps_painter xs ys first k a.index)) last
     ∙ paint_ext a.page.now _ _ c.told-page

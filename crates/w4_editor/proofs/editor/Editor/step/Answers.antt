@@ -11,6 +11,7 @@ returns g c = (
     state = next_state (record_of c.go_on.new.made) c.args.self.now c.go_on.new.self c.state.result.now
         c.in_ok-go_on.ensures.ok c.state.ensures;
     ticks = c.in_ok-go_on.ensures.ticks;
+    idle = tt;
     refused = tt;
   },
 )

@@ -1,7 +1,7 @@
 use Rattle.std.proofs.Common.{arith}
 use Rattle.w4_console.specs.ConsoleCalls.{moment}
 use Rattle.w4_editor.specs.Playing.{setup_of}
-use Rattle.w4_editor.proofs.PlayLaws.{fold_more, frame_of, still_in_state}
+use Rattle.w4_editor.proofs.PlayLaws.{fold_more, frame_as_first, still_in_state}
 use Rattle.w4_editor.proofs.player.Player.run.Goals as goal
 
 pub loop-input-preserved : goal.loop-input-preserved
@@ -16,7 +16,7 @@ loop-input-preserved g c =
       fold_more (setup_of first) first.state now.state
           (moment next.state c.frame.new.made) c.args.inputs.now i _
           c.loop-input-test.true so_far.0
-          (frame_of first now _ (moment next.state c.frame.new.made) so_far.1 c.frame.ensures.frame),
+          (frame_as_first first now _ (moment next.state c.frame.new.made) so_far.1 c.frame.ensures.frame),
       still_in_state first now next so_far.1 c.frame.ensures.same,
       c.frame.ensures.globals,
       omega (arith, ticks, ticks_so_far),

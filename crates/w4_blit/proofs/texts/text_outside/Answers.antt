@@ -1,0 +1,15 @@
+use Rattle.std.proofs.Common.{◌≡◌, w64, to_z, of_z, refl, arith}
+use Rattle.std.proofs.lemmas.Int.{ints}
+use Rattle.w4_blit.proofs.SnapshotLaws.{behind_codes}
+use Rattle.w4_blit.proofs.texts.text_outside.Goals as goal
+
+pub returns : goal.returns
+returns c =
+    let column : to_z w64 (of_z w64 c.from.result) ≡ c.args.x = omega (arith, ints) in
+    let row : to_z w64 (of_z w64 c.from-2.result) ≡ c.args.y = omega (arith, ints) in
+    rw (
+      c.put_codes.ensures,
+      behind_codes c.args.page.now _ c.args.source c.told-page c.requires,
+      column,
+      row,
+    ) refl

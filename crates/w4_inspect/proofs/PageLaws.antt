@@ -1,0 +1,29 @@
+-- The pages of an editor whose recording stays.
+use Rattle.std.proofs.Common.{◌≡◌, ℕ, List, Option, ap, ◌∙◌}
+use Rattle.w4_defs.specs.declared.console.Input.{Input}
+use Rattle.w4_defs.specs.Reset.{Setup}
+use Rattle.w4_defs.specs.Run.{run_state}
+use Rattle.w4_editor.specs.Editing.{Editing, editing_setup, with_session}
+use Rattle.w4_editor.specs.Showing.{KeepsRecording}
+use Rattle.w4_inspect.specs.Pages.{page_of, page_at}
+use Rattle.w4_inspect.specs.Watching.{value_at}
+
+abbrev pages : Setup → List ℕ → List Input → ℕ → List ℕ
+pages setup disk inputs p = page_of (run_state setup disk inputs p)
+
+-- whatever places were shown or brought up to date between
+pub same_pages : (old new : Editing) → KeepsRecording old new → page_at new ≡ page_at old
+same_pages old new keeps =
+    ap (λ e. pages (editing_setup e) e.disk new.session.current.inputs) keeps.same
+    ∙ ap (pages (editing_setup old) old.disk) keeps.inputs
+
+-- a value that is read when another place is shown
+pub moved_value : (e moved : Editing) (at : Option ℕ) (x address width p : ℕ)
+    → moved ≡ with_session e e.session at → x ≡ value_at moved address width p
+    → x ≡ value_at e address width p
+moved_value e moved at x address width p is value = value ∙ ap (λ m. value_at m address width p) is
+
+-- and yet another place
+pub moved_on : (e moved new : Editing) (at next : Option ℕ) → moved ≡ with_session e e.session at
+    → new ≡ with_session moved moved.session next → new ≡ with_session e e.session next
+moved_on e moved new at next is on = on ∙ ap (λ m. with_session m m.session next) is

@@ -1,0 +1,7 @@
+-- The words of the clauses, one file a subject.
+pub mod Narrowings
+pub mod Pages
+pub mod Refusals
+pub mod Requests
+pub mod Watching
+pub mod Widths

@@ -1,0 +1,123 @@
+//! A search: a width, the last page, and the addresses that are left.
+
+ghost use Rattle.std.specs.Prelude.{◌≡◌, ◌≤◌, filter, IfOk, length, take};
+ghost use Rattle.w4_defs.specs.Search.{addresses, begin, holds_at, narrow};
+ghost use Rattle.w4_inspect.specs.Widths.{AreWithin, IsWidth};
+
+use crate::values::{holds, value_at};
+use std::alloc::Global;
+use std::marker::Model;
+use w4_defs::inspect::Test;
+use w4_defs::{OutOfMemory, PageBytes};
+use wasm_page::Page;
+
+/// A search of the page by how the values in it change. A contract sees how many bytes a value has, the page
+/// of the last call that was accepted, and the addresses that are left, in rising order.
+#[derive(Drop)]
+pub struct Search {
+    width: u32,
+    page: Page,
+    candidates: Vec<u32>,
+}
+
+impl Model for Search {
+    ghost use Rattle.w4_defs.specs.Search.{Search};
+    ghost use Rattle.w4_inspect.specs.Widths.{IsSearch};
+
+    ghost Value = { Search };
+
+    ghost view = { λ s. record {
+      width = s.width;
+      page = s.page;
+      candidates = s.candidates.items;
+    } };
+
+    ghost invariant = { λ s. IsSearch s.width s.candidates.items };
+}
+
+impl Search {
+    /// The addresses that are left, in rising order. Takes no memory.
+    pub fn found(&self) -> &[u32]
+        ensures { result.now ≡ self.now.candidates }
+    {
+        self.candidates.as_slice()
+    }
+
+    /// A search that begins with this page.
+    pub(crate) fn begin(alloc: Global, width: u32, page: &PageBytes) -> Result<Search, OutOfMemory>
+        requires { IsWidth width }
+        ensures { IfOk result (λ search. search ≡ begin width page.now) }
+    {
+        Ok(Search {
+            width,
+            page: copy_of(alloc, page)?,
+            candidates: addresses(alloc, width)?,
+        })
+    }
+
+    /// Keeps the addresses at which the test holds between this page and the last one. Takes no memory.
+    pub(crate) fn keep(&mut self, page: &PageBytes, test: Test)
+        ensures { self.new ≡ narrow self.old (page.now, test) }
+    {
+        let last = self.page.bytes();
+        retain(&mut self.candidates, self.width, test, page, last);
+        self.page.bytes_mut().copy_from_slice(page);
+    }
+}
+
+/// A page with these bytes.
+fn copy_of(alloc: Global, bytes: &PageBytes) -> Result<Page, OutOfMemory>
+    ensures { IfOk result (λ page. page ≡ bytes.now) }
+{
+    let mut page = Page::new(alloc)?;
+    page.bytes_mut().copy_from_slice(bytes);
+    Ok(page)
+}
+
+/// All addresses at which so many bytes lie in the page.
+fn addresses(alloc: Global, width: u32) -> Result<Vec<u32>, OutOfMemory>
+    requires { IsWidth width }
+    ensures value { IfOk result (λ all. all.items ≡ addresses width) }
+    ensures within { IfOk result (λ all. AreWithin width all.items) }
+{
+    let all = (0..65_537 - width).collect(alloc)?;
+    Ok(all)
+}
+
+/// Keeps the addresses at which the test holds.
+fn retain(candidates: &mut Vec<u32>, width: u32, test: Test, page: &PageBytes, last: &PageBytes)
+    requires width { IsWidth width }
+    requires within { AreWithin width candidates.old.items }
+    ensures { candidates.new.items
+        ≡ filter (holds_at width test page.now last.now) candidates.old.items }
+{
+    let kept = keep_first(candidates.as_mut_slice(), width, test, page, last);
+    candidates.truncate(kept);
+}
+
+/// Moves the addresses at which the test holds to the front, in their order, and gives how many they are.
+fn keep_first(
+    candidates: &mut [u32],
+    width: u32,
+    test: Test,
+    page: &PageBytes,
+    last: &PageBytes,
+) -> usize
+    requires width { IsWidth width }
+    requires within { AreWithin width candidates.old }
+    ensures kept { take result candidates.new
+        ≡ filter (holds_at width test page.now last.now) candidates.old }
+    ensures few { result ≤ length candidates.old }
+{
+    let mut kept = 0;
+    for i in 0..candidates.len() {
+        let address = candidates[i];
+        let new = value_at(page, address, width);
+        let old = value_at(last, address, width);
+        if holds(test, new, old) {
+            candidates[kept] = address;
+            kept += 1;
+        }
+    }
+    kept
+}

@@ -1,0 +1,115 @@
+//! Searches over the places of a recording.
+
+ghost use Rattle.std.specs.Prelude.{◌≡◌, ◌≢◌, ◌≤◌, IfErr, IfOk, None, OnErr, OnOk, length};
+ghost use Rattle.w4_defs.specs.Search.{begin, narrow};
+ghost use Rattle.w4_editor.specs.Showing.{IsShown, KeepsRecording};
+ghost use Rattle.w4_inspect.specs.Pages.{page_at};
+ghost use Rattle.w4_inspect.specs.Refusals.{IsRefusal, place_refusal};
+ghost use Rattle.w4_inspect.specs.Widths.{IsWidth};
+ghost use Rattle.w4_inspect.specs.declared.refusal.RamRefusal.TheVariants.{OutOfMemory as NoMemory};
+
+use crate::places::last_place;
+use crate::refusal::RamRefusal;
+use crate::search::Search;
+use std::alloc::Global;
+use std::sync::ledger::Ledger;
+use w4_defs::inspect::Test;
+use w4_defs::{OutOfMemory, Steps};
+use w4_editor::Editor;
+
+impl Search {
+    /// A search for values of `width` bytes, 1, 2 or 4, that begins with the page at place `p` and all
+    /// addresses of such values. Place `p` is shown then. Each frame that is run is one tick. Errors:
+    /// NoFrame where there is no such place; OutOfMemory.
+    pub fn start<L: Ledger>(
+        alloc: Global,
+        editor: &mut Editor,
+        width: u32,
+        p: usize,
+        steps: &mut Steps<L>,
+    ) -> Result<Search, RamRefusal>
+        requires { IsWidth width }
+        ensures begun { IfOk result (λ search. search ≡ begin width (page_at editor.old p)) }
+        ensures shown { OnOk result (IsShown p steps.old steps.new editor.old editor.new) }
+        ensures accepted { OnOk result (place_refusal editor.old p ≡ None) }
+        ensures refused { IfErr result (IsRefusal (place_refusal editor.old p)) }
+        ensures err { OnErr result (KeepsRecording editor.old editor.new) }
+        ensures unchanged { IfErr result (λ refusal. refusal ≢ NoMemory → editor.new ≡ editor.old) }
+    {
+        if p > last_place(editor) {
+            return Err(RamRefusal::NoFrame);
+        }
+        let search = begin_at(alloc, editor, width, p, steps)?;
+        Ok(search)
+    }
+
+    /// Keeps the addresses at which the test holds between the value at place `p` and the value at the last
+    /// call. Place `p` is shown then. Each frame that is run is one tick, and the search itself takes no
+    /// memory. Errors: NoFrame where there is no such place; OutOfMemory.
+    pub fn narrow<L: Ledger>(
+        &mut self,
+        alloc: Global,
+        editor: &mut Editor,
+        p: usize,
+        test: Test,
+        steps: &mut Steps<L>,
+    ) -> Result<(), RamRefusal>
+        ensures narrowed { OnOk result (self.new ≡ narrow self.old (page_at editor.old p, test)) }
+        ensures shown { OnOk result (IsShown p steps.old steps.new editor.old editor.new) }
+        ensures accepted { OnOk result (place_refusal editor.old p ≡ None) }
+        ensures refused { IfErr result (IsRefusal (place_refusal editor.old p)) }
+        ensures same_search { OnErr result (self.new ≡ self.old) }
+        ensures err { OnErr result (KeepsRecording editor.old editor.new) }
+        ensures unchanged { IfErr result (λ refusal. refusal ≢ NoMemory → editor.new ≡ editor.old) }
+    {
+        if p > last_place(editor) {
+            return Err(RamRefusal::NoFrame);
+        }
+        narrow_at(alloc, self, editor, p, test, steps)?;
+        Ok(())
+    }
+}
+
+/// A search that begins at a place that is there.
+fn begin_at<L: Ledger>(
+    alloc: Global,
+    editor: &mut Editor,
+    width: u32,
+    p: usize,
+    steps: &mut Steps<L>,
+) -> Result<Search, OutOfMemory>
+    requires width { IsWidth width }
+    requires place { p ≤ length editor.old.session.current.inputs }
+    ensures begun { IfOk result (λ search. search ≡ begin width (page_at editor.old p)) }
+    ensures shown { OnOk result (IsShown p steps.old steps.new editor.old editor.new) }
+    ensures err { OnErr result (KeepsRecording editor.old editor.new) }
+{
+    match editor.show(alloc, p, steps) {
+        Ok(state) => Search::begin(alloc, width, state.page.bytes()),
+        Err(_) => Err(OutOfMemory),
+    }
+}
+
+/// Narrows a search at a place that is there.
+fn narrow_at<L: Ledger>(
+    alloc: Global,
+    search: &mut Search,
+    editor: &mut Editor,
+    p: usize,
+    test: Test,
+    steps: &mut Steps<L>,
+) -> Result<(), OutOfMemory>
+    requires { p ≤ length editor.old.session.current.inputs }
+    ensures narrowed { OnOk result (search.new ≡ narrow search.old (page_at editor.old p, test)) }
+    ensures shown { OnOk result (IsShown p steps.old steps.new editor.old editor.new) }
+    ensures same { OnErr result (search.new ≡ search.old) }
+    ensures err { OnErr result (KeepsRecording editor.old editor.new) }
+{
+    match editor.show(alloc, p, steps) {
+        Ok(state) => {
+            search.keep(state.page.bytes(), test);
+            Ok(())
+        }
+        Err(_) => Err(OutOfMemory),
+    }
+}

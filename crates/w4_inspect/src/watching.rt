@@ -1,0 +1,164 @@
+//! The values at an address, over places of a recording.
+
+ghost use Rattle.std.specs.Prelude.{◌≡◌, ◌≢◌, ◌+◌, ◌-◌, ◌<◌, ◌≤◌, ◌++◌, IfErr, IfOk, None, OnErr, OnOk, Some, length, map};
+ghost use Rattle.std.specs.List.{range_with_len};
+ghost use Rattle.w4_defs.specs.Bytes.{number_at};
+ghost use Rattle.w4_editor.specs.Editing.{with_session};
+ghost use Rattle.w4_editor.specs.Showing.{IsShown, KeepsRecording};
+ghost use Rattle.w4_inspect.specs.Widths.{IsInPage, IsWidth};
+ghost use Rattle.w4_inspect.specs.Refusals.{IsRefusal, watch_refusal};
+ghost use Rattle.w4_inspect.specs.Watching.{IsWatched, value_at, watched};
+ghost use Rattle.w4_inspect.specs.declared.refusal.RamRefusal.TheVariants.{OutOfMemory as NoMemory};
+
+use crate::places::last_place;
+use crate::refusal::RamRefusal;
+use crate::values::value_at;
+use std::alloc::Global;
+use std::sync::ledger::Ledger;
+use w4_defs::{OutOfMemory, Steps};
+use w4_devices::FrameRecord;
+use w4_editor::Editor;
+use w4_map::State;
+
+/// How many bytes the page has.
+const PAGE_LEN: usize = 65_536;
+
+/// The bytes of a value.
+#[derive(Clone, Copy)]
+struct Watched {
+    address: u32,
+    width: u32,
+}
+
+/// The values of `width` bytes, 1, 2 or 4, from `address` on, at each place from `a` to `b`, where `a` is at
+/// most `b`: numbers whose lowest byte is first. Place `b` is shown then. Each frame that is run is one tick.
+/// Errors: NoFrame where there is no place `b`; Outside where the bytes pass the end of the page;
+/// OutOfMemory.
+pub fn watch<L: Ledger>(
+    alloc: Global,
+    editor: &mut Editor,
+    address: u32,
+    width: u32,
+    a: usize,
+    b: usize,
+    steps: &mut Steps<L>,
+) -> Result<Vec<u32>, RamRefusal>
+    requires width { IsWidth width }
+    requires order { a ≤ b }
+    ensures values { IfOk result (λ values. values.items ≡ watched editor.old address width a b) }
+    ensures shown { OnOk result (IsWatched a b steps.old steps.new editor.old editor.new) }
+    ensures accepted { OnOk result (watch_refusal editor.old address width b ≡ None) }
+    ensures refused { IfErr result (IsRefusal (watch_refusal editor.old address width b)) }
+    ensures err { OnErr result (KeepsRecording editor.old editor.new) }
+    ensures unchanged { IfErr result (λ refusal. refusal ≢ NoMemory → editor.new ≡ editor.old) }
+{
+    if b > last_place(editor) {
+        return Err(RamRefusal::NoFrame);
+    }
+    if address as usize + width as usize > PAGE_LEN {
+        return Err(RamRefusal::Outside);
+    }
+    let what = Watched { address, width };
+    let values = values(alloc, editor, what, a, b, steps)?;
+    Ok(values)
+}
+
+/// The values at places that are there.
+fn values<L: Ledger>(
+    alloc: Global,
+    editor: &mut Editor,
+    what: Watched,
+    a: usize,
+    b: usize,
+    steps: &mut Steps<L>,
+) -> Result<Vec<u32>, OutOfMemory>
+    requires what { IsInPage what.address what.width }
+    requires order { a ≤ b }
+    requires place { b ≤ length editor.old.session.current.inputs }
+    requires few { b ≤ 36000 }
+    ensures values { IfOk result (λ values. values.items ≡ watched editor.old what.address what.width a b) }
+    ensures shown { OnOk result (IsWatched a b steps.old steps.new editor.old editor.new) }
+    ensures err { OnErr result (KeepsRecording editor.old editor.new) }
+{
+    let mut values = Vec::with_capacity(alloc, b - a + 1)?;
+    let first = shown_value(alloc, editor, what, a, steps)?;
+    values.push(first)?;
+    add_values(editor, what, a, b, &mut values, steps)?;
+    Ok(values)
+}
+
+/// Adds the values at the places after `a`, which is shown, up to `b`.
+fn add_values<L: Ledger>(
+    editor: &mut Editor,
+    what: Watched,
+    a: usize,
+    b: usize,
+    values: &mut Vec<u32>,
+    steps: &mut Steps<L>,
+) -> Result<(), OutOfMemory>
+    requires what { IsInPage what.address what.width }
+    requires at { editor.old.at ≡ Some a }
+    requires order { a ≤ b }
+    requires place { b ≤ length editor.old.session.current.inputs }
+    ensures values { OnOk result (values.new.items ≡ values.old.items
+        ++ map (value_at editor.old what.address what.width) (range_with_len (a + 1) (b - a))) }
+    ensures same { OnOk result (editor.new ≡ with_session editor.old editor.old.session (Some b)) }
+    ensures ticks { OnOk result (steps.new ≡ steps.old + (b - a)) }
+    ensures err { OnErr result (KeepsRecording editor.old editor.new) }
+{
+    let mut made = FrameRecord::new();
+    for p in a..b {
+        let value = next_value(editor, &mut made, what, p, steps);
+        values.push(value)?;
+    }
+    Ok(())
+}
+
+/// Shows a place, and reads the value there.
+fn shown_value<L: Ledger>(
+    alloc: Global,
+    editor: &mut Editor,
+    what: Watched,
+    p: usize,
+    steps: &mut Steps<L>,
+) -> Result<u32, OutOfMemory>
+    requires what { IsInPage what.address what.width }
+    requires place { p ≤ length editor.old.session.current.inputs }
+    ensures value { IfOk result (λ value. value ≡ value_at editor.old what.address what.width p) }
+    ensures shown { OnOk result (IsShown p steps.old steps.new editor.old editor.new) }
+    ensures err { OnErr result (KeepsRecording editor.old editor.new) }
+{
+    match editor.show(alloc, p, steps) {
+        Ok(state) => Ok(value_in(state, what)),
+        Err(_) => Err(OutOfMemory),
+    }
+}
+
+/// Goes on to the place after `p`, which is shown, and reads the value there.
+fn next_value<L: Ledger>(
+    editor: &mut Editor,
+    made: &mut FrameRecord,
+    what: Watched,
+    p: usize,
+    steps: &mut Steps<L>,
+) -> u32
+    requires what { IsInPage what.address what.width }
+    requires at { editor.old.at ≡ Some p }
+    requires place { p < length editor.old.session.current.inputs }
+    ensures value { result ≡ value_at editor.old what.address what.width (p + 1) }
+    ensures same { editor.new ≡ with_session editor.old editor.old.session (Some (p + 1)) }
+    ensures ticks { steps.new ≡ steps.old + 1 }
+{
+    match editor.step(made, steps) {
+        Ok(state) => value_in(state, what),
+        Err(_) => unreachable!(),
+    }
+}
+
+/// The value in a state.
+fn value_in(state: &State, what: Watched) -> u32
+    requires { IsInPage what.address what.width }
+    ensures { result ≡ number_at state.now.page what.address what.width }
+{
+    value_at(state.page.bytes(), what.address, what.width)
+}

@@ -1,0 +1,22 @@
+use Rattle.std.proofs.Common.{List, None, ap, sym, ◌∙◌}
+use Rattle.w4_defs.specs.declared.inspect.Ask.{Ask}
+use Rattle.w4_editor.specs.Editing.{Editing}
+use Rattle.w4_program.specs.Queries.{editor_pages}
+use Rattle.w4_program.specs.RamAnswers.{ram_answers}
+use Rattle.w4_program.specs.ToolOutputs.{ram_text}
+use Rattle.w4_program.specs.Views.{ram_loaded_view}
+use Rattle.w4_program.proofs.RamLaws.{printed_as}
+use Rattle.w4_program.proofs.ram.try_answer_query.Goals as goal
+
+pub returns-clause-out : goal.returns-clause-out
+returns-clause-out g c =
+    let editor = c.in_ok-editor.editor in
+    printed_as c.answer_lines.result (g.H.House.world c.args.house.now) (g.H.House.world
+    c.answer_lines.new.house)
+    (ram_answers (editor_pages editor) None c.as_slice.result.now).out
+    (ram_text c.args.cart (ram_loaded_view c.args.loaded))
+    (sym (ap (λ (e : Editing). (ram_answers (editor_pages e) None c.args.loaded.lines.items).out)
+    c.in_ok-editor.ensures)
+    ∙ ap (λ (lines : List Ask). (ram_answers (editor_pages editor) None lines).out)
+    (sym c.as_slice.ensures.value))
+    c.answer_lines.ensures.out

@@ -1,0 +1,56 @@
+-- Each clause is what its status says, over the worlds before the words are obeyed and after the report.
+use Rattle.std.proofs.Common.{map, ◌∙◌, Result, string_bytes}
+use Rattle.w4_house.specs.World.{Files}
+use Rattle.w4_program.specs.declared.status.Status.TheVariants as status
+use Rattle.w4_program.specs.Lines.{status_line}
+use Rattle.w4_program.specs.declared.status.Status.{Status}
+use Rattle.w4_program.specs.Output.{Output}
+use Rattle.w4_program.specs.Outputs.{Outputs}
+use Rattle.w4_program.specs.CartRuns.{CartRunsHaveMeaning}
+use Rattle.w4_program.proofs.CartLaws.{cart_runs}
+use Rattle.w4_program.proofs.EndLaws.{ends_reported}
+use Rattle.w4_program.proofs.StatusLaws as laws
+use Rattle.w4_program.proofs.run.w4_run_gated.Goals as goal
+
+pub returns : goal.returns
+returns g c =
+    let old = g.H.House.world c.args.house.now in
+    let mid = g.H.House.world c.obey-status.new.house in
+    let new = g.H.House.world c.report.new.house in
+    let result = c.report.result in
+    let words = map string_bytes c.args.words.now in
+    let step : Files → Result Output Status → Type 0 =
+    λ files made. Outputs words files made in
+    let ends =
+    ends_reported old mid new c.obey-status.result result step c.report.ensures.rest
+    c.report.ensures.status c.obey-status.ensures.ends in
+    record {
+      done =
+          laws.done old new result step (λ files. CartRunsHaveMeaning words files) ends
+          (λ files. cart_runs c.accepted_runs_have_meaning.ensures words files);
+      done_err = λ e. c.report.ensures.done e ∙ c.obey-status.ensures.err.0;
+      usage =
+          λ e.
+          c.obey-status.ensures.usage
+          (laws.usage_texts c.obey-status.result result c.report.ensures.status e);
+      no_form =
+          λ none.
+          laws.texts_or_memory c.obey-status.result status.Usage result
+          (c.obey-status.ensures.no_form none) c.report.ensures.status;
+      cart_refused = laws.cart_refused old new result step ends;
+      recording_refused = laws.recording_refused old new result step ends;
+      font_refused = laws.font_refused old new result step ends;
+      script_refused = laws.script_refused old new result step ends;
+      frame_refused = laws.frame_refused old new result step ends;
+      list_refused = laws.list_refused old new result step ends;
+      read_fault = laws.read_fault old new result step ends;
+      write_fault = λ e. (laws.write_fault old new result step ends e).0;
+      write_fault_made = λ e. (laws.write_fault old new result step ends e).1;
+      refused_out = λ r. (laws.refused old new result step ends r).0;
+      refused_files = λ r. (laws.refused old new result step ends r).1;
+      line =
+          λ r.
+          laws.line_reported old mid new (status_line result) c.obey-status.ensures.err
+          (c.report.ensures.line r);
+      exact = laws.exact old new result step ends;
+    }

@@ -1,0 +1,76 @@
+//! Orders that are carried out by many workers: `film` and `settle`.
+
+ghost use Rattle.std.specs.Prelude.{◌≡◌, ◌≤◌, IfErr, OnOk};
+ghost use Rattle.w4_editor.specs.Editing.{editing_setup};
+ghost use Rattle.w4_house.specs.World.{LeavesPrinting};
+ghost use Rattle.w4_program.specs.Answering.{film_text, if_place};
+ghost use Rattle.w4_program.specs.Answers.{answer_text};
+ghost use Rattle.w4_program.specs.Causes.{StopsWriting};
+ghost use Rattle.w4_program.specs.Editors.{IsAnswered, OnlyShows, place_session};
+ghost use Rattle.w4_program.specs.Endings.{manner_of};
+
+use crate::desk::last_place;
+use crate::printing::print;
+use crate::refusal::refuse;
+use crate::status::Status;
+use std::alloc::Global;
+use std::thread::Threads;
+use w4_defs::{EditRefusal, OutOfMemory};
+use w4_editor::Editor;
+use w4_house::House;
+use w4_segments::{FilmRefusal, Gate, film, settle_wide};
+
+/// A number of workers, within the range that scripts have for it.
+fn hands(workers: u32) -> usize
+    ensures some { 1 ≤ result }
+    ensures few { result ≤ 16 }
+{
+    (workers as usize).max(1).min(16)
+}
+
+/// The answer of `film`: at most 600 images.
+pub fn tell_film<R: Threads + Sync, H: House, G: Gate + Sync>(
+    rt: &R,
+    alloc: Global,
+    house: &mut H,
+    editor: &mut Editor,
+    a: u32,
+    b: u32,
+    workers: u32,
+    gate: &G,
+) -> Result<(), Status>
+    ensures answered { OnOk result (IsAnswered (H.world house.old) (H.world house.new) editor.old editor.new
+        (answer_text (place_session editor.old) (if_place (place_session editor.old) b
+        (film_text (editing_setup editor.old) editor.old.disk (place_session editor.old) a b)))) }
+    ensures stops { IfErr result (λ why.
+        StopsWriting (H.world house.old) (H.world house.new) (manner_of why)) }
+    ensures rest { LeavesPrinting (H.world house.old) (H.world house.new) }
+{
+    let (from, to) = (a as usize, b as usize);
+    if to > last_place(editor) {
+        return refuse(alloc, house, EditRefusal::NoFrame);
+    }
+    // Scripts have no such order.
+    if from > to {
+        return Ok(());
+    }
+    match film(rt, alloc, editor, from, to, hands(workers), gate) {
+        Ok(images) => print(alloc, house, images.as_slice()),
+        Err(FilmRefusal::NoFrame) => refuse(alloc, house, EditRefusal::NoFrame),
+        Err(FilmRefusal::FilmTooLong) => print(alloc, house, b"refused too long\n"),
+        Err(FilmRefusal::OutOfMemory) => Err(Status::OutOfMemory),
+    }
+}
+
+/// Brings all kept places up to date.
+pub fn settle<R: Threads + Sync, G: Gate + Sync>(
+    rt: &R,
+    alloc: Global,
+    editor: &mut Editor,
+    workers: u32,
+    gate: &G,
+) -> Result<(), OutOfMemory>
+    ensures { OnOk result (OnlyShows editor.old editor.new) }
+{
+    settle_wide(rt, alloc, editor, hands(workers), gate)
+}

@@ -1,0 +1,4 @@
+pub mod BatchLaws
+pub mod TeamLaws
+pub mod RoundLaws
+pub mod PieceLaws

@@ -1,0 +1,553 @@
+-- Dealing segments, and taking over what was played.
+use Rattle.std.proofs.Common.{◌≡◌, ◌≢◌, ℕ, ◌+◌, ◌<◌, ◌≤◌, Bool, true, zero, suc, false, not, List, [], ◌∷◌, length, get_or, set, Option, Some, None, inl, inr, refl, sym, ap, ◌∙◌, subst, arith, add-one}
+use Rattle.std.specs.List.{All}
+use Rattle.std.proofs.lemmas.Bool.{cases_lt, cases_eq}
+use Rattle.std.specs.Option.{unwrap_or, is_some}
+use Rattle.std.proofs.lemmas.List.{get_or_default}
+use Rattle.w4_defs.specs.declared.console.Input.{Input}
+use Rattle.w4_defs.specs.Reset.{Setup}
+use Rattle.std.specs.List.{slice_range}
+use Rattle.w4_defs.specs.KeptList.{Entry, state_at, linked_at, computed, relinked_at, replaced_at, SamePlaces, IsDraft}
+use Rattle.w4_defs.specs.Session.{with_list}
+use Rattle.w4_defs.specs.State.{State, HasGlobals}
+use Rattle.w4_editor.specs.Editing.{Editing, editing_setup, with_session}
+use Rattle.w4_defs.specs.Run.{fold}
+use Rattle.w4_editor.specs.Settling.{AreLinked, IsComputed}
+use Rattle.w4_editor.proofs.SettleLaws.{relinked_computed, replaced_computed}
+use Rattle.w4_segments.specs.declared.worker.Task.{Task}
+use Rattle.w4_segments.specs.declared.worker.Worker.{Worker}
+use Rattle.w4_segments.specs.Filming.{KeepsShown}
+use Rattle.w4_segments.specs.Rounds.{kept_of, IsSegment, IsDealt, AreRising, AreDealt, AreComputed, IsPut, CanTake, IsTaken, LengthensFront}
+use Rattle.w4_segments.specs.Working.{HasTypes, CanPlay, HasPlayed, EachDid}
+use Rattle.w4_segments.proofs.TeamLaws.{up_to_here, all_changed, changed_here, unchanged}
+
+-- ---- linked entries
+
+-- entry 0 and those after the first so many are linked
+pub all_before : (kept : List Entry) (n : ℕ) → linked_at kept 0 ≡ true
+    → ((i : ℕ) → i < n → linked_at kept (i + 1) ≡ true)
+    → AreLinked n kept
+all_before kept n first after zero le = first
+all_before kept n first after (suc i) le =
+    ap (linked_at kept) (sym (add-one i)) ∙ after i (omega (arith, le))
+
+-- ---- dealing
+
+-- what the first so many workers have, and where the next one goes on
+pub record Dealing (e : Editing) (last hand next : ℕ) (team : List Worker) : Type 0 where
+  pub types : All (HasTypes e.cart) team
+  pub within : next ≤ last
+  pub segment : (i : ℕ) (d : Worker) → i < hand → (task : Task) → (get_or team i d).task ≡ Some task
+      → IsSegment e last (get_or team i d) task × (task.entry < next)
+  pub rising : (i j : ℕ) (d : Worker) (s t : Task) → i < j → j < hand
+      → (get_or team i d).task ≡ Some s
+      → (get_or team j d).task ≡ Some t
+      → s.entry < t.entry
+  pub start : hand ≡ 0 → next ≡ 0
+  pub before : (d : Worker) (task : Task) → 0 < hand → (get_or team 0 d).task ≡ Some task → (i : ℕ)
+      → i < task.entry
+      → linked_at (kept_of e) (i + 1) ≡ true
+  pub none : (d : Worker) → 0 < hand → (get_or team 0 d).task ≡ None → (i : ℕ) → i < last
+      → linked_at (kept_of e) (i + 1) ≡ true
+
+pub dealing_none : (e : Editing) (last : ℕ) (team : List Worker) → All (HasTypes e.cart) team
+    → Dealing e last 0 0 team
+dealing_none e last team types = record {
+  types = types;
+  within = omega arith;
+  segment = λ i d lt. absurd (omega (arith, lt));
+  rising = λ i j d s t ij lt. absurd (omega (arith, lt));
+  start = λ _. refl;
+  before = λ d t lt. absurd (omega (arith, lt));
+  none = λ d lt. absurd (omega (arith, lt));
+}
+
+module _ (e : Editing) (last hand next after : ℕ) (team : List Worker) (w : Worker)
+    (p : Dealing e last hand next team)
+    (lt : hand < length team) (dealt : IsDealt e next last after w) where
+  abbrev team_now : List Worker
+  team_now = set team hand w
+
+  at_here : (d : Worker) → get_or team_now hand d ≡ w
+  at_here d = changed_here team hand w lt d
+
+  task_here : (d : Worker) (task : Task) → (get_or team_now hand d).task ≡ Some task → w.task ≡ Some task
+  task_here d task some = ap (λ (x : Worker). x.task) (sym (at_here d)) ∙ some
+
+  task_there : (i : ℕ) (d : Worker) (task : Option Task) → i < hand → (get_or team_now i d).task ≡ task
+      → (get_or team i d).task ≡ task
+  task_there i d task low some =
+      let other : i ≢ hand = λ same. absurd (omega (arith, low, same)) in
+      ap (λ (x : Worker). x.task) (sym (unchanged team hand w lt i d other)) ∙ some
+
+  rising_more : (i j : ℕ) (d : Worker) (s t : Task) → i < j → j < hand + 1
+      → (get_or team_now i d).task ≡ Some s
+      → (get_or team_now j d).task ≡ Some t
+      → s.entry < t.entry
+  rising_more i j d s t ij below one two =
+      let low : i < hand = omega (arith, ij, below) in
+      elim (cases_lt j hand) [
+        | inl lower ↦ p.rising i j d s t ij lower (task_there i d (Some s) low one)
+            (task_there j d (Some t) lower two)
+        | inr high ↦
+            let same : j ≡ hand = omega (arith, below, high) in
+            let before = (p.segment i d low s (task_there i d (Some s) low one)).1 in
+            let here = subst (λ n. (get_or team_now n d).task ≡ Some t) same two in
+            let after = (dealt.next_is t (task_here d t here)).0 in
+            omega (arith, before, after)
+      ]
+
+  segment_more : (i : ℕ) (d : Worker) → i < hand + 1 → (task : Task)
+      → (get_or team_now i d).task ≡ Some task
+      → IsSegment e last (get_or team_now i d) task × (task.entry < after)
+  segment_more = up_to_here team hand w lt
+      (λ _ x. (task : Task) → x.task ≡ Some task → IsSegment e last x task × (task.entry < after))
+      (λ i d low task some.
+      let is = p.segment i d low task some in
+      let below = is.1 in
+      let order = dealt.order in (is.0, omega (arith, below, order)))
+      (λ task some. let at = (dealt.next_is task some).1 in (dealt.segment task some, omega (arith, at)))
+
+  first_here : hand ≡ 0 → (d : Worker) (task : Option Task) → (get_or team_now 0 d).task ≡ task → w.task ≡
+      task
+  first_here begins d task some =
+      ap (λ (x : Worker). x.task) (sym (at_here d))
+      ∙ ap (λ n. (get_or team_now n d).task) begins
+      ∙ some
+
+  before_more : (d : Worker) (task : Task) → 0 < hand + 1 → (get_or team_now 0 d).task ≡ Some task → (i : ℕ)
+      → i < task.entry
+      → linked_at (kept_of e) (i + 1) ≡ true
+  before_more d task _ some i below = elim (cases_lt 0 hand) [
+    | inl more ↦ p.before d task more (task_there 0 d (Some task) more some) i below
+    | inr first ↦
+        let zero : hand ≡ 0 = omega (arith, first) in
+        let begin = p.start zero in
+        dealt.before task (first_here zero d (Some task) some) i (omega (arith, begin)) below
+  ]
+
+  none_more : (d : Worker) → 0 < hand + 1 → (get_or team_now 0 d).task ≡ None → (i : ℕ) → i < last
+      → linked_at (kept_of e) (i + 1) ≡ true
+  none_more d _ none i below = elim (cases_lt 0 hand) [
+    | inl more ↦ p.none d more (task_there 0 d None more none) i below
+    | inr first ↦
+        let zero : hand ≡ 0 = omega (arith, first) in
+        let begin = p.start zero in
+        dealt.none (first_here zero d None none) i (omega (arith, begin)) below
+  ]
+
+  pub dealing_more : Dealing e last (hand + 1) after team_now
+  dealing_more = record {
+    types = all_changed team hand w lt (HasTypes e.cart) p.types dealt.types;
+    within = dealt.within;
+    segment = segment_more;
+    rising = rising_more;
+    start = λ none. absurd (omega (arith, none));
+    before = before_more;
+    none = none_more;
+  }
+
+pub dealing_done : (e : Editing) (last hand next : ℕ) (old new : List Worker) → length new ≡ length old
+    → hand ≡ length new
+    → Dealing e last hand next new
+    → AreDealt e last old new
+dealing_done e last hand next old new many all p = record {
+  many = many;
+  types = p.types;
+  segment = λ i d task lt some. (p.segment i d (omega (arith, lt, all)) task some).0;
+  rising = λ i j d s t ij lt. p.rising i j d s t ij (omega (arith, lt, all));
+  before = λ d task lt. p.before d task (omega (arith, lt, all));
+  none = λ d lt. p.none d (omega (arith, lt, all));
+}
+
+-- ---- what was played
+
+-- after the workers have played, each has what the inputs make of the state kept before
+pub dealt_computed : (e : Editing) (last : ℕ) (old dealt played : List Worker) → AreDealt e last old dealt
+    → EachDid (HasPlayed (editing_setup e) e.session.current.inputs) dealt played
+    → AreComputed e last played
+dealt_computed e last old dealt played a did =
+    let many = did.many in
+    let task_is : (i : ℕ) (d : Worker) (task : Task) → i < length played
+    → (get_or played i d).task ≡ Some task
+    → (get_or dealt i d).task ≡ Some task
+    = λ i d task lt some. sym ((did.each i d (omega (arith, lt, many))).task) ∙ some in record {
+      types = λ i d lt. (did.each i d (omega (arith, lt, many))).types;
+      there = λ i d task lt some.
+          (a.segment i d task (omega (arith, lt, many)) (task_is i d task lt some)).there;
+      state = λ i d task lt some.
+          let low : i < length dealt = omega (arith, lt, many) in
+          let is = a.segment i d task low (task_is i d task lt some) in
+          let step = (did.each i d low).state task (task_is i d task lt some) in
+          sym (λ k. fold (editing_setup e) (is.state k)
+          (slice_range e.session.current.inputs (is.place k) (is.end k)))
+          ∙ step;
+      rising = λ i j d s t ij lt one two.
+          a.rising i j d s t ij (omega (arith, lt, many)) (task_is i d s (omega (arith, lt, ij)) one)
+          (task_is j d t lt two);
+    }
+
+-- ---- taking over
+
+pub keeps_same : (e : Editing) → KeepsShown e e
+keeps_same e = record {
+  recording = record {
+    same = refl;
+    inputs = refl;
+    older = refl;
+    newer = refl;
+    places = record { many = refl; places = λ i. refl };
+  };
+  at = refl;
+}
+
+pub keeps_both : (a b c : Editing) → KeepsShown a b → KeepsShown b c → KeepsShown a c
+keeps_both a b c one two =
+    let x = one.recording in
+    let y = two.recording in record {
+      recording = record {
+        same = y.same ∙ ap (λ (e : Editing). with_session e c.session c.at) x.same;
+        inputs = y.inputs ∙ x.inputs;
+        older = y.older ∙ x.older;
+        newer = y.newer ∙ x.newer;
+        places = record {
+          many = y.places.many ∙ x.places.many;
+          places = λ i. y.places.places i ∙ x.places.places i;
+        };
+      };
+      at = two.at ∙ one.at;
+    }
+
+some_is : (a b : ℕ) → Some a ≡ Some b → a ≡ b
+some_is a b e = ap (λ o. unwrap_or o a) e
+
+some_task : (s t : Task) → Some s ≡ Some t → s ≡ t
+some_task s t e = ap (λ o. unwrap_or o s) e
+
+-- another kept list with the same places
+pub list_keeps : (e new : Editing) (kept : List Entry) → SamePlaces (kept_of e) kept
+    → new ≡ with_session e (with_list e.session kept) e.at
+    → KeepsShown e new
+list_keeps e new kept same is = subst (KeepsShown e) (sym is) (record {
+  recording = record { same = refl; inputs = refl; older = refl; newer = refl; places = same };
+  at = refl;
+})
+
+module _ (disk : List ℕ) (e new : Editing) (entry : ℕ) (found : State)
+    (draft : IsDraft (editing_setup e) disk e.session.current)
+    (lt : entry + 1 < length (kept_of e))
+    (is : computed (editing_setup e) e.session.current.inputs (kept_of e) entry ≡ Some found) where
+  -- the state is the one that is kept
+  module _ (same : state_at (kept_of e) (entry + 1) ≡ found)
+      (linked : new ≡ with_session e (with_list e.session (relinked_at (entry + 1) (kept_of e))) e.at) where
+    link_computed : IsComputed (editing_setup e) e.session.current.inputs entry (kept_of e)
+        (relinked_at (entry + 1) (kept_of e))
+    link_computed = relinked_computed (editing_setup e) e.session.current.inputs entry (kept_of e) lt
+        (is ∙ ap Some (sym same)) (draft.kept.globals (entry + 1) lt)
+
+    pub link_keeps : KeepsShown e new
+    link_keeps = list_keeps e new (relinked_at (entry + 1) (kept_of e)) link_computed.places linked
+
+    pub link_put : (replaced : Option ℕ) → IsPut entry replaced replaced e new
+    link_put replaced = subst (IsPut entry replaced replaced e) (sym linked) (record {
+      computed = link_computed;
+      last_is = inr (
+        refl,
+        ap (λ o. unwrap_or o found)
+            (sym link_computed.state ∙ is ∙ ap Some (sym same)),
+      );
+    })
+
+  -- it is another
+  module _ (globals : HasGlobals e.cart found) (other : state_at (kept_of e) (entry + 1) ≢ found)
+      (put : new ≡ with_session e (with_list e.session (replaced_at (entry + 1) found (kept_of e))) e.at)
+    where
+      replace_computed : IsComputed (editing_setup e) e.session.current.inputs entry (kept_of e)
+          (replaced_at (entry + 1) found (kept_of e))
+      replace_computed = replaced_computed (editing_setup e) e.session.current.inputs entry (kept_of e)
+          found lt
+          is globals other
+
+      pub replace_keeps : KeepsShown e new
+      replace_keeps =
+          list_keeps e new (replaced_at (entry + 1) found (kept_of e)) replace_computed.places put
+
+      pub replace_put : (replaced : Option ℕ) → IsPut entry replaced (Some (entry + 1)) e new
+      replace_put replaced = subst (IsPut entry replaced (Some (entry + 1)) e) (sym put) (record {
+        computed = replace_computed;
+        last_is = inl refl;
+      })
+
+-- after the first so many workers: of those to come, a worker's first state still stands unless it was the
+-- one replaced last; the front is kept, and one entry longer once the first worker is done
+pub record Taking (e : Editing) (team : List Worker) (hand : ℕ) (replaced : Option ℕ)
+    (now : Editing) : Type 0 where
+  pub keeps : KeepsShown e now
+  pub start : hand ≡ 0 → replaced ≡ None
+  pub stands : (i : ℕ) (d : Worker) (task : Task) → hand ≤ i → i < length team
+      → (get_or team i d).task ≡ Some task
+      → replaced ≢ Some task.entry
+      → state_at (kept_of now) task.entry ≡ state_at (kept_of e) task.entry
+  pub low : (i : ℕ) (d : Worker) (task : Task) (entry : ℕ) → hand ≤ i → i < length team
+      → (get_or team i d).task ≡ Some task
+      → replaced ≡ Some entry
+      → entry ≤ task.entry
+  pub front : (d : Worker) (task : Task) → 0 < length team → (get_or team 0 d).task ≡ Some task → (j : ℕ)
+      → j ≤ task.entry
+      → linked_at (kept_of now) j ≡ linked_at (kept_of e) j
+  pub next : (d : Worker) (task : Task) → 0 < hand → 0 < length team → (get_or team 0 d).task ≡ Some task
+      → linked_at (kept_of now) (task.entry + 1) ≡ true
+
+pub taking_none : (e : Editing) (team : List Worker) → Taking e team 0 None e
+taking_none e team = record {
+  keeps = keeps_same e;
+  start = λ _. refl;
+  stands = λ i d task le lt some other. refl;
+  low = λ i d task entry le lt some none. absurd cc;
+  front = λ d task lt some j le. refl;
+  next = λ d task none. absurd (omega (arith, none));
+}
+
+module _ (e : Editing) (team : List Worker) (hand : ℕ) (replaced : Option ℕ) (now : Editing)
+    (p : Taking e team hand replaced now)
+    (lt : hand < length team) (w : Worker) (read : (d : Worker) → get_or team hand d ≡ w) where
+  -- what this worker played may be taken over
+  pub can_take : (last : ℕ) → AreComputed e last team → last < length (kept_of e) → CanTake now replaced w
+  can_take last a there =
+      let many = p.keeps.recording.places.many in
+      let places = p.keeps.recording.places.places in
+      let task_is : (task : Task) → w.task ≡ Some task → (get_or team hand w).task ≡ Some task
+      = λ task some. ap (λ (x : Worker). x.task) (read w) ∙ some in record {
+        types = subst (λ (x : Editing). HasTypes x.cart w) (sym p.keeps.recording.same)
+            (subst (HasTypes e.cart) (read w) (a.types hand w lt));
+        there = λ task some.
+            let below = a.there hand w task lt (task_is task some) in
+            omega (arith, many, there, below);
+        found = λ task some other.
+            (λ k. fold (editing_setup (p.keeps.recording.same k))
+            (p.stands hand w task (omega arith) lt (task_is task some) other k)
+            (slice_range (p.keeps.recording.inputs k) (places task.entry k) (places (task.entry + 1) k)))
+            ∙ a.state hand w task lt (task_is task some)
+            ∙ ap (λ (x : Worker). Some x.console) (read w);
+      }
+
+  -- it was thrown away, or had nothing
+  pub taking_skip : ((task : Task) → w.task ≡ Some task → replaced ≡ Some task.entry)
+      → Taking e team (hand + 1) replaced now
+  taking_skip thrown = record {
+    keeps = p.keeps;
+    start = λ none. absurd (omega (arith, none));
+    stands = λ i d task le. p.stands i d task (omega (arith, le));
+    low = λ i d task entry le. p.low i d task entry (omega (arith, le));
+    front = p.front;
+    next = λ d task _ some is. elim (cases_lt 0 hand) [
+      | inl more ↦ p.next d task more some is
+      | inr first ↦
+          let zero : hand ≡ 0 = omega (arith, first) in
+          let here = ap (λ (x : Worker). x.task) (sym (read d)) ∙ ap (λ n. (get_or team n d).task) zero ∙
+          is in
+          let stale = thrown task here in
+          let none = p.start zero in
+          absurd cc
+    ];
+  }
+
+  module _ (task : Task) (some : w.task ≡ Some task) (rising : AreRising team) (last : Option ℕ)
+      (new : Editing)
+      (keeps : KeepsShown now new) (put : IsPut task.entry replaced last now new) where
+    here : (d : Worker) → (get_or team hand d).task ≡ Some task
+    here d = ap (λ (x : Worker). x.task) (read d) ∙ some
+
+    later : (i : ℕ) (d : Worker) (s : Task) → hand + 1 ≤ i → i < length team
+        → (get_or team i d).task ≡ Some s
+        → task.entry < s.entry
+    later i d s le below is = rising hand i d task s (omega (arith, le)) below (here d) is
+
+    old_low : (entry : ℕ) → replaced ≡ Some entry → entry ≤ task.entry
+    old_low entry is = p.low hand w task entry (omega arith) lt (here w) is
+
+    next_stays : last ≢ Some (task.entry + 1)
+        → state_at (kept_of new) (task.entry + 1) ≡ state_at (kept_of now) (task.entry + 1)
+    next_stays other = elim put.last_is [
+      | inl is ↦ absurd (other is)
+      | inr same ↦ same.1
+    ]
+
+    -- entries above keep their states
+    state_stays : (k : ℕ) → task.entry < k → last ≢ Some k
+        → state_at (kept_of new) k ≡ state_at (kept_of now) k
+    state_stays k above other = elim (cases_eq k (task.entry + 1)) [
+      | inl same ↦ ap (state_at (kept_of new)) same
+          ∙ next_stays (λ is. other (is ∙ ap Some (sym same)))
+          ∙ ap (state_at (kept_of now)) (sym same)
+      | inr far ↦ elim (cases_eq k (task.entry + 1 + 1)) [
+        | inl same ↦ ap (state_at (kept_of new)) same ∙ put.computed.next_state
+            ∙ ap (state_at (kept_of now)) (sym same)
+        | inr farther ↦ ap (λ (x : Entry). x.state) (put.computed.others k far farther)
+      ]
+    ]
+
+    -- entries up to this one keep their links
+    link_stays : (k : ℕ) → k ≤ task.entry → linked_at (kept_of new) k ≡ linked_at (kept_of now) k
+    link_stays k le =
+        let one : k ≢ task.entry + 1 = λ e. absurd (omega (arith, le, e)) in
+        let two : k ≢ task.entry + 1 + 1 = λ e. absurd (omega (arith, le, e)) in
+        ap (λ (x : Entry). x.linked) (put.computed.others k one two)
+
+    stands_on : (i : ℕ) (d : Worker) (s : Task) → hand + 1 ≤ i → i < length team
+        → (get_or team i d).task ≡ Some s
+        → last ≢ Some s.entry
+        → state_at (kept_of new) s.entry ≡ state_at (kept_of e) s.entry
+    stands_on i d s le below is other =
+        let above = later i d s le below is in
+        state_stays s.entry above other
+        ∙ p.stands i d s (omega (arith, le)) below is
+        (λ old. let low = old_low s.entry old in absurd (omega (arith, low, above)))
+
+    low_on : (i : ℕ) (d : Worker) (s : Task) (entry : ℕ) → hand + 1 ≤ i → i < length team
+        → (get_or team i d).task ≡ Some s
+        → last ≡ Some entry
+        → entry ≤ s.entry
+    low_on i d s entry le below is found =
+        let above = later i d s le below is in
+        elim put.last_is [
+          | inl at ↦
+              let same = some_is entry (task.entry + 1) (sym found ∙ at) in
+              omega (arith, same, above)
+          | inr same ↦
+              let low = old_low entry (sym same.0 ∙ found) in
+              omega (arith, low, above)
+        ]
+
+    first_is : hand ≡ 0 → (d : Worker) (first : Task) → (get_or team 0 d).task ≡ Some first → first ≡ task
+    first_is begins d first is =
+        some_task first task (sym is ∙ ap (λ n. (get_or team n d).task) (sym begins) ∙ here d)
+
+    front_on : (d : Worker) (first : Task) → 0 < length team → (get_or team 0 d).task ≡ Some first → (j : ℕ)
+        → j ≤ first.entry
+        → linked_at (kept_of new) j ≡ linked_at (kept_of e) j
+    front_on d first there is j le = elim (cases_lt 0 hand) [
+      | inl more ↦
+          let below = rising 0 hand d first task more lt is (here d) in
+          link_stays j (omega (arith, le, below)) ∙ p.front d first there is j le
+      | inr none ↦
+          let same = ap (λ (t : Task). t.entry) (first_is (omega (arith, none)) d first is) in
+          link_stays j (omega (arith, le, same)) ∙ p.front d first there is j le
+    ]
+
+    next_on : (d : Worker) (first : Task) → 0 < hand + 1 → 0 < length team
+        → (get_or team 0 d).task ≡ Some first
+        → linked_at (kept_of new) (first.entry + 1) ≡ true
+    next_on d first _ there is = elim (cases_lt 0 hand) [
+      | inl more ↦
+          let below = rising 0 hand d first task more lt is (here d) in
+          link_stays (first.entry + 1) (omega (arith, below)) ∙ p.next d first more there is
+      | inr none ↦
+          let same = ap (λ (t : Task). t.entry) (first_is (omega (arith, none)) d first is) in
+          ap (λ n. linked_at (kept_of new) (n + 1)) same ∙ put.computed.linked
+    ]
+
+    pub taking_put : Taking e team (hand + 1) last new
+    taking_put = record {
+      keeps = keeps_both e now new p.keeps keeps;
+      start = λ none. absurd (omega (arith, none));
+      stands = stands_on;
+      low = low_on;
+      front = front_on;
+      next = next_on;
+    }
+
+  -- one worker more
+  pub taking_more : AreRising team → (last : Option ℕ) (new : Editing) → KeepsShown now new
+      → IsTaken w replaced last now new
+      → Taking e team (hand + 1) last new
+  taking_more rising last new keeps (inl (thrown, same, stays)) =
+      subst (λ (x : Option ℕ). Taking e team (hand + 1) x new) (sym same)
+      (subst (λ (x : Editing). Taking e team (hand + 1) replaced x) (sym stays) (taking_skip thrown))
+  taking_more rising last new keeps (inr (task, some, other, put)) =
+      taking_put task some rising last new keeps put
+
+pub taking_done : (e : Editing) (team : List Worker) (hand : ℕ) (replaced : Option ℕ) (now : Editing)
+    → Taking e team hand replaced now
+    → hand ≡ length team
+    → LengthensFront team e now
+taking_done e team hand replaced now p all d task some is linked i le = elim (cases_lt task.entry i) [
+  | inl last ↦
+      let at : i ≡ task.entry + 1 = omega (arith, le, last) in
+      ap (linked_at (kept_of now)) at ∙ p.next d task (omega (arith, some, all)) some is
+  | inr low ↦ p.front d task some is i low ∙ linked i low
+]
+
+-- ---- one round
+
+some_of : (o : Option Task) (none : Bool) → is_some o ≡ not none → none ≡ false
+    → (task : Task) × (o ≡ Some task)
+some_of None none is off = absurd (let e : false ≡ not none = is in let f : not none ≡ true = ap not off in
+    let g : false ≡ true = e ∙ f in cc)
+some_of (Some task) none is off = (task, refl)
+
+-- the first worker, who has a task
+pub busy_first : (team : List Worker) (w : Worker) (none : Bool) → 0 < length team
+    → is_some (get_or team 0 w).task ≡ not none
+    → none ≡ false
+    → (task : Task) × ((d : Worker) → (get_or team 0 d).task ≡ Some task)
+busy_first team w none lt is off =
+    let found = some_of (get_or team 0 w).task none is off in (
+      found.0,
+      λ d. ap (λ (x : Worker). x.task) (get_or_default team 0 d w lt) ∙ found.1,
+    )
+
+-- a team that has nothing to do
+pub idle_linked : (e : Editing) (last : ℕ) (old dealt : List Worker) → AreDealt e last old dealt
+    → 0 < length dealt
+    → ((d : Worker) → (get_or dealt 0 d).task ≡ None)
+    → (i : ℕ) → i < last → linked_at (kept_of e) (i + 1) ≡ true
+idle_linked e last old [] a some idle = absurd (omega (arith, some))
+idle_linked e last old (w ∷ dealt) a some idle = a.none w some (idle w)
+
+-- a round whose first segment lies behind a linked front
+pub front_lengthens : (setup : Setup) (inputs : List Input) (e : Editing) (last : ℕ)
+    (old dealt played : List Worker) (now : Editing)
+    → AreDealt e last old dealt
+    → EachDid (HasPlayed setup inputs) dealt played
+    → LengthensFront played e now
+    → 0 < length dealt
+    → (task : Task) → ((d : Worker) → (get_or dealt 0 d).task ≡ Some task)
+    → linked_at (kept_of e) 0 ≡ true
+    → (m : ℕ) → AreLinked m (kept_of e) → AreLinked (m + 1) (kept_of now)
+front_lengthens setup inputs e last old [] played now a did longer some task is first m linked i le =
+    absurd (omega (arith, some))
+front_lengthens setup inputs e last old (w ∷ dealt) played now a did longer some task is first m linked i le =
+    let many = did.many in
+    let segment = a.segment 0 w task some (is w) in
+    let front : AreLinked task.entry (kept_of e) =
+    all_before (kept_of e) task.entry first (a.before w task some (is w)) in
+    let past : m ≤ task.entry = elim (cases_lt task.entry m) [
+      | inl inside ↦ absurd (let on = linked (task.entry + 1) (omega (arith, inside)) in
+          let off : true ≡ false = sym on ∙ segment.unlinked in cc)
+      | inr low ↦ low
+    ] in longer w task (omega (arith, some, many)) ((did.each 0 w some).task ∙ is w) front i (omega
+    (arith, le, past))
+
+-- what a team that was dealt its segments can play
+pub dealt_can_play : (disk : List ℕ) (e : Editing) (last : ℕ) (old dealt : List Worker)
+    → IsDraft (editing_setup e) disk e.session.current
+    → last < length (kept_of e)
+    → AreDealt e last old dealt
+    → All (CanPlay e.cart e.session.current.inputs) dealt
+dealt_can_play disk e last old dealt draft there a i d lt = record {
+  types = a.types i d lt;
+  order = λ task some.
+      let is = a.segment i d task lt some in
+      let below = is.there in
+      let up = draft.kept.rising task.entry (omega (arith, below, there)) in
+      let from = is.place in
+      let to = is.end in
+      omega (arith, up, from, to);
+  within = λ task some.
+      let is = a.segment i d task lt some in
+      let below = is.there in
+      let in_range = draft.kept.within (task.entry + 1) (omega (arith, below, there)) in
+      let to = is.end in
+      omega (arith, in_range, to);
+}

@@ -1,0 +1,54 @@
+use Rattle.std.proofs.Common.{sym, subst, arith}
+use Rattle.std.specs.List.{All}
+use Rattle.w4_defs.specs.Board.{console_setup}
+use Rattle.w4_defs.specs.Module.{WasmModule}
+use Rattle.w4_defs.specs.Recording.{Recording}
+use Rattle.w4_segments.specs.Working.{CanPlay, HasPlayed, EachDid}
+use Rattle.w4_segments.proofs.RoundLaws.{all_before, idle_linked, dealt_can_play, dealt_computed, front_lengthens}
+use Rattle.w4_segments.proofs.rounds.settle_round.Goals as goal
+
+pub returns-then-is_idle-clause-none : goal.returns-then-is_idle-clause-none
+returns-then-is_idle-clause-none g c _ =
+    let e = c.args.editor.now in
+    let many = c.deal.ensures.many in
+    let some = c.requires.some in
+    all_before e.session.current.kept c.args.last c.is_consistent.ensures.kept.first_linked
+    (idle_linked e c.args.last c.args.team.now c.deal.new.team c.deal.ensures (omega (arith, many, some))
+    (c.is_idle.ensures.idle c.if-is_idle.true))
+
+pub play_all-requires-after_bounds : goal.play_all-requires-after_bounds
+play_all-requires-after_bounds g c κs within =
+    let e = c.args.editor.now in
+    subst (λ (m : WasmModule). All (CanPlay m c.recording.result.now.frames) c.deal.new.team) (sym
+    c.cart.ensures)
+    (subst (λ (r : Recording). All (CanPlay e.cart r.frames) c.deal.new.team) (sym c.recording.ensures)
+    (dealt_can_play e.disk e c.args.last c.args.team.now c.deal.new.team c.is_consistent.ensures
+    c.requires.there
+    c.deal.ensures))
+
+pub take_all-requires-clause-played : goal.take_all-requires-clause-played
+take_all-requires-clause-played g c =
+    let e = c.args.editor.now in
+    dealt_computed e c.args.last c.args.team.now c.deal.new.team c.play_all.new.team c.deal.ensures
+    (subst (λ (m : WasmModule). EachDid (HasPlayed (console_setup m e.font e.budget) e.session.current.inputs)
+    c.deal.new.team c.play_all.new.team) c.cart.ensures
+    (subst (λ font. EachDid (HasPlayed (console_setup c.cart.result.now font e.budget)
+    e.session.current.inputs)
+    c.deal.new.team c.play_all.new.team) c.font.ensures
+    (subst (λ (r : Recording). EachDid (HasPlayed (console_setup c.cart.result.now c.font.result.now
+    r.budget) r.frames)
+    c.deal.new.team c.play_all.new.team) c.recording.ensures c.play_all.ensures)))
+
+pub returns-clause-front : goal.returns-clause-front
+returns-clause-front g c _ m lt linked =
+    let e = c.args.editor.now in
+    let many = c.deal.ensures.many in
+    let some = c.requires.some in
+    let first = c.is_idle.ensures.busy c.if-is_idle.false in
+    front_lengthens (console_setup c.cart.result.now c.font.result.now c.recording.result.now.budget)
+    c.recording.result.now.frames e c.args.last
+    c.args.team.now c.deal.new.team c.play_all.new.team c.take_all.new.editor c.deal.ensures
+    c.play_all.ensures
+    c.in_ok-take_all.ensures.front
+    (omega (arith, many, some)) first.0 first.1
+    c.is_consistent.ensures.kept.first_linked m linked

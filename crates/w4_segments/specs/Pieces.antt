@@ -1,0 +1,58 @@
+-- The pieces of a film. They are cut at the kept places, and each has the images from its cut to the next.
+use Rattle.std.specs.Prelude.{◌≡◌, ℕ, ◌+◌, ◌<◌, List, [], flat_map, length, slice_index_or, Option, Some, None, Result, Ok, Err, IsOk, Vec, min, max, nat_lt, if◌then◌else◌}
+use Rattle.w4_defs.specs.KeptList.{Entry, place_at, state_at}
+use Rattle.w4_defs.specs.Run.{run_state}
+use Rattle.w4_editor.specs.Editing.{Editing, editing_setup}
+use Rattle.std.specs.declared.alloc.Global.{Global}
+use Rattle.w4_defs.specs.declared.memory.OutOfMemory.{OutOfMemory}
+use Rattle.w4_segments.specs.declared.worker.Task.{Task}
+use Rattle.w4_segments.specs.declared.worker.Worker.{Worker}
+use Rattle.w4_segments.specs.Filming.{run_images}
+use Rattle.w4_segments.specs.Rounds.{kept_of}
+use Rattle.w4_segments.specs.Working.{CanFilm}
+
+-- the images of so many places of an editor's run, from this place on
+abbrev pub images_of : Editing → ℕ → ℕ → List ℕ
+images_of e place count = run_images (editing_setup e) e.disk e.session.current.inputs place count
+
+-- where the piece of entry I begins: at the entry's place, but within the film's first place and its end
+abbrev pub cut_at : List Entry → ℕ → ℕ → ℕ → ℕ
+cut_at kept first end i = if nat_lt i (length kept) then min end (max first (place_at kept i)) else end
+
+-- the kept states below a place are those of the run
+abbrev pub AreOfRunBelow : ℕ → Editing → Type 0
+AreOfRunBelow end e = (i : ℕ) → i < length (kept_of e) → place_at (kept_of e) i < end
+    → run_state (editing_setup e) e.disk e.session.current.inputs (place_at (kept_of e) i)
+    ≡ Some (state_at (kept_of e) i)
+
+-- the worker has the piece of entry I, or nothing where the piece is empty
+pub record IsPiece (e : Editing) (first end i : ℕ) (worker : Worker) : Type 0 where
+  pub ready : CanFilm (editing_setup e) e.disk e.session.current.inputs worker
+  pub begins : (task : Task) → worker.task ≡ Some task → task.first ≡ cut_at (kept_of e) first end i
+  pub ends : (task : Task) → worker.task ≡ Some task → task.end ≡ cut_at (kept_of e) first end (i + 1)
+  pub none : worker.task ≡ None
+      → cut_at (kept_of e) first end (i + 1) ≡ cut_at (kept_of e) first end i
+
+-- a team has the pieces from entry I on, in order
+pub record ArePieces (e : Editing) (first end i : ℕ) (old new : List Worker) : Type 0 where
+  pub many : length new ≡ length old
+  pub each : (k : ℕ) (d : Worker) → k < length new → IsPiece e first end (i + k) (slice_index_or new k d)
+
+-- what a worker adds to a film, where it had memory, and what a team adds
+abbrev pub images_made : Result (Vec ℕ Global) OutOfMemory → List ℕ
+images_made (Ok images) = images.items
+images_made (Err refusal) = []
+
+abbrev pub task_images : Option Task → List ℕ → List ℕ
+task_images None images = []
+task_images (Some task) images = images
+
+abbrev pub worker_images : Worker → List ℕ
+worker_images worker = task_images worker.task (images_made worker.images)
+
+abbrev pub team_images : List Worker → List ℕ
+team_images team = flat_map worker_images team
+
+-- a worker that had a task had memory for it
+abbrev pub IsMade : Worker → Type 0
+IsMade worker = (task : Task) → worker.task ≡ Some task → IsOk worker.images

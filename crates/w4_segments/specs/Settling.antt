@@ -1,0 +1,13 @@
+-- What a settling by many workers leaves: what one leaves.
+use Rattle.std.specs.Prelude.{◌≡◌, ◌-◌, length, None}
+use Rattle.w4_defs.specs.KeptList.{IsSettled}
+use Rattle.w4_editor.specs.Editing.{Editing}
+use Rattle.w4_editor.specs.Showing.{KeepsRecording, AreOfRun}
+
+-- all entries are linked and have the states of a run from reset, and no place is shown
+pub record IsSettledWide (old new : Editing) : Type 0 where
+  pub recording : KeepsRecording old new
+  pub at : new.at ≡ None
+  pub settled : IsSettled
+      (length old.session.current.kept - 1) old.session.current.kept new.session.current.kept
+  pub states : AreOfRun new

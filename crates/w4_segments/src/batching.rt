@@ -1,0 +1,204 @@
+//! Batches: many recordings are run on one cart, and one row is told of each.
+
+ghost use Rattle.sha2.specs.Sha256.{sha256};
+ghost use Rattle.std.specs.Prelude.{◌≡◌, ℕ, ◌+◌, ◌<◌, ◌≤◌, IfOk, Option, Some, length, map};
+ghost use Rattle.w4_defs.specs.Batch.{file_row, file_rows, ran_row, run_row};
+ghost use Rattle.w4_defs.specs.State.{HasGlobals};
+ghost use Rattle.w4_defs.specs.declared.batch.BatchRow.{BatchRow};
+ghost use Rattle.w4_segments.specs.Batching.{AreDealtOut, AreOfHands, AreRows, CoverAll, HasRows, bytes_of, row_of};
+
+use crate::gate::Gate;
+use crate::playing::play;
+use std::alloc::Global;
+use std::thread;
+use std::thread::Threads;
+use w4_blit::Font;
+use w4_console::Console;
+use w4_defs::OutOfMemory;
+use w4_defs::batch::BatchRow;
+use w4_devices::FrameRecord;
+use w4_image::{IMAGE_LEN, ppm_into};
+use w4_map::State;
+use w4_record::{Recording, RecordingRefusal, digest_of, read_recording};
+use wasm_valid::Cart;
+
+/// The row of each item, in the items' order, by 1 to 16 workers. An item that is run passes the gate with
+/// its number before its reset. Errors: OutOfMemory.
+pub fn batch<R: Threads + Sync, G: Gate + Sync>(
+    rt: &R,
+    alloc: Global,
+    cart: &Cart,
+    font: &Font,
+    digest: &[u8; 32],
+    items: &[Vec<u8>],
+    workers: usize,
+    gate: &G,
+) -> Result<Vec<BatchRow>, OutOfMemory>
+    requires some { 1 ≤ workers }
+    requires few { workers ≤ 16 }
+    ensures { IfOk result (λ rows. map Some rows.items
+        ≡ file_rows sha256 cart.now font.now digest.now (map bytes_of items.now)) }
+{
+    let hands = items.len().min(workers);
+    let dealt = all_rows(rt, alloc, cart, font, digest, items, hands, gate)?;
+    in_order(alloc, dealt.as_slice(), items.len())
+}
+
+/// What so many workers make of their items, side by side.
+fn all_rows<R: Threads + Sync, G: Gate + Sync>(
+    rt: &R,
+    alloc: Global,
+    cart: &Cart,
+    font: &Font,
+    digest: &[u8; 32],
+    items: &[Vec<u8>],
+    hands: usize,
+    gate: &G,
+) -> Result<Vec<Result<Vec<BatchRow>, OutOfMemory>>, OutOfMemory>
+    requires { hands ≤ 16 }
+    ensures many { IfOk result (λ dealt. length dealt.items ≡ hands) }
+    ensures rows { IfOk result (λ dealt. AreOfHands (row_of cart.now font.now digest.now items.now)
+        (length items.now) hands dealt.items) }
+{
+    let rows = thread::map_indices(
+        rt,
+        alloc,
+        hands,
+        &|first| { rows_of(alloc, gate, cart, font, digest, items, first, hands) },
+    )?;
+    Ok(rows)
+}
+
+/// What a worker runs recordings on: a console, and the room for an image.
+#[derive(Drop)]
+struct Runner {
+    console: Console,
+    picture: Box<[u8; IMAGE_LEN]>,
+}
+
+/// The rows that one worker makes: of item `first` and of each `stride`-th after it.
+fn rows_of<G: Gate>(
+    alloc: Global,
+    gate: &G,
+    cart: &Cart,
+    font: &Font,
+    digest: &[u8; 32],
+    items: &[Vec<u8>],
+    first: usize,
+    stride: usize,
+) -> Result<Vec<BatchRow>, OutOfMemory>
+    requires some { 0 < stride }
+    requires few { first + stride ≤ 32 }
+    ensures { IfOk result (λ rows. AreRows (row_of cart.now font.now digest.now items.now)
+        (length items.now) first stride rows.items) }
+{
+    let mut runner = Runner {
+        console: Console::new(alloc, cart)?,
+        picture: Box::new(alloc, [0; IMAGE_LEN])?,
+    };
+    let mut rows = Vec::new(alloc);
+    let mut at = first;
+    while at < items.len() {
+        let bytes = items[at].as_slice();
+        let row = row(alloc, gate, cart, font, digest, at, bytes, &mut runner)?;
+        rows.push(row)?;
+        at += stride;
+    }
+    Ok(rows)
+}
+
+/// The row of one item.
+fn row<G: Gate>(
+    alloc: Global,
+    gate: &G,
+    cart: &Cart,
+    font: &Font,
+    digest: &[u8; 32],
+    number: usize,
+    bytes: &[u8],
+    runner: &mut Runner,
+) -> Result<BatchRow, OutOfMemory>
+    requires types { HasGlobals cart.now runner.old.console }
+    ensures row { IfOk result (λ row. file_row sha256 cart.now font.now digest.now bytes.now ≡ Some row) }
+    ensures types { HasGlobals cart.now runner.new.console }
+{
+    let recording = match read_recording(alloc, bytes) {
+        Ok(recording) => recording,
+        Err(RecordingRefusal::BadRecording) => return Ok(BatchRow::Bad),
+        Err(RecordingRefusal::OutOfMemory) => return Err(OutOfMemory),
+    };
+    if recording.digest != *digest {
+        return Ok(BatchRow::WrongCart);
+    }
+    gate.pass(number);
+    Ok(run(cart, font, &recording, runner))
+}
+
+/// Runs a recording from its reset to its last place.
+fn run(cart: &Cart, font: &Font, recording: &Recording, runner: &mut Runner) -> BatchRow
+    requires types { HasGlobals cart.now runner.old.console }
+    ensures row { run_row sha256 cart.now font.now recording.now ≡ Some result }
+    ensures types { HasGlobals cart.now runner.new.console }
+{
+    let console = &mut runner.console;
+    let frames = recording.frames.as_slice().len();
+    let mut made = FrameRecord::new();
+    console.reset(
+        cart,
+        font,
+        recording.disk.as_slice(),
+        recording.budget,
+        &mut made,
+    );
+    play(console, cart, font, recording, 0, frames);
+    ran(frames as u32, console.state(), &mut runner.picture)
+}
+
+/// What is told of a run that ended in this state.
+fn ran(frames: u32, state: &State, picture: &mut [u8; IMAGE_LEN]) -> BatchRow
+    ensures { result ≡ ran_row sha256 frames state.now }
+{
+    ppm_into(state, picture);
+    BatchRow::Ran {
+        frames,
+        halt: state.halt,
+        image: digest_of(picture),
+        disk: state.disk.bytes().len() as u32,
+    }
+}
+
+/// The rows of so many items in their order, out of those that each worker made of its own items.
+fn in_order(
+    alloc: Global,
+    dealt: &[Result<Vec<BatchRow>, OutOfMemory>],
+    count: usize,
+) -> Result<Vec<BatchRow>, OutOfMemory>
+    requires some { 0 < count → 0 < length dealt.now }
+    requires all { CoverAll count dealt.now }
+    ensures { (wanted : ℕ → Option BatchRow) → AreDealtOut wanted count dealt.now
+        → IfOk result (λ rows. HasRows wanted count rows.items) }
+{
+    let mut rows = Vec::new(alloc);
+    for item in 0..count {
+        rows.push(row_at(dealt, count, item)?)?;
+    }
+    Ok(rows)
+}
+
+/// The row of an item, which one of the workers made.
+fn row_at(
+    dealt: &[Result<Vec<BatchRow>, OutOfMemory>],
+    count: usize,
+    item: usize,
+) -> Result<BatchRow, OutOfMemory>
+    requires there { item < count }
+    requires some { 0 < length dealt.now }
+    requires all { CoverAll count dealt.now }
+    ensures { (wanted : ℕ → Option BatchRow) → AreDealtOut wanted count dealt.now
+        → IfOk result (λ row. wanted item ≡ Some row) }
+{
+    match &dealt[item % dealt.len()] {
+        Ok(rows) => Ok(rows[item / dealt.len()]),
+        Err(refusal) => Err(*refusal),
+    }
+}

@@ -1,0 +1,23 @@
+//! Work split over threads (project rule): films, settling, and many recordings at once. Each worker has a
+//! console of its own, and nothing that changes is shared. The layer above relies on each answer being that
+//! of one worker, whatever their number, and whatever a gate does.
+#![tactic(auto)]
+
+pub mod batching;
+pub mod filming;
+pub mod gate;
+mod pieces;
+mod playing;
+pub mod refusal;
+mod rounds;
+pub mod settling;
+#[cfg(test)]
+mod tests;
+mod worker;
+
+pub use batching::batch;
+pub use filming::film;
+pub use gate::{Gate, OpenGate};
+pub use refusal::FilmRefusal;
+pub use settling::settle_wide;
+pub use w4_defs::batch::BatchRow;

@@ -1,0 +1,283 @@
+//! Rounds of settling. A round runs segments that aren't linked side by side, each from the state that is
+//! kept before it, and the calling thread alone compares what came of them with what is kept.
+
+ghost use Rattle.std.specs.Prelude.{◌≡◌, ◌≢◌, ℕ, ◌+◌, ◌-◌, ◌<◌, ◌≤◌, ◌↔◌, All, IfOk, IsFalse, IsTrue, None, OnOk, Some, length, slice_index_or, true};
+ghost use Rattle.w4_defs.specs.Board.{console_setup};
+ghost use Rattle.w4_defs.specs.KeptList.{IsDraft, computed, linked_at};
+ghost use Rattle.w4_defs.specs.State.{HasGlobals};
+ghost use Rattle.w4_editor.specs.Editing.{editing_setup};
+ghost use Rattle.w4_editor.specs.Settling.{AreLinked};
+ghost use Rattle.w4_segments.specs.Filming.{KeepsShown};
+ghost use Rattle.w4_segments.specs.Rounds.{AreComputed, AreDealt, CanTake, IsDealt, IsPut, IsTaken, LengthensFront};
+ghost use Rattle.w4_segments.specs.declared.worker.Task.{Task};
+ghost use Rattle.w4_segments.specs.declared.worker.Worker.{Worker};
+ghost use Rattle.w4_segments.specs.Working.{CanPlay, EachDid, HasPlayed, HasTypes};
+
+use crate::gate::Gate;
+use crate::playing::play;
+use crate::worker::{Task, Worker};
+use std::alloc::Global;
+use std::thread;
+use std::thread::Threads;
+use w4_blit::Font;
+use w4_defs::OutOfMemory;
+use w4_editor::Editor;
+use w4_map::State;
+use w4_record::Recording;
+use wasm_valid::Cart;
+
+/// Links all entries up to `last`, in at most `last` rounds: each one lengthens the linked front of the list.
+pub(crate) fn settle_rounds<R: Threads + Sync, G: Gate + Sync>(
+    rt: &R,
+    alloc: Global,
+    editor: &mut Editor,
+    last: usize,
+    gate: &G,
+    team: &mut [Worker],
+) -> Result<(), OutOfMemory>
+    requires there { last < length editor.old.session.current.kept }
+    requires some { 0 < length team.old }
+    requires types { All (HasTypes editor.old.cart) team.old }
+    ensures linked { OnOk result (AreLinked last editor.new.session.current.kept) }
+    ensures keeps { KeepsShown editor.old editor.new }
+    ensures many { length team.new ≡ length team.old }
+    ensures types { OnOk result (All (HasTypes editor.old.cart) team.new) }
+{
+    is_consistent(editor);
+    for _ in 0..last {
+        if !settle_round(rt, alloc, editor, last, gate, team)? {
+            return Ok(());
+        }
+    }
+    Ok(())
+}
+
+/// One round; whether there was anything to do.
+fn settle_round<R: Threads + Sync, G: Gate + Sync>(
+    rt: &R,
+    alloc: Global,
+    editor: &mut Editor,
+    last: usize,
+    gate: &G,
+    team: &mut [Worker],
+) -> Result<bool, OutOfMemory>
+    requires there { last < length editor.old.session.current.kept }
+    requires some { 0 < length team.old }
+    requires types { All (HasTypes editor.old.cart) team.old }
+    ensures none { IfOk result (λ found. IsFalse found → AreLinked last editor.new.session.current.kept) }
+    ensures front { IfOk result (λ found. IsTrue found → (m : ℕ) → m < last →
+        AreLinked m editor.old.session.current.kept
+        → AreLinked (m + 1) editor.new.session.current.kept) }
+    ensures keeps { KeepsShown editor.old editor.new }
+    ensures many { length team.new ≡ length team.old }
+    ensures types { OnOk result (All (HasTypes editor.old.cart) team.new) }
+{
+    is_consistent(editor);
+    deal(editor, last, team);
+    if is_idle(team) {
+        return Ok(false);
+    }
+    play_all(
+        rt,
+        gate,
+        editor.cart(),
+        editor.font(),
+        editor.recording(),
+        team,
+    );
+    take_all(alloc, editor, last, team)?;
+    Ok(true)
+}
+
+/// Whether a team has nothing to do: its first worker is the first to have a task.
+fn is_idle(team: &[Worker]) -> bool
+    requires { 0 < length team.now }
+    ensures idle { IsTrue result → (d : Worker) → (slice_index_or team.now 0 d).task ≡ None }
+    ensures busy { IsFalse result → (task : Task) × ((d : Worker)
+        → (slice_index_or team.now 0 d).task ≡ Some task) }
+{
+    team[0].task.is_none()
+}
+
+/// Gives each worker a segment that isn't linked, in order, as long as there are any.
+fn deal(editor: &Editor, last: usize, team: &mut [Worker])
+    requires there { last < length editor.now.session.current.kept }
+    requires types { All (HasTypes editor.now.cart) team.old }
+    ensures { AreDealt editor.now last team.old team.new }
+{
+    let mut next = 0;
+    for hand in 0..team.len() {
+        next = deal_one(editor, hand, next, last, &mut team[hand]);
+    }
+}
+
+/// Gives a worker the first segment from entry `from` on that isn't linked; returns the entry after it.
+fn deal_one(editor: &Editor, number: usize, from: usize, last: usize, worker: &mut Worker) -> usize
+    requires there { last < length editor.now.session.current.kept }
+    requires from { from ≤ last }
+    requires types { HasTypes editor.now.cart worker.old }
+    ensures { IsDealt editor.now from last result worker.new }
+{
+    let entry = first_unlinked(editor, from, last);
+    if entry == last {
+        worker.task = None;
+        return last;
+    }
+    is_consistent(editor);
+    let end = editor.kept_place(entry + 1);
+    editor.kept_restore(entry, worker.console.state_mut());
+    worker.task = Some(Task {
+        number,
+        entry,
+        place: editor.kept_place(entry),
+        first: end,
+        end,
+    });
+    entry + 1
+}
+
+/// A fact for callers, which costs nothing: the kept list is consistent, and the recording within its limits.
+pub(crate) fn is_consistent(editor: &Editor)
+    ensures { IsDraft (editing_setup editor.now) editor.now.disk editor.now.session.current }
+{
+    let _shown = editor.at();
+}
+
+/// How many of the entries up to `last` aren't linked.
+pub(crate) fn unlinked(editor: &Editor, last: usize) -> usize
+    requires { last < length editor.now.session.current.kept }
+    ensures none { result ≡ 0 → AreLinked last editor.now.session.current.kept }
+    ensures few { result ≤ last }
+{
+    is_consistent(editor);
+    let mut count = 0;
+    for entry in 0..last {
+        if !editor.kept_linked(entry + 1) {
+            count += 1;
+        }
+    }
+    count
+}
+
+/// The first entry from `from` on after which there is no link, or `last`.
+fn first_unlinked(editor: &Editor, from: usize, last: usize) -> usize
+    requires there { last < length editor.now.session.current.kept }
+    requires from { from ≤ last }
+    ensures order { (from ≤ result) × (result ≤ last) }
+    ensures before { (i : ℕ) → from ≤ i → i < result
+        → linked_at editor.now.session.current.kept (i + 1) ≡ true }
+    ensures here { result < last → IsFalse (linked_at editor.now.session.current.kept (result + 1)) }
+{
+    for entry in from..last {
+        if !editor.kept_linked(entry + 1) {
+            return entry;
+        }
+    }
+    last
+}
+
+/// All workers play their segments, side by side.
+fn play_all<R: Threads + Sync, G: Gate + Sync>(
+    rt: &R,
+    gate: &G,
+    cart: &Cart,
+    font: &Font,
+    recording: &Recording,
+    team: &mut [Worker],
+)
+    requires { All (CanPlay cart.now recording.now.frames) team.old }
+    ensures { EachDid (HasPlayed (console_setup cart.now font.now recording.now.budget)
+        recording.now.frames) team.old team.new }
+{
+    let hands = team.len().max(1);
+    thread::for_each_mut(
+        rt,
+        team,
+        hands,
+        &|_, worker| play_one(gate, cart, font, recording, worker),
+    );
+}
+
+/// A worker plays its segment, if it has one.
+fn play_one<G: Gate>(gate: &G, cart: &Cart, font: &Font, recording: &Recording, worker: &mut Worker)
+    requires { CanPlay cart.now recording.now.frames worker.old }
+    ensures { HasPlayed (console_setup cart.now font.now recording.now.budget) recording.now.frames
+        worker.old worker.new }
+{
+    if let Some(task) = worker.task {
+        gate.pass(task.number);
+        play(
+            &mut worker.console,
+            cart,
+            font,
+            recording,
+            task.place,
+            task.end,
+        );
+    }
+}
+
+/// Takes over what the workers played, in order. What was played from a state that has been replaced since
+/// is thrown away.
+fn take_all(
+    alloc: Global,
+    editor: &mut Editor,
+    last: usize,
+    team: &[Worker],
+) -> Result<(), OutOfMemory>
+    requires there { last < length editor.old.session.current.kept }
+    requires played { AreComputed editor.old last team.now }
+    ensures keeps { KeepsShown editor.old editor.new }
+    ensures front { OnOk result (LengthensFront team.now editor.old editor.new) }
+{
+    let mut replaced = None;
+    for hand in 0..team.len() {
+        replaced = take_one(alloc, editor, &team[hand], replaced)?;
+    }
+    Ok(())
+}
+
+/// Takes over what a worker played, unless its first state was replaced in this round; returns the entry
+/// whose state was replaced last.
+fn take_one(
+    alloc: Global,
+    editor: &mut Editor,
+    worker: &Worker,
+    replaced: Option<usize>,
+) -> Result<Option<usize>, OutOfMemory>
+    requires { CanTake editor.old replaced worker.now }
+    ensures keeps { KeepsShown editor.old editor.new }
+    ensures taken { IfOk result (λ last. IsTaken worker.now replaced last editor.old editor.new) }
+{
+    match worker.task {
+        Some(task) if replaced != Some(task.entry) => {
+            put(alloc, editor, task.entry, worker.console.state(), replaced)
+        }
+        _ => Ok(replaced),
+    }
+}
+
+/// Links the entry after `entry`. Where another state was found than is kept, it is put in its place, and
+/// this entry is returned as the one that was replaced last.
+fn put(
+    alloc: Global,
+    editor: &mut Editor,
+    entry: usize,
+    found: &State,
+    replaced: Option<usize>,
+) -> Result<Option<usize>, OutOfMemory>
+    requires there { entry + 1 < length editor.old.session.current.kept }
+    requires found { computed (editing_setup editor.old) editor.old.session.current.inputs
+        editor.old.session.current.kept entry ≡ Some found.now }
+    requires globals { HasGlobals editor.old.cart found.now }
+    ensures keeps { KeepsShown editor.old editor.new }
+    ensures put { IfOk result (λ last. IsPut entry replaced last editor.old editor.new) }
+{
+    is_consistent(editor);
+    if editor.kept_same(entry + 1, found) {
+        editor.link(entry + 1);
+        return Ok(replaced);
+    }
+    editor.replace(alloc, entry + 1, found)?;
+    Ok(Some(entry + 1))
+}

@@ -1,0 +1,81 @@
+//! Settling by many workers.
+
+ghost use Rattle.std.specs.Prelude.{◌≡◌, ◌-◌, ◌<◌, ◌≤◌, OnErr, OnOk, length};
+ghost use Rattle.w4_editor.specs.Settling.{AreLinked};
+ghost use Rattle.w4_editor.specs.Showing.{KeepsRecording};
+ghost use Rattle.w4_segments.specs.Filming.{KeepsShown};
+ghost use Rattle.w4_segments.specs.Settling.{IsSettledWide};
+
+use crate::gate::Gate;
+use crate::rounds::{is_consistent, settle_rounds, unlinked};
+use crate::worker::team;
+use std::alloc::Global;
+use std::marker::Brand;
+use std::sync::ledger::{Blank, Ledger};
+use std::thread::Threads;
+use w4_defs::{OutOfMemory, Steps};
+use w4_editor::Editor;
+
+/// Brings all kept places up to date, as `Editor::settle` does, by 1 to 16 workers; a piece of a round is one
+/// segment that isn't linked. No place is shown then. Errors: OutOfMemory, and then kept states and links may
+/// be newer.
+pub fn settle_wide<R: Threads + Sync, G: Gate + Sync>(
+    rt: &R,
+    alloc: Global,
+    editor: &mut Editor,
+    workers: usize,
+    gate: &G,
+) -> Result<(), OutOfMemory>
+    requires some { 1 ≤ workers }
+    requires few { workers ≤ 16 }
+    ensures ok { OnOk result (IsSettledWide editor.old editor.new) }
+    ensures err { OnErr result (KeepsRecording editor.old editor.new) }
+{
+    link_all(rt, alloc, editor, workers, gate)?;
+    settle::<Brand>(alloc, editor, Blank::new(1))
+}
+
+/// Links all entries. Takes no memory where they are linked.
+fn link_all<R: Threads + Sync, G: Gate + Sync>(
+    rt: &R,
+    alloc: Global,
+    editor: &mut Editor,
+    workers: usize,
+    gate: &G,
+) -> Result<(), OutOfMemory>
+    requires some { 1 ≤ workers }
+    ensures linked { OnOk result (AreLinked (length editor.old.session.current.kept - 1)
+        editor.new.session.current.kept) }
+    ensures keeps { KeepsShown editor.old editor.new }
+{
+    let last = last_entry(editor);
+    let owed = unlinked(editor, last);
+    if owed == 0 {
+        return Ok(());
+    }
+    let mut team = team(alloc, editor.cart(), owed.min(workers))?;
+    settle_rounds(rt, alloc, editor, last, gate, team.as_mut_slice())
+}
+
+/// The last entry; entry 0 is always there.
+fn last_entry(editor: &Editor) -> usize
+    ensures last { result ≡ length editor.now.session.current.kept - 1 }
+    ensures there { result < length editor.now.session.current.kept }
+{
+    is_consistent(editor);
+    editor.kept_count() - 1
+}
+
+/// Settles under a counter of its own. Where all is linked it runs no frame.
+fn settle<L: Ledger>(alloc: Global, editor: &mut Editor, blank: Blank) -> Result<(), OutOfMemory>
+    requires name { blank.name ≡ L.name }
+    requires parts { blank.parts ≡ L.parts }
+    requires some { 0 < L.parts }
+    ensures ok { OnOk result (IsSettledWide editor.old editor.new) }
+    ensures err { OnErr result (KeepsRecording editor.old editor.new) }
+{
+    match editor.settle(alloc, &mut Steps::<L>::new(blank)) {
+        Ok(()) => Ok(()),
+        Err(_) => Err(OutOfMemory),
+    }
+}

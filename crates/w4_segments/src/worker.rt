@@ -1,0 +1,53 @@
+//! Workers: each has a console of its own. None has a snapshot or an editor.
+
+ghost use Rattle.std.specs.Prelude.{◌≡◌, All, IfOk, vec_len};
+ghost use Rattle.w4_segments.specs.Working.{HasTypes};
+
+use std::alloc::Global;
+use w4_console::Console;
+use w4_defs::OutOfMemory;
+use wasm_valid::Cart;
+
+/// A stretch of a recording. The piece `number` goes from `place`, where the console stands with the state of
+/// entry `entry`, to `end`; in a film it has the images of `first` up to `end`.
+#[derive(Clone, Copy)]
+pub struct Task {
+    pub number: usize,
+    pub entry: usize,
+    pub place: usize,
+    pub first: usize,
+    pub end: usize,
+}
+
+/// A worker with its task, if it has one, and the images that it made last.
+#[derive(Drop)]
+pub struct Worker {
+    pub console: Console,
+    pub task: Option<Task>,
+    pub images: Result<Vec<u8>, OutOfMemory>,
+}
+
+impl Worker {
+    /// A worker without a task.
+    fn new(alloc: Global, cart: &Cart) -> Result<Worker, OutOfMemory>
+        ensures { IfOk result (HasTypes cart.now) }
+    {
+        Ok(Worker {
+            console: Console::new(alloc, cart)?,
+            task: None,
+            images: Ok(Vec::new(alloc)),
+        })
+    }
+}
+
+/// So many workers without a task. All the memory for consoles is taken here.
+pub(crate) fn team(alloc: Global, cart: &Cart, count: usize) -> Result<Vec<Worker>, OutOfMemory>
+    ensures many { IfOk result (λ team. vec_len team ≡ count) }
+    ensures types { IfOk result (λ team. All (HasTypes cart.now) team.items) }
+{
+    let mut team = Vec::with_capacity(alloc, count)?;
+    for _ in 0..count {
+        team.push(Worker::new(alloc, cart)?)?;
+    }
+    Ok(team)
+}

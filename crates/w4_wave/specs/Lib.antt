@@ -1,0 +1,3 @@
+-- What the contracts of this crate cite besides the definitions of the console.
+pub mod Outputs
+pub mod Calls
