@@ -1,5 +1,6 @@
 -- Lemmas of blits and text.
 mod CodeLaws
+mod ReachLaws
 mod SnapshotLaws
 mod TextLaws
 mod WalkLaws

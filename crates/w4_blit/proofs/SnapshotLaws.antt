@@ -71,7 +71,7 @@ with_snapshot-paint page snapshot f =
     ∙ sym (get_or-with_snapshot page snapshot i below))
 
 -- a range of a list has the list's own items
-copied : (page : List ℕ) (a b i : ℕ) → a ≤ i → i < b
+pub copied : (page : List ℕ) (a b i : ℕ) → a ≤ i → i < b
     → get_or (slice_range page a b) (i - a) 0 ≡ get_or page i 0
 copied page a b i low high =
     get_or-take (b - a) (drop a page) (i - a) 0 (omega arith) ∙ get_or-drop a page (i - a) 0

@@ -1,12 +1,12 @@
 -- One code of a text after another.
-use Rattle.std.proofs.Common.{◌≡◌, ℕ, zero, suc, ◌<◌, ◌≤◌, ◌+◌, ◌-◌, ◌*◌, ◌/◌, ◌%◌, ◌^◌, ◌&&◌, get_or, sym, ◌∙◌, ap, false, List, ◌∷◌, length, Option, Some, None, refl, inl, inr, arith}
-use Rattle.std.specs.Prelude.{ℤ, pos, ◌+ℤ◌, ◌-ℤ◌, ◌≤ℤ◌, ◌==◌, int_le, nat_le, nat_lt, if◌then◌else◌}
+use Rattle.std.proofs.Common.{◌≡◌, ℕ, zero, suc, ◌<◌, ◌≤◌, ◌+◌, ◌-◌, ◌*◌, ◌/◌, ◌%◌, ◌^◌, ◌&&◌, get_or, sym, ◌∙◌, ap, Bool, true, false, List, [], ◌∷◌, length, Option, Some, None, refl, inl, inr, arith}
+use Rattle.std.specs.Prelude.{ℤ, pos, ◌+ℤ◌, ◌-ℤ◌, ◌≤ℤ◌, ◌==◌, int_le, int_lt, nat_le, nat_lt, if◌then◌else◌}
 use Rattle.std.specs.Option.{option_or}
 use Rattle.std.proofs.lemmas.Bool.{cases_eq}
 use Rattle.std.proofs.lemmas.Bool.Decides.{nat_tests}
 use Rattle.std.proofs.lemmas.Int.{ints}
 use Rattle.w4_defs.specs.Framebuffer.{paint}
-use Rattle.w4_defs.specs.Text.{codes_painter, glyph_painter}
+use Rattle.w4_defs.specs.Text.{codes_painter, glyph_bit, glyph_painter}
 use Rattle.w4_defs.specs.Colours.{palette_index}
 use Rattle.w4_defs.specs.Shapes.{natural, only_if}
 use Rattle.w4_defs.proofs.PaintLaws.{paint_step}
@@ -83,3 +83,36 @@ first_column x left h same = let here = same left h in grind (arith, ints, nat_t
 pub last_column : (x : ℤ) (right : ℕ) → 0 < right → right ≤ 160
     → ((u : ℕ) → u < 160 → nat_le right u ≡ int_le x (pos u)) → pos right ≤ℤ x
 last_column x right some h same = let here = same (right - 1) (omega arith) in grind (arith, ints, nat_tests)
+
+-- below the screen no code paints
+nothing_or : (o p : Option ℕ) → o ≡ None → p ≡ None → option_or o p ≡ None
+nothing_or o p e f = rw (e, f) refl
+
+neither : (b : Bool) (o p : Option ℕ) → o ≡ None → p ≡ None → (if b then o else p) ≡ None
+neither true o p e f = e
+neither false o p e f = f
+
+not_there : (a b c d : Bool) (o : Option ℕ) → c ≡ false → only_if (a && (b && (c && d))) o ≡ None
+not_there true true true d o e = absurd (cc)
+not_there true true false d o e = refl
+not_there true false c d o e = refl
+not_there false b c d o e = refl
+
+row_below : (y : ℤ) (v : ℕ) → v < 160 → pos 160 ≤ℤ y → int_le y (pos v) ≡ false
+row_below y v h low = grind (arith, ints)
+
+pub below_screen : (font : List ℕ) (colors : ℕ) (left x y : ℤ) (codes : List ℕ) (u v : ℕ) → v < 160
+    → pos 160 ≤ℤ y → codes_painter font colors left codes x y u v ≡ None
+below_screen font colors left x y [] u v h low = refl
+below_screen font colors left x y (code ∷ codes) u v h low =
+    neither (code == 10) (codes_painter font colors left codes left (y +ℤ pos 8) u v)
+    (option_or (codes_painter font colors left codes (x +ℤ pos 8) y u v)
+    (glyph_painter font colors code x y u v))
+    (below_screen font colors left left (y +ℤ pos 8) codes u v h (omega (arith, ints)))
+    (nothing_or (codes_painter font colors left codes (x +ℤ pos 8) y u v)
+    (glyph_painter font colors code x y u v)
+    (below_screen font colors left (x +ℤ pos 8) y codes u v h low)
+    (not_there (nat_le 32 code && nat_lt code 256) (int_le x (pos u) && int_lt (pos u) (x +ℤ pos 8))
+    (int_le y (pos v)) (int_lt (pos v) (y +ℤ pos 8))
+    (palette_index colors (glyph_bit font code (natural (pos u -ℤ x)) (natural (pos v -ℤ y)) + 1))
+    (row_below y v h low)))

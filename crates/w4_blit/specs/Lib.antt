@@ -2,3 +2,4 @@
 pub mod Snapshot
 pub mod Unclipped
 pub mod Walks
+pub mod Reach

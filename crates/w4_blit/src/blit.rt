@@ -12,7 +12,8 @@ ghost use Rattle.w4_pixels.specs.Clipping.{clipped};
 ghost use Rattle.w4_pixels.specs.Packed.{byte_painter};
 
 use crate::cells::{distance, height_on_screen, index_at, width_on_screen};
-use crate::source::{FRAMEBUFFER_END, framebuffer};
+use crate::reach::framebuffer_read;
+use crate::source::{FRAMEBUFFER_END, few_bytes, framebuffer_start};
 use crate::walks::{Walk, place_at, walk_of};
 use crate::windows::four_from;
 use w4_defs::{PageBytes, Picture};
@@ -72,12 +73,18 @@ fn blit_outside(page: &mut PageBytes, picture: &Picture, x: i32, y: i32)
     blit_rows(page, &[], picture, x, y);
 }
 
-/// Blits a picture that may lie in the framebuffer.
+/// Blits a picture that may lie in the framebuffer. What it reads of that is kept aside.
 fn blit_inside(page: &mut PageBytes, picture: &Picture, x: i32, y: i32)
     ensures { page.new ≡ paint page.old (blit_painter page.old picture.now x y) }
 {
-    let snapshot = framebuffer(page);
-    blit_rows(page, &snapshot, picture, x, y);
+    let len = framebuffer_read(picture);
+    if len <= 256 {
+        let snapshot = few_bytes(page, len);
+        blit_rows(page, &snapshot[..len], picture, x, y);
+    } else {
+        let snapshot = framebuffer_start(page, len);
+        blit_rows(page, &snapshot[..len], picture, x, y);
+    }
 }
 
 /// A side of cells: none where the number is negative.

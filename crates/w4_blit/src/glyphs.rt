@@ -48,6 +48,29 @@ fn glyph_rows(page: &mut PageBytes, font: &Font, glyph: Glyph)
 {
     let (left, right) = (on_screen(glyph.x), on_screen(glyph.x + 8));
     let (top, bottom) = (on_screen(glyph.y), on_screen(glyph.y + 8));
+    if left < right {
+        rows_on_screen(page, font, glyph, left, right, top, bottom);
+    }
+}
+
+/// The cells in the columns from `left` up to `right` of the rows of the screen from `top` up to `bottom`.
+fn rows_on_screen(
+    page: &mut PageBytes,
+    font: &Font,
+    glyph: Glyph,
+    left: usize,
+    right: usize,
+    top: usize,
+    bottom: usize,
+)
+    requires some { left < right }
+    requires columns { right ≤ 160 }
+    requires rows { bottom ≤ 160 }
+    requires from { glyph.x ≤ℤ pos left }
+    requires to { pos right ≤ℤ (glyph.x +ℤ pos 8) }
+    ensures { page.new ≡ paint page.old
+        (clipped (bits_painter font.now glyph.colors glyph.code glyph.x glyph.y) left right top bottom) }
+{
     for v in top..bottom {
         glyph_row(page, font, glyph, left, right, v);
     }
@@ -57,24 +80,23 @@ fn glyph_rows(page: &mut PageBytes, font: &Font, glyph: Glyph)
 fn glyph_row(page: &mut PageBytes, font: &Font, glyph: Glyph, left: usize, right: usize, v: usize)
     requires columns { right ≤ 160 }
     requires row { v < 160 }
-    requires from { left < right → glyph.x ≤ℤ pos left }
-    requires to { left < right → pos right ≤ℤ (glyph.x +ℤ pos 8) }
+    requires some { left < right }
+    requires from { glyph.x ≤ℤ pos left }
+    requires to { pos right ≤ℤ (glyph.x +ℤ pos 8) }
     ensures { page.new ≡ paint page.old
         (clipped (bits_painter font.now glyph.colors glyph.code glyph.x glyph.y) left right v (v + 1)) }
 {
-    if left < right {
-        let first = 8 * u64::from(glyph.code.saturating_sub(FIRST_CODE));
-        let row = Row {
-            bits: font.byte(first + offset(v, glyph.y)),
-            paper: entry_of(glyph.colors, 1),
-            ink: entry_of(glyph.colors, 2),
-            x: glyph.x,
-            left,
-            right,
-            v,
-        };
-        put_row(page, row);
-    }
+    let first = 8 * u64::from(glyph.code.saturating_sub(FIRST_CODE));
+    let row = Row {
+        bits: font.byte(first + offset(v, glyph.y)),
+        paper: entry_of(glyph.colors, 1),
+        ink: entry_of(glyph.colors, 2),
+        x: glyph.x,
+        left,
+        right,
+        v,
+    };
+    put_row(page, row);
 }
 
 /// A part of a row of the screen, with the eight bits that its cells read: a bit 0 is paper, a bit 1 ink.

@@ -9,6 +9,7 @@ mod cells;
 mod codes;
 pub mod font;
 mod glyphs;
+mod reach;
 mod source;
 pub mod texts;
 mod walks;

@@ -1,7 +1,7 @@
 //! The page as it was when the call began, while the framebuffer is painted: the bytes outside are read where
 //! they stand, those of the framebuffer from a copy.
 
-ghost use Rattle.std.specs.Prelude.{◌-ℤ◌, ◌<◌, ◌≡◌, pos, slice_index, slice_range};
+ghost use Rattle.std.specs.Prelude.{◌+◌, ◌-ℤ◌, ◌<◌, ◌≡◌, ◌≤◌, pos, slice_index, slice_range};
 ghost use Rattle.w4_blit.specs.Snapshot.{with_snapshot};
 ghost use Rattle.w4_defs.specs.Shapes.{natural};
 
@@ -22,6 +22,26 @@ pub(crate) fn framebuffer(page: &PageBytes) -> Snapshot
 {
     let mut snapshot = [0; 6400];
     snapshot.copy_from_slice(&page[160..6560]);
+    snapshot
+}
+
+/// The first `len` bytes of the framebuffer, and 0 for the others.
+pub(crate) fn framebuffer_start(page: &PageBytes, len: usize) -> Snapshot
+    requires { len ≤ 6400 }
+    ensures { slice_range result 0 len ≡ slice_range page.now 160 (160 + len) }
+{
+    let mut snapshot = [0; 6400];
+    snapshot[..len].copy_from_slice(&page[160..160 + len]);
+    snapshot
+}
+
+/// The first `len` bytes of the framebuffer, where they are few.
+pub(crate) fn few_bytes(page: &PageBytes, len: usize) -> [u8; 256]
+    requires { len ≤ 256 }
+    ensures { slice_range result 0 len ≡ slice_range page.now 160 (160 + len) }
+{
+    let mut snapshot = [0; 256];
+    snapshot[..len].copy_from_slice(&page[160..160 + len]);
     snapshot
 }
 

@@ -11,6 +11,9 @@ use crate::glyphs::{Glyph, put_glyph};
 use crate::source::{FRAMEBUFFER_END, framebuffer};
 use w4_defs::{PageBytes, TextSource};
 
+/// From this row on nothing is on the screen, and no code goes back up.
+const SCREEN_END: i64 = 160;
+
 /// Where the next code's cells begin.
 #[derive(Clone, Copy)]
 struct Pen {
@@ -81,6 +84,9 @@ fn put_codes(
     let mut pen = Pen { x, y };
     let count = code_count(page, snapshot, source);
     for k in 0..count {
+        if SCREEN_END <= pen.y {
+            return;
+        }
         let code = code_at(page, snapshot, source, k);
         let glyph = Glyph {
             colors,

@@ -32,29 +32,10 @@ pub away : (test : Bool) (o p : Option ℕ) → test ≡ false → only_if test 
 away true o p e = absurd (cc)
 away false o p e = refl
 
--- at the cell the painter is asked of the cell
-at_cell : (f : Painter) (u v a b : ℕ)
-    → only_if (a == u && b == v) (f u v) ≡ only_if (a == u && b == v) (f a b)
-at_cell f u v a b = elim (cases_eq a u) [
-  | inl e ↦ elim (cases_eq b v) [
-    | inl g ↦ ap (λ o. only_if (a == u && b == v) o) (ap (λ x. f x v) (sym e) ∙ ap (f a) (sym g))
-    | inr n ↦ away (a == u && b == v) (f u v) (f a b) (grind (arith, nat_tests))
-  ]
-  | inr n ↦ away (a == u && b == v) (f u v) (f a b) (grind (arith, nat_tests))
-]
-
 only_if-twice : (first second : Bool) (o : Option ℕ)
     → only_if first (only_if second o) ≡ only_if (first && second) o
 only_if-twice true second o = refl
 only_if-twice false second o = refl
-
--- one more cell of a row
-pub cell_more : (f : Painter) (left u v a b : ℕ) → left ≤ u
-    → option_or (only_if (a == u && b == v) (f u v)) (clipped f left u v (v + 1) a b) ≡ clipped f left
-    (u + 1) v (v + 1) a b
-cell_more f left u v a b h =
-    ap (λ o. option_or o (clipped f left u v (v + 1) a b)) (at_cell f u v a b)
-    ∙ either _ _ _ (f a b) (grind (arith, nat_tests)) (grind (arith, nat_tests))
 
 -- one more row
 pub row_more : (f : Painter) (left right top v a b : ℕ) → top ≤ v

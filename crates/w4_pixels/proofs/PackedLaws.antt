@@ -1,5 +1,5 @@
 -- What a byte with a palette index in some of its digits shows.
-use Rattle.std.proofs.Common.{append_assoc, ◌⊎◌, subst, ◌++◌, take, drop, length, replicate, ◌≡◌, ℕ, ◌+◌, ◌-◌, ◌*◌, ◌/◌, ◌%◌, ◌^◌, ◌<◌, ◌≤◌, min, Bool, true, false, ◌&&◌, cond, List, get_or, Option, Some, unwrap_or, sym, ◌∙◌, ap, arith}
+use Rattle.std.proofs.Common.{append_assoc, ◌⊎◌, subst, ◌++◌, take, drop, length, replicate, ◌≡◌, ℕ, ◌+◌, ◌-◌, ◌*◌, ◌/◌, ◌%◌, ◌^◌, ◌<◌, ◌≤◌, min, Bool, true, false, ◌&&◌, cond, List, get_or, Option, Some, unwrap_or, refl, sym, ◌∙◌, ap, arith}
 use Rattle.std.specs.Prelude.{ℤ, pos, int_le, ◌==◌, nat_le, nat_lt, if◌then◌else◌}
 use Rattle.std.proofs.lemmas.Bool.Decides.{nat_tests}
 use Rattle.std.proofs.lemmas.Int.{ints}
@@ -31,6 +31,11 @@ part_digit page q first end row index low high k digit some left here hq hrow he
     rw (place, which, test)
     (e ∙ chosen_index (nat_le low k && nat_lt k high) index
     (get_or page (160 + (40 * row + q)) 0 / 4 ^ k % 4) hentry (omega arith))
+
+-- a byte of the span is all its own
+pub whole_digit : (k index other : ℕ) → k < 4 → index ≡ (if nat_le 0 k && nat_lt k 4 then index else other)
+whole_digit k index other h =
+    let test : (nat_le 0 k && nat_lt k 4) ≡ true = grind (arith, nat_tests) in rw test refl
 
 -- one pixel of a byte
 pub dot_digit : (page : List ℕ) (u v k index digit : ℕ) → u < 160 → index < 4 → k < 4

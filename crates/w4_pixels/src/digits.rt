@@ -26,12 +26,7 @@ fn weight(k: u32) -> u8
     requires { k < 4 }
     ensures { result ≡ 4 ^ k }
 {
-    match k {
-        0 => 1,
-        1 => 4,
-        2 => 16,
-        _ => 64,
-    }
+    1 << (2 * k)
 }
 
 /// The byte with the palette index in its digits from `low` up to `high`, which is left out.
@@ -48,7 +43,7 @@ pub fn with_part(byte: u8, low: u32, high: u32, index: u8) -> u8
 }
 
 /// A byte of four times the same digit.
-fn filled(index: u8) -> u8
+pub(crate) fn filled(index: u8) -> u8
     requires { index < 4 }
     ensures { (k : ℕ) → k < 4 → result / 4 ^ k % 4 ≡ index }
 {

@@ -36,8 +36,17 @@ pub(crate) fn put_dot(page: &mut PageBytes, u: usize, v: usize, index: u8)
     requires index { index < 4 }
     ensures { page.new ≡ paint page.old (dot_painter u v (Some index)) }
 {
-    let at = 160 + (40 * v + u / 4);
-    page[at] = with_digit(page[at], (u % 4) as u32, index);
+    put_pixel(page, 160 * v + u, index);
+}
+
+/// Paints the pixel of number `n`, counted in rows from the top.
+pub fn put_pixel(page: &mut PageBytes, n: usize, index: u8)
+    requires number { n < 25600 }
+    requires index { index < 4 }
+    ensures { page.new ≡ paint page.old (dot_painter (n % 160) (n / 160) (Some index)) }
+{
+    let at = 160 + n / 4;
+    page[at] = with_digit(page[at], (n % 4) as u32, index);
 }
 
 /// Paints the pixels of column `u` of the screen from row `top` up to `bottom`, which is left out.

@@ -10,7 +10,7 @@ pub mod runs;
 pub mod screen;
 
 pub use colour::entry_of;
-pub use dots::{column, pixel, point};
+pub use dots::{column, pixel, point, put_pixel};
 pub use quads::put_quad;
 pub use runs::{clear, span};
-pub use screen::{cell, on_screen, screen_part};
+pub use screen::{on_screen, screen_part};

@@ -5,7 +5,7 @@ ghost use Rattle.w4_defs.specs.Framebuffer.{paint};
 ghost use Rattle.w4_defs.specs.Shapes.{span_painter};
 ghost use Rattle.w4_pixels.specs.Packed.{part_painter, row_painter, zero_painter};
 
-use crate::digits::with_part;
+use crate::digits::{filled, with_part};
 use crate::screen::on_screen;
 use w4_defs::PageBytes;
 
@@ -42,6 +42,35 @@ fn put_span(page: &mut PageBytes, first: usize, end: usize, row: usize, index: u
 
 /// Paints those pixels of a row's span that are in the row's byte `q`.
 fn put_part(page: &mut PageBytes, q: usize, first: usize, end: usize, row: usize, index: u8)
+    requires some { first < end }
+    requires left { first < 4 * q + 4 }
+    requires here { 4 * q < end }
+    requires end { end ≤ 160 }
+    requires row { row < 160 }
+    requires index { index < 4 }
+    ensures { page.new ≡ paint page.old (part_painter q first end row (Some index)) }
+{
+    if first <= 4 * q && 4 * q + 4 <= end {
+        put_whole(page, q, first, end, row, index);
+    } else {
+        put_some(page, q, first, end, row, index);
+    }
+}
+
+/// All four of them are the span's.
+fn put_whole(page: &mut PageBytes, q: usize, first: usize, end: usize, row: usize, index: u8)
+    requires left { first ≤ 4 * q }
+    requires right { 4 * q + 4 ≤ end }
+    requires end { end ≤ 160 }
+    requires row { row < 160 }
+    requires index { index < 4 }
+    ensures { page.new ≡ paint page.old (part_painter q first end row (Some index)) }
+{
+    let at = 160 + (40 * row + q);
+    page[at] = filled(index);
+}
+
+fn put_some(page: &mut PageBytes, q: usize, first: usize, end: usize, row: usize, index: u8)
     requires some { first < end }
     requires left { first < 4 * q + 4 }
     requires here { 4 * q < end }

@@ -1,12 +1,6 @@
-//! Which part of the screen a range of coordinates covers, and single cells of it.
+//! Which part of the screen a range of coordinates covers.
 
-ghost use Rattle.std.specs.Option.{ForSome};
-ghost use Rattle.std.specs.Prelude.{◌&&◌, ◌+ℤ◌, ◌<◌, ◌==◌, ◌≡◌, ◌≤◌, ℕ, int_le, nat_le, pos};
-ghost use Rattle.w4_defs.specs.Framebuffer.{paint};
-ghost use Rattle.w4_defs.specs.Shapes.{only_if};
-
-use crate::dots::put_dot;
-use w4_defs::PageBytes;
+ghost use Rattle.std.specs.Prelude.{◌+ℤ◌, ◌<◌, ◌≡◌, ◌≤◌, ℕ, int_le, nat_le, pos};
 
 /// The first column or row of the screen that is at least `x`; 160 where there is none.
 pub fn on_screen(x: i64) -> usize
@@ -25,16 +19,4 @@ pub fn screen_part(x: i32, count: u32) -> (usize, usize)
 {
     let x = i64::from(x);
     (on_screen(x), on_screen(x + i64::from(count)))
-}
-
-/// Paints the pixel at column `u` and row `v` of the screen; nothing where there is no palette index.
-pub fn cell(page: &mut PageBytes, u: usize, v: usize, index: Option<u8>)
-    requires small { ForSome index (λ e. e < 4) }
-    requires column { u < 160 }
-    requires row { v < 160 }
-    ensures { page.new ≡ paint page.old (λ a b. only_if (a == u && b == v) index) }
-{
-    if let Some(index) = index {
-        put_dot(page, u, v, index);
-    }
 }

@@ -10,8 +10,10 @@ use Rattle.w4_editor.specs.Editing.{Editing, editing_setup}
 use Rattle.w4_house.specs.World.{World, Appends}
 use Rattle.w4_program.specs.Answering.{answer, answers}
 use Rattle.w4_program.specs.Answers.{Answered, answer_text, answers_by}
+use Rattle.w4_program.specs.Causes.{StopsWriting}
 use Rattle.w4_program.specs.Editors.{KeepsRest, IsAnswered, answer_by, place_session}
-use Rattle.w4_program.proofs.OwesLaws.{Owes, owes_less, owes_nothing}
+use Rattle.w4_program.specs.Endings.{Manner}
+use Rattle.w4_program.proofs.OwesLaws.{Owes, owes_less, owes_nothing, piece_stopped}
 use Rattle.w4_program.proofs.SessionLaws.{same_setup, same_disk}
 
 -- what a list of orders gives past its end
@@ -19,13 +21,25 @@ abbrev pub past_end : Order
 past_end = Set 0 (record { pads = []; mouse_x = pos 0; mouse_y = pos 0; buttons = 0; reset = false })
 
 -- an answer is the same by what the editor had at first
+pub same_answer : (first old : Editing) (order : Order) → KeepsRest first old
+    → answer_by old order ≡ answer (editing_setup first) first.disk (place_session old) order
+same_answer first old order rest =
+    λ i. answer (same_setup first old rest i) (same_disk first old rest i) (place_session old) order
+
 pub answered_at_first : (now after : World) (first old new : Editing) (order : Order)
     → KeepsRest first old
     → IsAnswered now after old new (answer_by old order)
     → IsAnswered now after old new (answer (editing_setup first) first.disk (place_session old) order)
 answered_at_first now after first old new order rest h =
-    subst (λ (a : Answered (Session ℕ)). IsAnswered now after old new a)
-    (λ i. answer (same_setup first old rest i) (same_disk first old rest i) (place_session old) order) h
+    subst (λ (a : Answered (Session ℕ)). IsAnswered now after old new a) (same_answer first old order rest) h
+
+pub stopped_at_first : (now after : World) (why : Manner) (first old : Editing) (order : Order)
+    → KeepsRest first old
+    → StopsWriting now after why (answer_by old order).out
+    → StopsWriting now after why (answer (editing_setup first) first.disk (place_session old) order).out
+stopped_at_first now after why first old order rest h =
+    subst (λ (a : Answered (Session ℕ)). StopsWriting now after why a.out) (same_answer first old order rest)
+    h
 
 -- the first order's answer, and those of the rest over the session that it leaves
 answers-step : {S O : Type 0} (answer_of : S → O → Answered S) (s next : S) (orders : List O) (i : ℕ) (d : O)
@@ -53,6 +67,18 @@ answers-out-step first now after answer_of s next orders i d whole lt e more so_
     owes_less first now after (answer_of s (get_or orders i d)).out
     (answers_by answer_of next (drop (i + 1) orders)).out whole more
     (subst (λ a. Owes first now a.out whole) (answers-step answer_of s next orders i d lt e) so_far)
+
+-- one of them stopped
+pub answers-stop : {S O : Type 0} (first now after : World) (why : Manner) (answer_of : S → O → Answered S)
+    (s : S) (orders : List O) (i : ℕ) (d : O) (whole : List ℕ)
+    → i < length orders → first.write_faults ≤ now.write_faults
+    → StopsWriting now after why (answer_of s (get_or orders i d)).out
+    → Owes first now (answers_by answer_of s (drop i orders)).out whole → StopsWriting first after why whole
+answers-stop first now after why answer_of s orders i d whole lt le h so_far =
+    let one = answer_of s (get_or orders i d) in
+    piece_stopped first now after why one.out (answers_by answer_of one.session (drop (i + 1) orders)).out
+    (answers_by answer_of s (drop i orders)).out whole
+    (ap (λ a. a.out) (answers-step answer_of s one.session orders i d lt refl)) le so_far h
 
 pub answers-session-step : {S O : Type 0} (answer_of : S → O → Answered S) (s next : S) (orders : List O)
     (i : ℕ) (d : O) (whole : S)

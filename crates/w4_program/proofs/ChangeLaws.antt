@@ -1,5 +1,5 @@
 -- What an editor makes of its session, its places make of theirs.
-use Rattle.std.proofs.Common.{◌≡◌, ◌≢◌, ℕ, inl, inr, Some, None, List, [], Option, false, refl, sym, ap, ◌∙◌, subst, pos, append-nil}
+use Rattle.std.proofs.Common.{◌≡◌, ◌≢◌, ◌⊎◌, ℕ, inl, inr, Some, None, List, [], Option, false, refl, sym, ap, ◌∙◌, subst, pos, append-nil}
 use Rattle.std.specs.Prelude.{Result, Ok, Err, OnOk, OnErr, IfErr}
 use Rattle.w4_defs.specs.declared.console.Input.{Input}
 use Rattle.w4_defs.specs.declared.editing.EditRefusal.{EditRefusal}
@@ -15,7 +15,11 @@ use Rattle.w4_editor.specs.Settling.{linked_entry}
 use Rattle.w4_editor.specs.Showing.{IsKeptAt, IsAllSettled, IsCauseOrMemory}
 use Rattle.w4_house.specs.World.{World, Appends}
 use Rattle.w4_program.specs.Answering.{answer, answer_change, refused_line, refusal_words}
-use Rattle.w4_program.specs.Editors.{KeepsRest, IsAnswered, IsChanged, changed, place_session}
+use Rattle.w4_program.specs.Causes.{Printed, WritesNothing}
+use Rattle.w4_program.specs.Editors.{KeepsRest, IsAnswered, IsChanged, GivesAnswer, changed, place_session}
+use Rattle.w4_program.specs.Endings.{manner_of}
+use Rattle.w4_program.specs.declared.status.Status.{Status}
+use Rattle.w4_program.proofs.OwesLaws.{stops_as, stops_untold}
 use Rattle.w4_program.proofs.SessionLaws.{rest_then, rest_at, only_shows}
 
 abbrev pub Made : Type 0
@@ -172,13 +176,20 @@ refused before after old new alone refusal is same written =
       rest = ap (λ (e : Editing). e) same ∙ (λ i. with_session old (sym same i).session (sym same i).at);
     })
 
-pub refused_on : {X E : Type 0} (result : Result X E) (before after : World) (old new : Editing)
+pub refused_on : {X : Type 0} (result : Result X Status) (before after : World) (old new : Editing)
     (alone : Alone) (refusal : EditRefusal)
     → (refusal ≢ OutOfMemory → (alone ≡ Err refusal) × (new ≡ old))
-    → OnOk result (refusal ≢ OutOfMemory)
-    → OnOk result (Appends before.out after.out (refused_line (refusal_words refusal)))
-    → OnOk result (IsAnswered before after old new (answer_change (place_session old) alone))
-refused_on (Ok x) before after old new alone refusal why cause written =
+    → (refusal ≢ OutOfMemory) ⊎ WritesNothing before after result
+    → Printed before after result (refused_line (refusal_words refusal))
+    → GivesAnswer before after result old new (answer_change (place_session old) alone)
+refused_on (Ok x) before after old new alone refusal why (inl cause) written =
     let is = why cause in
     refused before after old new alone refusal is.0 is.1 written
-refused_on (Err e) before after old new alone refusal why cause written = tt
+refused_on (Ok x) before after old new alone refusal why (inr (failed, same)) written = absurd cc
+refused_on (Err e) before after old new alone refusal why (inl cause) written =
+    stops_as before after (manner_of e) (refused_line (refusal_words refusal))
+    (answer_change (place_session old) alone).out
+    (ap (λ (m : Alone). (answer_change (place_session old) m).out) (why cause).0) written
+refused_on (Err e) before after old new alone refusal why (inr (failed, same)) written =
+    stops_untold before after (manner_of e) (refused_line (refusal_words refusal))
+    (answer_change (place_session old) alone).out same written

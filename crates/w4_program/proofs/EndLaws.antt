@@ -1,8 +1,9 @@
 -- How the whole ended, put together from how its steps ended; and what each status then says.
-use Rattle.std.proofs.Common.{◌≡◌, ℕ, ◌≤◌, ◌⊎◌, inl, inr, List, Result, Ok, Err, refl, sym, subst, ◌∙◌}
+use Rattle.std.proofs.Common.{◌≡◌, ◌≢◌, ◌⊎◌, ℕ, inl, inr, List, Result, Ok, Err, refl, sym, subst, ◌∙◌}
 use Rattle.std.specs.Option.{ForSome}
+use Rattle.std.specs.Prelude.{⊤}
 use Rattle.w4_defs.specs.Recording.{encoding}
-use Rattle.w4_house.specs.World.{Files, World, Rises, LeavesReading, LeavesPrinting, LeavesReporting}
+use Rattle.w4_house.specs.World.{Files, World, Rises, Appends, AppendsFront, LeavesReading, LeavesPrinting, LeavesReporting}
 use Rattle.w4_house.proofs.WorldLaws.{rises_later}
 use Rattle.w4_program.specs.declared.status.Status.{Status}
 use Rattle.w4_program.specs.declared.status.Status.TheVariants as status
@@ -10,50 +11,33 @@ use Rattle.w4_program.specs.Endings.{Manner, AllWritten, NoCommand, ReadFailed, 
 use Rattle.w4_program.specs.Forms.{EditWords}
 use Rattle.w4_program.specs.Output.{◌>>=◌, CartFile, Output, Loaded, edit_files, edit_answers, edited_recording, only_printed, edit_result, edit_output, CartIn}
 use Rattle.w4_program.specs.Outputs.{OverCart}
-use Rattle.w4_program.specs.Causes.{ResultsIn, ReadFails, Stops, StopsWriting, LeavesOutputs, Writes, Ends, Carries, Prints}
+use Rattle.w4_program.specs.Lines.{status_line}
+use Rattle.w4_program.specs.Causes.{ResultsIn, ReadFails, Stops, StopsWriting, LeavesErr, LeavesOutputs, OpensFile, Writes, WritesPart, Ends, Carries, Prints, IsCutShort}
 use Rattle.w4_program.proofs.StepLaws.{stops_first}
 
--- a write that stopped after other writes
-pub stops_writing_later : (first second third : World) (why : Manner)
-    → first.write_faults ≤ second.write_faults → StopsWriting second third why → StopsWriting first third why
-stops_writing_later first second third AllWritten le h = h
-stops_writing_later first second third NoCommand le h = h
-stops_writing_later first second third ReadFailed le h = h
-stops_writing_later first second third WriteFailed le h =
-    rises_later first.write_faults second.write_faults third.write_faults le h
-stops_writing_later first second third MemoryRefused le h = tt
-stops_writing_later first second third (Refused refusal) le h = h
-
-pub carries_stopped : (old new : World) (why : Manner) (out name bytes : List ℕ) → StopsWriting old new why
-    → Carries old new why out name bytes
-carries_stopped old new AllWritten out name bytes h = absurd h
-carries_stopped old new NoCommand out name bytes h = h
-carries_stopped old new ReadFailed out name bytes h = h
-carries_stopped old new WriteFailed out name bytes h = h
-carries_stopped old new MemoryRefused out name bytes h = tt
-carries_stopped old new (Refused refusal) out name bytes h = h
-
-pub prints_stopped : (old new : World) (why : Manner) (out : List ℕ) → StopsWriting old new why
+pub prints_stopped : (old new : World) (why : Manner) (out : List ℕ) → StopsWriting old new why out
     → Prints old new why out
 prints_stopped old new AllWritten out h = absurd h
 prints_stopped old new NoCommand out h = h
 prints_stopped old new ReadFailed out h = h
 prints_stopped old new WriteFailed out h = h
-prints_stopped old new MemoryRefused out h = tt
+prints_stopped old new MemoryRefused out h = h
 prints_stopped old new (Refused refusal) out h = h
 
--- only words are refused as such
-pub stops_formed : {Y : Type 0} (old new : World) (why : Status) (step : Files → Result Y Status → Type 0)
-    → Stops old new (manner_of why) step → why ≡ status.Usage → ⊥
-stops_formed old new why step h e = subst (λ s. Stops old new (manner_of s) step) e h
+-- what was written after files were read
+front_later : (first second third : World) (bytes : List ℕ) → LeavesReading first second
+    → AppendsFront second.out third.out bytes → AppendsFront first.out third.out bytes
+front_later first second third bytes leaves front =
+    subst (λ out. AppendsFront out third.out bytes) leaves.out front
 
-pub carries_formed : (old new : World) (why : Status) (out name bytes : List ℕ)
-    → Carries old new (manner_of why) out name bytes → why ≡ status.Usage → ⊥
-carries_formed old new why out name bytes h e = subst (λ s. Carries old new (manner_of s) out name bytes) e h
-
-pub prints_formed : (old new : World) (why : Status) (out : List ℕ) → Prints old new (manner_of why) out
-    → why ≡ status.Usage → ⊥
-prints_formed old new why out h e = subst (λ s. Prints old new (manner_of s) out) e h
+part_later : (first second third : World) (made : Output) → LeavesReading first second
+    → WritesPart second third made → WritesPart first third made
+part_later first second third made leaves (inl (front, same)) =
+    inl (front_later first second third made.out leaves front, same ∙ leaves.files)
+part_later first second third made leaves (inr (written, opens)) = inr (
+  subst (λ out. Appends out third.out made.out) leaves.out written,
+  subst (λ files. OpensFile files third.files made.file) leaves.files opens,
+)
 
 -- the cart wasn't read or is none
 pub ends_unjudged : (old new : World) (why : Manner) (name : List ℕ)
@@ -67,7 +51,7 @@ ends_unjudged old new ReadFailed name make leaves (inl rise) = (inl rise, (leave
 ends_unjudged old new ReadFailed name make leaves (inr (files, texts, none)) =
     (inr (files, texts, (Err status.ReadFault, none, refl)), (leaves.out, leaves.files))
 ends_unjudged old new WriteFailed name make leaves h = absurd h
-ends_unjudged old new MemoryRefused name make leaves h = tt
+ends_unjudged old new MemoryRefused name make leaves h = (leaves.files, inl leaves.out)
 ends_unjudged old new (Refused refusal) name make leaves h =
     ((λ files texts. (Err refusal, h files texts, refl)), (leaves.out, leaves.files))
 
@@ -96,9 +80,18 @@ ends_judged first second third ReadFailed name cart make leaves given (inr (file
 ends_judged first second third WriteFailed name cart make leaves given h = (
   subst (λ n. Rises n third.write_faults) leaves.writes h.0,
   λ files texts. let made = h.1 files (leaves.files ∙ texts) in
-      (made.0, (Ok cart, given files texts, made.1)),
+      (made.0, (Ok cart, given files texts, made.1), part_later first second third made.0 leaves made.2),
 )
-ends_judged first second third MemoryRefused name cart make leaves given h = tt
+ends_judged first second third MemoryRefused name cart make leaves given (same, inl untold) =
+    (same ∙ leaves.files, inl (untold ∙ leaves.out))
+ends_judged first second third MemoryRefused name cart make leaves given (same, inr told) = (
+  same ∙ leaves.files,
+  inr (λ files texts. let made = told files (leaves.files ∙ texts) in (
+    made.0,
+    (Ok cart, given files texts, made.1),
+    front_later first second third made.0.out leaves made.2,
+  )),
+)
 ends_judged first second third (Refused refusal) name cart make leaves given h = (
   (λ files texts. (Ok cart, given files texts, h.0 files (leaves.files ∙ texts))),
   (h.1.0 ∙ leaves.out, h.1.1 ∙ leaves.files),
@@ -115,7 +108,7 @@ ends_untold old new NoCommand step make leaves h = absurd h
 ends_untold old new ReadFailed step make leaves h =
     (stops_first old new ReadFailed step (λ files g. Ok (make files g)) h, (leaves.out, leaves.files))
 ends_untold old new WriteFailed step make leaves h = absurd h
-ends_untold old new MemoryRefused step make leaves h = tt
+ends_untold old new MemoryRefused step make leaves h = (leaves.files, inl leaves.out)
 ends_untold old new (Refused refusal) step make leaves h =
     (stops_first old new (Refused refusal) step (λ files g. Ok (make files g)) h, (leaves.out, leaves.files))
 
@@ -126,8 +119,10 @@ pub ends_printed : (old new : World) (why : Manner) (out : List ℕ) → new.fil
 ends_printed old new AllWritten out same h = λ files texts. (only_printed out files, refl, (h, same ∙ texts))
 ends_printed old new NoCommand out same h = absurd h
 ends_printed old new ReadFailed out same h = absurd h
-ends_printed old new WriteFailed out same h = (h, λ files texts. (only_printed out files, refl))
-ends_printed old new MemoryRefused out same h = tt
+ends_printed old new WriteFailed out same h =
+    (h.0, λ files texts. (only_printed out files, refl, inl (h.1, same)))
+ends_printed old new MemoryRefused out same h =
+    (same, inr (λ files texts. (only_printed out files, refl, h)))
 ends_printed old new (Refused refusal) out same h = absurd h
 
 pub ends_texts : {G : Type 0} (first second third : World) (why : Manner) (step : Files → Result G Status)
@@ -144,10 +139,21 @@ ends_texts first second third AllWritten step g out leaves rest given h = λ fil
 ends_texts first second third NoCommand step g out leaves rest given h = absurd h
 ends_texts first second third ReadFailed step g out leaves rest given h = absurd h
 ends_texts first second third WriteFailed step g out leaves rest given h = (
-  subst (λ n. Rises n third.write_faults) leaves.writes h,
-  λ files texts. (only_printed (out g) files, rw (given files texts) refl),
+  subst (λ n. Rises n third.write_faults) leaves.writes h.0,
+  λ files texts. (
+    only_printed (out g) files,
+    rw (given files texts) refl,
+    inl (front_later first second third (out g) leaves h.1, rest.files ∙ leaves.files),
+  ),
 )
-ends_texts first second third MemoryRefused step g out leaves rest given h = tt
+ends_texts first second third MemoryRefused step g out leaves rest given h = (
+  rest.files ∙ leaves.files,
+  inr (λ files texts. (
+    only_printed (out g) files,
+    rw (given files texts) refl,
+    front_later first second third (out g) leaves h,
+  )),
+)
 ends_texts first second third (Refused refusal) step g out leaves rest given h = absurd h
 
 -- it was, and an edit was carried out
@@ -167,10 +173,21 @@ ends_carried first second third AllWritten words cart l leaves given h = λ file
 ends_carried first second third NoCommand words cart l leaves given h = absurd h
 ends_carried first second third ReadFailed words cart l leaves given h = absurd h
 ends_carried first second third WriteFailed words cart l leaves given h = (
-  subst (λ n. Rises n third.write_faults) leaves.writes h,
-  λ files texts. (edit_result cart.code l words.out files, rw (given files texts) refl),
+  subst (λ n. Rises n third.write_faults) leaves.writes h.0,
+  λ files texts. (
+    edit_result cart.code l words.out files,
+    rw (given files texts) refl,
+    part_later first second third (edit_result cart.code l words.out files) leaves h.1,
+  ),
 )
-ends_carried first second third MemoryRefused words cart l leaves given h = tt
+ends_carried first second third MemoryRefused words cart l leaves given h = (
+  h.1 ∙ leaves.files,
+  inr (λ files texts. (
+    edit_result cart.code l words.out files,
+    rw (given files texts) refl,
+    front_later first second third (edit_answers cart.code l).out leaves h.0,
+  )),
+)
 ends_carried first second third (Refused refusal) words cart l leaves given h = absurd h
 
 writes_reported : (old mid new : World) (made : Output) → LeavesReporting mid new → Writes old mid made
@@ -182,13 +199,27 @@ untouched_reported : (old mid new : World) → LeavesReporting mid new → Leave
     → LeavesOutputs old new
 untouched_reported old mid new leaves h = (leaves.out ∙ h.0, leaves.files ∙ h.1)
 
+front_reported : (old mid new : World) (bytes : List ℕ) → LeavesReporting mid new
+    → AppendsFront old.out mid.out bytes → AppendsFront old.out new.out bytes
+front_reported old mid new bytes leaves front =
+    subst (λ out. AppendsFront old.out out bytes) (sym leaves.out) front
+
+part_reported : (old mid new : World) (made : Output) → LeavesReporting mid new → WritesPart old mid made
+    → WritesPart old new made
+part_reported old mid new made leaves (inl (front, same)) =
+    inl (front_reported old mid new made.out leaves front, leaves.files ∙ same)
+part_reported old mid new made leaves (inr (written, opens)) = inr (
+  subst (λ out. Appends old.out out made.out) (sym leaves.out) written,
+  subst (λ files. OpensFile old.files files made.file) (sym leaves.files) opens,
+)
+
 read_fails_reported : (old mid new : World) (step : Files → Result Output Status → Type 0)
     → LeavesReporting mid new → ReadFails old mid step → ReadFails old new step
 read_fails_reported old mid new step leaves (inl rise) =
     inl (subst (λ n. Rises old.read_faults n) (sym leaves.reads) rise)
 read_fails_reported old mid new step leaves (inr absent) = inr absent
 
-ends_kept : (old mid new : World) (why : Manner) (step : Files → Result Output Status → Type 0)
+pub ends_kept : (old mid new : World) (why : Manner) (step : Files → Result Output Status → Type 0)
     → LeavesReporting mid new → Ends old mid why step → Ends old new why step
 ends_kept old mid new AllWritten step leaves h =
     λ files texts. let made = h files texts in
@@ -196,16 +227,54 @@ ends_kept old mid new AllWritten step leaves h =
 ends_kept old mid new NoCommand step leaves h = (h.0, untouched_reported old mid new leaves h.1)
 ends_kept old mid new ReadFailed step leaves h =
     (read_fails_reported old mid new step leaves h.0, untouched_reported old mid new leaves h.1)
-ends_kept old mid new WriteFailed step leaves h =
-    (subst (λ n. Rises old.write_faults n) (sym leaves.writes) h.0, h.1)
-ends_kept old mid new MemoryRefused step leaves h = tt
+ends_kept old mid new WriteFailed step leaves h = (
+  subst (λ n. Rises old.write_faults n) (sym leaves.writes) h.0,
+  λ files texts. let made = h.1 files texts in
+      (made.0, made.1, part_reported old mid new made.0 leaves made.2),
+)
+ends_kept old mid new MemoryRefused step leaves (same, inl untold) =
+    (leaves.files ∙ same, inl (leaves.out ∙ untold))
+ends_kept old mid new MemoryRefused step leaves (same, inr told) = (
+  leaves.files ∙ same,
+  inr (λ files texts. let made = told files texts in
+      (made.0, made.1, front_reported old mid new made.0.out leaves made.2)),
+)
 ends_kept old mid new (Refused refusal) step leaves h = (h.0, untouched_reported old mid new leaves h.1)
+
+-- how the whole ended, where nothing is said of want of memory
+abbrev pub EndsBut : World → World → Manner → (Files → Result Output Status → Type 0) → Type 0
+EndsBut old new MemoryRefused step = ⊤
+EndsBut old new why step = Ends old new why step
+
+ends_but : (old new : World) (why : Manner) (step : Files → Result Output Status → Type 0)
+    → Ends old new why step → EndsBut old new why step
+ends_but old new AllWritten step h = h
+ends_but old new NoCommand step h = h
+ends_but old new ReadFailed step h = h
+ends_but old new WriteFailed step h = h
+ends_but old new MemoryRefused step h = tt
+ends_but old new (Refused refusal) step h = h
 
 -- after the report, too
 pub ends_reported : (old mid new : World) (why result : Status) (step : Files → Result Output Status → Type 0)
     → LeavesReporting mid new → (result ≡ why) ⊎ (result ≡ status.OutOfMemory)
-    → Ends old mid (manner_of why) step → Ends old new (manner_of result) step
+    → Ends old mid (manner_of why) step → EndsBut old new (manner_of result) step
 ends_reported old mid new why result step leaves (inl e) h =
-    subst (λ s. Ends old new (manner_of s) step) (sym e) (ends_kept old mid new (manner_of why) step leaves h)
+    subst (λ s. EndsBut old new (manner_of s) step) (sym e)
+    (ends_but old new (manner_of why) step (ends_kept old mid new (manner_of why) step leaves h))
 ends_reported old mid new why result step leaves (inr e) h =
-    subst (λ s. Ends old new (manner_of s) step) (sym e) tt
+    subst (λ s. EndsBut old new (manner_of s) step) (sym e) tt
+
+-- memory ran out, in the work or in the report of its status
+pub cut_short : (old mid new : World) (why : Status) (NoForm : Type 0)
+    (step : Files → Result Output Status → Type 0)
+    → LeavesReporting mid new → LeavesErr old mid → why ≢ status.Done → (why ≡ status.Usage → NoForm)
+    → Ends old mid (manner_of why) step → AppendsFront mid.err new.err (status_line why)
+    → IsCutShort old new NoForm step
+cut_short old mid new why NoForm step leaves errs other formless ends front = (
+  why,
+  other,
+  formless,
+  ends_kept old mid new (manner_of why) step leaves ends,
+  subst (λ err. AppendsFront err new.err (status_line why)) errs.0 front,
+)

@@ -1,6 +1,6 @@
 -- Lines of a query: the pages of the definitions and those of the calls, places that aren't there, and what
 -- is told of them.
-use Rattle.std.proofs.Common.{◌≡◌, ◌≢◌, ℕ, ◌+◌, ◌-◌, ◌<◌, ◌≤◌, inl, inr, true, false, Bool, List, [], ◌∷◌, map, length, Option, Some, None, refl, sym, ap, subst}
+use Rattle.std.proofs.Common.{◌≡◌, ◌≢◌, ◌⊎◌, ℕ, ◌+◌, ◌-◌, ◌<◌, ◌≤◌, inl, inr, true, false, Bool, List, [], ◌∷◌, map, length, Option, Some, None, refl, sym, ap, subst}
 use Rattle.std.specs.Prelude.{Result, Ok, Err, OnOk, codes, nat_lt, if◌then◌else◌}
 use Rattle.std.specs.List.{range_with_len}
 use Rattle.std.proofs.lemmas.Bool.{le-leb, lt-leb, ltb-true, ltb-false}
@@ -21,10 +21,14 @@ use Rattle.w4_inspect.specs.declared.refusal.RamRefusal.{RamRefusal}
 use Rattle.w4_inspect.specs.declared.refusal.RamRefusal.TheVariants.{NoFrame, Outside, OutOfMemory as MemoryRefused}
 use Rattle.w4_program.specs.Answering.{no_frame}
 use Rattle.w4_program.specs.Answers.{Answered, answer_text}
+use Rattle.w4_program.specs.Causes.{Printed, StopsWriting, WritesNothing}
 use Rattle.w4_program.specs.Editors.{OnlyShows}
-use Rattle.w4_program.specs.Queries.{IsTold, ask_answer, editor_pages}
+use Rattle.w4_program.specs.Endings.{Manner, manner_of}
+use Rattle.w4_program.specs.declared.status.Status.{Status}
+use Rattle.w4_program.specs.Queries.{IsTold, GivesTold, ask_answer, editor_pages}
 use Rattle.w4_program.specs.RamAnswers.{Pages, answer_narrow, answer_start, outside, page_of, pages_of, ram_answer, watch_text}
 use Rattle.w4_program.specs.RamAnswers as answers
+use Rattle.w4_program.proofs.OwesLaws.{stops_as, stops_untold}
 use Rattle.w4_program.proofs.SessionLaws.{appends_nothing, same_disk, same_inputs, same_setup}
 use Rattle.w4_program.proofs.TellLaws.{state_of}
 
@@ -75,19 +79,36 @@ pub told_alone : (world : World) (old new : Editing) (search : Option Search) (w
 told_alone world old new search wanted is shows =
     told_text world world old new search [] wanted is (appends_nothing world [] refl) shows
 
-pub told_on_text : {X E : Type 0} (result : Result X E) (before after : World) (old new : Editing)
+pub told_on_text : {X : Type 0} (result : Result X Status) (before after : World) (old new : Editing)
     (search : Option Search) (out : List ℕ) (wanted : Answered (Option Search))
-    → OnOk result (wanted ≡ answer_text search out) → OnOk result (Appends before.out after.out out)
-    → OnOk result (OnlyShows old new) → OnOk result (IsTold before after old new search wanted)
+    → wanted ≡ answer_text search out → Printed before after result out
+    → OnOk result (OnlyShows old new) → GivesTold before after result old new search wanted
 told_on_text (Ok x) before after old new search out wanted is written shows =
     told_text before after old new search out wanted is written shows
-told_on_text (Err e) before after old new search out wanted is written shows = tt
+told_on_text (Err why) before after old new search out wanted is written shows =
+    stops_as before after (manner_of why) out wanted.out (ap (λ (a : Answered (Option Search)). a.out) is)
+    written
 
-pub printed_as : {X E : Type 0} (result : Result X E) (before after : World) (written out : List ℕ)
-    → out ≡ written → OnOk result (Appends before.out after.out written)
-    → OnOk result (Appends before.out after.out out)
+-- a refusal that is told, unless it is memory's
+pub refused_on_text : {X Other : Type 0} (result : Result X Status) (before after : World) (old new : Editing)
+    (search : Option Search) (out : List ℕ) (wanted : Answered (Option Search))
+    → Other ⊎ WritesNothing before after result
+    → (Other → wanted ≡ answer_text search out) → (Other → OnlyShows old new)
+    → Printed before after result out → GivesTold before after result old new search wanted
+refused_on_text (Ok x) before after old new search out wanted (inl other) is shows written =
+    told_text before after old new search out wanted (is other) written (shows other)
+refused_on_text (Ok x) before after old new search out wanted (inr (failed, same)) is shows written =
+    absurd cc
+refused_on_text (Err why) before after old new search out wanted (inl other) is shows written =
+    stops_as before after (manner_of why) out wanted.out
+    (ap (λ (a : Answered (Option Search)). a.out) (is other)) written
+refused_on_text (Err why) before after old new search out wanted (inr (failed, same)) is shows written =
+    stops_untold before after (manner_of why) out wanted.out same written
+
+pub printed_as : {X : Type 0} (result : Result X Status) (before after : World) (written out : List ℕ)
+    → out ≡ written → Printed before after result written → Printed before after result out
 printed_as result before after written out same h =
-    subst (λ (bytes : List ℕ). OnOk result (Appends before.out after.out bytes)) (sym same) h
+    subst (λ (bytes : List ℕ). Printed before after result bytes) (sym same) h
 
 -- ---- a search
 
@@ -188,4 +209,12 @@ pub told_at_first : (before after : World) (first old new : Editing) (search lef
     → IsTold before after old new left (ram_answer (editor_pages first) search line)
 told_at_first before after first old new search left line shows told =
     subst (λ (pages : Pages). IsTold before after old new left (ram_answer pages search line))
+    (same_pages first old shows) told
+
+pub stopped_at_first : (before after : World) (why : Manner) (first old : Editing) (search : Option Search)
+    (line : Ask)
+    → OnlyShows first old → StopsWriting before after why (ask_answer old search line).out
+    → StopsWriting before after why (ram_answer (editor_pages first) search line).out
+stopped_at_first before after why first old search line shows told =
+    subst (λ (pages : Pages). StopsWriting before after why (ram_answer pages search line).out)
     (same_pages first old shows) told

@@ -1,6 +1,6 @@
 -- Lines of a log: what a replica's calls leave of the session, and what is told.
-use Rattle.std.proofs.Common.{◌≡◌, ◌≢◌, ℕ, ◌+◌, ◌<◌, ◌≤◌, inl, inr, true, false, Bool, List, [], ◌∷◌, length, Option, Some, None, refl, sym, ap, subst, ◌∙◌}
-use Rattle.std.specs.Prelude.{Result, Ok, Err, OnOk, nat_le, if◌then◌else◌}
+use Rattle.std.proofs.Common.{◌≡◌, ◌≢◌, ◌⊎◌, ℕ, ◌+◌, ◌<◌, ◌≤◌, inl, inr, true, false, Bool, List, [], ◌∷◌, length, Option, Some, None, refl, sym, ap, subst, ◌∙◌}
+use Rattle.std.specs.Prelude.{Result, Ok, Err, nat_le, if◌then◌else◌}
 use Rattle.std.proofs.lemmas.Bool.{lt-ltb, le-ltb, le-leb, lt-leb, leb-true, leb-false}
 use Rattle.std.proofs.lemmas.List.FromFn.{length-map-range_with_len}
 use Rattle.w4_defs.specs.declared.console.Input.{Input}
@@ -30,9 +30,13 @@ use Rattle.w4_netplay.specs.Refusals.{edit_refusal}
 use Rattle.w4_netplay.specs.Replicas.{IsNetRefusal, KeepsNetplay, KeepsPlace, Netplay, kept_of, known_of, predicted_draft, prediction}
 use Rattle.w4_program.specs.Answering.{refused_line, refusal_words}
 use Rattle.w4_program.specs.Answers.{Answered, answer_text}
+use Rattle.w4_program.specs.Causes.{Printed, StopsWriting, WritesNothing}
 use Rattle.w4_program.specs.Editors.{KeepsRest}
+use Rattle.w4_program.specs.Endings.{Manner, manner_of}
+use Rattle.w4_program.specs.declared.status.Status.{Status}
 use Rattle.w4_program.specs.NetSessions.{NetSession, first_session, net_answer, answer_keep, answer_next, answer_packet, if_passed, net_words, predicted_image, predicted_state}
-use Rattle.w4_program.specs.Replicas.{IsHeard, net_session}
+use Rattle.w4_program.specs.Replicas.{IsHeard, GivesHeard, net_session}
+use Rattle.w4_program.proofs.OwesLaws.{stops_as, stops_untold}
 use Rattle.w4_program.proofs.SessionLaws.{appends_nothing, rest_at, rest_none, rest_then, same_setup}
 use Rattle.w4_program.proofs.TellLaws.{image_of_state, line_of_state}
 
@@ -67,15 +71,29 @@ heard_text before after old new out wanted is written keeps =
     subst (λ (a : Answered NetSession). IsHeard before after old new a) (sym is)
     (record { out = written; session = session_kept old new keeps; rest = keeps.rest })
 
-pub heard_on_text : {X E : Type 0} (result : Result X E) (before after : World) (old new : Netplay) (out :
-    List ℕ)
-    (wanted : Answered NetSession)
-    → OnOk result (wanted ≡ answer_text (net_session old) out) → OnOk result (Appends before.out after.out
-    out)
-    → OnOk result (KeepsNetplay old new) → OnOk result (IsHeard before after old new wanted)
+pub heard_on_text : {X : Type 0} (result : Result X Status) (before after : World) (old new : Netplay)
+    (out : List ℕ) (wanted : Answered NetSession)
+    → wanted ≡ answer_text (net_session old) out → Printed before after result out
+    → KeepsNetplay old new → GivesHeard before after result old new wanted
 heard_on_text (Ok x) before after old new out wanted is written keeps =
     heard_text before after old new out wanted is written keeps
-heard_on_text (Err e) before after old new out wanted is written keeps = tt
+heard_on_text (Err why) before after old new out wanted is written keeps =
+    stops_as before after (manner_of why) out wanted.out (ap (λ (a : Answered NetSession). a.out) is) written
+
+-- a refusal that is told, unless it is memory's
+pub refused_on_text : {X Other : Type 0} (result : Result X Status) (before after : World) (old new : Netplay)
+    (out : List ℕ) (wanted : Answered NetSession)
+    → Other ⊎ WritesNothing before after result
+    → (Other → wanted ≡ answer_text (net_session old) out) → (Other → KeepsNetplay old new)
+    → Printed before after result out → GivesHeard before after result old new wanted
+refused_on_text (Ok x) before after old new out wanted (inl other) is keeps written =
+    heard_text before after old new out wanted (is other) written (keeps other)
+refused_on_text (Ok x) before after old new out wanted (inr (failed, same)) is keeps written = absurd cc
+refused_on_text (Err why) before after old new out wanted (inl other) is keeps written =
+    stops_as before after (manner_of why) out wanted.out
+    (ap (λ (a : Answered NetSession). a.out) (is other)) written
+refused_on_text (Err why) before after old new out wanted (inr (failed, same)) is keeps written =
+    stops_untold before after (manner_of why) out wanted.out same written
 
 pub heard_alone : (world : World) (old new : Netplay) (wanted : Answered NetSession)
     → wanted ≡ answer_text (net_session new) [] → KeepsRest old.editor new.editor
@@ -241,6 +259,14 @@ pub heard_at_first : (before after : World) (first old new : Netplay) (order : N
     → IsHeard before after old new (net_answer (editing_setup first.editor) (net_session old) order)
 heard_at_first before after first old new order rest heard =
     subst (λ (setup : Setup). IsHeard before after old new (net_answer setup (net_session old) order))
+    (same_setup first.editor old.editor rest) heard
+
+pub stopped_at_first : (before after : World) (why : Manner) (first old : Netplay) (order : NetOrder)
+    → KeepsRest first.editor old.editor
+    → StopsWriting before after why (net_answer (editing_setup old.editor) (net_session old) order).out
+    → StopsWriting before after why (net_answer (editing_setup first.editor) (net_session old) order).out
+stopped_at_first before after why first old order rest heard =
+    subst (λ (setup : Setup). StopsWriting before after why (net_answer setup (net_session old) order).out)
     (same_setup first.editor old.editor rest) heard
 
 -- ---- the beginning

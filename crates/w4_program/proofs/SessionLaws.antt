@@ -10,7 +10,11 @@ use Rattle.w4_house.specs.World.{World, Appends}
 use Rattle.w4_program.specs.declared.place_text.PlaceText.{PlaceText}
 use Rattle.w4_program.specs.Answering.{one_text}
 use Rattle.w4_program.specs.Answers.{answer_text}
-use Rattle.w4_program.specs.Editors.{KeepsRest, OnlyShows, IsAnswered, place_session, text_by}
+use Rattle.w4_program.specs.Causes.{Printed}
+use Rattle.w4_program.specs.Editors.{KeepsRest, OnlyShows, IsAnswered, GivesAnswer, place_session, text_by}
+use Rattle.w4_program.specs.Endings.{manner_of}
+use Rattle.w4_program.specs.declared.status.Status.{Status}
+use Rattle.w4_program.proofs.OwesLaws.{stops_as}
 
 -- ---- cart, font, digest, budget and disk
 
@@ -105,23 +109,25 @@ pub told : (before after : World) (old new : Editing) (out : List ℕ) → OnlyS
 told before after old new out shows written =
     record { out = written; session = shows.session; rest = shows.rest }
 
-pub told_on : {X E : Type 0} (result : Result X E) (before after : World) (old new : Editing)
+pub told_on : {X : Type 0} (result : Result X Status) (before after : World) (old new : Editing)
     (written out : List ℕ)
-    → out ≡ written → OnOk result (OnlyShows old new) → OnOk result (Appends before.out after.out written)
-    → OnOk result (IsAnswered before after old new (answer_text (place_session old) out))
+    → out ≡ written → OnOk result (OnlyShows old new) → Printed before after result written
+    → GivesAnswer before after result old new (answer_text (place_session old) out)
 told_on (Ok x) before after old new written out e shows h =
     told before after old new out shows (subst (λ bytes. Appends before.out after.out bytes) (sym e) h)
-told_on (Err why) before after old new written out e shows h = tt
+told_on (Err why) before after old new written out e shows h =
+    stops_as before after (manner_of why) written out e h
 
 -- a refusal shows nothing
-pub refused_place : {X E : Type 0} (result : Result X E) (before after : World) (e : Editing)
+pub refused_place : {X : Type 0} (result : Result X Status) (before after : World) (e : Editing)
     (written out : List ℕ)
-    → out ≡ written → OnOk result (Appends before.out after.out written)
-    → OnOk result (IsAnswered before after e e (answer_text (place_session e) out))
+    → out ≡ written → Printed before after result written
+    → GivesAnswer before after result e e (answer_text (place_session e) out)
 refused_place (Ok x) before after e written out same h =
     told before after e e out (shows_none e) (subst (λ bytes. Appends before.out after.out bytes) (sym
     same) h)
-refused_place (Err why) before after e written out same h = tt
+refused_place (Err why) before after e written out same h =
+    stops_as before after (manner_of why) written out same h
 
 -- ---- where a place is shown
 

@@ -9,63 +9,64 @@ use Rattle.w4_program.specs.declared.status.Status.{Status}
 use Rattle.w4_program.specs.declared.status.Status.TheVariants as status
 use Rattle.w4_program.specs.Endings.{manner_of}
 use Rattle.w4_program.specs.Output.{Output}
-use Rattle.w4_program.specs.Causes.{ReadFails, StepRefuses, LeavesOutputs, Ends, IsExact, ChangesNothing, Reports, LeavesErr}
+use Rattle.w4_program.specs.Causes.{ReadFails, StepRefuses, LeavesOutputs, WritesPart, IsExact, ChangesNothing, Reports, LeavesErr}
+use Rattle.w4_program.proofs.EndLaws.{EndsBut}
 
 pub done : (old new : World) (result : Status) (step : Files → Result Output Status → Type 0)
     (Means : Files → Type 0)
-    → Ends old new (manner_of result) step → ((files : Files) → Means files) → result ≡ status.Done
+    → EndsBut old new (manner_of result) step → ((files : Files) → Means files) → result ≡ status.Done
     → ForSome old.files
     (λ files. (made : Output) × step files (Ok made) × Appends old.out new.out made.out
     × (new.files ≡ Some made.files) × Means files)
 done old new result step Means h means e = λ files texts.
-    let made = subst (λ s. Ends old new (manner_of s) step) e h files texts in
+    let made = subst (λ s. EndsBut old new (manner_of s) step) e h files texts in
     (made.0, made.1, made.2.0, made.2.1, means files)
 
 pub write_fault : (old new : World) (result : Status) (step : Files → Result Output Status → Type 0)
-    → Ends old new (manner_of result) step → result ≡ status.WriteFault
+    → EndsBut old new (manner_of result) step → result ≡ status.WriteFault
     → Rises old.write_faults new.write_faults
-    × ForSome old.files (λ files. (made : Output) × step files (Ok made))
-write_fault old new result step h e = subst (λ s. Ends old new (manner_of s) step) e h
+    × ForSome old.files (λ files. (made : Output) × step files (Ok made) × WritesPart old new made)
+write_fault old new result step h e = subst (λ s. EndsBut old new (manner_of s) step) e h
 
 pub read_fault : (old new : World) (result : Status) (step : Files → Result Output Status → Type 0)
-    → Ends old new (manner_of result) step → result ≡ status.ReadFault → ReadFails old new step
-read_fault old new result step h e = (subst (λ s. Ends old new (manner_of s) step) e h).0
+    → EndsBut old new (manner_of result) step → result ≡ status.ReadFault → ReadFails old new step
+read_fault old new result step h e = (subst (λ s. EndsBut old new (manner_of s) step) e h).0
 
 pub cart_refused : (old new : World) (result : Status) (step : Files → Result Output Status → Type 0)
-    → Ends old new (manner_of result) step
+    → EndsBut old new (manner_of result) step
     → (kind : CartKind) → result ≡ status.CartRefused kind → StepRefuses old (status.CartRefused kind) step
-cart_refused old new result step h kind e = (subst (λ s. Ends old new (manner_of s) step) e h).0
+cart_refused old new result step h kind e = (subst (λ s. EndsBut old new (manner_of s) step) e h).0
 
 pub recording_refused : (old new : World) (result : Status) (step : Files → Result Output Status → Type 0)
-    → Ends old new (manner_of result) step
+    → EndsBut old new (manner_of result) step
     → (kind : RecordingKind) → result ≡ status.RecordingRefused kind
     → StepRefuses old (status.RecordingRefused kind) step
-recording_refused old new result step h kind e = (subst (λ s. Ends old new (manner_of s) step) e h).0
+recording_refused old new result step h kind e = (subst (λ s. EndsBut old new (manner_of s) step) e h).0
 
 pub font_refused : (old new : World) (result : Status) (step : Files → Result Output Status → Type 0)
-    → Ends old new (manner_of result) step
+    → EndsBut old new (manner_of result) step
     → result ≡ status.FontRefused → StepRefuses old status.FontRefused step
-font_refused old new result step h e = (subst (λ s. Ends old new (manner_of s) step) e h).0
+font_refused old new result step h e = (subst (λ s. EndsBut old new (manner_of s) step) e h).0
 
 pub script_refused : (old new : World) (result : Status) (step : Files → Result Output Status → Type 0)
-    → Ends old new (manner_of result) step
+    → EndsBut old new (manner_of result) step
     → (kind : ScriptKind) → result ≡ status.ScriptRefused kind → StepRefuses old (status.ScriptRefused
     kind) step
-script_refused old new result step h kind e = (subst (λ s. Ends old new (manner_of s) step) e h).0
+script_refused old new result step h kind e = (subst (λ s. EndsBut old new (manner_of s) step) e h).0
 
 pub frame_refused : (old new : World) (result : Status) (step : Files → Result Output Status → Type 0)
-    → Ends old new (manner_of result) step
+    → EndsBut old new (manner_of result) step
     → (number n : ℕ) → result ≡ status.FrameRefused number n → StepRefuses old (status.FrameRefused number
     n) step
-frame_refused old new result step h number n e = (subst (λ s. Ends old new (manner_of s) step) e h).0
+frame_refused old new result step h number n e = (subst (λ s. EndsBut old new (manner_of s) step) e h).0
 
 pub list_refused : (old new : World) (result : Status) (step : Files → Result Output Status → Type 0)
-    → Ends old new (manner_of result) step
+    → EndsBut old new (manner_of result) step
     → (kind : ScriptKind) → result ≡ status.ListRefused kind → StepRefuses old (status.ListRefused kind) step
-list_refused old new result step h kind e = (subst (λ s. Ends old new (manner_of s) step) e h).0
+list_refused old new result step h kind e = (subst (λ s. EndsBut old new (manner_of s) step) e h).0
 
 pub refused : (old new : World) (result : Status) (step : Files → Result Output Status → Type 0)
-    → Ends old new (manner_of result) step → ChangesNothing result → LeavesOutputs old new
+    → EndsBut old new (manner_of result) step → ChangesNothing result → LeavesOutputs old new
 refused old new status.Done step h r = absurd r
 refused old new status.Usage step h r = h.1
 refused old new (status.CartRefused kind) step h r = h.1
@@ -95,7 +96,7 @@ some_is a b e = cc
 
 -- where no count has risen, the status is that of what the step allows, or memory ran out
 pub exact : (old new : World) (result : Status) (step : Files → Result Output Status → Type 0)
-    → Ends old new (manner_of result) step
+    → EndsBut old new (manner_of result) step
     → ForSome old.files
     (λ files. ¬ Rises old.read_faults new.read_faults → ¬ Rises old.write_faults new.write_faults
     → IsExact result (λ made. step files made))

@@ -1,6 +1,6 @@
 -- What is told of places: by the state or the record of a run, and by the number of the last place.
 use Rattle.std.proofs.Common.{◌≡◌, ℕ, zero, suc, ◌+◌, ◌-◌, ◌<◌, ◌≤◌, true, false, List, [], ◌++◌, map, length, drop, Option, Some, None, option_map, refl, sym, ap, ◌∙◌, arith, subst, append_assoc, append-nil}
-use Rattle.std.specs.Prelude.{Result, OnOk, flat_map, nat_lt}
+use Rattle.std.specs.Prelude.{Result, flat_map, nat_lt}
 use Rattle.std.specs.Option.{option_and_then}
 use Rattle.std.proofs.Math.ListN.{drop_of_length-le}
 use Rattle.std.proofs.lemmas.List.{length-map}
@@ -20,9 +20,12 @@ use Rattle.w4_program.specs.declared.place_text.PlaceText.TheVariants.{Image, Sc
 use Rattle.w4_program.specs.Texts.{place_text, place_texts, state_text}
 use Rattle.w4_program.specs.Answering.{if_place, film_text, range_text, too_long, no_frame}
 use Rattle.w4_program.specs.Answers.{answer_text}
-use Rattle.w4_program.specs.Editors.{IsAnswered, place_session, text_by}
+use Rattle.w4_program.specs.Causes.{StopsWriting}
+use Rattle.w4_program.specs.Editors.{GivesAnswer, place_session, text_by}
+use Rattle.w4_program.specs.Endings.{Manner}
+use Rattle.w4_program.specs.declared.status.Status.{Status}
 use Rattle.w4_program.proofs.KeepEveryLaws.{places_from}
-use Rattle.w4_program.proofs.OwesLaws.{Owes, owes_less, owes_nothing}
+use Rattle.w4_program.proofs.OwesLaws.{Owes, owes_less, owes_nothing, piece_stopped}
 
 -- ---- one place
 
@@ -85,16 +88,28 @@ record_of_reset setup disk inputs p r first e =
 
 -- ---- places one after another
 
+texts-next : (text : ℕ → List ℕ) (written : List ℕ) (at end : ℕ) → at < end → written ≡ text at
+    → place_texts text at (end - at) ≡ written ++ place_texts text (at + 1) (end - (at + 1))
+texts-next text written at end lt e =
+    let k : end - at ≡ suc (end - (at + 1)) = omega arith in
+    rw k (ap (λ (bytes : List ℕ). bytes ++ place_texts text (at + 1) (end - (at + 1))) (sym e))
+
 pub texts-more : (first now next : World) (text : ℕ → List ℕ) (written whole : List ℕ) (at end : ℕ)
     → at < end → Appends now.out next.out written → written ≡ text at
     → Owes first now (place_texts text at (end - at)) whole
     → Owes first next (place_texts text (at + 1) (end - (at + 1))) whole
 texts-more first now next text written whole at end lt h e so_far =
-    let k : end - at ≡ suc (end - (at + 1)) = omega arith in
-    let one : place_texts text at (end - at) ≡ written ++ place_texts text (at + 1) (end - (at + 1)) =
-    rw k (ap (λ (bytes : List ℕ). bytes ++ place_texts text (at + 1) (end - (at + 1))) (sym e)) in
     owes_less first now next written (place_texts text (at + 1) (end - (at + 1))) whole h
-    (subst (λ owed. Owes first now owed whole) one so_far)
+    (subst (λ owed. Owes first now owed whole) (texts-next text written at end lt e) so_far)
+
+-- where one of them stopped
+pub texts-stop : (first now next : World) (why : Manner) (text : ℕ → List ℕ) (written whole : List ℕ)
+    (at end : ℕ) → at < end → written ≡ text at → first.write_faults ≤ now.write_faults
+    → Owes first now (place_texts text at (end - at)) whole
+    → StopsWriting now next why written → StopsWriting first next why whole
+texts-stop first now next why text written whole at end lt e le so_far h =
+    piece_stopped first now next why written (place_texts text (at + 1) (end - (at + 1)))
+    (place_texts text at (end - at)) whole (texts-next text written at end lt e) le so_far h
 
 pub texts-all : (first now : World) (text : ℕ → List ℕ) (whole : List ℕ) (at end : ℕ) → end ≤ at
     → Owes first now (place_texts text at (end - at)) whole → Appends first.out now.out whole
@@ -151,13 +166,12 @@ numbers-all text whole entries i le so_far =
     sym none ∙ so_far
 
 -- the answer for one place is that for a range
-pub one_range : {X E : Type 0} (result : Result X E) (before after : World) (old new : Editing)
+pub one_range : {X : Type 0} (result : Result X Status) (before after : World) (old new : Editing)
     (wanted : PlaceText) (p : ℕ)
-    → OnOk result (IsAnswered before after old new (answer_text (place_session old)
-    (if_place (place_session old) p
-    (range_text (editing_setup old) old.disk (place_session old) wanted p p))))
-    → OnOk result (IsAnswered before after old new (answer_text (place_session old)
-    (if_place (place_session old) p (text_by old wanted p))))
+    → GivesAnswer before after result old new (answer_text (place_session old) (if_place (place_session old) p
+    (range_text (editing_setup old) old.disk (place_session old) wanted p p)))
+    → GivesAnswer before after result old new (answer_text (place_session old)
+    (if_place (place_session old) p (text_by old wanted p)))
 one_range result before after old new wanted p h =
-    subst (λ bytes. OnOk result (IsAnswered before after old new (answer_text (place_session old)
-    (if_place (place_session old) p bytes)))) (text-alone (text_by old wanted) p) h
+    subst (λ bytes. GivesAnswer before after result old new (answer_text (place_session old)
+    (if_place (place_session old) p bytes))) (text-alone (text_by old wanted) p) h

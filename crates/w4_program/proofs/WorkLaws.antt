@@ -1,20 +1,19 @@
 -- From the editor that an edit opens to the recording that it leaves.
-use Rattle.std.proofs.Common.{◌≡◌, ℕ, List, ap, ◌∙◌, subst}
-use Rattle.std.specs.Prelude.{◌≤◌, Result, Ok, Err, OnOk, IfErr}
+use Rattle.std.proofs.Common.{◌≡◌, ℕ, List, inl, inr, ap, ◌∙◌, subst}
+use Rattle.std.specs.Prelude.{Result, Ok, Err}
 use Rattle.w4_defs.specs.Module.{WasmModule}
 use Rattle.w4_defs.specs.Session.{Session}
 use Rattle.w4_defs.specs.State.{State}
 use Rattle.w4_editor.specs.Editing.{Editing, editing_setup, new_editing, current_recording, with_session}
-use Rattle.w4_house.specs.World.{World, Appends, Puts}
+use Rattle.w4_house.specs.World.{World, Appends, LeavesPrinting, LeavesSaving, OpensOnly, Puts}
+use Rattle.w4_house.proofs.WorldLaws.{front_whole, rises_later}
 use Rattle.w4_program.specs.declared.status.Status.{Status}
 use Rattle.w4_program.specs.Answering.{answers}
 use Rattle.w4_program.specs.Answers.{Answered}
-use Rattle.w4_program.specs.Causes.{StopsWriting}
+use Rattle.w4_program.specs.Causes.{Carried, Carries, Saved, StopsSaving, StopsWriting}
 use Rattle.w4_program.specs.Editors.{IsAnswered, place_session}
-use Rattle.w4_program.specs.Endings.{manner_of}
+use Rattle.w4_program.specs.Endings.{Manner, AllWritten, NoCommand, ReadFailed, WriteFailed, MemoryRefused, Refused, manner_of}
 use Rattle.w4_program.specs.Output.{Loaded, edit_answers, edited_recording}
-use Rattle.w4_program.proofs.AnswerLaws.{on_ok}
-use Rattle.w4_program.proofs.EndLaws.{stops_writing_later}
 
 opened_answers : (cart : WasmModule) (l : Loaded) (e : Editing) (state : State)
     → e ≡ new_editing cart l.run.font l.run.recording state
@@ -22,16 +21,34 @@ opened_answers : (cart : WasmModule) (l : Loaded) (e : Editing) (state : State)
 opened_answers cart l e state is =
     ap (λ (x : Editing). answers (editing_setup x) x.disk (place_session x) l.orders) is
 
-pub out_left : {X E : Type 0} (result : Result X E) (before mid after : World) (cart : WasmModule) (l :
-    Loaded)
-    (old new : Editing) (state : State)
+pub answers_left : (before mid : World) (cart : WasmModule) (l : Loaded) (old new : Editing) (state : State)
     → old ≡ new_editing cart l.run.font l.run.recording state
     → IsAnswered before mid old new (answers (editing_setup old) old.disk (place_session old) l.orders)
-    → after.out ≡ mid.out → OnOk result (Appends before.out after.out (edit_answers cart l).out)
-out_left result before mid after cart l old new state is answered same =
-    let written = subst (λ (a : Answered (Session ℕ)). Appends before.out mid.out a.out)
-    (opened_answers cart l old state is) answered.out in
-    on_ok result (λ texts told. same ∙ written texts told)
+    → Appends before.out mid.out (edit_answers cart l).out
+answers_left before mid cart l old new state is answered =
+    subst (λ (a : Answered (Session ℕ)). Appends before.out mid.out a.out)
+    (opened_answers cart l old state is)
+    answered.out
+
+-- the answers stopped, so that no file was begun
+carries_stopped : (old new : World) (why : Manner) (out name bytes : List ℕ) → new.files ≡ old.files
+    → StopsWriting old new why out → Carries old new why out name bytes
+carries_stopped old new AllWritten out name bytes same h = absurd h
+carries_stopped old new NoCommand out name bytes same h = h
+carries_stopped old new ReadFailed out name bytes same h = h
+carries_stopped old new WriteFailed out name bytes same h = (h.0, inl (h.1, same))
+carries_stopped old new MemoryRefused out name bytes same h = (h, same)
+carries_stopped old new (Refused refusal) out name bytes same h = h
+
+pub answers_stopped : (before after : World) (why : Manner) (cart : WasmModule) (l : Loaded) (old : Editing)
+    (state : State) (name bytes : List ℕ)
+    → old ≡ new_editing cart l.run.font l.run.recording state → after.files ≡ before.files
+    → StopsWriting before after why (answers (editing_setup old) old.disk (place_session old) l.orders).out
+    → Carries before after why (edit_answers cart l).out name bytes
+answers_stopped before after why cart l old state name bytes is same h =
+    carries_stopped before after why (edit_answers cart l).out name bytes same
+    (subst (λ (a : Answered (Session ℕ)). StopsWriting before after why a.out)
+    (opened_answers cart l old state is) h)
 
 pub recording_left : (before mid : World) (cart : WasmModule) (l : Loaded) (old new : Editing) (state : State)
     → old ≡ new_editing cart l.run.font l.run.recording state
@@ -45,17 +62,35 @@ recording_left before mid cart l old new state is answered =
     ap (λ (x : Editing). current_recording x) all
     ∙ ap (λ (s : Session ℕ). record l.run.recording { frames = s.current.inputs }) session
 
-pub puts_left : {X E : Type 0} (result : Result X E) (before mid after : World) (name bytes wanted : List ℕ)
-    → mid.files ≡ before.files → bytes ≡ wanted
-    → OnOk result (Puts mid.files after.files name bytes)
-    → OnOk result (Puts before.files after.files name wanted)
-puts_left result before mid after name bytes wanted same e h =
-    subst (λ files. OnOk result (Puts files after.files name wanted)) same
-    (subst (λ xs. OnOk result (Puts mid.files after.files name xs)) e h)
+-- all answers are written, and memory ran out before the file was begun
+pub carries_answers : (before mid : World) (out name bytes : List ℕ) → Appends before.out mid.out out
+    → mid.files ≡ before.files → Carries before mid MemoryRefused out name bytes
+carries_answers before mid out name bytes written same = (front_whole before.out mid.out out written, same)
 
-pub stops_left : {X : Type 0} (result : Result X Status) (before mid after : World)
-    → before.write_faults ≤ mid.write_faults
-    → IfErr result (λ why. StopsWriting mid after (manner_of why))
-    → IfErr result (λ why. StopsWriting before after (manner_of why))
-stops_left (Ok x) before mid after le h = tt
-stops_left (Err why) before mid after le h = stops_writing_later before mid after (manner_of why) le h
+-- then the file was saved, or it wasn't
+saved_stopped : (before mid after : World) (why : Manner) (out name bytes : List ℕ)
+    → LeavesPrinting before mid → Appends before.out after.out out
+    → StopsSaving mid after why name → Carries before after why out name bytes
+saved_stopped before mid after AllWritten out name bytes leaves written h = absurd h
+saved_stopped before mid after NoCommand out name bytes leaves written h = h
+saved_stopped before mid after ReadFailed out name bytes leaves written h = h
+saved_stopped before mid after WriteFailed out name bytes leaves written h = (
+  rises_later before.write_faults mid.write_faults after.write_faults leaves.later h.0,
+  inr (written, subst (λ files. OpensOnly files after.files name) leaves.files h.1),
+)
+saved_stopped before mid after MemoryRefused out name bytes leaves written h =
+    (front_whole before.out after.out out written, h ∙ leaves.files)
+saved_stopped before mid after (Refused refusal) out name bytes leaves written h = h
+
+pub carried_saved : {X : Type 0} (result : Result X Status) (before mid after : World)
+    (out name bytes wanted : List ℕ)
+    → LeavesPrinting before mid → LeavesSaving mid after → Appends before.out mid.out out → bytes ≡ wanted
+    → Saved mid after result name bytes → Carried before after result out name wanted
+carried_saved (Ok x) before mid after out name bytes wanted leaves rest written e h = (
+  (λ texts told. rest.out ∙ written texts told),
+  subst (λ files. Puts files after.files name wanted) leaves.files
+      (subst (λ xs. Puts mid.files after.files name xs) e h),
+)
+carried_saved (Err why) before mid after out name bytes wanted leaves rest written e h =
+    saved_stopped before mid after (manner_of why) out name wanted leaves
+    (λ texts told. rest.out ∙ written texts told) h

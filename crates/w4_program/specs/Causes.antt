@@ -1,11 +1,12 @@
 -- What each status says of the world before and after, where a step on files is what the program does. A
 -- step says which results the files allow.
-use Rattle.std.specs.Prelude.{◌≡◌, ◌⊎◌, List, ℕ, Some, Result, Ok, Err, ⊤}
+use Rattle.std.specs.Prelude.{◌≡◌, ◌≢◌, ◌⊎◌, List, ℕ, Option, Some, None, Result, Ok, Err, IsErr, ⊤}
 use Rattle.std.specs.Option.{ForSome}
-use Rattle.w4_house.specs.World.{Files, World, Rises, Appends, AppendsFront, Puts}
+use Rattle.w4_house.specs.World.{Files, World, Rises, Appends, AppendsFront, Puts, OpensOnly}
 use Rattle.w4_program.specs.declared.status.Status.{Status}
 use Rattle.w4_program.specs.declared.status.Status.TheVariants as status
 use Rattle.w4_program.specs.Endings.{Manner, AllWritten, NoCommand, ReadFailed, WriteFailed, MemoryRefused, Refused, manner_of}
+use Rattle.w4_program.specs.Lines.{status_line}
 use Rattle.w4_program.specs.Output.{Output}
 
 -- a step that is a function of the files
@@ -36,14 +37,39 @@ abbrev pub StepGives : {X Y : Type 0} → World → World → (X → Y) → Resu
 StepGives old new view (Ok x) step = ForSome old.files (λ files. step files (Ok (view x)))
 StepGives old new view (Err why) step = Stops old new (manner_of why) step
 
--- why a step that only writes stopped
-abbrev pub StopsWriting : World → World → Manner → Type 0
-StopsWriting old new AllWritten = ⊥
-StopsWriting old new NoCommand = ⊥
-StopsWriting old new ReadFailed = ⊥
-StopsWriting old new WriteFailed = Rises old.write_faults new.write_faults
-StopsWriting old new MemoryRefused = ⊤
-StopsWriting old new (Refused refusal) = ⊥
+-- why work that only writes to standard output stopped: it has got a first part of these bytes
+abbrev pub StopsWriting : World → World → Manner → List ℕ → Type 0
+StopsWriting old new AllWritten bytes = ⊥
+StopsWriting old new NoCommand bytes = ⊥
+StopsWriting old new ReadFailed bytes = ⊥
+StopsWriting old new WriteFailed bytes =
+    Rises old.write_faults new.write_faults × AppendsFront old.out new.out bytes
+StopsWriting old new MemoryRefused bytes = AppendsFront old.out new.out bytes
+StopsWriting old new (Refused refusal) bytes = ⊥
+
+-- what such work gave: standard output has got these bytes, or a first part of them where it stopped
+abbrev pub Printed : {X : Type 0} → World → World → Result X Status → List ℕ → Type 0
+Printed old new (Ok x) bytes = Appends old.out new.out bytes
+Printed old new (Err why) bytes = StopsWriting old new (manner_of why) bytes
+
+-- it stopped before it wrote anything
+abbrev pub WritesNothing : {X : Type 0} → World → World → Result X Status → Type 0
+WritesNothing old new result = IsErr result × (new.out ≡ old.out)
+
+-- why a write to the file of this name stopped: any bytes may stand in it after a failure alone
+abbrev pub StopsSaving : World → World → Manner → List ℕ → Type 0
+StopsSaving old new AllWritten name = ⊥
+StopsSaving old new NoCommand name = ⊥
+StopsSaving old new ReadFailed name = ⊥
+StopsSaving old new WriteFailed name =
+    Rises old.write_faults new.write_faults × OpensOnly old.files new.files name
+StopsSaving old new MemoryRefused name = new.files ≡ old.files
+StopsSaving old new (Refused refusal) name = ⊥
+
+-- what such a write gave
+abbrev pub Saved : {X : Type 0} → World → World → Result X Status → List ℕ → List ℕ → Type 0
+Saved old new (Ok x) name bytes = Puts old.files new.files name bytes
+Saved old new (Err why) name bytes = StopsSaving old new (manner_of why) name
 
 -- standard output and all files are unchanged
 abbrev pub LeavesOutputs : World → World → Type 0
@@ -53,6 +79,17 @@ LeavesOutputs old new = (new.out ≡ old.out) × (new.files ≡ old.files)
 abbrev pub Writes : World → World → Output → Type 0
 Writes old new made = Appends old.out new.out made.out × (new.files ≡ Some made.files)
 
+-- at most the file that was to be written has changed
+abbrev pub OpensFile : Option Files → Option Files → Option (List ℕ) → Type 0
+OpensFile old new None = ⊥
+OpensFile old new (Some name) = OpensOnly old new name
+
+-- standard output has got a first part of what was to be made, and no file has changed; or it has got all of
+-- it, and no file but the one that was to be written has changed
+abbrev pub WritesPart : World → World → Output → Type 0
+WritesPart old new made = (AppendsFront old.out new.out made.out × (new.files ≡ old.files))
+    ⊎ (Appends old.out new.out made.out × OpensFile old.files new.files made.file)
+
 -- how a whole step ended
 abbrev pub Ends : World → World → Manner → (Files → Result Output Status → Type 0) → Type 0
 Ends old new AllWritten step =
@@ -61,8 +98,12 @@ Ends old new NoCommand step = StepRefuses old status.Usage step × LeavesOutputs
 Ends old new ReadFailed step = ReadFails old new step × LeavesOutputs old new
 Ends old new WriteFailed step =
     Rises old.write_faults new.write_faults
-    × ForSome old.files (λ files. (made : Output) × step files (Ok made))
-Ends old new MemoryRefused step = ⊤
+    × ForSome old.files (λ files. (made : Output) × step files (Ok made) × WritesPart old new made)
+Ends old new MemoryRefused step =
+    (new.files ≡ old.files)
+    × ((new.out ≡ old.out)
+    ⊎ ForSome old.files
+    (λ files. (made : Output) × step files (Ok made) × AppendsFront old.out new.out made.out))
 Ends old new (Refused refusal) step = StepRefuses old refusal step × LeavesOutputs old new
 
 -- a refusal or a failed read, which leaves standard output and all files as they were
@@ -97,20 +138,35 @@ IsExact result step =
 abbrev pub LeavesErr : World → World → Type 0
 LeavesErr old new = (new.err ≡ old.err) × (new.err_faults ≡ old.err_faults)
 
--- how work that only writes ended: standard output gets these bytes, and the file of this name those
+-- memory ran out, in the work or while a status of it was reported: what stands is what that status says,
+-- and standard error has got a first part of its line. Only words without a form are refused as such
+abbrev pub IsCutShort : World → World → Type 0 → (Files → Result Output Status → Type 0) → Type 0
+IsCutShort old new NoForm step = (why : Status) × (why ≢ status.Done) × (why ≡ status.Usage → NoForm)
+    × Ends old new (manner_of why) step × AppendsFront old.err new.err (status_line why)
+
+-- how an edit ended: standard output gets these bytes, and then the file of this name those
 abbrev pub Carries : World → World → Manner → List ℕ → List ℕ → List ℕ → Type 0
 Carries old new AllWritten out name bytes = Appends old.out new.out out × Puts old.files new.files name bytes
 Carries old new NoCommand out name bytes = ⊥
 Carries old new ReadFailed out name bytes = ⊥
 Carries old new WriteFailed out name bytes = Rises old.write_faults new.write_faults
-Carries old new MemoryRefused out name bytes = ⊤
+    × ((AppendsFront old.out new.out out × (new.files ≡ old.files))
+    ⊎ (Appends old.out new.out out × OpensOnly old.files new.files name))
+Carries old new MemoryRefused out name bytes =
+    AppendsFront old.out new.out out × (new.files ≡ old.files)
 Carries old new (Refused refusal) out name bytes = ⊥
+
+-- what its work gave
+abbrev pub Carried : {X : Type 0} → World → World → Result X Status → List ℕ → List ℕ → List ℕ → Type 0
+Carried old new (Ok x) out name bytes = Carries old new AllWritten out name bytes
+Carried old new (Err why) out name bytes = Carries old new (manner_of why) out name bytes
 
 -- how work that only writes to standard output ended
 abbrev pub Prints : World → World → Manner → List ℕ → Type 0
 Prints old new AllWritten out = Appends old.out new.out out
 Prints old new NoCommand out = ⊥
 Prints old new ReadFailed out = ⊥
-Prints old new WriteFailed out = Rises old.write_faults new.write_faults
-Prints old new MemoryRefused out = ⊤
+Prints old new WriteFailed out =
+    Rises old.write_faults new.write_faults × AppendsFront old.out new.out out
+Prints old new MemoryRefused out = AppendsFront old.out new.out out
 Prints old new (Refused refusal) out = ⊥

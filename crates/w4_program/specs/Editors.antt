@@ -10,8 +10,11 @@ use Rattle.w4_defs.specs.Session.{Session, places_alone, session_of_places, set_
 use Rattle.w4_editor.specs.Editing.{Editing, editing_setup, with_session}
 use Rattle.w4_house.specs.World.{World, Appends}
 use Rattle.w4_program.specs.declared.place_text.PlaceText.{PlaceText}
+use Rattle.w4_program.specs.declared.status.Status.{Status}
 use Rattle.w4_program.specs.Answering.{answer, one_text}
 use Rattle.w4_program.specs.Answers.{Answered}
+use Rattle.w4_program.specs.Causes.{StopsWriting}
+use Rattle.w4_program.specs.Endings.{manner_of}
 
 -- the session of its places, without states and links
 abbrev pub place_session : Editing → Session ℕ
@@ -39,6 +42,12 @@ pub record IsAnswered (before after : World) (old new : Editing) (wanted : Answe
     pub out : Appends before.out after.out wanted.out
     pub session : place_session new ≡ wanted.session
     pub rest : KeepsRest old new
+
+-- what answering it gave: that, or a first part of the answer where it stopped
+abbrev pub GivesAnswer : {X : Type 0} → World → World → Result X Status → Editing → Editing
+    → Answered (Session ℕ) → Type 0
+GivesAnswer before after (Ok x) old new wanted = IsAnswered before after old new wanted
+GivesAnswer before after (Err why) old new wanted = StopsWriting before after (manner_of why) wanted.out
 
 -- what an order makes of a session, or why it is refused; an order that only tells makes nothing of it
 abbrev pub changed : Order → Session ℕ → Result (Session ℕ) EditRefusal

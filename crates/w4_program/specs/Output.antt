@@ -34,9 +34,10 @@ use Rattle.w4_program.specs.Texts.{place_text, place_texts}
 use Rattle.w4_program.specs.Answering.{script_answers}
 use Rattle.w4_program.specs.Answers.{Answered}
 
--- what standard output gets, and all files afterwards
+-- what standard output gets, the name of the file that is written, where one is, and all files afterwards
 pub record Output : Type 0 where
   pub out : List ℕ
+  pub file : Option (List ℕ)
   pub files : Files
 
 infixl 10 ◌>>=◌
@@ -149,11 +150,14 @@ edited_recording m l = record l.run.recording { frames = (edit_answers m l).sess
 
 -- bytes on standard output, and no file changed
 abbrev pub only_printed : List ℕ → Files → Output
-only_printed out files = record { out = out; files = files }
+only_printed out files = record { out = out; file = None; files = files }
 
 abbrev pub edit_result : WasmModule → Loaded → List ℕ → Files → Output
-edit_result m l name files =
-    record { out = (edit_answers m l).out; files = insert files name (encoding 2 (edited_recording m l)) }
+edit_result m l name files = record {
+  out = (edit_answers m l).out;
+  file = Some name;
+  files = insert files name (encoding 2 (edited_recording m l));
+}
 
 unfoldable pub edit_output : EditWords → CartFile → Files → Result Output Status
 edit_output words cart files = do

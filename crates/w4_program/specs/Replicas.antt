@@ -1,9 +1,12 @@
 -- A replica as the answers of a log see it.
-use Rattle.std.specs.Prelude.{◌≡◌}
+use Rattle.std.specs.Prelude.{◌≡◌, Result, Ok, Err}
 use Rattle.w4_house.specs.World.{World, Appends}
 use Rattle.w4_netplay.specs.Replicas.{Netplay, known_of, kept_of}
+use Rattle.w4_program.specs.declared.status.Status.{Status}
 use Rattle.w4_program.specs.Answers.{Answered}
+use Rattle.w4_program.specs.Causes.{StopsWriting}
 use Rattle.w4_program.specs.Editors.{KeepsRest}
+use Rattle.w4_program.specs.Endings.{manner_of}
 use Rattle.w4_program.specs.NetSessions.{NetSession}
 
 abbrev pub net_session : Netplay → NetSession
@@ -14,3 +17,9 @@ pub record IsHeard (before after : World) (old new : Netplay) (wanted : Answered
   pub out : Appends before.out after.out wanted.out
   pub session : net_session new ≡ wanted.session
   pub rest : KeepsRest old.editor new.editor
+
+-- what answering it gave: that, or a first part of the answer where it stopped
+abbrev pub GivesHeard : {X : Type 0} → World → World → Result X Status → Netplay → Netplay
+    → Answered NetSession → Type 0
+GivesHeard before after (Ok x) old new wanted = IsHeard before after old new wanted
+GivesHeard before after (Err why) old new wanted = StopsWriting before after (manner_of why) wanted.out

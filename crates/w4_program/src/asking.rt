@@ -1,16 +1,15 @@
 //! The answer of one line of a query.
 
-ghost use Rattle.std.specs.Prelude.{◌≡◌, ◌≢◌, ◌++◌, ◌∷◌, ◌≤◌, IfErr, IfOk, OnOk, codes, decimal};
+ghost use Rattle.std.specs.Prelude.{◌≡◌, ◌≢◌, ◌⊎◌, ◌++◌, ◌∷◌, ◌≤◌, IfOk, OnOk, codes, decimal};
 ghost use Rattle.w4_defs.specs.FrameTexts.{line_end, numbered};
-ghost use Rattle.w4_house.specs.World.{Appends, LeavesPrinting};
+ghost use Rattle.w4_house.specs.World.{LeavesPrinting};
 ghost use Rattle.w4_inspect.specs.Requests.{IsRequest};
 ghost use Rattle.w4_inspect.specs.Widths.{IsWidth};
 ghost use Rattle.w4_inspect.specs.declared.refusal.RamRefusal.TheVariants.{OutOfMemory as MemoryRefused};
 ghost use Rattle.w4_program.specs.Answering.{no_frame};
-ghost use Rattle.w4_program.specs.Causes.{StopsWriting};
+ghost use Rattle.w4_program.specs.Causes.{Printed, WritesNothing};
 ghost use Rattle.w4_program.specs.Editors.{OnlyShows};
-ghost use Rattle.w4_program.specs.Endings.{manner_of};
-ghost use Rattle.w4_program.specs.Queries.{IsTold, ask_answer, editor_pages};
+ghost use Rattle.w4_program.specs.Queries.{GivesTold, ask_answer, editor_pages};
 ghost use Rattle.w4_program.specs.RamAnswers.{answer_narrow, answer_start, found_text, list_text, watch_text};
 
 use crate::printing::print;
@@ -35,10 +34,9 @@ pub fn answer_line<L: Ledger, H: House>(
     steps: &mut Steps<L>,
 ) -> Result<(), Status>
     requires { IsRequest line.now }
-    ensures told { OnOk result (IsTold (H.world house.old) (H.world house.new) editor.old editor.new search.new
-        (ask_answer editor.old search.old line.now)) }
-    ensures stops { IfErr result (λ why.
-        StopsWriting (H.world house.old) (H.world house.new) (manner_of why)) }
+    ensures told { GivesTold (H.world house.old) (H.world house.new) result
+        editor.old editor.new search.new
+        (ask_answer editor.old search.old line.now) }
     ensures rest { LeavesPrinting (H.world house.old) (H.world house.new) }
 {
     match *line {
@@ -67,11 +65,9 @@ fn tell_watched<L: Ledger, H: House>(
 ) -> Result<(), Status>
     requires width { IsWidth width }
     requires order { a ≤ b }
-    ensures out { OnOk result (Appends (H.world house.old).out (H.world house.new).out
-        (watch_text (editor_pages editor.old) address width a b)) }
+    ensures out { Printed (H.world house.old) (H.world house.new) result
+        (watch_text (editor_pages editor.old) address width a b) }
     ensures shows { OnOk result (OnlyShows editor.old editor.new) }
-    ensures stops { IfErr result (λ why.
-        StopsWriting (H.world house.old) (H.world house.new) (manner_of why)) }
     ensures rest { LeavesPrinting (H.world house.old) (H.world house.new) }
 {
     match watch(alloc, editor, address, width, a as usize, b as usize, steps) {
@@ -101,10 +97,9 @@ fn watched_line(alloc: Global, address: u32, values: &[u32]) -> Result<Vec<u8>, 
 
 /// Writes the line of a place that isn't there. Where it is memory that was refused, the run ends.
 fn refuse_place<H: House>(alloc: Global, house: &mut H, refusal: RamRefusal) -> Result<(), Status>
-    ensures out { OnOk result (Appends (H.world house.old).out (H.world house.new).out no_frame) }
-    ensures cause { OnOk result (refusal ≢ MemoryRefused) }
-    ensures stops { IfErr result (λ why.
-        StopsWriting (H.world house.old) (H.world house.new) (manner_of why)) }
+    ensures out { Printed (H.world house.old) (H.world house.new) result no_frame }
+    ensures cause { (refusal ≢ MemoryRefused)
+        ⊎ WritesNothing (H.world house.old) (H.world house.new) result }
     ensures rest { LeavesPrinting (H.world house.old) (H.world house.new) }
 {
     match refusal {
@@ -124,10 +119,9 @@ fn start<L: Ledger, H: House>(
     steps: &mut Steps<L>,
 ) -> Result<(), Status>
     requires { IsWidth width }
-    ensures told { OnOk result (IsTold (H.world house.old) (H.world house.new) editor.old editor.new search.new
-        (answer_start (editor_pages editor.old) search.old width p)) }
-    ensures stops { IfErr result (λ why.
-        StopsWriting (H.world house.old) (H.world house.new) (manner_of why)) }
+    ensures told { GivesTold (H.world house.old) (H.world house.new) result
+        editor.old editor.new search.new
+        (answer_start (editor_pages editor.old) search.old width p) }
     ensures rest { LeavesPrinting (H.world house.old) (H.world house.new) }
 {
     match Search::start(alloc, editor, width, p as usize, steps) {
@@ -149,10 +143,9 @@ fn narrow<L: Ledger, H: House>(
     test: Test,
     steps: &mut Steps<L>,
 ) -> Result<(), Status>
-    ensures told { OnOk result (IsTold (H.world house.old) (H.world house.new) editor.old editor.new search.new
-        (answer_narrow (editor_pages editor.old) search.old p test)) }
-    ensures stops { IfErr result (λ why.
-        StopsWriting (H.world house.old) (H.world house.new) (manner_of why)) }
+    ensures told { GivesTold (H.world house.old) (H.world house.new) result
+        editor.old editor.new search.new
+        (answer_narrow (editor_pages editor.old) search.old p test) }
     ensures rest { LeavesPrinting (H.world house.old) (H.world house.new) }
 {
     match search {
@@ -166,10 +159,8 @@ fn narrow<L: Ledger, H: House>(
 
 /// Writes the addresses that the search has left, unless there is none.
 fn list<H: House>(alloc: Global, house: &mut H, search: &Option<Search>) -> Result<(), Status>
-    ensures out { OnOk result (Appends (H.world house.old).out (H.world house.new).out
-        (list_text search.now)) }
-    ensures stops { IfErr result (λ why.
-        StopsWriting (H.world house.old) (H.world house.new) (manner_of why)) }
+    ensures out { Printed (H.world house.old) (H.world house.new) result
+        (list_text search.now) }
     ensures rest { LeavesPrinting (H.world house.old) (H.world house.new) }
 {
     match search {

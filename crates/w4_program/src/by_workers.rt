@@ -1,13 +1,11 @@
 //! Orders that are carried out by many workers: `film` and `settle`.
 
-ghost use Rattle.std.specs.Prelude.{◌≡◌, ◌≤◌, IfErr, OnOk};
+ghost use Rattle.std.specs.Prelude.{◌≡◌, ◌≤◌, OnOk};
 ghost use Rattle.w4_editor.specs.Editing.{editing_setup};
 ghost use Rattle.w4_house.specs.World.{LeavesPrinting};
 ghost use Rattle.w4_program.specs.Answering.{film_text, if_place};
 ghost use Rattle.w4_program.specs.Answers.{answer_text};
-ghost use Rattle.w4_program.specs.Causes.{StopsWriting};
-ghost use Rattle.w4_program.specs.Editors.{IsAnswered, OnlyShows, place_session};
-ghost use Rattle.w4_program.specs.Endings.{manner_of};
+ghost use Rattle.w4_program.specs.Editors.{GivesAnswer, OnlyShows, place_session};
 
 use crate::desk::last_place;
 use crate::printing::print;
@@ -39,11 +37,10 @@ pub fn tell_film<R: Threads + Sync, H: House, G: Gate + Sync>(
     workers: u32,
     gate: &G,
 ) -> Result<(), Status>
-    ensures answered { OnOk result (IsAnswered (H.world house.old) (H.world house.new) editor.old editor.new
+    ensures answered { GivesAnswer (H.world house.old) (H.world house.new) result
+        editor.old editor.new
         (answer_text (place_session editor.old) (if_place (place_session editor.old) b
-        (film_text (editing_setup editor.old) editor.old.disk (place_session editor.old) a b)))) }
-    ensures stops { IfErr result (λ why.
-        StopsWriting (H.world house.old) (H.world house.new) (manner_of why)) }
+        (film_text (editing_setup editor.old) editor.old.disk (place_session editor.old) a b))) }
     ensures rest { LeavesPrinting (H.world house.old) (H.world house.new) }
 {
     let (from, to) = (a as usize, b as usize);

@@ -1,11 +1,10 @@
 //! An edit: the answers of its orders, and then the file of the recording left.
 
-ghost use Rattle.std.specs.Prelude.{OnOk, IfErr};
 ghost use Rattle.w4_defs.specs.Recording.{encoding};
-ghost use Rattle.w4_house.specs.World.{Appends, Puts, LeavesSaving};
+ghost use Rattle.w4_house.specs.World.{LeavesSaving};
 ghost use Rattle.w4_program.specs.Endings.{manner_of};
 ghost use Rattle.w4_program.specs.Output.{edit_answers, edited_recording};
-ghost use Rattle.w4_program.specs.Causes.{StopsWriting, Carries, LeavesErr};
+ghost use Rattle.w4_program.specs.Causes.{Carried, Carries, LeavesErr, Saved};
 ghost use Rattle.w4_program.specs.Views.{loaded_view};
 
 use crate::desk::new_desk;
@@ -23,10 +22,7 @@ use wasm_valid::Cart;
 
 /// Makes a file of just these bytes.
 fn save<H: House>(alloc: Global, house: &mut H, name: &str, bytes: &[u8]) -> Result<(), Status>
-    ensures saved { OnOk result (Puts (H.world house.old).files (H.world house.new).files
-        name.now bytes.now) }
-    ensures stops { IfErr result (λ why.
-        StopsWriting (H.world house.old) (H.world house.new) (manner_of why)) }
+    ensures saved { Saved (H.world house.old) (H.world house.new) result name.now bytes.now }
     ensures rest { LeavesSaving (H.world house.old) (H.world house.new) }
 {
     match house.write_file(alloc, name, bytes) {
@@ -46,12 +42,9 @@ fn work<R: Threads + Sync, H: House, G: Gate + Sync>(
     name: &str,
     gate: &G,
 ) -> Result<(), Status>
-    ensures out { OnOk result (Appends (H.world house.old).out (H.world house.new).out
-        (edit_answers cart (loaded_view loaded)).out) }
-    ensures saved { OnOk result (Puts (H.world house.old).files (H.world house.new).files
-        name.now (encoding 2 (edited_recording cart (loaded_view loaded)))) }
-    ensures stops { IfErr result (λ why.
-        StopsWriting (H.world house.old) (H.world house.new) (manner_of why)) }
+    ensures carried { Carried (H.world house.old) (H.world house.new) result
+        (edit_answers cart (loaded_view loaded)).out name.now
+        (encoding 2 (edited_recording cart (loaded_view loaded))) }
     ensures err { LeavesErr (H.world house.old) (H.world house.new) }
 {
     let Loaded { run, orders } = loaded;

@@ -1,11 +1,8 @@
 //! Orders that change inputs, history or kept places.
 
-ghost use Rattle.std.specs.Prelude.{IfErr, OnOk};
 ghost use Rattle.w4_house.specs.World.{LeavesPrinting};
 ghost use Rattle.w4_program.specs.Answering.{answer_change};
-ghost use Rattle.w4_program.specs.Causes.{StopsWriting};
-ghost use Rattle.w4_program.specs.Editors.{IsAnswered, IsChanged, changed, place_session};
-ghost use Rattle.w4_program.specs.Endings.{manner_of};
+ghost use Rattle.w4_program.specs.Editors.{GivesAnswer, IsChanged, changed, place_session};
 
 use crate::keep_every::keep_every;
 use crate::refusal::refuse;
@@ -25,10 +22,9 @@ pub fn answer_change<L: Ledger, H: House>(
     order: &Order,
     steps: &mut Steps<L>,
 ) -> Result<(), Status>
-    ensures answered { OnOk result (IsAnswered (H.world house.old) (H.world house.new) editor.old editor.new
-        (answer_change (place_session editor.old) (changed order.now (place_session editor.old)))) }
-    ensures stops { IfErr result (λ why.
-        StopsWriting (H.world house.old) (H.world house.new) (manner_of why)) }
+    ensures answered { GivesAnswer (H.world house.old) (H.world house.new) result
+        editor.old editor.new
+        (answer_change (place_session editor.old) (changed order.now (place_session editor.old))) }
     ensures rest { LeavesPrinting (H.world house.old) (H.world house.new) }
 {
     match change(alloc, editor, order, steps) {

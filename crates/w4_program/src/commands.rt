@@ -1,12 +1,12 @@
 //! The commands, each over a cart that is judged first.
 
-ghost use Rattle.std.specs.Prelude.{◌≡◌, ◌+◌, ◌-◌, ◌≤◌, length, IfErr, OnOk, Ok, Some};
+ghost use Rattle.std.specs.Prelude.{◌≡◌, ◌+◌, ◌-◌, ◌≤◌, length, Ok, Some};
 ghost use Rattle.w4_defs.specs.Recording.{encoding};
-ghost use Rattle.w4_house.specs.World.{Appends, LeavesPrinting};
+ghost use Rattle.w4_house.specs.World.{LeavesPrinting};
 ghost use Rattle.w4_program.specs.Endings.{manner_of};
 ghost use Rattle.w4_program.specs.Output.{blank_output, blank_recording, checked, disk_output, edit_output, images_output, only_printed, texts_output, place_texts_from};
 ghost use Rattle.w4_program.specs.Outputs.{OutputsForm, OverCart, output_of};
-ghost use Rattle.w4_program.specs.Causes.{Ends, LeavesErr, Prints, ResultsIn, StopsWriting};
+ghost use Rattle.w4_program.specs.Causes.{Ends, LeavesErr, Printed, Prints, ResultsIn};
 ghost use Rattle.w4_program.specs.Views.{cart_view, edit_view, form_view, played_view, run_view};
 
 use crate::budget::Budget;
@@ -144,10 +144,8 @@ fn print_blank<H: House>(
     digest: &[u8; 32],
     budget: Budget,
 ) -> Result<(), Status>
-    ensures out { OnOk result (Appends (H.world house.old).out (H.world house.new).out
-        (encoding 2 (blank_recording digest.now budget.units))) }
-    ensures stops { IfErr result (λ why.
-        StopsWriting (H.world house.old) (H.world house.new) (manner_of why)) }
+    ensures out { Printed (H.world house.old) (H.world house.new) result
+        (encoding 2 (blank_recording digest.now budget.units)) }
     ensures rest { LeavesPrinting (H.world house.old) (H.world house.new) }
 {
     let recording = Recording::new(*digest, budget.units, Vec::new(alloc), Vec::new(alloc));
@@ -276,10 +274,8 @@ fn try_write_run<H: House>(
 ) -> Result<(), Status>
     requires order { from ≤ to }
     requires place { to ≤ length run.recording.frames }
-    ensures out { OnOk result (Appends (H.world house.old).out (H.world house.new).out
-        (place_texts_from wanted cart.now (played_view run) from (to + 1 - from))) }
-    ensures stops { IfErr result (λ why.
-        StopsWriting (H.world house.old) (H.world house.new) (manner_of why)) }
+    ensures out { Printed (H.world house.old) (H.world house.new) result
+        (place_texts_from wanted cart.now (played_view run) from (to + 1 - from)) }
     ensures rest { LeavesPrinting (H.world house.old) (H.world house.new) }
 {
     let mut stage = new_stage(alloc, cart)?;

@@ -1,12 +1,12 @@
 //! `make`: a cart that a number makes, run through all its frames.
 
-ghost use Rattle.std.specs.Prelude.{◌≡◌, Ok, IfErr, IfOk, OnOk, replicate};
+ghost use Rattle.std.specs.Prelude.{◌≡◌, Ok, IfOk, replicate};
 ghost use Rattle.sha2.specs.Sha256.{sha256};
 ghost use Rattle.w4_defs.specs.Cart.{IsCart};
 ghost use Rattle.w4_defs.specs.Generator.{made_module};
 ghost use Rattle.w4_defs.specs.MadeSummary.{summary_text};
-ghost use Rattle.w4_house.specs.World.{Appends, LeavesPrinting};
-ghost use Rattle.w4_program.specs.Causes.{Ends, LeavesErr, ResultsIn, StopsWriting};
+ghost use Rattle.w4_house.specs.World.{LeavesPrinting};
+ghost use Rattle.w4_program.specs.Causes.{Ends, LeavesErr, Printed, ResultsIn};
 ghost use Rattle.w4_program.specs.Endings.{manner_of};
 ghost use Rattle.w4_program.specs.Output.{made_text, make_output};
 
@@ -44,9 +44,8 @@ pub fn make_cart<H: House>(alloc: Global, house: &mut H, number: u32) -> Status
 
 /// Writes the lines, or gives the status that ends the run.
 fn print_made<H: House>(alloc: Global, house: &mut H, number: u32) -> Result<(), Status>
-    ensures out { OnOk result (Appends (H.world house.old).out (H.world house.new).out (made_text number)) }
-    ensures stops { IfErr result (λ why.
-        StopsWriting (H.world house.old) (H.world house.new) (manner_of why)) }
+    ensures out { Printed (H.world house.old) (H.world house.new) result
+        (made_text number) }
     ensures rest { LeavesPrinting (H.world house.old) (H.world house.new) }
 {
     let text = made_lines(alloc, number)?;

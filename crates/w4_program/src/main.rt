@@ -41,8 +41,9 @@ mod text;
 mod words;
 mod workers;
 
-use crate::run::w4_run;
-use crate::status::number;
+use crate::run::{report, w4_run};
+use crate::status::{Status, number};
+use std::io::ErrorKind;
 use std::process::ExitCode;
 use std::rt::Env;
 use std::{env, io};
@@ -57,17 +58,15 @@ fn words_of<R: Env + AllocGlobal>(rt: &R) -> io::Result<Vec<String>> {
     Ok(words)
 }
 
-/// The arguments after the program's name, or none where one isn't UTF-8 or memory runs out.
-fn words_or_none<R: Env + AllocGlobal>(rt: &R) -> Vec<String> {
-    match words_of(rt) {
-        Ok(words) => words,
-        Err(_) => Vec::new(rt.alloc()),
-    }
-}
-
 fn main(rt: HostRuntime) -> ExitCode {
-    let words = words_or_none(&rt);
     let mut house = RealHouse::new(&rt, rt.stdout(), rt.stderr());
-    let status = w4_run(&rt, rt.alloc(), words.as_slice(), &mut house);
+    let status = match words_of(&rt) {
+        Ok(words) => w4_run(&rt, rt.alloc(), words.as_slice(), &mut house),
+        Err(refusal) if refusal.kind() == ErrorKind::OutOfMemory => {
+            report(rt.alloc(), &mut house, Status::OutOfMemory)
+        }
+        // A word that isn't UTF-8 is in no command: no words are, either.
+        Err(_) => w4_run(&rt, rt.alloc(), &[], &mut house),
+    };
     ExitCode::from(number(status))
 }

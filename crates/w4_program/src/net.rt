@@ -1,9 +1,9 @@
 //! `net`: a session of rollback that a log tells of.
 
-ghost use Rattle.std.specs.Prelude.{◌≡◌, ◌<◌, IfErr, OnOk, []};
+ghost use Rattle.std.specs.Prelude.{◌≡◌, ◌<◌, []};
 ghost use Rattle.w4_editor.specs.Editing.{editing_setup};
-ghost use Rattle.w4_house.specs.World.{Appends, LeavesPrinting};
-ghost use Rattle.w4_program.specs.Causes.{Ends, LeavesErr, Prints, ResultsIn, StopsWriting};
+ghost use Rattle.w4_house.specs.World.{LeavesPrinting};
+ghost use Rattle.w4_program.specs.Causes.{Ends, LeavesErr, Printed, Prints, ResultsIn};
 ghost use Rattle.w4_program.specs.Endings.{manner_of};
 ghost use Rattle.w4_program.specs.NetSessions.{net_answers};
 ghost use Rattle.w4_program.specs.Replicas.{net_session};
@@ -66,10 +66,8 @@ fn try_answer_log<H: House>(
     budget: Budget,
     loaded: NetLoaded,
 ) -> Result<(), Status>
-    ensures out { OnOk result (Appends (H.world house.old).out (H.world house.new).out
-        (net_text file.cart budget.units (net_loaded_view loaded))) }
-    ensures stops { IfErr result (λ why.
-        StopsWriting (H.world house.old) (H.world house.new) (manner_of why)) }
+    ensures out { Printed (H.world house.old) (H.world house.new) result
+        (net_text file.cart budget.units (net_loaded_view loaded)) }
     ensures rest { LeavesPrinting (H.world house.old) (H.world house.new) }
 {
     let NetLoaded { font, orders } = loaded;
@@ -94,10 +92,8 @@ fn answer_orders<L: Ledger, H: House>(
     requires name { blank.name ≡ L.name }
     requires parts { blank.parts ≡ L.parts }
     requires some { 0 < L.parts }
-    ensures out { OnOk result (Appends (H.world house.old).out (H.world house.new).out
-        (net_answers (editing_setup replica.old.editor) (net_session replica.old) orders.now).out) }
-    ensures stops { IfErr result (λ why.
-        StopsWriting (H.world house.old) (H.world house.new) (manner_of why)) }
+    ensures out { Printed (H.world house.old) (H.world house.new) result
+        (net_answers (editing_setup replica.old.editor) (net_session replica.old) orders.now).out }
     ensures rest { LeavesPrinting (H.world house.old) (H.world house.new) }
 {
     let mut steps: Steps<L> = Steps::new(blank);

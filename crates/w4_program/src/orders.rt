@@ -1,12 +1,10 @@
 //! The orders of a script, one after another.
 
-ghost use Rattle.std.specs.Prelude.{◌≡◌, ◌<◌, IfErr, OnOk};
+ghost use Rattle.std.specs.Prelude.{◌≡◌, ◌<◌};
 ghost use Rattle.w4_editor.specs.Editing.{editing_setup};
 ghost use Rattle.w4_house.specs.World.{LeavesPrinting};
 ghost use Rattle.w4_program.specs.Answering.{answers};
-ghost use Rattle.w4_program.specs.Causes.{StopsWriting};
-ghost use Rattle.w4_program.specs.Editors.{IsAnswered, answer_by, place_session};
-ghost use Rattle.w4_program.specs.Endings.{manner_of};
+ghost use Rattle.w4_program.specs.Editors.{GivesAnswer, answer_by, place_session};
 
 use crate::by_workers::{settle, tell_film};
 use crate::change::answer_change;
@@ -35,12 +33,10 @@ pub fn answer_script<L: Ledger, R: Threads + Sync, H: House, G: Gate + Sync>(
     requires name { blank.name ≡ L.name }
     requires parts { blank.parts ≡ L.parts }
     requires some { 0 < L.parts }
-    ensures answered { OnOk result (IsAnswered (H.world house.old) (H.world house.new)
+    ensures answered { GivesAnswer (H.world house.old) (H.world house.new) result
         desk.old.editor desk.new.editor
         (answers (editing_setup desk.old.editor) desk.old.editor.disk
-        (place_session desk.old.editor) orders.now)) }
-    ensures stops { IfErr result (λ why.
-        StopsWriting (H.world house.old) (H.world house.new) (manner_of why)) }
+        (place_session desk.old.editor) orders.now) }
     ensures rest { LeavesPrinting (H.world house.old) (H.world house.new) }
 {
     let mut steps: Steps<L> = Steps::new(blank);
@@ -57,12 +53,10 @@ fn answer_all<L: Ledger, R: Threads + Sync, H: House, G: Gate + Sync>(
     gate: &G,
     steps: &mut Steps<L>,
 ) -> Result<(), Status>
-    ensures answered { OnOk result (IsAnswered (H.world house.old) (H.world house.new)
+    ensures answered { GivesAnswer (H.world house.old) (H.world house.new) result
         desk.old.editor desk.new.editor
         (answers (editing_setup desk.old.editor) desk.old.editor.disk
-        (place_session desk.old.editor) orders.now)) }
-    ensures stops { IfErr result (λ why.
-        StopsWriting (H.world house.old) (H.world house.new) (manner_of why)) }
+        (place_session desk.old.editor) orders.now) }
     ensures rest { LeavesPrinting (H.world house.old) (H.world house.new) }
 {
     for order in orders {
@@ -81,10 +75,8 @@ fn answer<L: Ledger, R: Threads + Sync, H: House, G: Gate + Sync>(
     gate: &G,
     steps: &mut Steps<L>,
 ) -> Result<(), Status>
-    ensures answered { OnOk result (IsAnswered (H.world house.old) (H.world house.new)
-        desk.old.editor desk.new.editor (answer_by desk.old.editor order.now)) }
-    ensures stops { IfErr result (λ why.
-        StopsWriting (H.world house.old) (H.world house.new) (manner_of why)) }
+    ensures answered { GivesAnswer (H.world house.old) (H.world house.new) result
+        desk.old.editor desk.new.editor (answer_by desk.old.editor order.now) }
     ensures rest { LeavesPrinting (H.world house.old) (H.world house.new) }
 {
     match *order {

@@ -1,11 +1,10 @@
 //! What is written of places, one after another.
 
-ghost use Rattle.std.specs.Prelude.{◌≡◌, ◌+◌, ◌-◌, ◌≤◌, length, OnOk, IfErr};
+ghost use Rattle.std.specs.Prelude.{◌≡◌, ◌+◌, ◌-◌, ◌≤◌, length};
 ghost use Rattle.w4_defs.specs.Run.{run};
-ghost use Rattle.w4_house.specs.World.{Appends, LeavesPrinting};
+ghost use Rattle.w4_house.specs.World.{LeavesPrinting};
 ghost use Rattle.w4_defs.specs.State.{HasGlobals};
-ghost use Rattle.w4_program.specs.Causes.{StopsWriting};
-ghost use Rattle.w4_program.specs.Endings.{manner_of};
+ghost use Rattle.w4_program.specs.Causes.{Printed};
 ghost use Rattle.w4_program.specs.Scenes.{scene_setup, stage_moment};
 ghost use Rattle.w4_program.specs.Texts.{moment_text, place_text, place_texts};
 
@@ -36,12 +35,10 @@ pub fn write_place<H: House>(
     wanted: PlaceText,
     place: usize,
 ) -> Result<(), Status>
-    ensures out { OnOk result (Appends (H.world house.old).out (H.world house.new).out
-        (moment_text wanted place (stage_moment stage.old))) }
+    ensures out { Printed (H.world house.old) (H.world house.new) result
+        (moment_text wanted place (stage_moment stage.old)) }
     ensures console { stage.new.console ≡ stage.old.console }
     ensures made { stage.new.made ≡ stage.old.made }
-    ensures stops { IfErr result (λ why.
-        StopsWriting (H.world house.old) (H.world house.new) (manner_of why)) }
     ensures rest { LeavesPrinting (H.world house.old) (H.world house.new) }
 {
     match wanted {
@@ -77,12 +74,10 @@ pub fn write_places<H: House>(
     requires disk { length scene.now.disk.now ≤ 1024 }
     requires budget { 1 ≤ scene.now.budget }
     requires globals { HasGlobals scene.now.cart.now stage.old.console }
-    ensures out { OnOk result (Appends (H.world house.old).out (H.world house.new).out
+    ensures out { Printed (H.world house.old) (H.world house.new) result
         (place_texts (λ place.
         place_text wanted place (run (scene_setup scene.now) scene.now.disk.now inputs.now place))
-        from (to + 1 - from))) }
-    ensures stops { IfErr result (λ why.
-        StopsWriting (H.world house.old) (H.world house.new) (manner_of why)) }
+        from (to + 1 - from)) }
     ensures rest { LeavesPrinting (H.world house.old) (H.world house.new) }
 {
     run_to(stage, scene, inputs, from);

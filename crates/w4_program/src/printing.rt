@@ -1,9 +1,7 @@
 //! Bytes on standard output.
 
-ghost use Rattle.std.specs.Prelude.{OnOk, IfErr};
-ghost use Rattle.w4_house.specs.World.{Appends, LeavesPrinting};
-ghost use Rattle.w4_program.specs.Causes.{StopsWriting};
-ghost use Rattle.w4_program.specs.Endings.{manner_of};
+ghost use Rattle.w4_house.specs.World.{LeavesPrinting};
+ghost use Rattle.w4_program.specs.Causes.{Printed};
 
 use crate::status::Status;
 use std::alloc::Global;
@@ -11,9 +9,8 @@ use w4_house::{House, WriteRefusal};
 
 /// Writes bytes to standard output.
 pub fn print<H: House>(alloc: Global, house: &mut H, bytes: &[u8]) -> Result<(), Status>
-    ensures out { OnOk result (Appends (H.world house.old).out (H.world house.new).out bytes.now) }
-    ensures stops { IfErr result (λ why.
-        StopsWriting (H.world house.old) (H.world house.new) (manner_of why)) }
+    ensures out { Printed (H.world house.old) (H.world house.new) result
+        bytes.now }
     ensures rest { LeavesPrinting (H.world house.old) (H.world house.new) }
 {
     match house.write_out(alloc, bytes) {

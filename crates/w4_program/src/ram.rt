@@ -1,9 +1,9 @@
 //! `ram`: values and searches of memory, over the places of a recording.
 
-ghost use Rattle.std.specs.Prelude.{◌≡◌, ◌<◌, All, IfErr, None, OnOk};
-ghost use Rattle.w4_house.specs.World.{Appends, LeavesPrinting};
+ghost use Rattle.std.specs.Prelude.{◌≡◌, ◌<◌, All, None};
+ghost use Rattle.w4_house.specs.World.{LeavesPrinting};
 ghost use Rattle.w4_inspect.specs.Requests.{IsRequest};
-ghost use Rattle.w4_program.specs.Causes.{Ends, LeavesErr, Prints, ResultsIn, StopsWriting};
+ghost use Rattle.w4_program.specs.Causes.{Ends, LeavesErr, Printed, Prints, ResultsIn};
 ghost use Rattle.w4_program.specs.Endings.{manner_of};
 ghost use Rattle.w4_program.specs.Queries.{editor_pages};
 ghost use Rattle.w4_program.specs.RamAnswers.{ram_answers};
@@ -66,10 +66,8 @@ fn try_answer_query<H: House>(
     loaded: RamLoaded,
 ) -> Result<(), Status>
     requires { All IsRequest loaded.lines.items }
-    ensures out { OnOk result (Appends (H.world house.old).out (H.world house.new).out
-        (ram_text cart (ram_loaded_view loaded))) }
-    ensures stops { IfErr result (λ why.
-        StopsWriting (H.world house.old) (H.world house.new) (manner_of why)) }
+    ensures out { Printed (H.world house.old) (H.world house.new) result
+        (ram_text cart (ram_loaded_view loaded)) }
     ensures rest { LeavesPrinting (H.world house.old) (H.world house.new) }
 {
     let RamLoaded { run, lines } = loaded;
@@ -90,10 +88,8 @@ fn answer_lines<L: Ledger, H: House>(
     requires name { blank.name ≡ L.name }
     requires parts { blank.parts ≡ L.parts }
     requires some { 0 < L.parts }
-    ensures out { OnOk result (Appends (H.world house.old).out (H.world house.new).out
-        (ram_answers (editor_pages editor.old) None lines.now).out) }
-    ensures stops { IfErr result (λ why.
-        StopsWriting (H.world house.old) (H.world house.new) (manner_of why)) }
+    ensures out { Printed (H.world house.old) (H.world house.new) result
+        (ram_answers (editor_pages editor.old) None lines.now).out }
     ensures rest { LeavesPrinting (H.world house.old) (H.world house.new) }
 {
     let mut steps: Steps<L> = Steps::new(blank);

@@ -1,11 +1,10 @@
 //! The line of a refused order.
 
-ghost use Rattle.std.specs.Prelude.{◌≢◌, OnOk, IfErr};
+ghost use Rattle.std.specs.Prelude.{◌≢◌, ◌⊎◌};
 ghost use Rattle.w4_defs.specs.declared.editing.EditRefusal.TheVariants.{OutOfMemory as MemoryRefused};
-ghost use Rattle.w4_house.specs.World.{Appends, LeavesPrinting};
+ghost use Rattle.w4_house.specs.World.{LeavesPrinting};
 ghost use Rattle.w4_program.specs.Answering.{refusal_words, refused_line};
-ghost use Rattle.w4_program.specs.Causes.{StopsWriting};
-ghost use Rattle.w4_program.specs.Endings.{manner_of};
+ghost use Rattle.w4_program.specs.Causes.{Printed, WritesNothing};
 
 use crate::printing::print;
 use crate::status::Status;
@@ -15,11 +14,10 @@ use w4_house::House;
 
 /// Writes the line of an order that is refused. Where it is memory that was refused, the run ends.
 pub fn refuse<H: House>(alloc: Global, house: &mut H, refusal: EditRefusal) -> Result<(), Status>
-    ensures out { OnOk result (Appends (H.world house.old).out (H.world house.new).out
-        (refused_line (refusal_words refusal))) }
-    ensures cause { OnOk result (refusal ≢ MemoryRefused) }
-    ensures stops { IfErr result (λ why.
-        StopsWriting (H.world house.old) (H.world house.new) (manner_of why)) }
+    ensures out { Printed (H.world house.old) (H.world house.new) result
+        (refused_line (refusal_words refusal)) }
+    ensures cause { (refusal ≢ MemoryRefused)
+        ⊎ WritesNothing (H.world house.old) (H.world house.new) result }
     ensures rest { LeavesPrinting (H.world house.old) (H.world house.new) }
 {
     match refusal {

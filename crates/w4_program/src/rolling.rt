@@ -1,8 +1,8 @@
 //! The answer of one line of a log.
 
-ghost use Rattle.std.specs.Prelude.{◌≡◌, ◌≢◌, IfErr, IfOk, None, OnOk, Some, [], length};
+ghost use Rattle.std.specs.Prelude.{◌≡◌, ◌≢◌, ◌⊎◌, IfErr, IfOk, None, OnOk, Some, [], length};
 ghost use Rattle.w4_editor.specs.Editing.{editing_setup};
-ghost use Rattle.w4_house.specs.World.{Appends, LeavesPrinting};
+ghost use Rattle.w4_house.specs.World.{LeavesPrinting};
 ghost use Rattle.w4_netplay.specs.declared.refusal.NetRefusal.TheVariants.{OutOfMemory as MemoryRefused};
 ghost use Rattle.w4_netplay.specs.Replicas.{IsNetRefusal, KeepsNetplay, known_of, predicted_draft, prediction};
 ghost use Rattle.w4_netplay.specs.Refusals.{packet_refusal};
@@ -11,8 +11,7 @@ ghost use Rattle.w4_defs.specs.Run.{run_state};
 ghost use Rattle.w4_defs.specs.State.{State};
 ghost use Rattle.w4_program.specs.Answering.{refused_line};
 ghost use Rattle.w4_program.specs.Answers.{answer_text};
-ghost use Rattle.w4_program.specs.Causes.{StopsWriting};
-ghost use Rattle.w4_program.specs.Endings.{manner_of};
+ghost use Rattle.w4_program.specs.Causes.{Printed, WritesNothing};
 ghost use Rattle.w4_program.specs.NetSessions.{
   answer_keep,
   answer_next,
@@ -24,7 +23,7 @@ ghost use Rattle.w4_program.specs.NetSessions.{
   predicted_state,
 };
 ghost use Rattle.w4_program.specs.NetSessions as session;
-ghost use Rattle.w4_program.specs.Replicas.{IsHeard, net_session};
+ghost use Rattle.w4_program.specs.Replicas.{GivesHeard, net_session};
 
 use crate::printing::print;
 use crate::state_line::{Facts, state_line};
@@ -48,10 +47,9 @@ pub fn answer_order<L: Ledger, H: House>(
     steps: &mut Steps<L>,
 ) -> Result<(), Status>
     requires { replica.old.editor.disk ≡ [] }
-    ensures heard { OnOk result (IsHeard (H.world house.old) (H.world house.new) replica.old replica.new
-        (net_answer (editing_setup replica.old.editor) (net_session replica.old) order.now)) }
-    ensures stops { IfErr result (λ why.
-        StopsWriting (H.world house.old) (H.world house.new) (manner_of why)) }
+    ensures heard { GivesHeard (H.world house.old) (H.world house.new) result
+        replica.old replica.new
+        (net_answer (editing_setup replica.old.editor) (net_session replica.old) order.now) }
     ensures rest { LeavesPrinting (H.world house.old) (H.world house.new) }
 {
     match *order {
@@ -65,11 +63,10 @@ pub fn answer_order<L: Ledger, H: House>(
 
 /// Writes the line of a refusal. Where it is memory that was refused, the run ends.
 fn refuse<H: House>(alloc: Global, house: &mut H, refusal: NetRefusal) -> Result<(), Status>
-    ensures out { OnOk result (Appends (H.world house.old).out (H.world house.new).out
-        (refused_line (net_words refusal))) }
-    ensures cause { OnOk result (refusal ≢ MemoryRefused) }
-    ensures stops { IfErr result (λ why.
-        StopsWriting (H.world house.old) (H.world house.new) (manner_of why)) }
+    ensures out { Printed (H.world house.old) (H.world house.new) result
+        (refused_line (net_words refusal)) }
+    ensures cause { (refusal ≢ MemoryRefused)
+        ⊎ WritesNothing (H.world house.old) (H.world house.new) result }
     ensures rest { LeavesPrinting (H.world house.old) (H.world house.new) }
 {
     match refusal {
@@ -106,10 +103,9 @@ fn hear<H: House>(
     replica: &mut Replica,
     packet: Packet,
 ) -> Result<(), Status>
-    ensures heard { OnOk result (IsHeard (H.world house.old) (H.world house.new) replica.old replica.new
-        (answer_packet (net_session replica.old) packet (packet_refusal (known_of replica.old) packet))) }
-    ensures stops { IfErr result (λ why.
-        StopsWriting (H.world house.old) (H.world house.new) (manner_of why)) }
+    ensures heard { GivesHeard (H.world house.old) (H.world house.new) result
+        replica.old replica.new
+        (answer_packet (net_session replica.old) packet (packet_refusal (known_of replica.old) packet)) }
     ensures rest { LeavesPrinting (H.world house.old) (H.world house.new) }
 {
     match replica.deliver(&packet) {
@@ -120,10 +116,9 @@ fn hear<H: House>(
 
 /// One frame has passed.
 fn pass<H: House>(alloc: Global, house: &mut H, replica: &mut Replica) -> Result<(), Status>
-    ensures heard { OnOk result (IsHeard (H.world house.old) (H.world house.new) replica.old replica.new
-        (answer_next (net_session replica.old))) }
-    ensures stops { IfErr result (λ why.
-        StopsWriting (H.world house.old) (H.world house.new) (manner_of why)) }
+    ensures heard { GivesHeard (H.world house.old) (H.world house.new) result
+        replica.old replica.new
+        (answer_next (net_session replica.old)) }
     ensures rest { LeavesPrinting (H.world house.old) (H.world house.new) }
 {
     match replica.advance() {
@@ -140,11 +135,10 @@ fn keep<L: Ledger, H: House>(
     p: u32,
     steps: &mut Steps<L>,
 ) -> Result<(), Status>
-    ensures heard { OnOk result (IsHeard (H.world house.old) (H.world house.new) replica.old replica.new
+    ensures heard { GivesHeard (H.world house.old) (H.world house.new) result
+        replica.old replica.new
         (answer_keep (net_session replica.old) p
-        (keep_refusal places_alone p (session.predicted_draft (net_session replica.old))))) }
-    ensures stops { IfErr result (λ why.
-        StopsWriting (H.world house.old) (H.world house.new) (manner_of why)) }
+        (keep_refusal places_alone p (session.predicted_draft (net_session replica.old)))) }
     ensures rest { LeavesPrinting (H.world house.old) (H.world house.new) }
 {
     match replica.keep(alloc, p as usize, steps) {
@@ -163,11 +157,10 @@ fn show<L: Ledger, H: House>(
     steps: &mut Steps<L>,
 ) -> Result<(), Status>
     requires { replica.old.editor.disk ≡ [] }
-    ensures heard { OnOk result (IsHeard (H.world house.old) (H.world house.new) replica.old replica.new
+    ensures heard { GivesHeard (H.world house.old) (H.world house.new) result
+        replica.old replica.new
         (answer_text (net_session replica.old) (if_passed (net_session replica.old) p
-        (predicted_image (editing_setup replica.old.editor) (net_session replica.old) p)))) }
-    ensures stops { IfErr result (λ why.
-        StopsWriting (H.world house.old) (H.world house.new) (manner_of why)) }
+        (predicted_image (editing_setup replica.old.editor) (net_session replica.old) p))) }
     ensures rest { LeavesPrinting (H.world house.old) (H.world house.new) }
 {
     match replica.show(alloc, p as usize, steps) {
@@ -188,11 +181,10 @@ fn tell_state<L: Ledger, H: House>(
     steps: &mut Steps<L>,
 ) -> Result<(), Status>
     requires { replica.old.editor.disk ≡ [] }
-    ensures heard { OnOk result (IsHeard (H.world house.old) (H.world house.new) replica.old replica.new
+    ensures heard { GivesHeard (H.world house.old) (H.world house.new) result
+        replica.old replica.new
         (answer_text (net_session replica.old) (if_passed (net_session replica.old) p
-        (predicted_state (editing_setup replica.old.editor) (net_session replica.old) p)))) }
-    ensures stops { IfErr result (λ why.
-        StopsWriting (H.world house.old) (H.world house.new) (manner_of why)) }
+        (predicted_state (editing_setup replica.old.editor) (net_session replica.old) p))) }
     ensures rest { LeavesPrinting (H.world house.old) (H.world house.new) }
 {
     match facts(alloc, replica, p as usize, steps) {

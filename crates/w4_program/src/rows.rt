@@ -1,9 +1,9 @@
 //! `batch`: the lines that tell of the recordings of a list.
 
-ghost use Rattle.std.specs.Prelude.{◌≡◌, ◌++◌, IfErr, IfOk, OnOk, Some, length, map, string_bytes};
+ghost use Rattle.std.specs.Prelude.{◌≡◌, ◌++◌, IfOk, OnOk, Some, length, map, string_bytes};
 ghost use Rattle.w4_defs.specs.declared.batch.BatchRow.TheVariants.{Bad, Ran, WrongCart};
-ghost use Rattle.w4_house.specs.World.{Appends, LeavesPrinting};
-ghost use Rattle.w4_program.specs.Causes.{Ends, LeavesErr, Prints, ResultsIn, StopsWriting};
+ghost use Rattle.w4_house.specs.World.{LeavesPrinting};
+ghost use Rattle.w4_program.specs.Causes.{Ends, LeavesErr, Printed, Prints, ResultsIn};
 ghost use Rattle.w4_program.specs.Endings.{manner_of};
 ghost use Rattle.w4_program.specs.RowTexts.{row_text, rows_text};
 ghost use Rattle.w4_program.specs.ToolOutputs.{batch_output, batch_text};
@@ -87,10 +87,8 @@ fn try_tell_rows<R: Threads + Sync, H: House, G: Gate + Sync>(
     gate: &G,
 ) -> Result<(), Status>
     requires { length loaded.now.recordings.items ≡ length loaded.now.names.items }
-    ensures out { OnOk result (Appends (H.world house.old).out (H.world house.new).out
-        (batch_text (cart_view file.now) (batch_loaded_view loaded.now))) }
-    ensures stops { IfErr result (λ why.
-        StopsWriting (H.world house.old) (H.world house.new) (manner_of why)) }
+    ensures out { Printed (H.world house.old) (H.world house.new) result
+        (batch_text (cart_view file.now) (batch_loaded_view loaded.now)) }
     ensures rest { LeavesPrinting (H.world house.old) (H.world house.new) }
 {
     let CartFile { cart, digest } = file;
@@ -108,10 +106,8 @@ fn print_rows<H: House>(
     rows: &[BatchRow],
 ) -> Result<(), Status>
     requires { length rows.now ≡ length names.now }
-    ensures out { OnOk result (Appends (H.world house.old).out (H.world house.new).out
-        (rows_text (map string_bytes names.now) (map (λ row. Some row) rows.now))) }
-    ensures stops { IfErr result (λ why.
-        StopsWriting (H.world house.old) (H.world house.new) (manner_of why)) }
+    ensures out { Printed (H.world house.old) (H.world house.new) result
+        (rows_text (map string_bytes names.now) (map (λ row. Some row) rows.now)) }
     ensures rest { LeavesPrinting (H.world house.old) (H.world house.new) }
 {
     for i in 0..names.len() {

@@ -3,6 +3,7 @@
 ghost use Rattle.std.specs.Prelude.{
   ℕ,
   ◌≡◌,
+  ◌≢◌,
   ◌⊎◌,
   None,
   Ok,
@@ -12,7 +13,7 @@ ghost use Rattle.std.specs.Prelude.{
 };
 ghost use Rattle.std.specs.Option.{ForSome};
 ghost use Rattle.w4_defs.specs.declared.refusal.CartKind.{CartKind};
-ghost use Rattle.w4_house.specs.World.{Rises, Appends, LeavesReporting};
+ghost use Rattle.w4_house.specs.World.{Rises, Appends, AppendsFront, LeavesReporting};
 ghost use Rattle.w4_program.specs.Lines.{status_line};
 ghost use Rattle.w4_program.specs.Forms.{form_of};
 ghost use Rattle.w4_program.specs.declared.status.RecordingKind.{RecordingKind};
@@ -25,7 +26,9 @@ ghost use Rattle.w4_program.specs.CartRuns.{CartRunsHaveMeaning};
 ghost use Rattle.w4_program.specs.Causes.{
   ReadFails,
   Ends,
+  IsCutShort,
   IsExact,
+  WritesPart,
   ChangesNothing,
   IsReported,
   Reports,
@@ -87,11 +90,18 @@ pub fn w4_run<R: Threads + Sync, H: House>(
     // A read failed, or a file whose turn came is absent.
     ensures read_fault { result ≡ Status.ReadFault → ReadFails (H.world house.old) (H.world house.new)
         (λ files made. Outputs (map string_bytes words.now) files made) }
-    // A write failed only where the definition asks for one.
+    // A write failed only where the definition asks for one. Standard output has got a first part of its
+    // bytes, and no file has changed; or it has got all of them, and no file but OUT has changed.
     ensures write_fault { result ≡ Status.WriteFault →
         Rises (H.world house.old).write_faults (H.world house.new).write_faults }
     ensures write_fault_made { result ≡ Status.WriteFault → ForSome (H.world house.old).files (λ files.
-        (made : Output) × Outputs (map string_bytes words.now) files (Ok made)) }
+        (made : Output) × Outputs (map string_bytes words.now) files (Ok made)
+        × WritesPart (H.world house.old) (H.world house.new) made) }
+    // Memory ran out in the work, or while its status was reported: what stands is what that status says, and
+    // standard error has got a first part of its line.
+    ensures out_of_memory { result ≡ Status.OutOfMemory →
+        IsCutShort (H.world house.old) (H.world house.new) (form_of (map string_bytes words.now) ≡ None)
+        (λ files made. Outputs (map string_bytes words.now) files made) }
     // A refusal leaves standard output and all files.
     ensures refused_out { ChangesNothing result → (H.world house.new).out ≡ (H.world house.old).out }
     ensures refused_files { ChangesNothing result → (H.world house.new).files ≡ (H.world house.old).files }
@@ -147,7 +157,11 @@ pub fn w4_run_gated<R: Threads + Sync, H: House, G: Gate + Sync>(
     ensures write_fault { result ≡ Status.WriteFault →
         Rises (H.world house.old).write_faults (H.world house.new).write_faults }
     ensures write_fault_made { result ≡ Status.WriteFault → ForSome (H.world house.old).files (λ files.
-        (made : Output) × Outputs (map string_bytes words.now) files (Ok made)) }
+        (made : Output) × Outputs (map string_bytes words.now) files (Ok made)
+        × WritesPart (H.world house.old) (H.world house.new) made) }
+    ensures out_of_memory { result ≡ Status.OutOfMemory →
+        IsCutShort (H.world house.old) (H.world house.new) (form_of (map string_bytes words.now) ≡ None)
+        (λ files made. Outputs (map string_bytes words.now) files made) }
     ensures refused_out { ChangesNothing result → (H.world house.new).out ≡ (H.world house.old).out }
     ensures refused_files { ChangesNothing result → (H.world house.new).files ≡ (H.world house.old).files }
     ensures line { IsReported result → Reports (H.world house.old) (H.world house.new) (status_line result) }
@@ -182,10 +196,12 @@ fn obey<R: Threads + Sync, H: House, G: Gate + Sync>(
 }
 
 /// Writes the status's line. Where there is no memory for that, this is the status.
-fn report<H: House>(alloc: Global, house: &mut H, status: Status) -> Status
+pub(crate) fn report<H: House>(alloc: Global, house: &mut H, status: Status) -> Status
     ensures status { (result ≡ status) ⊎ (result ≡ Status.OutOfMemory) }
     ensures line { IsReported result → Reports (H.world house.old) (H.world house.new) (status_line result) }
     ensures done { result ≡ Status.Done → (H.world house.new).err ≡ (H.world house.old).err }
+    ensures cut { result ≡ Status.OutOfMemory → (status ≢ Status.Done)
+        × AppendsFront (H.world house.old).err (H.world house.new).err (status_line status) }
     ensures rest { LeavesReporting (H.world house.old) (H.world house.new) }
 {
     if status == Status::Done {

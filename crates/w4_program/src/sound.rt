@@ -1,12 +1,12 @@
 //! `wave`: the sound of a run as the bytes of a WAV file.
 
-ghost use Rattle.std.specs.Prelude.{◌≡◌, ◌+◌, ◌≤◌, IfErr, OnOk, length, map};
+ghost use Rattle.std.specs.Prelude.{◌≡◌, ◌+◌, ◌≤◌, length, map};
 ghost use Rattle.std.specs.List.{range_with_len};
 ghost use Rattle.w4_defs.specs.Run.{run};
 ghost use Rattle.w4_defs.specs.Sound.{after_frame, rendered, samples, wav_header};
 ghost use Rattle.w4_defs.specs.State.{HasGlobals};
-ghost use Rattle.w4_house.specs.World.{Appends, LeavesPrinting};
-ghost use Rattle.w4_program.specs.Causes.{Ends, LeavesErr, Prints, ResultsIn, StopsWriting};
+ghost use Rattle.w4_house.specs.World.{LeavesPrinting};
+ghost use Rattle.w4_program.specs.Causes.{Ends, LeavesErr, Printed, Prints, ResultsIn};
 ghost use Rattle.w4_program.specs.Endings.{manner_of};
 ghost use Rattle.w4_program.specs.Scenes.{scene_setup, stage_moment};
 ghost use Rattle.w4_program.specs.ToolOutputs.{record_at, wave_output, wave_text};
@@ -58,10 +58,8 @@ fn try_write_wave<H: House>(
     file: &CartFile,
     run: Played,
 ) -> Result<(), Status>
-    ensures out { OnOk result (Appends (H.world house.old).out (H.world house.new).out
-        (wave_text file.now.cart (played_view run))) }
-    ensures stops { IfErr result (λ why.
-        StopsWriting (H.world house.old) (H.world house.new) (manner_of why)) }
+    ensures out { Printed (H.world house.old) (H.world house.new) result
+        (wave_text file.now.cart (played_view run)) }
     ensures rest { LeavesPrinting (H.world house.old) (H.world house.new) }
 {
     let mut stage = new_stage(alloc, &file.cart)?;
@@ -86,9 +84,8 @@ fn try_write_wave<H: House>(
 /// Writes the header of a file of so many places.
 fn write_header<H: House>(alloc: Global, house: &mut H, places: usize) -> Result<(), Status>
     requires { places ≤ 36001 }
-    ensures out { OnOk result (Appends (H.world house.old).out (H.world house.new).out (wav_header places)) }
-    ensures stops { IfErr result (λ why.
-        StopsWriting (H.world house.old) (H.world house.new) (manner_of why)) }
+    ensures out { Printed (H.world house.old) (H.world house.new) result
+        (wav_header places) }
     ensures rest { LeavesPrinting (H.world house.old) (H.world house.new) }
 {
     print(alloc, house, &wav_header(places as u32))
@@ -106,12 +103,10 @@ fn write_samples<H: House>(
     requires disk { length scene.now.disk.now ≤ 1024 }
     requires budget { 1 ≤ scene.now.budget }
     requires globals { HasGlobals scene.now.cart.now stage.old.console }
-    ensures out { OnOk result (Appends (H.world house.old).out (H.world house.new).out
+    ensures out { Printed (H.world house.old) (H.world house.new) result
         (samples (map (λ place.
         record_at (run (scene_setup scene.now) scene.now.disk.now inputs.now place))
-        (range_with_len 0 (length inputs.now + 1))))) }
-    ensures stops { IfErr result (λ why.
-        StopsWriting (H.world house.old) (H.world house.new) (manner_of why)) }
+        (range_with_len 0 (length inputs.now + 1)))) }
     ensures rest { LeavesPrinting (H.world house.old) (H.world house.new) }
 {
     let mut wave = Wave::new();
@@ -131,11 +126,9 @@ fn write_frame<H: House>(
     stage: &Stage,
     wave: &mut Wave,
 ) -> Result<(), Status>
-    ensures out { OnOk result (Appends (H.world house.old).out (H.world house.new).out
-        (rendered (stage_moment stage.now).made wave.old)) }
+    ensures out { Printed (H.world house.old) (H.world house.new) result
+        (rendered (stage_moment stage.now).made wave.old) }
     ensures wave { wave.new ≡ after_frame (stage_moment stage.now).made wave.old }
-    ensures stops { IfErr result (λ why.
-        StopsWriting (H.world house.old) (H.world house.new) (manner_of why)) }
     ensures rest { LeavesPrinting (H.world house.old) (H.world house.new) }
 {
     let mut samples = [0; FRAME_LEN];

@@ -1,15 +1,13 @@
 //! The answer of `state`.
 
-ghost use Rattle.std.specs.Prelude.{◌≡◌, ◌≤◌, IfErr, IfOk, OnOk, Some, length, ℕ};
+ghost use Rattle.std.specs.Prelude.{◌≡◌, ◌≤◌, IfOk, OnOk, Some, length, ℕ};
 ghost use Rattle.w4_defs.specs.Run.{run_state};
 ghost use Rattle.w4_defs.specs.State.{State};
 ghost use Rattle.w4_editor.specs.Editing.{editing_setup};
 ghost use Rattle.w4_house.specs.World.{LeavesPrinting};
 ghost use Rattle.w4_program.specs.Answering.{if_place, state_answer};
 ghost use Rattle.w4_program.specs.Answers.{answer_text};
-ghost use Rattle.w4_program.specs.Causes.{StopsWriting};
-ghost use Rattle.w4_program.specs.Editors.{IsAnswered, OnlyShows, place_session};
-ghost use Rattle.w4_program.specs.Endings.{manner_of};
+ghost use Rattle.w4_program.specs.Editors.{GivesAnswer, OnlyShows, place_session};
 
 use crate::desk::last_place;
 use crate::printing::print;
@@ -30,11 +28,10 @@ pub fn tell_state<L: Ledger, H: House>(
     p: u32,
     steps: &mut Steps<L>,
 ) -> Result<(), Status>
-    ensures answered { OnOk result (IsAnswered (H.world house.old) (H.world house.new) editor.old editor.new
+    ensures answered { GivesAnswer (H.world house.old) (H.world house.new) result
+        editor.old editor.new
         (answer_text (place_session editor.old) (if_place (place_session editor.old) p
-        (state_answer (editing_setup editor.old) editor.old.disk (place_session editor.old) p)))) }
-    ensures stops { IfErr result (λ why.
-        StopsWriting (H.world house.old) (H.world house.new) (manner_of why)) }
+        (state_answer (editing_setup editor.old) editor.old.disk (place_session editor.old) p))) }
     ensures rest { LeavesPrinting (H.world house.old) (H.world house.new) }
 {
     let place = p as usize;

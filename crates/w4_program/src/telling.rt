@@ -1,12 +1,11 @@
 //! What is told of places of the recording as the edits so far leave it.
 
-ghost use Rattle.std.specs.Prelude.{◌≡◌, ◌+◌, ◌-◌, ◌≤◌, IfErr, OnOk, length};
-ghost use Rattle.w4_house.specs.World.{Appends, LeavesPrinting};
+ghost use Rattle.std.specs.Prelude.{◌≡◌, ◌+◌, ◌-◌, ◌≤◌, OnOk, length};
+ghost use Rattle.w4_house.specs.World.{LeavesPrinting};
 ghost use Rattle.w4_program.specs.Answering.{if_place, range_text};
 ghost use Rattle.w4_program.specs.Answers.{answer_text};
-ghost use Rattle.w4_program.specs.Causes.{StopsWriting};
-ghost use Rattle.w4_program.specs.Editors.{IsAnswered, OnlyShows, place_session, text_by};
-ghost use Rattle.w4_program.specs.Endings.{manner_of};
+ghost use Rattle.w4_program.specs.Causes.{Printed};
+ghost use Rattle.w4_program.specs.Editors.{GivesAnswer, OnlyShows, place_session, text_by};
 ghost use Rattle.w4_program.specs.Texts.{place_texts};
 ghost use Rattle.w4_program.specs.declared.place_text.PlaceText.TheVariants.{DiskBytes};
 ghost use Rattle.w4_editor.specs.Editing.{editing_setup};
@@ -32,13 +31,11 @@ pub fn tell_range<L: Ledger, H: House>(
     b: u32,
     steps: &mut Steps<L>,
 ) -> Result<(), Status>
-    ensures answered { OnOk result (IsAnswered (H.world house.old) (H.world house.new)
+    ensures answered { GivesAnswer (H.world house.old) (H.world house.new) result
         desk.old.editor desk.new.editor
         (answer_text (place_session desk.old.editor) (if_place (place_session desk.old.editor) b
         (range_text (editing_setup desk.old.editor) desk.old.editor.disk
-        (place_session desk.old.editor) wanted a b)))) }
-    ensures stops { IfErr result (λ why.
-        StopsWriting (H.world house.old) (H.world house.new) (manner_of why)) }
+        (place_session desk.old.editor) wanted a b))) }
     ensures rest { LeavesPrinting (H.world house.old) (H.world house.new) }
 {
     if b as usize > last_place(&desk.editor) {
@@ -58,11 +55,9 @@ fn write_all<L: Ledger, H: House>(
     steps: &mut Steps<L>,
 ) -> Result<(), Status>
     requires place { b ≤ length desk.old.editor.session.current.inputs }
-    ensures out { OnOk result (Appends (H.world house.old).out (H.world house.new).out
-        (place_texts (text_by desk.old.editor wanted) a (b + 1 - a))) }
+    ensures out { Printed (H.world house.old) (H.world house.new) result
+        (place_texts (text_by desk.old.editor wanted) a (b + 1 - a)) }
     ensures shows { OnOk result (OnlyShows desk.old.editor desk.new.editor) }
-    ensures stops { IfErr result (λ why.
-        StopsWriting (H.world house.old) (H.world house.new) (manner_of why)) }
     ensures rest { LeavesPrinting (H.world house.old) (H.world house.new) }
 {
     let end = b as usize + 1;
@@ -82,11 +77,9 @@ fn write_one<L: Ledger, H: House>(
     steps: &mut Steps<L>,
 ) -> Result<(), Status>
     requires place { place ≤ length desk.old.editor.session.current.inputs }
-    ensures out { OnOk result (Appends (H.world house.old).out (H.world house.new).out
-        (text_by desk.old.editor wanted place)) }
+    ensures out { Printed (H.world house.old) (H.world house.new) result
+        (text_by desk.old.editor wanted place) }
     ensures shows { OnOk result (OnlyShows desk.old.editor desk.new.editor) }
-    ensures stops { IfErr result (λ why.
-        StopsWriting (H.world house.old) (H.world house.new) (manner_of why)) }
     ensures rest { LeavesPrinting (H.world house.old) (H.world house.new) }
 {
     match wanted {
@@ -115,11 +108,9 @@ fn write_disk<L: Ledger, H: House>(
     steps: &mut Steps<L>,
 ) -> Result<(), Status>
     requires place { place ≤ length editor.old.session.current.inputs }
-    ensures out { OnOk result (Appends (H.world house.old).out (H.world house.new).out
-        (text_by editor.old DiskBytes place)) }
+    ensures out { Printed (H.world house.old) (H.world house.new) result
+        (text_by editor.old DiskBytes place) }
     ensures shows { OnOk result (OnlyShows editor.old editor.new) }
-    ensures stops { IfErr result (λ why.
-        StopsWriting (H.world house.old) (H.world house.new) (manner_of why)) }
     ensures rest { LeavesPrinting (H.world house.old) (H.world house.new) }
 {
     match editor.show(alloc, place, steps) {

@@ -17,7 +17,7 @@ use Rattle.w4_editor.proofs.SettleLaws.{relinked_computed, replaced_computed}
 use Rattle.w4_segments.specs.declared.worker.Task.{Task}
 use Rattle.w4_segments.specs.declared.worker.Worker.{Worker}
 use Rattle.w4_segments.specs.Filming.{KeepsShown}
-use Rattle.w4_segments.specs.Rounds.{kept_of, IsSegment, IsDealt, AreRising, AreDealt, AreComputed, IsPut, CanTake, IsTaken, LengthensFront}
+use Rattle.w4_segments.specs.Rounds.{kept_of, IsSegment, IsDealt, AreRising, AreDealt, AreComputed, LinksNext, CanTake, IsTaken, LengthensFront}
 use Rattle.w4_segments.specs.Working.{HasTypes, CanPlay, HasPlayed, EachDid}
 use Rattle.w4_segments.proofs.TeamLaws.{up_to_here, all_changed, changed_here, unchanged}
 
@@ -248,8 +248,8 @@ module _ (disk : List ℕ) (e new : Editing) (entry : ℕ) (found : State)
     pub link_keeps : KeepsShown e new
     link_keeps = list_keeps e new (relinked_at (entry + 1) (kept_of e)) link_computed.places linked
 
-    pub link_put : (replaced : Option ℕ) → IsPut entry replaced replaced e new
-    link_put replaced = subst (IsPut entry replaced replaced e) (sym linked) (record {
+    pub link_put : (replaced : Option ℕ) → LinksNext entry replaced replaced e new
+    link_put replaced = subst (LinksNext entry replaced replaced e) (sym linked) (record {
       computed = link_computed;
       last_is = inr (
         refl,
@@ -272,8 +272,8 @@ module _ (disk : List ℕ) (e new : Editing) (entry : ℕ) (found : State)
       replace_keeps =
           list_keeps e new (replaced_at (entry + 1) found (kept_of e)) replace_computed.places put
 
-      pub replace_put : (replaced : Option ℕ) → IsPut entry replaced (Some (entry + 1)) e new
-      replace_put replaced = subst (IsPut entry replaced (Some (entry + 1)) e) (sym put) (record {
+      pub replace_put : (replaced : Option ℕ) → LinksNext entry replaced (Some (entry + 1)) e new
+      replace_put replaced = subst (LinksNext entry replaced (Some (entry + 1)) e) (sym put) (record {
         computed = replace_computed;
         last_is = inl refl;
       })
@@ -354,7 +354,7 @@ module _ (e : Editing) (team : List Worker) (hand : ℕ) (replaced : Option ℕ)
 
   module _ (task : Task) (some : w.task ≡ Some task) (rising : AreRising team) (last : Option ℕ)
       (new : Editing)
-      (keeps : KeepsShown now new) (put : IsPut task.entry replaced last now new) where
+      (keeps : KeepsShown now new) (put : LinksNext task.entry replaced last now new) where
     here : (d : Worker) → (get_or team hand d).task ≡ Some task
     here d = ap (λ (x : Worker). x.task) (read d) ∙ some
 

@@ -65,7 +65,7 @@ pub record AreComputed (e : Editing) (last : ℕ) (team : List Worker) : Type 0 
 
 -- the entry after this one is linked with the state that was found, and is the one replaced last unless it
 -- had that state
-pub record IsPut (entry : ℕ) (replaced last : Option ℕ) (old new : Editing) : Type 0 where
+pub record LinksNext (entry : ℕ) (replaced last : Option ℕ) (old new : Editing) : Type 0 where
   pub computed : IsComputed (editing_setup old) old.session.current.inputs entry (kept_of old) (kept_of new)
   pub last_is : (last ≡ Some (entry + 1))
       ⊎ ((last ≡ replaced) × (state_at (kept_of new) (entry + 1) ≡ state_at (kept_of old) (entry + 1)))
@@ -85,7 +85,7 @@ IsTaken worker replaced last old new =
     × (new ≡ old))
     ⊎ ((task : Task) × (worker.task ≡ Some task)
     × (replaced ≢ Some task.entry)
-    × IsPut task.entry replaced last old new)
+    × LinksNext task.entry replaced last old new)
 
 -- where all before the first segment is linked, its end is linked too
 abbrev pub LengthensFront : List Worker → Editing → Editing → Type 0

@@ -8,7 +8,7 @@ ghost use Rattle.w4_defs.specs.State.{HasGlobals};
 ghost use Rattle.w4_editor.specs.Editing.{editing_setup};
 ghost use Rattle.w4_editor.specs.Settling.{AreLinked};
 ghost use Rattle.w4_segments.specs.Filming.{KeepsShown};
-ghost use Rattle.w4_segments.specs.Rounds.{AreComputed, AreDealt, CanTake, IsDealt, IsPut, IsTaken, LengthensFront};
+ghost use Rattle.w4_segments.specs.Rounds.{AreComputed, AreDealt, CanTake, IsDealt, LinksNext, IsTaken, LengthensFront};
 ghost use Rattle.w4_segments.specs.declared.worker.Task.{Task};
 ghost use Rattle.w4_segments.specs.declared.worker.Worker.{Worker};
 ghost use Rattle.w4_segments.specs.Working.{CanPlay, EachDid, HasPlayed, HasTypes};
@@ -271,7 +271,7 @@ fn put(
         editor.old.session.current.kept entry ≡ Some found.now }
     requires globals { HasGlobals editor.old.cart found.now }
     ensures keeps { KeepsShown editor.old editor.new }
-    ensures put { IfOk result (λ last. IsPut entry replaced last editor.old editor.new) }
+    ensures put { IfOk result (λ last. LinksNext entry replaced last editor.old editor.new) }
 {
     is_consistent(editor);
     if editor.kept_same(entry + 1, found) {

@@ -25,7 +25,7 @@ shared true true false true = refl
 shared true true true false = refl
 shared true true true true = refl
 
-at_row : (row v : ℕ) → is_at (pos row) v ≡ (v == row)
+pub at_row : (row v : ℕ) → is_at (pos row) v ≡ (v == row)
 at_row row v = grind (arith, ints, nat_tests)
 
 -- one more row

@@ -1,6 +1,7 @@
 -- Which pixels are cells of a box.
-use Rattle.std.proofs.Common.{◌≡◌, ℕ, Bool, true, false, ◌&&◌, Option, None, refl, arith}
-use Rattle.std.specs.Prelude.{ℤ, pos, negsuc, unsigned_abs, ◌<ℤ◌, ◌≤ℤ◌, int_le, int_lt}
+use Rattle.std.proofs.Common.{◌≡◌, ℕ, ◌<◌, ◌-◌, Bool, true, false, ◌&&◌, Option, None, refl, arith}
+use Rattle.std.specs.Prelude.{ℤ, pos, negsuc, unsigned_abs, ◌<ℤ◌, ◌≤ℤ◌, int_le, int_lt, nat_le}
+use Rattle.std.proofs.lemmas.Bool.Decides.{nat_tests}
 use Rattle.std.proofs.lemmas.Int.{ints}
 use Rattle.w4_defs.specs.Shapes.{only_if, is_inside}
 
@@ -12,15 +13,15 @@ pub gone : (test : Bool) (o : Option ℕ) → test ≡ false → None ≡ only_i
 gone true o e = absurd (cc)
 gone false o e = refl
 
-both : (a b : Bool) → a ≡ true → b ≡ true → (a && b) ≡ true
+pub both : (a b : Bool) → a ≡ true → b ≡ true → (a && b) ≡ true
 both true b e f = f
 both false b e f = absurd (cc)
 
-first_fails : (a b : Bool) → a ≡ false → (a && b) ≡ false
+pub first_fails : (a b : Bool) → a ≡ false → (a && b) ≡ false
 first_fails true b e = absurd (cc)
 first_fails false b e = refl
 
-second_fails : (a b : Bool) → b ≡ false → (a && b) ≡ false
+pub second_fails : (a b : Bool) → b ≡ false → (a && b) ≡ false
 second_fails true b e = e
 second_fails false b e = refl
 
@@ -57,3 +58,11 @@ kept_once false o = refl
 pub as_natural : (z : ℤ) → pos 0 <ℤ z → pos (unsigned_abs z) ≡ z
 as_natural (pos n) h = refl
 as_natural (negsuc n) h = absurd (omega (arith, ints))
+
+-- the first column or row of the screen that has cells, and the end of them
+pub first_cell : (x : ℤ) (first : ℕ) → nat_le first first ≡ int_le x (pos first) → x ≤ℤ pos first
+first_cell x first same = grind (arith, ints, nat_tests)
+
+pub last_cell : (end_of_cells : ℤ) (end : ℕ) → 0 < end
+    → nat_le end (end - 1) ≡ int_le end_of_cells (pos (end - 1)) → pos end ≤ℤ end_of_cells
+last_cell end_of_cells end some same = grind (arith, ints, nat_tests)

@@ -1,15 +1,16 @@
 -- The steps of a line, one by one.
 use Rattle.std.proofs.Common.{◌≡◌, ℕ, zero, suc, ◌+◌, ◌-◌, ◌*◌, ◌/◌, min, max, ◌<◌, ◌≤◌, ◌⊎◌, Bool, true, false, ◌&&◌, ◌||◌, cond, Option, None, refl, sym, ◌∙◌, ap, inl, inr, arith}
-use Rattle.std.specs.Prelude.{ℤ, nat_le}
+use Rattle.std.specs.Prelude.{ℤ, pos, nat_le, ◌==◌}
 use Rattle.std.specs.List.{range_with_len, list_any}
 use Rattle.std.specs.Option.{option_or}
 use Rattle.std.proofs.lemmas.Nat.{div-mul-add}
-use Rattle.std.proofs.Math.Nat.{mul-le-mul_right}
+use Rattle.std.proofs.Math.Nat.{div-lt_iff_lt-mul, mul-le-mul_right}
 use Rattle.std.proofs.lemmas.Bool.{cases_lt}
 use Rattle.std.proofs.lemmas.Bool.Decides.{nat_tests}
 use Rattle.w4_defs.specs.Shapes.{only_if, is_at, point_painter, points_painter, apart, toward, moved, minor_step}
-use Rattle.w4_shapes.specs.Painted.{steps_painter}
-use Rattle.w4_shapes.proofs.BoxTests.{union}
+use Rattle.w4_shapes.specs.Painted.{is_point, steps_painter}
+use Rattle.w4_pixels.specs.Packed.{dot_painter}
+use Rattle.w4_shapes.proofs.BoxTests.{at_row, union}
 
 -- tests that agree on a range
 any_ext : (p q : ℕ → Bool) (a n : ℕ) → ((t : ℕ) → a ≤ t → t < a + n → p t ≡ q t)
@@ -111,7 +112,7 @@ steps_all xs ys first end n u v index h off =
 
 -- ---- the axis of the greater distance
 
-each_step : (own other t : ℕ) → other ≤ own → moved own other t ≡ t
+pub each_step : (own other t : ℕ) → other ≤ own → moved own other t ≡ t
 each_step own other t h =
     let test : nat_le other own ≡ true = grind (arith, nat_tests) in
     ap (λ (b : Bool). cond b t (minor_step t own other)) test
@@ -120,20 +121,31 @@ no_other : (a b : Bool) → b ≡ false → (a && b) ≡ false
 no_other true b e = e
 no_other false b e = refl
 
--- where it is off the screen, so is the line
-pub wide_off : (x1 x2 y1 y2 : ℤ) (t u v : ℕ) → apart y1 y2 ≤ apart x1 x2 → is_at (toward x1 x2 t) u ≡ false
-    → (is_at (toward x1 x2 (moved (apart x1 x2) (apart y1 y2) t)) u
-    && is_at (toward y1 y2 (moved (apart y1 y2) (apart x1 x2) t)) v) ≡ false
-wide_off x1 x2 y1 y2 t u v h off =
-    and_fails _ _ (ap (λ k. is_at (toward x1 x2 k) u) (each_step (apart x1 x2) (apart y1 y2) t h) ∙ off)
-
-pub high_off : (x1 x2 y1 y2 : ℤ) (t u v : ℕ) → apart x1 x2 ≤ apart y1 y2 → is_at (toward y1 y2 t) v ≡ false
-    → (is_at (toward x1 x2 (moved (apart x1 x2) (apart y1 y2) t)) u
-    && is_at (toward y1 y2 (moved (apart y1 y2) (apart x1 x2) t)) v) ≡ false
-high_off x1 x2 y1 y2 t u v h off =
-    no_other _ _ (ap (λ k. is_at (toward y1 y2 k) v) (each_step (apart y1 y2) (apart x1 x2) t h) ∙ off)
+-- where one axis is off the screen, so is the line
+pub point_off : (x1 x2 y1 y2 : ℤ) (t u v : ℕ)
+    → (is_at (toward x1 x2 (moved (apart x1 x2) (apart y1 y2) t)) u ≡ false)
+    ⊎ (is_at (toward y1 y2 (moved (apart y1 y2) (apart x1 x2) t)) v ≡ false)
+    → is_point x1 y1 x2 y2 t u v ≡ false
+point_off x1 x2 y1 y2 t u v off = elim off [
+  | inl column ↦ and_fails _ _ column
+  | inr row ↦ no_other _ _ row
+]
 
 -- ---- the axis of the lesser distance, step by step
+
+pub lesser_step : (own other t : ℕ) → own < other → moved own other t ≡ minor_step t own other
+lesser_step own other t h =
+    let test : nat_le other own ≡ false = grind (arith, nat_tests) in
+    ap (λ (b : Bool). cond b t (minor_step t own other)) test
+
+-- it never moves further than its distance
+pub lesser_most : (t less most : ℕ) → t ≤ most → less < most → minor_step t less most ≤ less
+lesser_most t less most h below =
+    let product : t * less ≤ most * less = mul-le-mul_right less h in
+    let room : t * less + (most - 1) / 2 < suc less * most = grind arith in
+    let some : 0 < most = omega arith in
+    let stop : minor_step t less most < suc less = (div-lt_iff_lt-mul {k = most} some).1 room in
+    omega arith
 
 -- what it has moved, where the sum is kept as a whole number of steps and a rest
 pub lesser_moved : (moved rest step less most own other : ℕ) → own < other → less ≡ min own other
@@ -160,3 +172,10 @@ lesser_small step less most moved rest h below sum = elim (cases_lt less moved) 
 
 pub one_more_step : (step less : ℕ) → step * less + less ≡ (step + 1) * less
 one_more_step step less = grind arith
+
+-- the pixel of a number is the point at its column and row
+pub dot_point : (u v : ℕ) (x y : ℤ) (index : Option ℕ) (a b : ℕ) → pos u ≡ x → pos v ≡ y
+    → dot_painter u v index a b ≡ point_painter x y index a b
+dot_point u v x y index a b ex ey =
+    ap (λ t. only_if (t && b == v) index) (sym (at_row u a) ∙ ap (λ z. is_at z a) ex)
+    ∙ ap (λ t. only_if (is_at x a && t) index) (sym (at_row v b) ∙ ap (λ z. is_at z b) ey)

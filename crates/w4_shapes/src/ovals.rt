@@ -1,15 +1,19 @@
-//! Ovals, by the cells that are on the screen.
+//! Ovals, row by row of the screen. Of a row the cells within are one interval, which is found from that of
+//! the row before; its edge cells are its ends and those that the rows beside it don't cover.
+//!
+//! Columns and rows are counted from one left of the screen and one above it where the neighbours of the
+//! screen's cells are spoken of too.
 
 ghost use Rattle.std.specs.Option.{ForSome, option_or};
-ghost use Rattle.std.specs.Prelude.{◌&&◌, ◌*◌, ◌+◌, ◌+ℤ◌, ◌<◌, ◌≡◌, ◌≤◌, ◌≤ℤ◌, ◌^◌, negsuc, not, pos};
+ghost use Rattle.std.specs.Prelude.{◌&&◌, ◌*◌, ◌+◌, ◌+ℤ◌, ◌<◌, ◌≡◌, ◌≤◌, ◌≤ℤ◌, ℕ, false, max, min, nat_le, nat_lt, negsuc, pos};
 ghost use Rattle.w4_defs.specs.Colours.{palette_index};
 ghost use Rattle.w4_defs.specs.Framebuffer.{paint};
-ghost use Rattle.w4_defs.specs.Shapes.{aside, is_edge, is_within, only_if, oval_index, oval_painter};
+ghost use Rattle.w4_defs.specs.Shapes.{aside, only_if, oval_painter};
 ghost use Rattle.w4_pixels.specs.Clipping.{clipped};
-ghost use Rattle.w4_shapes.specs.OvalCells.{painter_of};
+ghost use Rattle.w4_shapes.specs.OvalCells.{Around, Halves, OnScreen, Spans, extent_painter, has, is_inner, painter_of, reaches, within_at};
 
 use w4_defs::PageBytes;
-use w4_pixels::{cell, entry_of, screen_part};
+use w4_pixels::{entry_of, screen_part, span};
 
 /// The cells of an oval: `w` by `h` from (x, y) on, and its colours.
 #[derive(Clone, Copy)]
@@ -19,6 +23,22 @@ struct Cells {
     y: i32,
     w: u32,
     h: u32,
+}
+
+/// The columns of the screen from `left` up to `right` that have cells; and, counted from one left of the
+/// screen, the first cell of the oval's right half, as far as it is one of them or beside them.
+#[derive(Clone, Copy)]
+struct Columns {
+    left: usize,
+    right: usize,
+    middle: usize,
+}
+
+/// The columns from `first` up to `end`, which is left out, counted from one left of the screen.
+#[derive(Clone, Copy)]
+struct Extent {
+    first: usize,
+    end: usize,
 }
 
 /// Fills the oval of `w` by `h` cells from (x, y) on in colour 1, then paints its edge cells in colour 2;
@@ -36,65 +56,125 @@ pub fn oval(page: &mut PageBytes, colors: u16, x: i32, y: i32, w: i32, h: i32)
 fn oval_rows(page: &mut PageBytes, cells: Cells)
     requires wide { cells.w < 2147483648 }
     requires high { cells.h < 2147483648 }
+    requires some { 0 < cells.h }
     ensures { page.new ≡ paint page.old (painter_of cells) }
 {
     let (left, right) = screen_part(cells.x, cells.w);
     let (top, bottom) = screen_part(cells.y, cells.h);
+    if left < right && top < bottom {
+        let middle = middle(cells, left, right);
+        let columns = Columns {
+            left,
+            right,
+            middle,
+        };
+        put_rows(page, cells, columns, top, bottom);
+    }
+}
+
+/// Where the oval's right half begins, among the columns and those beside them.
+fn middle(cells: Cells, left: usize, right: usize) -> usize
+    requires wide { cells.w < 2147483648 }
+    requires some { left < right }
+    requires end { right ≤ 160 }
+    ensures low { left ≤ result }
+    ensures high { result ≤ right + 2 }
+    ensures halves { Halves cells left right result }
+{
+    let middle = i64::from(cells.x) + i64::from(cells.w / 2) + 1;
+    middle.clamp(left as i64, right as i64 + 2) as usize
+}
+
+/// Paints the oval's rows from `top` up to `bottom` of the screen.
+fn put_rows(page: &mut PageBytes, cells: Cells, columns: Columns, top: usize, bottom: usize)
+    requires on_screen { OnScreen cells columns }
+    requires some { top < bottom }
+    requires end { bottom ≤ 160 }
+    requires first_cell { cells.y ≤ℤ pos top }
+    requires last_cell { pos bottom ≤ℤ (cells.y +ℤ pos cells.h) }
+    ensures { page.new ≡ paint page.old (clipped (painter_of cells) columns.left columns.right top bottom) }
+{
+    let none = Extent {
+        first: columns.middle,
+        end: columns.middle,
+    };
+    let mut above = row_extent(cells, columns, top, none);
+    let mut here = row_extent(cells, columns, top + 1, above);
     for v in top..bottom {
-        oval_row(page, cells, left, right, v);
+        let below = row_extent(cells, columns, v + 2, here);
+        put_row(page, cells, columns, v, above, here, below);
+        above = here;
+        here = below;
     }
 }
 
-/// The oval's cells in the columns from `left` up to `right` of row `v` of the screen.
-fn oval_row(page: &mut PageBytes, cells: Cells, left: usize, right: usize, v: usize)
-    requires wide { cells.w < 2147483648 }
-    requires high { cells.h < 2147483648 }
-    requires columns { right ≤ 160 }
+/// Paints row `v` of the screen, by the cells within in its own row and in those above and below it.
+fn put_row(
+    page: &mut PageBytes,
+    cells: Cells,
+    columns: Columns,
+    v: usize,
+    above: Extent,
+    here: Extent,
+    below: Extent,
+)
+    requires on_screen { OnScreen cells columns }
+    requires first_cell { cells.y ≤ℤ pos v }
+    requires last_cell { pos (v + 1) ≤ℤ (cells.y +ℤ pos cells.h) }
     requires row { v < 160 }
-    ensures { page.new ≡ paint page.old (clipped (painter_of cells) left right v (v + 1)) }
+    requires around { Around columns here }
+    requires above { Spans cells columns v above }
+    requires here { Spans cells columns (v + 1) here }
+    requires below { Spans cells columns (v + 2) below }
+    ensures { page.new ≡ paint page.old (clipped (painter_of cells) columns.left columns.right v (v + 1)) }
 {
-    for u in left..right {
-        cell(page, u, v, index_at(cells, u, v));
+    let whole = on_screen(columns, here);
+    let inner = inner_part(whole, above, here, below);
+    let edge = index_of(cells.colors, true);
+    put_span(page, whole.first, inner.first, v, edge);
+    put_span(
+        page,
+        inner.first,
+        inner.end,
+        v,
+        index_of(cells.colors, false),
+    );
+    put_span(page, inner.end, whole.end, v, edge);
+}
+
+/// Those of the columns that are on the screen.
+fn on_screen(columns: Columns, here: Extent) -> Extent
+    requires left { columns.left ≤ 160 }
+    requires right { columns.right ≤ 160 }
+    ensures first { result.first ≡ max here.first (columns.left + 1) }
+    ensures end { result.end ≡ min here.end (columns.right + 1) }
+{
+    Extent {
+        first: here.first.max(columns.left + 1),
+        end: here.end.min(columns.right + 1),
     }
 }
 
-/// What the oval paints at column `u` and row `v` of the screen.
-fn index_at(cells: Cells, u: usize, v: usize) -> Option<u8>
-    requires wide { cells.w < 2147483648 }
-    requires high { cells.h < 2147483648 }
-    requires column { u < 160 }
-    requires row { v < 160 }
-    ensures value { result ≡ painter_of cells u v }
-    ensures bound { ForSome result (λ e. e < 4) }
+/// Those of the columns of `whole` whose four neighbours are within.
+fn inner_part(whole: Extent, above: Extent, here: Extent, below: Extent) -> Extent
+    requires { here.first ≤ 162 }
+    ensures low { min whole.first whole.end ≤ result.first }
+    ensures order { result.first ≤ result.end }
+    ensures high { result.end ≤ whole.end }
+    ensures same { (u : ℕ) → whole.first ≤ u + 1 → u + 1 < whole.end
+        → has result (u + 1) ≡ is_inner above here below u }
 {
-    let (i, j) = (u as i64 - i64::from(cells.x), v as i64 - i64::from(cells.y));
-    if 0 <= i && i < i64::from(cells.w) && 0 <= j && j < i64::from(cells.h) {
-        cell_index(cells.colors, cells.w, cells.h, i, j)
-    } else {
-        None
+    let first = (here.first + 1).max(above.first).max(below.first);
+    let end = here.end.saturating_sub(1).min(above.end).min(below.end);
+    let first = first.max(whole.first).min(whole.end);
+    Extent {
+        first,
+        end: end.min(whole.end).max(first),
     }
 }
 
-/// What an oval paints at its cell (i, j).
-fn cell_index(colors: u16, w: u32, h: u32, i: i64, j: i64) -> Option<u8>
-    requires wide { w < 2147483648 }
-    requires high { h < 2147483648 }
-    requires left { pos 0 ≤ℤ i }
-    requires right { (i +ℤ pos 1) ≤ℤ pos w }
-    requires top { pos 0 ≤ℤ j }
-    requires bottom { (j +ℤ pos 1) ≤ℤ pos h }
-    ensures value { result ≡ oval_index colors w h i j }
-    ensures bound { ForSome result (λ e. e < 4) }
-{
-    if is_within(w, h, i, j) {
-        inner_index(colors, is_edge(w, h, i, j))
-    } else {
-        None
-    }
-}
-
-/// What a cell within the oval is given: at the edge colour 2, unless that is transparent.
-fn inner_index(colors: u16, edge: bool) -> Option<u8>
+/// What a cell within is given: at the edge colour 2, unless that is transparent.
+fn index_of(colors: u16, edge: bool) -> Option<u8>
     ensures value { result ≡ option_or (only_if edge (palette_index colors 2)) (palette_index colors 1) }
     ensures bound { ForSome result (λ e. e < 4) }
 {
@@ -106,41 +186,153 @@ fn inner_index(colors: u16, edge: bool) -> Option<u8>
     entry_of(colors, 1)
 }
 
-/// Whether one of the four neighbours of a cell isn't within the cells.
-fn is_edge(w: u32, h: u32, i: i64, j: i64) -> bool
-    requires wide { w < 2147483648 }
-    requires high { h < 2147483648 }
-    requires left { pos 0 ≤ℤ i }
-    requires right { (i +ℤ pos 1) ≤ℤ pos w }
-    requires top { pos 0 ≤ℤ j }
-    requires bottom { (j +ℤ pos 1) ≤ℤ pos h }
-    ensures { result ≡ is_edge w h i j }
+/// Paints the columns from `first` up to `end`, counted from one left of the screen, of row `v` of it.
+fn put_span(page: &mut PageBytes, first: usize, end: usize, v: usize, index: Option<u8>)
+    requires small { ForSome index (λ e. e < 4) }
+    requires first { first ≤ 162 }
+    requires end { end ≤ 162 }
+    requires row { v < 160 }
+    ensures { page.new ≡ paint page.old (extent_painter first end v index) }
 {
-    let left = is_within(w, h, i - 1, j);
-    let right = is_within(w, h, i + 1, j);
-    let above = is_within(w, h, i, j - 1);
-    let below = is_within(w, h, i, j + 1);
-    not_all(left, right, above, below)
+    if let Some(index) = index {
+        span(page, first as i64 - 1, end as i64 - 1, v as i64, index);
+    }
 }
 
-fn not_all(a: bool, b: bool, c: bool, d: bool) -> bool
-    ensures { result ≡ not (a && b && c && d) }
+/// The cells within of row `t`, found from those of a row beside it, or from any others.
+fn row_extent(cells: Cells, columns: Columns, t: usize, near: Extent) -> Extent
+    requires on_screen { OnScreen cells columns }
+    requires row { t ≤ 161 }
+    requires above { cells.y ≤ℤ pos t }
+    requires below { pos t ≤ℤ ((cells.y +ℤ pos cells.h) +ℤ pos 1) }
+    requires near { Around columns near }
+    ensures around { Around columns result }
+    ensures spans { Spans cells columns t result }
 {
-    !(a && b && c && d)
+    let limit = row_limit(cells, t);
+    let first = first_outward(cells, columns, limit, near.first);
+    let end = end_outward(cells, columns, limit, near.end);
+    Extent {
+        first: first_inward(cells, columns, limit, first),
+        end: end_inward(cells, columns, limit, end),
+    }
 }
 
-/// Whether the middle of a cell, or of a neighbour of a cell, is within the cells.
-fn is_within(w: u32, h: u32, i: i64, j: i64) -> bool
-    requires wide { w < 2147483648 }
-    requires high { h < 2147483648 }
-    requires left { negsuc 0 ≤ℤ i }
-    requires right { i ≤ℤ pos w }
-    requires top { negsuc 0 ≤ℤ j }
-    requires bottom { j ≤ℤ pos h }
-    ensures { result ≡ is_within w h i j }
+/// The column from which, at most `from`, no cell to the left is within: outward as long as cells are.
+fn first_outward(cells: Cells, columns: Columns, limit: u64, from: usize) -> usize
+    requires on_screen { OnScreen cells columns }
+    requires low { columns.left ≤ from }
+    requires high { from ≤ columns.middle }
+    ensures low { columns.left ≤ result }
+    ensures high { result ≤ columns.middle }
+    ensures outside { (s : ℕ) → columns.left ≤ s → s < result → reaches cells limit s ≡ false }
 {
-    let (wide, high) = (u64::from(w), u64::from(h));
-    product(aside(i, w), high) + product(aside(j, h), wide) <= product(wide, high)
+    for step in 0..from - columns.left {
+        if !within(cells, from - step - 1, limit) {
+            return from - step;
+        }
+    }
+    columns.left
+}
+
+/// The first cell of the left half that is within, where those before `from` aren't; else the middle.
+fn first_inward(cells: Cells, columns: Columns, limit: u64, from: usize) -> usize
+    requires on_screen { OnScreen cells columns }
+    requires low { columns.left ≤ from }
+    requires high { from ≤ columns.middle }
+    requires outside { (s : ℕ) → columns.left ≤ s → s < from → reaches cells limit s ≡ false }
+    ensures low { columns.left ≤ result }
+    ensures high { result ≤ columns.middle }
+    ensures same { (s : ℕ) → columns.left ≤ s → s < columns.middle → reaches cells limit s ≡ nat_le result s }
+{
+    for s in from..columns.middle {
+        if within(cells, s, limit) {
+            return s;
+        }
+    }
+    columns.middle
+}
+
+/// The column, at least `from`, from which no cell is within: outward as long as cells are.
+fn end_outward(cells: Cells, columns: Columns, limit: u64, from: usize) -> usize
+    requires on_screen { OnScreen cells columns }
+    requires low { columns.middle ≤ from }
+    requires high { from ≤ columns.right + 2 }
+    ensures low { columns.middle ≤ result }
+    ensures high { result ≤ columns.right + 2 }
+    ensures outside { (s : ℕ) → result ≤ s → s < columns.right + 2 → reaches cells limit s ≡ false }
+{
+    for s in from..columns.right + 2 {
+        if !within(cells, s, limit) {
+            return s;
+        }
+    }
+    columns.right + 2
+}
+
+/// The end of the cells of the right half that are within, where those from `from` on aren't; the middle
+/// where none is.
+fn end_inward(cells: Cells, columns: Columns, limit: u64, from: usize) -> usize
+    requires on_screen { OnScreen cells columns }
+    requires low { columns.middle ≤ from }
+    requires high { from ≤ columns.right + 2 }
+    requires outside { (s : ℕ) → from ≤ s → s < columns.right + 2 → reaches cells limit s ≡ false }
+    ensures low { columns.middle ≤ result }
+    ensures high { result ≤ columns.right + 2 }
+    ensures same { (s : ℕ) → columns.middle ≤ s → s < columns.right + 2
+        → reaches cells limit s ≡ nat_lt s result }
+{
+    for step in 0..from - columns.middle {
+        if within(cells, from - step - 1, limit) {
+            return from - step;
+        }
+    }
+    columns.middle
+}
+
+/// Whether the cell at column `s`, counted from one left of the screen, is within, by its row's limit.
+fn within(cells: Cells, s: usize, limit: u64) -> bool
+    requires wide { cells.w < 2147483648 }
+    requires column { s ≤ 161 }
+    requires left { cells.x ≤ℤ pos s }
+    requires right { pos s ≤ℤ ((cells.x +ℤ pos cells.w) +ℤ pos 1) }
+    ensures { result ≡ reaches cells limit s }
+{
+    let far = aside(s as i64 - 1 - i64::from(cells.x), cells.w);
+    far * far < limit
+}
+
+/// What the square of a cell's distance from the middle column, in half cells, is below where the cell of row
+/// `t`, counted from one above the screen, is within: (2i+1-w)^2 <= w^2 (h^2 - (2j+1-h)^2) / h^2.
+fn row_limit(cells: Cells, t: usize) -> u64
+    requires wide { cells.w < 2147483648 }
+    requires high { cells.h < 2147483648 }
+    requires columns { 0 < cells.w }
+    requires rows { 0 < cells.h }
+    requires row { t ≤ 161 }
+    requires above { cells.y ≤ℤ pos t }
+    requires below { pos t ≤ℤ ((cells.y +ℤ pos cells.h) +ℤ pos 1) }
+    ensures { (s : ℕ) → within_at cells s t ≡ reaches cells result s }
+{
+    let far = aside(t as i64 - 1 - i64::from(cells.y), cells.h);
+    limit_at(u64::from(cells.w), u64::from(cells.h), far)
+}
+
+/// One more than w^2 (h^2 - far^2) / h^2; 0 where that is below 0.
+fn limit_at(w: u64, h: u64, far: u64) -> u64
+    requires w { w < 2147483648 }
+    requires h { h < 2147483648 }
+    requires columns { 0 < w }
+    requires rows { 0 < h }
+    requires far { far ≤ 2147483648 }
+    ensures { (n : ℕ) → nat_lt n result ≡ nat_le (n * (h * h) + (far * far) * (w * w)) ((w * w) * (h * h)) }
+{
+    if far <= h {
+        let rest = h * h - far * far;
+        (u128::from(w * w) * u128::from(rest) / u128::from(h * h)) as u64 + 1
+    } else {
+        0
+    }
 }
 
 /// How far the middle of cell `i` stands from the middle of `w` cells, in half cells.
@@ -152,15 +344,4 @@ fn aside(i: i64, w: u32) -> u64
     ensures bound { result ≤ 2147483648 }
 {
     (2 * i + 1 - i64::from(w)).unsigned_abs()
-}
-
-/// The square of `a` times the square of `b`.
-fn product(a: u64, b: u64) -> u128
-    requires a { a ≤ 2147483648 }
-    requires b { b ≤ 2147483648 }
-    ensures value { result ≡ (a * a) * (b * b) }
-    ensures bound { result ≤ 2 ^ 124 }
-{
-    let (a, b) = (a * a, b * b);
-    u128::from(a) * u128::from(b)
 }

@@ -1,47 +1,55 @@
-//! Which steps of a line can be on the screen. The axis of the greater distance moves by one each step, so
-//! at most 160 are left.
+//! Which steps of a line are on the screen: of each axis a range, since an axis never turns back.
 
 ghost use Rattle.std.specs.Prelude.{◌+◌, ◌+ℤ◌, ◌<◌, ◌<ℤ◌, ◌≡◌, ◌≤◌, ◌≤ℤ◌, ◌⊎◌, ℕ, false, max, negsuc, pos};
-ghost use Rattle.w4_defs.specs.Shapes.{apart, is_at, toward};
-ghost use Rattle.w4_shapes.specs.Painted.{is_point};
+ghost use Rattle.w4_defs.specs.Shapes.{apart, is_at, minor_step, moved, toward};
+ghost use Rattle.w4_shapes.specs.Painted.{OnAxis, is_point};
 
 use crate::lines::distance;
 
-/// The first step of a line that can be on the screen, and the end, which is left out.
+/// The first step of a line that is on the screen, and the end, which is left out.
 pub(crate) fn line_steps(x1: i32, y1: i32, x2: i32, y2: i32) -> (u64, u64)
     ensures order { result.0 ≤ result.1 }
     ensures bound { result.1 ≤ max (apart x1 x2) (apart y1 y2) + 1 }
     ensures few { result.1 ≤ result.0 + 160 }
+    ensures on { (t : ℕ) → result.0 ≤ t → t < result.1
+        → OnAxis (toward x1 x2 (moved (apart x1 x2) (apart y1 y2) t))
+        × OnAxis (toward y1 y2 (moved (apart y1 y2) (apart x1 x2) t)) }
     ensures off { (t u v : ℕ) → u < 160 → v < 160 → (t < result.0) ⊎ (result.1 ≤ t)
         → t < max (apart x1 x2) (apart y1 y2) + 1 → is_point x1 y1 x2 y2 t u v ≡ false }
 {
     let (wide, high) = (distance(x1, x2), distance(y1, y2));
-    if high <= wide {
-        axis_steps(x1, x2, wide)
+    let columns = axis_steps(x1, x2, wide, high);
+    let rows = axis_steps(y1, y2, high, wide);
+    let end = columns.1.min(rows.1);
+    (columns.0.max(rows.0).min(end), end)
+}
+
+/// The steps after which the axis from `a` to `b` is on the screen, by its own distance and the other axis's.
+fn axis_steps(a: i32, b: i32, own: u64, other: u64) -> (u64, u64)
+    requires own { own < 4294967296 }
+    requires other { other < 4294967296 }
+    ensures bound { result.1 ≤ max own other + 1 }
+    ensures few { other ≤ own → result.1 ≤ result.0 + 160 }
+    ensures on { (t : ℕ) → result.0 ≤ t → t < result.1 → OnAxis (toward a b (moved own other t)) }
+    ensures off { (t u : ℕ) → u < 160 → (t < result.0) ⊎ (result.1 ≤ t) → t < max own other + 1
+        → is_at (toward a b (moved own other t)) u ≡ false }
+{
+    let first = first_move(a, b);
+    if other <= own {
+        (far_step(first, own), far_step(first + 160, own))
     } else {
-        axis_steps(y1, y2, high)
+        (reach(first, own, other), reach(first + 160, own, other))
     }
 }
 
-/// The steps after which the axis from `a` to `b` of the greater distance `most` is on the screen.
-fn axis_steps(a: i32, b: i32, most: u64) -> (u64, u64)
-    requires { most < 4294967296 }
-    ensures order { result.0 ≤ result.1 }
-    ensures bound { result.1 ≤ most + 1 }
-    ensures few { result.1 ≤ result.0 + 160 }
-    ensures off { (t u : ℕ) → u < 160 → (t < result.0) ⊎ (result.1 ≤ t) → t < most + 1
-        → is_at (toward a b t) u ≡ false }
-{
-    part(first_step(a, b), most)
-}
-
-/// After so many steps from `a` toward `b` an axis comes to the screen; below 0 where it begins on it or
+/// After so many moves from `a` toward `b` an axis comes to the screen; below 0 where it begins on it or
 /// beyond it.
-fn first_step(a: i32, b: i32) -> i64
+fn first_move(a: i32, b: i32) -> i64
     ensures low { negsuc 4294967296 ≤ℤ result }
     ensures high { result ≤ℤ pos 4294967296 }
-    ensures off { (t u : ℕ) → u < 160 → (pos t <ℤ result) ⊎ ((result +ℤ pos 160) ≤ℤ pos t)
-        → is_at (toward a b t) u ≡ false }
+    ensures on { (far : ℕ) → result ≤ℤ pos far → pos far <ℤ (result +ℤ pos 160) → OnAxis (toward a b far) }
+    ensures off { (far u : ℕ) → u < 160 → (pos far <ℤ result) ⊎ ((result +ℤ pos 160) ≤ℤ pos far)
+        → is_at (toward a b far) u ≡ false }
 {
     if a <= b {
         -i64::from(a)
@@ -50,20 +58,47 @@ fn first_step(a: i32, b: i32) -> i64
     }
 }
 
-/// The 160 steps from `first` on, as far as they are from 0 up to `last`.
-fn part(first: i64, last: u64) -> (u64, u64)
-    requires low { negsuc 4294967296 ≤ℤ first }
-    requires high { first ≤ℤ pos 4294967296 }
+/// The first step after which an axis that moves at each step has moved so far; one past the last where
+/// none is.
+fn far_step(far: i64, last: u64) -> u64
+    requires low { negsuc 4294967296 ≤ℤ far }
+    requires high { far ≤ℤ pos 4294967456 }
     requires last { last < 4294967296 }
-    ensures order { result.0 ≤ result.1 }
-    ensures bound { result.1 ≤ last + 1 }
-    ensures few { result.1 ≤ result.0 + 160 }
-    ensures before { (t : ℕ) → t < result.0 → pos t <ℤ first }
-    ensures after { (t : ℕ) → result.1 ≤ t → t < last + 1 → (first +ℤ pos 160) ≤ℤ pos t }
+    ensures bound { result ≤ last + 1 }
+    ensures value { (t : ℕ) → t ≤ last → (t < result → pos t <ℤ far) × (result ≤ t → far ≤ℤ pos t) }
+    ensures few { (n : ℕ) → far ≤ℤ pos n → result ≤ n }
 {
-    let all = last as i64 + 1;
-    (
-        first.clamp(0, all) as u64,
-        (first + 160).clamp(0, all) as u64,
-    )
+    far.clamp(0, last as i64 + 1) as u64
+}
+
+/// The first step after which the axis of the lesser distance `less` has moved so far; one past the last, of
+/// `most`, where none is.
+fn reach(far: i64, less: u64, most: u64) -> u64
+    requires low { negsuc 4294967296 ≤ℤ far }
+    requires high { far ≤ℤ pos 4294967456 }
+    requires less { less < most }
+    requires most { most < 4294967296 }
+    ensures bound { result ≤ most + 1 }
+    ensures before { (t : ℕ) → t < result → t ≤ most → pos (minor_step t less most) <ℤ far }
+    ensures from { (t : ℕ) → result ≤ t → t ≤ most → far ≤ℤ pos (minor_step t less most) }
+{
+    if far <= 0 {
+        0
+    } else if less < far as u64 {
+        most + 1
+    } else {
+        steps_to(far as u64, less, most).min(most + 1)
+    }
+}
+
+/// The first step after which the axis of the lesser distance has moved so far.
+fn steps_to(far: u64, less: u64, most: u64) -> u64
+    requires some { 0 < far }
+    requires far { far ≤ less }
+    requires less { less < most }
+    requires most { most < 4294967296 }
+    ensures before { (t : ℕ) → t < result → minor_step t less most < far }
+    ensures from { (t : ℕ) → result ≤ t → far ≤ minor_step t less most }
+{
+    (far * most - (most - 1) / 2 + (less - 1)) / less
 }

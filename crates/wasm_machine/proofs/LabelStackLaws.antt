@@ -1,6 +1,6 @@
 -- The laws of the label stack.
-use Rattle.std.proofs.Common.{◌≡◌, ◌≢◌, ℕ, zero, suc, ◌+◌, ◌-◌, ◌<◌, ◌≤◌, List, [], ◌∷◌, length, drop, Some, None, slice_get, get_or, true, false, refl, arith, add-one, get_or-set_same, get_or-set_other, ap, sym, ◌∙◌, subst}
-use Rattle.std.proofs.Math.ListN.{set}
+use Rattle.std.proofs.Common.{◌≡◌, ℕ, zero, suc, ◌+◌, ◌≤◌, List, [], ◌∷◌, ◌++◌, length, drop, true, false, refl, arith, add-one, ap, ap₂, sym, ◌∙◌}
+use Rattle.std.proofs.lemmas.List.{get_or_push, get_or_append_left}
 use Rattle.wasm_machine.specs.declared.label.Label.{Label}
 use Rattle.wasm_machine.specs.declared.label.Label.TheVariants as label
 use Rattle.wasm_machine.specs.LabelStack.{innermost}
@@ -14,50 +14,24 @@ pub label_count : (cells : List Label) (count : ℕ) (now : List Label) → inne
     → length now ≡ count
 label_count cells count now e = ap length (sym e) ∙ length-innermost cells count
 
-innermost-above : (cells : List Label) (count at : ℕ) (x : Label) → count ≤ at
-    → innermost (set cells at x) count ≡ innermost cells count
-innermost-above cells zero at x h = refl
-innermost-above cells (suc count) at x h =
-    let ne : count ≢ at = omega arith in
-    rw (get_or-set_other, innermost-above cells count at x (omega arith)) refl
+innermost-longer : (cells more : List Label) (count : ℕ) → count ≤ length cells
+    → innermost (cells ++ more) count ≡ innermost cells count
+innermost-longer cells more zero h = refl
+innermost-longer cells more (suc count) h = ap₂ (λ x xs. x ∷ xs)
+    (get_or_append_left cells more (label.Loop 0 0) count h) (innermost-longer cells more count (omega arith))
 
-pub label_pushed : (cells : List Label) (count : ℕ) (x : Label) (now : List Label) → innermost cells count
-    ≡ now → count < length cells
-    → innermost (set cells count x) (count + 1) ≡ x ∷ now
-label_pushed cells count x now e h = rw (
-  add-one,
-  get_or-set_same,
-  innermost-above cells count count x
-      (omega arith),
-  e,
-) refl
+pub label_pushed : (cells after : List Label) (count n : ℕ) (x : Label) (now : List Label)
+    → innermost cells count ≡ now → count ≡ length cells → after ≡ cells ++ x ∷ [] → n ≡ count + 1
+    → innermost after n ≡ x ∷ now
+label_pushed cells after count n x now e h put more =
+    rw (put, more, add-one) (ap₂ (λ x xs. x ∷ xs) (get_or_push cells x (label.Loop 0 0) count (sym h))
+    (innermost-longer cells (x ∷ []) count (omega (arith, h)) ∙ e))
 
-pub no_label : (cells : List Label) (count : ℕ) (now : List Label) → innermost cells count ≡ now → count ≡ 0
-    → None ≡ slice_get now 0
-no_label cells count now e z =
-    let P : ℕ → Type 0 = λ n. innermost cells n ≡ now in
-    ap (λ xs. slice_get xs 0) (subst P z e)
-
-pub top_label : (cells : List Label) (count : ℕ) (x : Label) (now : List Label) → innermost cells count ≡ now
-    → count ≢ 0 → count ≤ length cells
-    → x ≡ get_or cells (count - 1) (label.Loop 0 0) → Some x ≡ slice_get now 0
-top_label cells zero x now e n h k = absurd (n refl)
-top_label cells (suc count) x now e n h k =
-    let at : get_or cells (suc count - 1) (label.Loop 0 0)
-    ≡ get_or cells count (label.Loop 0 0) = ap (λ i. get_or cells i (label.Loop 0 0)) (omega arith) in
-    ap (λ y. Some y) (k ∙ at) ∙ ap (λ xs. slice_get xs 0) e
-
-dropped : (cells : List Label) (count n : ℕ) → n ≤ count → innermost cells (count - n)
-    ≡ drop n (innermost cells count)
-dropped cells count zero h = ap (innermost cells) (omega arith)
-dropped cells zero (suc n) h = absurd (omega (arith, h))
-dropped cells (suc count) (suc n) h = ap (innermost cells) (omega (arith, h))
-    ∙ dropped cells count n (omega (arith, h))
-
-pub labels_left : (cells : List Label) (count n : ℕ) (now : List Label) → innermost cells count ≡ now
-    → n ≤ count
-    → innermost cells (count - n) ≡ drop n now
-labels_left cells count n now e h = dropped cells count n h ∙ ap (drop n) e
+pub label_popped : (cells left : List Label) (count n : ℕ) (x : Label) (now : List Label)
+    → innermost cells count ≡ now → n ≡ length left → cells ≡ left ++ x ∷ [] → n + 1 ≡ count
+    → innermost left n ≡ drop 1 now
+label_popped cells left count n x now e h taken fewer =
+    sym (ap (drop 1) (sym e ∙ label_pushed left cells n count x (innermost left n) refl h taken (sym fewer)))
 
 -- a list less is open
 pub one_list_left : (labels : List Label) → is_list labels ≡ true

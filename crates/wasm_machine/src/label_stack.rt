@@ -1,4 +1,4 @@
-//! The label stack, of a fixed size, which takes no memory when it grows.
+//! The label stack, whose memory is taken once, so that a push takes none.
 
 ghost use Rattle.std.specs.Prelude.{◌≡◌, ◌<◌, ◌≤◌, ◌∷◌, [], drop, length, slice_get, IfOk};
 
@@ -10,23 +10,22 @@ use w4_defs::OutOfMemory;
 /// How many labels the stack can hold.
 pub(crate) const LABELS: usize = 1_048_576;
 
-/// At most 1,048,576 labels, as a list with the innermost first.
+/// At most 1,048,576 labels, as a list with the innermost first. Their memory is reserved and not written.
 #[derive(Drop)]
 pub(crate) struct LabelStack {
     cells: Vec<Label>,
-    count: usize,
 }
 
 impl Model for LabelStack {
-    ghost use Rattle.std.specs.Prelude.{◌≡◌, ◌≤◌, List, vec_len};
+    ghost use Rattle.std.specs.Prelude.{◌≡◌, ◌≤◌, List, vec_len, vec_capacity};
     ghost use Rattle.wasm_machine.specs.declared.label.Label.{Label};
     ghost use Rattle.wasm_machine.specs.LabelStack.{innermost};
 
     ghost Value = { List Label };
 
-    ghost view = { λ s. innermost s.cells.items s.count };
+    ghost view = { λ s. innermost s.cells.items (vec_len s.cells) };
 
-    ghost invariant = { λ s. (s.count ≤ 1048576) × (vec_len s.cells ≡ 1048576) };
+    ghost invariant = { λ s. (vec_len s.cells ≤ 1048576) × (vec_capacity s.cells ≡ 1048576) };
 }
 
 impl LabelStack {
@@ -34,13 +33,8 @@ impl LabelStack {
     pub(crate) fn new(alloc: Global) -> Result<LabelStack, OutOfMemory>
         ensures { IfOk result (λ s. s ≡ []) }
     {
-        let unused = Label::Loop {
-            start: 0,
-            height: 0,
-        };
         Ok(LabelStack {
-            cells: Vec::from_elem(alloc, unused, LABELS)?,
-            count: 0,
+            cells: Vec::with_capacity(alloc, LABELS)?,
         })
     }
 
@@ -48,7 +42,7 @@ impl LabelStack {
     pub(crate) fn clear(&mut self)
         ensures { self.new ≡ [] }
     {
-        self.count = 0;
+        self.cells.clear();
     }
 
     /// One more label, the innermost.
@@ -57,8 +51,7 @@ impl LabelStack {
         requires { length self.old < 1048576 }
         ensures { self.new ≡ label ∷ self.old }
     {
-        self.cells[self.count] = label;
-        self.count += 1;
+        self.cells.push_reserved(label);
     }
 
     /// The innermost label.
@@ -66,19 +59,26 @@ impl LabelStack {
     pub(crate) fn top(&self) -> Option<Label>
         ensures { result ≡ slice_get self.now 0 }
     {
-        if self.count == 0 {
-            None
-        } else {
-            Some(self.cells[self.count - 1])
-        }
+        self.cells.last().copied()
     }
 
-    /// Drops so many labels, the innermost first.
+    /// Drops the innermost label.
+    #[inline(always)]
+    fn pop(&mut self)
+        requires { 0 < length self.old }
+        ensures { self.new ≡ drop 1 self.old }
+    {
+        self.cells.take_last();
+    }
+
+    /// Drops so many labels, the innermost first. The pops become one subtraction in machine code.
     #[inline(always)]
     pub(crate) fn leave(&mut self, count: usize)
         requires { count ≤ length self.old }
         ensures { self.new ≡ drop count self.old }
     {
-        self.count -= count;
+        for _ in 0..count {
+            self.pop();
+        }
     }
 }

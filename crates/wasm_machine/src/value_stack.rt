@@ -1,4 +1,4 @@
-//! The stack of operands and locals, of a fixed size, which takes no memory when it grows.
+//! The stack of operands and locals, whose memory is taken once, so that a push takes none.
 
 ghost use Rattle.std.specs.Prelude.{◌≡◌, ◌+◌, ◌-◌, ◌<◌, ◌≤◌, [], ◌∷◌, ◌++◌, Some, length, take, drop, replicate, IfOk};
 ghost use Rattle.wasm_machine.specs.ValueStack.{from_below, set_from_below};
@@ -10,22 +10,22 @@ use w4_defs::OutOfMemory;
 /// How many slots a stack has.
 pub(crate) const SLOTS: usize = 1_048_576;
 
-/// At most 1,048,576 slots of 8 bytes, as a list with the top first.
+/// At most 1,048,576 slots of 8 bytes, as a list with the top first. Their memory is reserved and not
+/// written, so that a machine starts without touching it.
 #[derive(Drop)]
 pub(crate) struct ValueStack {
     cells: Vec<u64>,
-    count: usize,
 }
 
 impl Model for ValueStack {
-    ghost use Rattle.std.specs.Prelude.{◌≡◌, ◌≤◌, ℕ, List, vec_len};
+    ghost use Rattle.std.specs.Prelude.{◌≡◌, ◌≤◌, ℕ, List, vec_len, vec_capacity};
     ghost use Rattle.wasm_machine.specs.ValueStack.{from_top};
 
     ghost Value = { List ℕ };
 
-    ghost view = { λ s. from_top s.cells.items s.count };
+    ghost view = { λ s. from_top s.cells.items (vec_len s.cells) };
 
-    ghost invariant = { λ s. (s.count ≤ 1048576) × (vec_len s.cells ≡ 1048576) };
+    ghost invariant = { λ s. (vec_len s.cells ≤ 1048576) × (vec_capacity s.cells ≡ 1048576) };
 }
 
 impl ValueStack {
@@ -34,8 +34,7 @@ impl ValueStack {
         ensures { IfOk result (λ s. s ≡ []) }
     {
         Ok(ValueStack {
-            cells: Vec::from_elem(alloc, 0, SLOTS)?,
-            count: 0,
+            cells: Vec::with_capacity(alloc, SLOTS)?,
         })
     }
 
@@ -43,7 +42,7 @@ impl ValueStack {
     pub(crate) fn clear(&mut self)
         ensures { self.new ≡ [] }
     {
-        self.count = 0;
+        self.cells.clear();
     }
 
     /// How many slots are in use.
@@ -52,7 +51,7 @@ impl ValueStack {
         ensures len { result ≡ length self.now }
         ensures fits { length self.now ≤ 1048576 }
     {
-        self.count
+        self.cells.len()
     }
 
     /// Puts a slot on top.
@@ -61,8 +60,7 @@ impl ValueStack {
         requires { length self.old < 1048576 }
         ensures { self.new ≡ slot ∷ self.old }
     {
-        self.cells[self.count] = slot;
-        self.count += 1;
+        self.cells.push_reserved(slot);
     }
 
     /// Takes the slot from the top.
@@ -72,8 +70,7 @@ impl ValueStack {
         ensures taken { self.old ≡ result ∷ self.new }
         ensures room { length self.new < 1048576 }
     {
-        self.count -= 1;
-        self.cells[self.count]
+        self.cells.take_last()
     }
 
     /// The slot on top.
@@ -82,7 +79,7 @@ impl ValueStack {
         requires { 0 < length self.now }
         ensures { self.now ≡ result ∷ drop 1 self.now }
     {
-        self.cells[self.count - 1]
+        self.cells[self.cells.len() - 1]
     }
 
     /// Writes the slot on top.
@@ -91,7 +88,8 @@ impl ValueStack {
         requires { 0 < length self.old }
         ensures { self.new ≡ slot ∷ drop 1 self.old }
     {
-        self.cells[self.count - 1] = slot;
+        let top = self.cells.len() - 1;
+        self.cells[top] = slot;
     }
 
     /// The local with this index of the function below whose locals `base` slots lie.
@@ -121,9 +119,23 @@ impl ValueStack {
         ensures { self.new ≡ take keep self.old ++ drop (length self.old - height) self.old }
     {
         if keep == 1 {
-            self.cells[height] = self.cells[self.count - 1];
+            let kept = self.pop();
+            self.shorten(height);
+            self.push(kept);
+        } else {
+            self.shorten(height);
         }
-        self.count = height + keep;
+    }
+
+    /// Keeps the lowest `height` slots. The pops become one subtraction in machine code.
+    #[inline(always)]
+    fn shorten(&mut self, height: usize)
+        requires { height ≤ length self.old }
+        ensures { self.new ≡ drop (length self.old - height) self.old }
+    {
+        for _ in height..self.len() {
+            self.pop();
+        }
     }
 
     /// Puts so many zeros on top.

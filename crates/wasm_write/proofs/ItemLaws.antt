@@ -20,7 +20,7 @@ use Rattle.w4_defs.specs.Module.{Signature, Imported, Exported, Global, ElementS
 use Rattle.wasm_write.specs.EncodeNumber.{unsigned_bytes}
 use Rattle.wasm_write.specs.EncodeType.{vector_bytes, sized_bytes, value_type_bytes, func_type_bytes, sizes_bytes, limits_bytes, table_type_bytes, mutability_code, global_type_bytes}
 use Rattle.wasm_write.specs.EncodeInstruction.{expression_bytes}
-use Rattle.wasm_write.specs.EncodeModule.{import_kind_bytes, imported_bytes, global_bytes, export_kind_code, exported_bytes, element_bytes, locals_bytes, function_bytes, body_bytes, segment_bytes}
+use Rattle.wasm_write.specs.EncodeModule.{import_kind_bytes, imported_bytes, global_bytes, export_kind_code, exported_bytes, element_bytes, locals_bytes, function_bytes, body_bytes, data_segment_bytes}
 use Rattle.wasm_write.specs.Fits.{IndexFits, VectorFits, NameFits, TypeFits, LimitsFit, ImportKindFits, ImportFits, GlobalFits, ExportFits, ElementFits, FunctionFits, SegmentFits}
 use Rattle.wasm_write.proofs.NumberLaws.{unsigned_encodes}
 use Rattle.wasm_write.proofs.CombineLaws.{joined, joined_three, after_byte, vector_encodes, sized_encodes}
@@ -170,7 +170,7 @@ function_encodes f h =
 pub body_encodes : (f : Function) → FunctionFits f → body f (body_bytes f)
 body_encodes f h = sized_encodes function f (function_bytes f) h.1.1.1 (function_encodes f h)
 
-pub segment_encodes : (s : DataSegment) → SegmentFits s → segment s (segment_bytes s)
+pub segment_encodes : (s : DataSegment) → SegmentFits s → segment s (data_segment_bytes s)
 segment_encodes s h =
     joined_three
     (unsigned 32 s.memory)

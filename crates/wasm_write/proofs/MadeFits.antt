@@ -16,7 +16,7 @@ use Rattle.w4_defs.proofs.GeneratorLaws.{draws_are_small}
 use Rattle.wasm_write.specs.EncodeNumber.{unsigned_bytes, signed_bytes}
 use Rattle.wasm_write.specs.EncodeType.{vector_bytes, func_type_bytes, limits_bytes, table_type_bytes}
 use Rattle.wasm_write.specs.EncodeInstruction.{instruction_bytes, list_bytes, expression_bytes}
-use Rattle.wasm_write.specs.EncodeModule.{imported_bytes, global_bytes, exported_bytes, element_bytes, segment_bytes, locals_bytes, function_bytes, body_bytes, section_bytes, first_sections, last_sections, module_bytes}
+use Rattle.wasm_write.specs.EncodeModule.{imported_bytes, global_bytes, exported_bytes, element_bytes, data_segment_bytes, locals_bytes, function_bytes, body_bytes, section_bytes, first_sections, last_sections, module_bytes}
 use Rattle.wasm_write.specs.Fits.{IndexFits, NameFits, LabelledFits, ExpressionFits, SectionFits, TypeFits, LimitsFit, ImportFits, GlobalFits, ExportFits, ElementFits, FunctionFits, SegmentFits, ModuleFits}
 use Rattle.wasm_write.proofs.NumberLaws.{unsigned_encodes, signed_encodes}
 use Rattle.wasm_write.proofs.ModuleLaws.{leb_is_short}
@@ -421,7 +421,7 @@ made_fits number = record {
   start = tt;
   elements = nothing-fits ElementFits element_bytes;
   bodies = code-fits number;
-  segments = nothing-fits SegmentFits segment_bytes;
+  segments = nothing-fits SegmentFits data_segment_bytes;
   as_many = sym (bodies-count number 0 64);
 }
 

@@ -9,7 +9,7 @@ use Rattle.w4_defs.specs.BinaryModule.{preamble, imported, global, exported, ele
 use Rattle.w4_defs.specs.Module.{WasmModule}
 use Rattle.wasm_write.specs.EncodeNumber.{unsigned_bytes}
 use Rattle.wasm_write.specs.EncodeType.{func_type_bytes, limits_bytes, table_type_bytes}
-use Rattle.wasm_write.specs.EncodeModule.{imported_bytes, global_bytes, exported_bytes, element_bytes, body_bytes, segment_bytes, part, section_bytes, first_sections, last_sections, module_bytes}
+use Rattle.wasm_write.specs.EncodeModule.{imported_bytes, global_bytes, exported_bytes, element_bytes, body_bytes, data_segment_bytes, part, section_bytes, first_sections, last_sections, module_bytes}
 use Rattle.wasm_write.specs.Fits.{IndexFits, SectionFits, TypeFits, LimitsFit, ImportFits, GlobalFits, ExportFits, ElementFits, FunctionFits, SegmentFits, ModuleFits}
 use Rattle.wasm_write.specs.Sections.{slots, present, held, IdsRise}
 use Rattle.wasm_write.proofs.NumberLaws.{unsigned_encodes}
@@ -60,7 +60,7 @@ slots_fit m h = (
                   part_fits ElementFits element_bytes m.elements h.elements,
                   (
                     part_fits FunctionFits body_bytes m.bodies h.bodies,
-                    (part_fits SegmentFits segment_bytes m.segments h.segments, tt),
+                    (part_fits SegmentFits data_segment_bytes m.segments h.segments, tt),
                   ),
                 ),
               ),
@@ -184,7 +184,7 @@ collects m h = record {
   bodies = placed body m.bodies m 10
       (part_encodes body body_bytes FunctionFits body_encodes m.bodies h.bodies);
   segments = placed segment m.segments m 11
-      (part_encodes segment segment_bytes SegmentFits segment_encodes m.segments h.segments);
+      (part_encodes segment data_segment_bytes SegmentFits segment_encodes m.segments h.segments);
   as_many = h.as_many;
 }
 
@@ -208,7 +208,7 @@ sections_together m =
     (section_bytes 8 (option_map unsigned_bytes m.start))
     (section_bytes 9 (part element_bytes m.elements))
     (section_bytes 10 (part body_bytes m.bodies))
-    (section_bytes 11 (part segment_bytes m.segments))
+    (section_bytes 11 (part data_segment_bytes m.segments))
 
 pub module_encodes : (m : WasmModule) → ModuleFits m → SpellsModule (module_bytes m) m
 unfolding module_bytes

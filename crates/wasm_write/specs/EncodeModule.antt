@@ -46,8 +46,8 @@ function_bytes f = vector_bytes locals_bytes f.runs ++ expression_bytes f.list
 abbrev pub body_bytes : Function → List ℕ
 body_bytes f = sized_bytes (function_bytes f)
 
-abbrev pub segment_bytes : DataSegment → List ℕ
-segment_bytes s = unsigned_bytes s.memory ++ expression_bytes s.offset ++ sized_bytes s.bytes
+abbrev pub data_segment_bytes : DataSegment → List ℕ
+data_segment_bytes s = unsigned_bytes s.memory ++ expression_bytes s.offset ++ sized_bytes s.bytes
 
 -- the contents of the section of these items, if there are any
 abbrev pub part : {A : Type 0} → (A → List ℕ) → List A → Option (List ℕ)
@@ -76,7 +76,7 @@ last_sections m =
     ++ section_bytes 8 (option_map unsigned_bytes m.start)
     ++ section_bytes 9 (part element_bytes m.elements)
     ++ section_bytes 10 (part body_bytes m.bodies)
-    ++ section_bytes 11 (part segment_bytes m.segments)
+    ++ section_bytes 11 (part data_segment_bytes m.segments)
 
 unfoldable pub module_bytes : WasmModule → List ℕ
 module_bytes m = preamble ++ first_sections m ++ last_sections m

@@ -1,7 +1,9 @@
 -- The bytes of an instruction in two parts: those before the lists inside it, and those of the lists.
-use Rattle.std.specs.Prelude.{ℕ, List, [], ◌∷◌, ◌++◌, length, flat_map}
+use Rattle.std.specs.Prelude.{◌≡◌, ℕ, List, [], ◌∷◌, ◌++◌, length, flat_map}
 use Rattle.std.specs.Int.{w32, w64, to_le_bytes}
-use Rattle.w4_defs.specs.View.{expression_of}
+use Rattle.w4_defs.specs.declared.instruction.Instr.{Instr}
+use Rattle.w4_defs.specs.Tree.{Expr}
+use Rattle.w4_defs.specs.View.{before, expression_of}
 use Rattle.wasm_write.specs.declared.instruction_table.Encoding.{Encoding}
 use Rattle.wasm_write.specs.declared.instruction_table.Encoding.TheVariants.{Code, One, Two, Three, Signed32, Signed64, Bits32, Bits64, Labels, Choice}
 use Rattle.wasm_write.specs.declared.instruction_table.Encoding.TheVariants as encoding
@@ -31,3 +33,14 @@ inner_bytes (encoding.List code result inner) = list_bytes 0x0b (expression_of i
 inner_bytes (Choice result first second) =
     list_bytes 0x05 (expression_of first.now) ++ list_bytes 0x0b (expression_of second.now)
 inner_bytes _ = []
+
+-- a list that begins with the instruction is encoded by these, and then by what follows it
+abbrev pub IsEncodedAs : Instr → Encoding → Type 0
+IsEncodedAs i e =
+    (close : ℕ) (rest : Expr)
+    → list_bytes close (before i rest) ≡ head_bytes e ++ (inner_bytes e ++ list_bytes close rest)
+
+-- the instruction is encoded by one byte
+abbrev pub IsOpcode : Instr → ℕ → Type 0
+IsOpcode i code =
+    (close : ℕ) (rest : Expr) → list_bytes close (before i rest) ≡ code ∷ list_bytes close rest

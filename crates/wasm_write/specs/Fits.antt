@@ -15,7 +15,7 @@ use Rattle.w4_defs.specs.Module.{Signature, Imported, Exported, Global, ElementS
 use Rattle.w4_defs.specs.Tree.{Expr, done, plain, block, loop, if_then, if_else}
 use Rattle.wasm_write.specs.EncodeNumber.{unsigned_bytes}
 use Rattle.wasm_write.specs.EncodeType.{vector_bytes, func_type_bytes, limits_bytes, table_type_bytes}
-use Rattle.wasm_write.specs.EncodeModule.{imported_bytes, global_bytes, exported_bytes, element_bytes, function_bytes, body_bytes, segment_bytes}
+use Rattle.wasm_write.specs.EncodeModule.{imported_bytes, global_bytes, exported_bytes, element_bytes, function_bytes, body_bytes, data_segment_bytes}
 
 -- an index, a count or a size
 abbrev pub IndexFits : ℕ → Type 0
@@ -137,5 +137,5 @@ pub record ModuleFits (m : WasmModule) : Type 0 where
   pub start : IfSome m.start IndexFits
   pub elements : SectionFits ElementFits element_bytes m.elements
   pub bodies : SectionFits FunctionFits body_bytes m.bodies
-  pub segments : SectionFits SegmentFits segment_bytes m.segments
+  pub segments : SectionFits SegmentFits data_segment_bytes m.segments
   pub as_many : length m.functions ≡ length m.bodies

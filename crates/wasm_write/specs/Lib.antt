@@ -3,6 +3,7 @@ pub mod EncodeNumber
 pub mod EncodeType
 pub mod EncodeInstruction
 pub mod EncodingForms
+pub mod InstructionTable
 pub mod OpenLists
 pub mod EncodeModule
 pub mod Fits

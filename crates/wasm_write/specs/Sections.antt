@@ -4,7 +4,7 @@ use Rattle.w4_defs.specs.BinarySection.{Section}
 use Rattle.w4_defs.specs.Module.{WasmModule}
 use Rattle.wasm_write.specs.EncodeNumber.{unsigned_bytes}
 use Rattle.wasm_write.specs.EncodeType.{func_type_bytes, limits_bytes, table_type_bytes}
-use Rattle.wasm_write.specs.EncodeModule.{imported_bytes, global_bytes, exported_bytes, element_bytes, body_bytes, segment_bytes, part}
+use Rattle.wasm_write.specs.EncodeModule.{imported_bytes, global_bytes, exported_bytes, element_bytes, body_bytes, data_segment_bytes, part}
 
 -- an id, and the contents where there are any
 abbrev pub Slot : Type 0
@@ -22,7 +22,7 @@ slots m =
     ∷ (8, option_map unsigned_bytes m.start)
     ∷ (9, part element_bytes m.elements)
     ∷ (10, part body_bytes m.bodies)
-    ∷ (11, part segment_bytes m.segments)
+    ∷ (11, part data_segment_bytes m.segments)
     ∷ []
 
 abbrev pub added : ℕ → Option (List ℕ) → List Section → List Section

@@ -15,6 +15,6 @@ abbrev pub IsOperation : Instr → Op → Type 0
 IsOperation i op = (rest : List Op) → before i (sequence rest) ≡ sequence (op ∷ rest)
 
 -- the new list is the old one and these operations after it
-abbrev pub Appends : List Instr → List Op → List Instr → Type 0
-Appends old ops new =
+abbrev pub AppendsOperations : List Instr → List Op → List Instr → Type 0
+AppendsOperations old ops new =
     (rest : List Op) → expression_onto new (sequence rest) ≡ expression_onto old (sequence (ops ++ rest))

@@ -1,9 +1,10 @@
 //! Expressions (Core Specification, section 5.4.9). The lists that are still to be written stand in a list of
 //! their own, the innermost last, so that deeply nested instructions take memory and no stack.
 
-ghost use Rattle.std.specs.Prelude.{IfOk, ◌++◌, ◌≡◌};
+ghost use Rattle.std.specs.Prelude.{IfOk, ◌++◌, ◌∷◌, ◌≡◌};
 ghost use Rattle.w4_defs.specs.View.{expression_of};
 ghost use Rattle.wasm_write.specs.EncodeInstruction.{expression_bytes};
+ghost use Rattle.wasm_write.specs.EncodeNumber.{unsigned_bytes};
 ghost use Rattle.wasm_write.specs.EncodingForms.{head_bytes, inner_bytes};
 ghost use Rattle.wasm_write.specs.OpenLists.{open_bytes};
 
@@ -26,25 +27,41 @@ const END: u8 = 0x0b;
 
 const ELSE: u8 = 0x05;
 
+/// Appends an opcode and an unsigned number.
+fn one_number(out: &mut Vec<u8>, code: u8, first: u32) -> Result<(), OutOfMemory>
+    ensures { IfOk result (λ _. out.new.items ≡ out.old.items ++ code ∷ unsigned_bytes first) }
+{
+    byte(out, code)?;
+    unsigned(out, u64::from(first))
+}
+
+/// Appends an opcode and two unsigned numbers.
+fn two_numbers(out: &mut Vec<u8>, code: u8, first: u32, second: u32) -> Result<(), OutOfMemory>
+    ensures { IfOk result (λ _.
+        out.new.items ≡ out.old.items ++ code ∷ unsigned_bytes first ++ unsigned_bytes second) }
+{
+    one_number(out, code, first)?;
+    unsigned(out, u64::from(second))
+}
+
+/// Appends an opcode and bytes.
+fn code_and_bytes(out: &mut Vec<u8>, code: u8, after: &[u8]) -> Result<(), OutOfMemory>
+    ensures { IfOk result (λ _. out.new.items ≡ out.old.items ++ code ∷ after.now) }
+{
+    byte(out, code)?;
+    bytes(out, after)
+}
+
 /// Appends what stands before the lists inside an instruction.
 fn head(alloc: Global, out: &mut Vec<u8>, encoding: Encoding) -> Result<(), OutOfMemory>
     ensures { IfOk result (λ _. out.new.items ≡ out.old.items ++ head_bytes encoding.entry) }
 {
     match encoding {
         Encoding::Code(code) => byte(out, code),
-        Encoding::One(code, first) => {
-            byte(out, code)?;
-            unsigned(out, u64::from(first))
-        }
-        Encoding::Two(code, first, second) => {
-            byte(out, code)?;
-            unsigned(out, u64::from(first))?;
-            unsigned(out, u64::from(second))
-        }
+        Encoding::One(code, first) => one_number(out, code, first),
+        Encoding::Two(code, first, second) => two_numbers(out, code, first, second),
         Encoding::Three(code, first, second, third) => {
-            byte(out, code)?;
-            unsigned(out, u64::from(first))?;
-            unsigned(out, u64::from(second))?;
+            two_numbers(out, code, first, second)?;
             unsigned(out, u64::from(third))
         }
         Encoding::Signed32(code, value) => {
@@ -55,27 +72,15 @@ fn head(alloc: Global, out: &mut Vec<u8>, encoding: Encoding) -> Result<(), OutO
             byte(out, code)?;
             signed(out, 64, value)
         }
-        Encoding::Bits32(code, bits) => {
-            byte(out, code)?;
-            bytes(out, &bits.to_le_bytes())
-        }
-        Encoding::Bits64(code, bits) => {
-            byte(out, code)?;
-            bytes(out, &bits.to_le_bytes())
-        }
+        Encoding::Bits32(code, bits) => code_and_bytes(out, code, &bits.to_le_bytes()),
+        Encoding::Bits64(code, bits) => code_and_bytes(out, code, &bits.to_le_bytes()),
         Encoding::Labels(labels, last) => {
             byte(out, 0x0e)?;
             vector(alloc, out, labels)?;
             unsigned(out, u64::from(last))
         }
-        Encoding::List(code, result, _) => {
-            byte(out, code)?;
-            byte(out, block_type_code(result))
-        }
-        Encoding::Choice(result, _, _) => {
-            byte(out, 0x04)?;
-            byte(out, block_type_code(result))
-        }
+        Encoding::List(code, result, _) => code_and_bytes(out, code, &[block_type_code(result)]),
+        Encoding::Choice(result, _, _) => code_and_bytes(out, 0x04, &[block_type_code(result)]),
     }
 }
 

@@ -1,10 +1,11 @@
-//! How each instruction is encoded (Core Specification, section 5.4), in the order of the standard's tables.
+//! How each instruction is encoded (Core Specification, section 5.4), a function for each part of the
+//! standard's table: control, parametric and variable instructions, those of memory, and those of numbers,
+//! where the operators stand by their type.
 
-ghost use Rattle.std.specs.Prelude.{ℕ, ◌++◌, ◌≡◌};
-ghost use Rattle.w4_defs.specs.Tree.{Expr};
-ghost use Rattle.w4_defs.specs.View.{before};
-ghost use Rattle.wasm_write.specs.EncodeInstruction.{list_bytes};
-ghost use Rattle.wasm_write.specs.EncodingForms.{head_bytes, inner_bytes};
+ghost use Rattle.std.specs.Prelude.{None, Some, ◌≡◌, ◌≢◌};
+ghost use Rattle.w4_defs.specs.declared.instruction_table.IntegerType.TheVariants.{I64};
+ghost use Rattle.wasm_write.specs.EncodingForms.{IsEncodedAs, IsOpcode};
+ghost use Rattle.wasm_write.specs.InstructionTable.{HasRow, IsNumeric, instruction_row, operator_type};
 
 use w4_defs::{Instr, ValType};
 
@@ -34,9 +35,7 @@ pub enum Encoding<'a> {
 /// The encoding of an instruction.
 #[tactic(auto, unfolding(w4_defs::specs::View::before, crate::specs::EncodeInstruction::list_bytes))]
 pub fn encoding_of(instr: &Instr) -> Encoding
-    ensures { (close : ℕ) (rest : Expr) →
-        list_bytes close (before instr.now rest)
-        ≡ head_bytes result ++ (inner_bytes result ++ list_bytes close rest) }
+    ensures { IsEncodedAs instr.now result }
 {
     match instr {
         Instr::Unreachable => Encoding::Code(0x00),
@@ -60,6 +59,17 @@ pub fn encoding_of(instr: &Instr) -> Encoding
         Instr::LocalTee { index } => Encoding::One(0x22, *index),
         Instr::GlobalGet { index } => Encoding::One(0x23, *index),
         Instr::GlobalSet { index } => Encoding::One(0x24, *index),
+        _ => memory_encoding(instr),
+    }
+}
+
+/// The encoding of a memory or a numeric instruction.
+#[tactic(auto, unfolding(w4_defs::specs::View::before, crate::specs::EncodeInstruction::list_bytes))]
+fn memory_encoding(instr: &Instr) -> Encoding
+    requires { HasRow (instruction_row instr.now) }
+    ensures { IsEncodedAs instr.now result }
+{
+    match instr {
         Instr::I32Load { align, offset } => Encoding::Two(0x28, *align, *offset),
         Instr::I64Load { align, offset } => Encoding::Two(0x29, *align, *offset),
         Instr::I32Load8S { align, offset } => Encoding::Two(0x2c, *align, *offset),
@@ -79,77 +89,30 @@ pub fn encoding_of(instr: &Instr) -> Encoding
         Instr::I64Store8 { align, offset } => Encoding::Two(0x3c, *align, *offset),
         Instr::I64Store16 { align, offset } => Encoding::Two(0x3d, *align, *offset),
         Instr::I64Store32 { align, offset } => Encoding::Two(0x3e, *align, *offset),
+        Instr::MemorySize => Encoding::One(0x3f, 0),
+        Instr::MemoryGrow => Encoding::One(0x40, 0),
+        Instr::MemoryCopy => Encoding::Three(0xfc, 10, 0, 0),
+        Instr::MemoryFill => Encoding::Two(0xfc, 11, 0),
+        _ => numeric_encoding(instr),
+    }
+}
+
+/// The encoding of a numeric instruction, or of any of floats.
+#[tactic(auto, unfolding(w4_defs::specs::View::before, crate::specs::EncodeInstruction::list_bytes))]
+fn numeric_encoding(instr: &Instr) -> Encoding
+    requires { IsNumeric (instruction_row instr.now) }
+    ensures { IsEncodedAs instr.now result }
+{
+    match instr {
         Instr::FloatMemory {
             code,
             align,
             offset,
         } => Encoding::Two(*code, *align, *offset),
-        Instr::MemorySize => Encoding::One(0x3f, 0),
-        Instr::MemoryGrow => Encoding::One(0x40, 0),
-        Instr::MemoryCopy => Encoding::Three(0xfc, 10, 0, 0),
-        Instr::MemoryFill => Encoding::Two(0xfc, 11, 0),
         Instr::I32Const { value } => Encoding::Signed32(0x41, *value),
         Instr::I64Const { value } => Encoding::Signed64(0x42, *value),
         Instr::F32Const { bits } => Encoding::Bits32(0x43, *bits),
         Instr::F64Const { bits } => Encoding::Bits64(0x44, *bits),
-        Instr::I32Eqz => Encoding::Code(0x45),
-        Instr::I32Eq => Encoding::Code(0x46),
-        Instr::I32Ne => Encoding::Code(0x47),
-        Instr::I32LtS => Encoding::Code(0x48),
-        Instr::I32LtU => Encoding::Code(0x49),
-        Instr::I32GtS => Encoding::Code(0x4a),
-        Instr::I32GtU => Encoding::Code(0x4b),
-        Instr::I32LeS => Encoding::Code(0x4c),
-        Instr::I32LeU => Encoding::Code(0x4d),
-        Instr::I32GeS => Encoding::Code(0x4e),
-        Instr::I32GeU => Encoding::Code(0x4f),
-        Instr::I64Eqz => Encoding::Code(0x50),
-        Instr::I64Eq => Encoding::Code(0x51),
-        Instr::I64Ne => Encoding::Code(0x52),
-        Instr::I64LtS => Encoding::Code(0x53),
-        Instr::I64LtU => Encoding::Code(0x54),
-        Instr::I64GtS => Encoding::Code(0x55),
-        Instr::I64GtU => Encoding::Code(0x56),
-        Instr::I64LeS => Encoding::Code(0x57),
-        Instr::I64LeU => Encoding::Code(0x58),
-        Instr::I64GeS => Encoding::Code(0x59),
-        Instr::I64GeU => Encoding::Code(0x5a),
-        Instr::I32Clz => Encoding::Code(0x67),
-        Instr::I32Ctz => Encoding::Code(0x68),
-        Instr::I32Popcnt => Encoding::Code(0x69),
-        Instr::I32Add => Encoding::Code(0x6a),
-        Instr::I32Sub => Encoding::Code(0x6b),
-        Instr::I32Mul => Encoding::Code(0x6c),
-        Instr::I32DivS => Encoding::Code(0x6d),
-        Instr::I32DivU => Encoding::Code(0x6e),
-        Instr::I32RemS => Encoding::Code(0x6f),
-        Instr::I32RemU => Encoding::Code(0x70),
-        Instr::I32And => Encoding::Code(0x71),
-        Instr::I32Or => Encoding::Code(0x72),
-        Instr::I32Xor => Encoding::Code(0x73),
-        Instr::I32Shl => Encoding::Code(0x74),
-        Instr::I32ShrS => Encoding::Code(0x75),
-        Instr::I32ShrU => Encoding::Code(0x76),
-        Instr::I32Rotl => Encoding::Code(0x77),
-        Instr::I32Rotr => Encoding::Code(0x78),
-        Instr::I64Clz => Encoding::Code(0x79),
-        Instr::I64Ctz => Encoding::Code(0x7a),
-        Instr::I64Popcnt => Encoding::Code(0x7b),
-        Instr::I64Add => Encoding::Code(0x7c),
-        Instr::I64Sub => Encoding::Code(0x7d),
-        Instr::I64Mul => Encoding::Code(0x7e),
-        Instr::I64DivS => Encoding::Code(0x7f),
-        Instr::I64DivU => Encoding::Code(0x80),
-        Instr::I64RemS => Encoding::Code(0x81),
-        Instr::I64RemU => Encoding::Code(0x82),
-        Instr::I64And => Encoding::Code(0x83),
-        Instr::I64Or => Encoding::Code(0x84),
-        Instr::I64Xor => Encoding::Code(0x85),
-        Instr::I64Shl => Encoding::Code(0x86),
-        Instr::I64ShrS => Encoding::Code(0x87),
-        Instr::I64ShrU => Encoding::Code(0x88),
-        Instr::I64Rotl => Encoding::Code(0x89),
-        Instr::I64Rotr => Encoding::Code(0x8a),
         Instr::I32WrapI64 => Encoding::Code(0xa7),
         Instr::I64ExtendI32S => Encoding::Code(0xac),
         Instr::I64ExtendI32U => Encoding::Code(0xad),
@@ -160,5 +123,86 @@ pub fn encoding_of(instr: &Instr) -> Encoding
         Instr::I64Extend32S => Encoding::Code(0xc4),
         Instr::FloatPlain { code } => Encoding::Code(*code),
         Instr::FloatCut { code } => Encoding::One(0xfc, u32::from(*code)),
+        _ => Encoding::Code(operator_opcode(instr)),
+    }
+}
+
+/// The opcode of a testop, relop, unop or binop.
+#[tactic(auto, unfolding(w4_defs::specs::View::before, crate::specs::EncodeInstruction::list_bytes))]
+fn operator_opcode(instr: &Instr) -> u8
+    requires { operator_type (instruction_row instr.now) ≢ None }
+    ensures { IsOpcode instr.now result }
+{
+    match instr {
+        Instr::I32Eqz => 0x45,
+        Instr::I32Eq => 0x46,
+        Instr::I32Ne => 0x47,
+        Instr::I32LtS => 0x48,
+        Instr::I32LtU => 0x49,
+        Instr::I32GtS => 0x4a,
+        Instr::I32GtU => 0x4b,
+        Instr::I32LeS => 0x4c,
+        Instr::I32LeU => 0x4d,
+        Instr::I32GeS => 0x4e,
+        Instr::I32GeU => 0x4f,
+        Instr::I32Clz => 0x67,
+        Instr::I32Ctz => 0x68,
+        Instr::I32Popcnt => 0x69,
+        Instr::I32Add => 0x6a,
+        Instr::I32Sub => 0x6b,
+        Instr::I32Mul => 0x6c,
+        Instr::I32DivS => 0x6d,
+        Instr::I32DivU => 0x6e,
+        Instr::I32RemS => 0x6f,
+        Instr::I32RemU => 0x70,
+        Instr::I32And => 0x71,
+        Instr::I32Or => 0x72,
+        Instr::I32Xor => 0x73,
+        Instr::I32Shl => 0x74,
+        Instr::I32ShrS => 0x75,
+        Instr::I32ShrU => 0x76,
+        Instr::I32Rotl => 0x77,
+        Instr::I32Rotr => 0x78,
+        _ => i64_opcode(instr),
+    }
+}
+
+/// The opcode of an operator of i64.
+#[tactic(auto, unfolding(w4_defs::specs::View::before, crate::specs::EncodeInstruction::list_bytes))]
+fn i64_opcode(instr: &Instr) -> u8
+    requires { operator_type (instruction_row instr.now) ≡ Some I64 }
+    ensures { IsOpcode instr.now result }
+{
+    match instr {
+        Instr::I64Eqz => 0x50,
+        Instr::I64Eq => 0x51,
+        Instr::I64Ne => 0x52,
+        Instr::I64LtS => 0x53,
+        Instr::I64LtU => 0x54,
+        Instr::I64GtS => 0x55,
+        Instr::I64GtU => 0x56,
+        Instr::I64LeS => 0x57,
+        Instr::I64LeU => 0x58,
+        Instr::I64GeS => 0x59,
+        Instr::I64GeU => 0x5a,
+        Instr::I64Clz => 0x79,
+        Instr::I64Ctz => 0x7a,
+        Instr::I64Popcnt => 0x7b,
+        Instr::I64Add => 0x7c,
+        Instr::I64Sub => 0x7d,
+        Instr::I64Mul => 0x7e,
+        Instr::I64DivS => 0x7f,
+        Instr::I64DivU => 0x80,
+        Instr::I64RemS => 0x81,
+        Instr::I64RemU => 0x82,
+        Instr::I64And => 0x83,
+        Instr::I64Or => 0x84,
+        Instr::I64Xor => 0x85,
+        Instr::I64Shl => 0x86,
+        Instr::I64ShrS => 0x87,
+        Instr::I64ShrU => 0x88,
+        Instr::I64Rotl => 0x89,
+        Instr::I64Rotr => 0x8a,
+        _ => unreachable!(),
     }
 }

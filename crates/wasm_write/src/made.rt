@@ -9,7 +9,7 @@ ghost use Rattle.w4_defs.specs.Tree.{sequence};
 ghost use Rattle.w4_defs.specs.View.{before};
 ghost use Rattle.wasm_write.specs.Draws.{function_of_draws, input_of_draw, inputs_from};
 ghost use Rattle.wasm_write.specs.EncodeModule.{module_bytes};
-ghost use Rattle.wasm_write.specs.Sequences.{Appends, IsOperation};
+ghost use Rattle.wasm_write.specs.Sequences.{AppendsOperations, IsOperation};
 
 use crate::made_module::{SMALL_FUNCTIONS, module_around};
 use crate::module::write_module;
@@ -106,7 +106,7 @@ fn small_function(alloc: Global, draws: &mut Draws) -> Result<Body, OutOfMemory>
 /// Appends the step of small function g, which is function g + 1, in `update`.
 fn step(list: &mut Vec<Instr>, g: u32) -> Result<(), OutOfMemory>
     requires { g < 64 }
-    ensures { IfOk result (λ _. Appends list.old.items (step_of g) list.new.items) }
+    ensures { IfOk result (λ _. AppendsOperations list.old.items (step_of g) list.new.items) }
 {
     let address = WORDS + 4 * g;
     list.push(Instr::I32Const { value: address })?;
@@ -130,8 +130,8 @@ fn step(list: &mut Vec<Instr>, g: u32) -> Result<(), OutOfMemory>
 
 /// All steps.
 fn steps(list: &mut Vec<Instr>) -> Result<(), OutOfMemory>
-    ensures { IfOk result (λ _.
-        Appends list.old.items (flat_map step_of (range_with_len 0 small_functions)) list.new.items) }
+    ensures { IfOk result (λ _. AppendsOperations list.old.items
+        (flat_map step_of (range_with_len 0 small_functions)) list.new.items) }
 {
     for g in 0..SMALL_FUNCTIONS {
         step(list, g)?;
@@ -141,7 +141,7 @@ fn steps(list: &mut Vec<Instr>) -> Result<(), OutOfMemory>
 
 /// Appends the byte of a word that `rect` is called with.
 fn byte_of_word(list: &mut Vec<Instr>, address: u32) -> Result<(), OutOfMemory>
-    ensures { IfOk result (λ _. Appends list.old.items (byte_at address) list.new.items) }
+    ensures { IfOk result (λ _. AppendsOperations list.old.items (byte_at address) list.new.items) }
 {
     list.push(Instr::I32Const { value: address })?;
     list.push(Instr::I32Load8U {

@@ -56,46 +56,46 @@ fn start_section(alloc: Global, out: &mut Vec<u8>, start: Option<u32>) -> Result
 
 /// The sections 1 to 6.
 #[tactic(auto, unfolding(crate::specs::EncodeModule::first_sections))]
-fn first_sections(alloc: Global, out: &mut Vec<u8>, module: &Module) -> Result<(), OutOfMemory>
-    ensures { IfOk result (λ _. out.new.items ≡ out.old.items ++ first_sections module.now) }
+fn first_sections(alloc: Global, out: &mut Vec<u8>, wasm_module: &Module) -> Result<(), OutOfMemory>
+    ensures { IfOk result (λ _. out.new.items ≡ out.old.items ++ first_sections wasm_module.now) }
 {
-    section(alloc, out, 1, &module.types)?;
-    section(alloc, out, 2, &module.imports)?;
-    section(alloc, out, 3, &module.functions)?;
-    table_section(alloc, out, &module.tables)?;
-    section(alloc, out, 5, &module.memories)?;
-    section(alloc, out, 6, &module.globals)
+    section(alloc, out, 1, &wasm_module.types)?;
+    section(alloc, out, 2, &wasm_module.imports)?;
+    section(alloc, out, 3, &wasm_module.functions)?;
+    table_section(alloc, out, &wasm_module.tables)?;
+    section(alloc, out, 5, &wasm_module.memories)?;
+    section(alloc, out, 6, &wasm_module.globals)
 }
 
 /// The sections 7 to 11.
 #[tactic(auto, unfolding(crate::specs::EncodeModule::last_sections))]
-fn last_sections(alloc: Global, out: &mut Vec<u8>, module: &Module) -> Result<(), OutOfMemory>
-    ensures { IfOk result (λ _. out.new.items ≡ out.old.items ++ last_sections module.now) }
+fn last_sections(alloc: Global, out: &mut Vec<u8>, wasm_module: &Module) -> Result<(), OutOfMemory>
+    ensures { IfOk result (λ _. out.new.items ≡ out.old.items ++ last_sections wasm_module.now) }
 {
-    section(alloc, out, 7, &module.exports)?;
-    start_section(alloc, out, module.start)?;
-    section(alloc, out, 9, &module.elements)?;
-    section(alloc, out, 10, &module.bodies)?;
-    section(alloc, out, 11, &module.segments)
+    section(alloc, out, 7, &wasm_module.exports)?;
+    start_section(alloc, out, wasm_module.start)?;
+    section(alloc, out, 9, &wasm_module.elements)?;
+    section(alloc, out, 10, &wasm_module.bodies)?;
+    section(alloc, out, 11, &wasm_module.segments)
 }
 
 /// The bytes of a module, whether or not the format can encode it.
 #[tactic(auto, unfolding(crate::specs::EncodeModule::module_bytes))]
-pub(crate) fn module_bytes(alloc: Global, module: &Module) -> Result<Vec<u8>, OutOfMemory>
-    ensures { IfOk result (λ v. v.items ≡ module_bytes module.now) }
+pub(crate) fn module_bytes(alloc: Global, wasm_module: &Module) -> Result<Vec<u8>, OutOfMemory>
+    ensures { IfOk result (λ v. v.items ≡ module_bytes wasm_module.now) }
 {
     let mut out = Vec::new(alloc);
     bytes(&mut out, &PREAMBLE)?;
-    first_sections(alloc, &mut out, module)?;
-    last_sections(alloc, &mut out, module)?;
+    first_sections(alloc, &mut out, wasm_module)?;
+    last_sections(alloc, &mut out, wasm_module)?;
     Ok(out)
 }
 
 /// The bytes that encode a module, every number in its shortest encoding. No data count section is written.
-pub fn write_module(alloc: Global, module: &Module) -> Result<Vec<u8>, OutOfMemory>
-    requires { ModuleFits module.now }
-    ensures encodes { IfOk result (λ v. SpellsModule v.items module.now) }
-    ensures shortest { IfOk result (λ v. v.items ≡ module_bytes module.now) }
+pub fn write_module(alloc: Global, wasm_module: &Module) -> Result<Vec<u8>, OutOfMemory>
+    requires { ModuleFits wasm_module.now }
+    ensures encodes { IfOk result (λ v. SpellsModule v.items wasm_module.now) }
+    ensures shortest { IfOk result (λ v. v.items ≡ module_bytes wasm_module.now) }
 {
-    module_bytes(alloc, module)
+    module_bytes(alloc, wasm_module)
 }

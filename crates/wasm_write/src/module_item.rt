@@ -135,9 +135,9 @@ impl Encode for Body {
 }
 
 impl Encode for Segment {
-    ghost use Rattle.wasm_write.specs.EncodeModule.{segment_bytes};
+    ghost use Rattle.wasm_write.specs.EncodeModule.{data_segment_bytes};
 
-    ghost bytes = { segment_bytes };
+    ghost bytes = { data_segment_bytes };
 
     fn encode(&self, alloc: Global, out: &mut Vec<u8>) -> Result<(), OutOfMemory> {
         unsigned(out, u64::from(self.memory))?;

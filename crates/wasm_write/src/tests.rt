@@ -4,6 +4,7 @@
 use crate::Maker;
 use crate::module::module_bytes;
 use std::alloc::Global;
+use std::process::Abort;
 use std::test::Fail;
 use w4_defs::{
     Body, Element, Export, ExportKind, FuncType, GlobalEntry, GlobalType, ImportEntry, ImportKind,
@@ -53,6 +54,18 @@ fn code_of(alloc: Global, module: &Module) -> Result<Vec<u8>, Fail> {
     Ok(Vec::from_slice(alloc, code)?)
 }
 
+/// The code of a list of at most 123 bytes: the sizes and the count of locals, the list, and the byte that
+/// ends it.
+fn check_list(rt: &impl Abort, alloc: Global, list: Vec<Instr>, want: &[u8]) -> Result<(), Fail> {
+    let code = code_of(alloc, &module_of(alloc, list)?)?;
+    let size = want.len().min(123) as u8;
+    let mut section = Vec::from_slice(alloc, &[0x0a, size + 4, 1, size + 2, 0])?;
+    section.extend_from_slice(want)?;
+    section.push(0x0b)?;
+    assert_eq!(rt; code.as_slice(), section.as_slice());
+    Ok(())
+}
+
 #[test]
 fn made_cart_of_0_begins_with_the_worked_function(rt: HostRuntime) -> Result<(), Fail> {
     let made = Maker::make(rt.alloc(), 0).map_err(|_| "no memory")?;
@@ -77,7 +90,7 @@ fn made_cart_of_0_begins_with_the_worked_function(rt: HostRuntime) -> Result<(),
 }
 
 #[test]
-fn numeric_instructions_have_the_opcodes_of_the_standard(rt: HostRuntime) -> Result<(), Fail> {
+fn comparisons_of_i32_have_the_opcodes_of_the_standard(rt: HostRuntime) -> Result<(), Fail> {
     let list = vec![in rt.alloc();
         Instr::I32Eqz,
         Instr::I32Eq,
@@ -90,6 +103,14 @@ fn numeric_instructions_have_the_opcodes_of_the_standard(rt: HostRuntime) -> Res
         Instr::I32LeU,
         Instr::I32GeS,
         Instr::I32GeU,
+    ]?;
+    let want = b"\x45\x46\x47\x48\x49\x4a\x4b\x4c\x4d\x4e\x4f";
+    check_list(&rt, rt.alloc(), list, want)
+}
+
+#[test]
+fn comparisons_of_i64_have_the_opcodes_of_the_standard(rt: HostRuntime) -> Result<(), Fail> {
+    let list = vec![in rt.alloc();
         Instr::I64Eqz,
         Instr::I64Eq,
         Instr::I64Ne,
@@ -101,6 +122,14 @@ fn numeric_instructions_have_the_opcodes_of_the_standard(rt: HostRuntime) -> Res
         Instr::I64LeU,
         Instr::I64GeS,
         Instr::I64GeU,
+    ]?;
+    let want = b"\x50\x51\x52\x53\x54\x55\x56\x57\x58\x59\x5a";
+    check_list(&rt, rt.alloc(), list, want)
+}
+
+#[test]
+fn arithmetic_of_i32_has_the_opcodes_of_the_standard(rt: HostRuntime) -> Result<(), Fail> {
+    let list = vec![in rt.alloc();
         Instr::I32Clz,
         Instr::I32Ctz,
         Instr::I32Popcnt,
@@ -119,6 +148,14 @@ fn numeric_instructions_have_the_opcodes_of_the_standard(rt: HostRuntime) -> Res
         Instr::I32ShrU,
         Instr::I32Rotl,
         Instr::I32Rotr,
+    ]?;
+    let want = b"\x67\x68\x69\x6a\x6b\x6c\x6d\x6e\x6f\x70\x71\x72\x73\x74\x75\x76\x77\x78";
+    check_list(&rt, rt.alloc(), list, want)
+}
+
+#[test]
+fn arithmetic_of_i64_has_the_opcodes_of_the_standard(rt: HostRuntime) -> Result<(), Fail> {
+    let list = vec![in rt.alloc();
         Instr::I64Clz,
         Instr::I64Ctz,
         Instr::I64Popcnt,
@@ -137,6 +174,14 @@ fn numeric_instructions_have_the_opcodes_of_the_standard(rt: HostRuntime) -> Res
         Instr::I64ShrU,
         Instr::I64Rotl,
         Instr::I64Rotr,
+    ]?;
+    let want = b"\x79\x7a\x7b\x7c\x7d\x7e\x7f\x80\x81\x82\x83\x84\x85\x86\x87\x88\x89\x8a";
+    check_list(&rt, rt.alloc(), list, want)
+}
+
+#[test]
+fn conversions_have_the_opcodes_of_the_standard(rt: HostRuntime) -> Result<(), Fail> {
+    let list = vec![in rt.alloc();
         Instr::I32WrapI64,
         Instr::I64ExtendI32S,
         Instr::I64ExtendI32U,
@@ -146,183 +191,183 @@ fn numeric_instructions_have_the_opcodes_of_the_standard(rt: HostRuntime) -> Res
         Instr::I64Extend16S,
         Instr::I64Extend32S,
     ]?;
-    let code = code_of(rt.alloc(), &module_of(rt.alloc(), list)?)?;
-    let opcodes = b"\x0a\x46\x01\x44\0\
-        \x45\x46\x47\x48\x49\x4a\x4b\x4c\x4d\x4e\x4f\x50\x51\x52\x53\x54\x55\x56\x57\x58\x59\x5a\
-        \x67\x68\x69\x6a\x6b\x6c\x6d\x6e\x6f\x70\x71\x72\x73\x74\x75\x76\x77\x78\x79\x7a\x7b\x7c\
-        \x7d\x7e\x7f\x80\x81\x82\x83\x84\x85\x86\x87\x88\x89\x8a\xa7\xac\xad\xc0\xc1\xc2\xc3\xc4\x0b";
-    assert_eq!(rt; code.as_slice(), opcodes.as_slice());
-    Ok(())
+    let want = b"\xa7\xac\xad\xc0\xc1\xc2\xc3\xc4";
+    check_list(&rt, rt.alloc(), list, want)
+}
+
+/// What stands after the opcode of an access of alignment 1 and offset 130.
+const ACCESS: [u8; 3] = [0x01, 0x82, 0x01];
+
+/// These opcodes, each with what stands after it at such an access.
+fn accesses(alloc: Global, opcodes: &[u8]) -> Result<Vec<u8>, Fail> {
+    let mut bytes = Vec::new(alloc);
+    for opcode in opcodes {
+        bytes.push(*opcode)?;
+        bytes.extend_from_slice(&ACCESS)?;
+    }
+    Ok(bytes)
 }
 
 #[test]
-fn memory_instructions_have_the_opcodes_of_the_standard(rt: HostRuntime) -> Result<(), Fail> {
+fn loads_have_the_opcodes_of_the_standard(rt: HostRuntime) -> Result<(), Fail> {
+    let (align, offset) = (1, 130);
     let list = vec![in rt.alloc();
-        Instr::I32Load {
-            align: 0,
-            offset: 0
-        },
-        Instr::I64Load {
-            align: 1,
-            offset: 1
-        },
-        Instr::I32Load8S {
-            align: 2,
-            offset: 2
-        },
-        Instr::I32Load8U {
-            align: 0,
-            offset: 3
-        },
-        Instr::I32Load16S {
-            align: 1,
-            offset: 4
-        },
-        Instr::I32Load16U {
-            align: 2,
-            offset: 5
-        },
-        Instr::I64Load8S {
-            align: 0,
-            offset: 6
-        },
-        Instr::I64Load8U {
-            align: 1,
-            offset: 7
-        },
-        Instr::I64Load16S {
-            align: 2,
-            offset: 8
-        },
-        Instr::I64Load16U {
-            align: 0,
-            offset: 9
-        },
-        Instr::I64Load32S {
-            align: 1,
-            offset: 10
-        },
-        Instr::I64Load32U {
-            align: 2,
-            offset: 11
-        },
-        Instr::I32Store {
-            align: 0,
-            offset: 12
-        },
-        Instr::I64Store {
-            align: 1,
-            offset: 13
-        },
-        Instr::I32Store8 {
-            align: 2,
-            offset: 14
-        },
-        Instr::I32Store16 {
-            align: 0,
-            offset: 15
-        },
-        Instr::I64Store8 {
-            align: 1,
-            offset: 16
-        },
-        Instr::I64Store16 {
-            align: 2,
-            offset: 17
-        },
-        Instr::I64Store32 {
-            align: 0,
-            offset: 18
-        },
-        Instr::FloatMemory {
-            code: 0x2b,
-            align: 3,
-            offset: 128
-        },
+        Instr::I32Load { align, offset },
+        Instr::I64Load { align, offset },
+        Instr::I32Load8S { align, offset },
+        Instr::I32Load8U { align, offset },
+        Instr::I32Load16S { align, offset },
+        Instr::I32Load16U { align, offset },
+        Instr::I64Load8S { align, offset },
+        Instr::I64Load8U { align, offset },
+        Instr::I64Load16S { align, offset },
+        Instr::I64Load16U { align, offset },
+        Instr::I64Load32S { align, offset },
+        Instr::I64Load32U { align, offset },
+    ]?;
+    let want = accesses(
+        rt.alloc(),
+        b"\x28\x29\x2c\x2d\x2e\x2f\x30\x31\x32\x33\x34\x35",
+    )?;
+    check_list(&rt, rt.alloc(), list, want.as_slice())
+}
+
+#[test]
+fn stores_have_the_opcodes_of_the_standard(rt: HostRuntime) -> Result<(), Fail> {
+    let (align, offset) = (1, 130);
+    let list = vec![in rt.alloc();
+        Instr::I32Store { align, offset },
+        Instr::I64Store { align, offset },
+        Instr::I32Store8 { align, offset },
+        Instr::I32Store16 { align, offset },
+        Instr::I64Store8 { align, offset },
+        Instr::I64Store16 { align, offset },
+        Instr::I64Store32 { align, offset },
+    ]?;
+    let want = accesses(rt.alloc(), b"\x36\x37\x3a\x3b\x3c\x3d\x3e")?;
+    check_list(&rt, rt.alloc(), list, want.as_slice())
+}
+
+#[test]
+fn instructions_of_the_whole_memory_are_encoded_as_the_standard_says(
+    rt: HostRuntime,
+) -> Result<(), Fail> {
+    let list = vec![in rt.alloc();
         Instr::MemorySize,
         Instr::MemoryGrow,
         Instr::MemoryCopy,
         Instr::MemoryFill,
     ]?;
-    let code = code_of(rt.alloc(), &module_of(rt.alloc(), list)?)?;
-    let opcodes = b"\x0a\x4c\x01\x4a\0\
-        \x28\x00\x00\x29\x01\x01\x2c\x02\x02\x2d\x00\x03\x2e\x01\x04\x2f\x02\x05\x30\x00\x06\x31\
-        \x01\x07\x32\x02\x08\x33\x00\x09\x34\x01\x0a\x35\x02\x0b\x36\x00\x0c\x37\x01\x0d\x3a\x02\
-        \x0e\x3b\x00\x0f\x3c\x01\x10\x3d\x02\x11\x3e\x00\x12\x2b\x03\x80\x01\x3f\x00\x40\x00\xfc\
-        \x0a\x00\x00\xfc\x0b\x00\x0b";
-    assert_eq!(rt; code.as_slice(), opcodes.as_slice());
-    Ok(())
+    let want = b"\x3f\x00\x40\x00\xfc\x0a\x00\x00\xfc\x0b\x00";
+    check_list(&rt, rt.alloc(), list, want)
 }
 
 #[test]
-fn other_instructions_are_encoded_as_the_standard_says(rt: HostRuntime) -> Result<(), Fail> {
-    let alloc = rt.alloc();
-    let mut list = vec![in alloc;
-        Instr::Unreachable,
-        Instr::Nop,
-        Instr::Br { label: 0 },
-        Instr::BrIf { label: 1 },
-        Instr::Return,
-        Instr::Call { func: 200 },
-        Instr::CallIndirect {
-            signature: 3,
-            table: 0
+fn instructions_of_floats_are_encoded_as_the_standard_says(rt: HostRuntime) -> Result<(), Fail> {
+    let bits = 0x3ff0_0000_0000_0000;
+    let list = vec![in rt.alloc();
+        Instr::FloatMemory {
+            code: 0x2b,
+            align: 3,
+            offset: 128
         },
-        Instr::Drop,
-        Instr::Select,
-        Instr::LocalGet { index: 127 },
-        Instr::LocalSet { index: 128 },
-        Instr::LocalTee { index: u32::MAX },
-        Instr::GlobalGet { index: 0 },
-        Instr::GlobalSet { index: 1 },
+        Instr::F32Const { bits: 0x3f80_0000 },
+        Instr::F64Const { bits },
+        Instr::FloatPlain { code: 0xa0 },
+        Instr::FloatCut { code: 7 },
+    ]?;
+    let want = b"\x2b\x03\x80\x01\x43\x00\x00\x80\x3f\
+        \x44\x00\x00\x00\x00\x00\x00\xf0\x3f\xa0\xfc\x07";
+    check_list(&rt, rt.alloc(), list, want)
+}
+
+#[test]
+fn constants_have_signed_numbers_in_their_shortest_encoding(rt: HostRuntime) -> Result<(), Fail> {
+    let list = vec![in rt.alloc();
         Instr::I32Const { value: 160 },
         Instr::I32Const { value: 65_533 },
         Instr::I32Const { value: u32::MAX },
         Instr::I64Const { value: 64 },
         Instr::I64Const { value: 1 << 63 },
-        Instr::F32Const { bits: 0x3f80_0000 },
-        Instr::F64Const {
-            bits: 0x3ff0_0000_0000_0000
-        },
-        Instr::FloatPlain { code: 0xa0 },
-        Instr::FloatCut { code: 7 },
     ]?;
-    list.push(Instr::BrTable {
-        labels: vec![in alloc; 0, 1]?,
-        last: 2,
-    })?;
-    list.push(Instr::Block {
-        result: Some(ValType::I32),
-        inner: vec![in alloc; Instr::Nop]?,
-    })?;
-    list.push(Instr::Loop {
-        result: None,
-        inner: Vec::new(alloc),
-    })?;
-    list.push(Instr::If {
-        result: Some(ValType::I64),
-        yes: vec![in alloc; Instr::Nop]?,
-        no: Some(vec![in alloc; Instr::Drop]?),
-    })?;
-    list.push(Instr::If {
-        result: None,
-        yes: vec![in alloc; Instr::Return]?,
-        no: None,
-    })?;
-    list.push(Instr::If {
-        result: None,
-        yes: Vec::new(alloc),
-        no: Some(Vec::new(alloc)),
-    })?;
-    let code = code_of(alloc, &module_of(alloc, list)?)?;
-    let expected = b"\x0a\x64\x01\x62\0\
-        \x00\x01\x0c\x00\x0d\x01\x0f\x10\xc8\x01\x11\x03\x00\x1a\x1b\x20\x7f\x21\x80\x01\x22\xff\
-        \xff\xff\xff\x0f\x23\x00\x24\x01\x41\xa0\x01\x41\xfd\xff\x03\x41\x7f\x42\xc0\x00\x42\x80\
-        \x80\x80\x80\x80\x80\x80\x80\x80\x7f\x43\x00\x00\x80\x3f\x44\x00\x00\x00\x00\x00\x00\xf0\
-        \x3f\xa0\xfc\x07\x0e\x02\x00\x01\x02\x02\x7f\x01\x0b\x03\x40\x0b\x04\x7e\x01\x05\x1a\x0b\
-        \x04\x40\x0f\x0b\x04\x40\x05\x0b\x0b";
-    assert_eq!(rt; code.as_slice(), expected.as_slice());
-    Ok(())
+    let want = b"\x41\xa0\x01\x41\xfd\xff\x03\x41\x7f\x42\xc0\x00\
+        \x42\x80\x80\x80\x80\x80\x80\x80\x80\x80\x7f";
+    check_list(&rt, rt.alloc(), list, want)
+}
+
+#[test]
+fn variables_are_encoded_as_the_standard_says(rt: HostRuntime) -> Result<(), Fail> {
+    let list = vec![in rt.alloc();
+        Instr::LocalGet { index: 127 },
+        Instr::LocalSet { index: 128 },
+        Instr::LocalTee { index: u32::MAX },
+        Instr::GlobalGet { index: 0 },
+        Instr::GlobalSet { index: 1 },
+    ]?;
+    let want = b"\x20\x7f\x21\x80\x01\x22\xff\xff\xff\xff\x0f\x23\x00\x24\x01";
+    check_list(&rt, rt.alloc(), list, want)
+}
+
+#[test]
+fn branches_and_calls_are_encoded_as_the_standard_says(rt: HostRuntime) -> Result<(), Fail> {
+    let labels = vec![in rt.alloc(); 0, 1]?;
+    let (signature, table) = (3, 0);
+    let list = vec![in rt.alloc();
+        Instr::Unreachable,
+        Instr::Nop,
+        Instr::Br { label: 0 },
+        Instr::BrIf { label: 1 },
+        Instr::BrTable { labels, last: 2 },
+        Instr::Return,
+        Instr::Call { func: 200 },
+        Instr::CallIndirect { signature, table },
+        Instr::Drop,
+        Instr::Select,
+    ]?;
+    let want = b"\x00\x01\x0c\x00\x0d\x01\x0e\x02\x00\x01\x02\
+        \x0f\x10\xc8\x01\x11\x03\x00\x1a\x1b";
+    check_list(&rt, rt.alloc(), list, want)
+}
+
+#[test]
+fn blocks_are_encoded_as_the_standard_says(rt: HostRuntime) -> Result<(), Fail> {
+    let alloc = rt.alloc();
+    let list = vec![in alloc;
+        Instr::Block {
+            result: Some(ValType::I32),
+            inner: vec![in alloc; Instr::Nop]?,
+        },
+        Instr::Loop {
+            result: None,
+            inner: Vec::new(alloc),
+        },
+    ]?;
+    let want = b"\x02\x7f\x01\x0b\x03\x40\x0b";
+    check_list(&rt, alloc, list, want)
+}
+
+#[test]
+fn an_if_has_an_else_byte_where_it_has_two_lists(rt: HostRuntime) -> Result<(), Fail> {
+    let alloc = rt.alloc();
+    let list = vec![in alloc;
+        Instr::If {
+            result: Some(ValType::I64),
+            yes: vec![in alloc; Instr::Nop]?,
+            no: Some(vec![in alloc; Instr::Drop]?),
+        },
+        Instr::If {
+            result: None,
+            yes: vec![in alloc; Instr::Return]?,
+            no: None,
+        },
+        Instr::If {
+            result: None,
+            yes: Vec::new(alloc),
+            no: Some(Vec::new(alloc)),
+        },
+    ]?;
+    let want = b"\x04\x7e\x01\x05\x1a\x0b\x04\x40\x0f\x0b\x04\x40\x05\x0b";
+    check_list(&rt, alloc, list, want)
 }
 
 /// Drops the blocks from the outermost on: the drop of a nested list takes stack.
@@ -384,80 +429,99 @@ fn constant(alloc: Global, value: u32) -> Result<Vec<Instr>, Fail> {
     Ok(vec![in alloc; Instr::I32Const { value }]?)
 }
 
-fn module_of_all_sections(alloc: Global) -> Result<Module, Fail> {
-    let mut module = empty(alloc);
-    module.types.push(FuncType {
+fn types(alloc: Global) -> Result<Vec<FuncType>, Fail> {
+    let some = FuncType {
         params: Vec::from_slice(alloc, &[ValType::I32, ValType::I64])?,
         results: Vec::from_slice(alloc, &[ValType::F64])?,
-    })?;
-    module.types.push(FuncType {
+    };
+    let none = FuncType {
         params: Vec::new(alloc),
         results: Vec::new(alloc),
-    })?;
-    let table = sizes(1, None);
-    let pages = sizes(1, Some(2));
+    };
+    Ok(vec![in alloc; some, none]?)
+}
+
+fn imports(alloc: Global) -> Result<Vec<ImportEntry>, Fail> {
+    let limits = sizes(1, None);
+    let pages = ImportKind::Memory {
+        limits: sizes(1, Some(2)),
+    };
     let global = GlobalType {
         value: ValType::I64,
         mutable: false,
     };
-    module
-        .imports
-        .push(import(alloc, "f", ImportKind::Func { index: 1 })?)?;
-    module
-        .imports
-        .push(import(alloc, "t", ImportKind::Table { limits: table })?)?;
-    module.imports.push(import(alloc, "\u{e9}", ImportKind::Memory { limits: pages })?)?;
-    module
-        .imports
-        .push(import(alloc, "g", ImportKind::Global { global })?)?;
-    module.functions.push(1)?;
-    module.tables.push(sizes(0, Some(128)))?;
-    module.memories.push(sizes(1, None))?;
-    module.globals.push(GlobalEntry {
-        global: GlobalType {
-            value: ValType::I32,
-            mutable: true,
-        },
-        first: constant(alloc, 42)?,
-    })?;
-    module.exports.push(export(alloc, b"f", ExportKind::Func)?)?;
-    module
-        .exports
-        .push(export(alloc, b"t", ExportKind::Table)?)?;
-    module
-        .exports
-        .push(export(alloc, b"m", ExportKind::Memory)?)?;
-    module
-        .exports
-        .push(export(alloc, b"g", ExportKind::Global)?)?;
-    module.start = Some(1);
-    module.elements.push(Element {
+    Ok(vec![in alloc;
+        import(alloc, "f", ImportKind::Func { index: 1 })?,
+        import(alloc, "t", ImportKind::Table { limits })?,
+        import(alloc, "\u{e9}", pages)?,
+        import(alloc, "g", ImportKind::Global { global })?,
+    ]?)
+}
+
+fn globals(alloc: Global) -> Result<Vec<GlobalEntry>, Fail> {
+    let global = GlobalType {
+        value: ValType::I32,
+        mutable: true,
+    };
+    let first = constant(alloc, 42)?;
+    Ok(vec![in alloc; GlobalEntry { global, first }]?)
+}
+
+fn exports(alloc: Global) -> Result<Vec<Export>, Fail> {
+    Ok(vec![in alloc;
+        export(alloc, b"f", ExportKind::Func)?,
+        export(alloc, b"t", ExportKind::Table)?,
+        export(alloc, b"m", ExportKind::Memory)?,
+        export(alloc, b"g", ExportKind::Global)?,
+    ]?)
+}
+
+fn elements(alloc: Global) -> Result<Vec<Element>, Fail> {
+    let element = Element {
         table: 0,
         offset: constant(alloc, 0)?,
         functions: Vec::from_slice(alloc, &[0, 1])?,
-    })?;
-    module.bodies.push(Body {
-        runs: Vec::from_slice(
-            alloc,
-            &[
-                Locals {
-                    count: 2,
-                    kind: ValType::I32,
-                },
-                Locals {
-                    count: 1,
-                    kind: ValType::F64,
-                },
-            ],
-        )?,
-        list: Vec::new(alloc),
-    })?;
-    module.segments.push(Segment {
+    };
+    Ok(vec![in alloc; element]?)
+}
+
+fn bodies(alloc: Global) -> Result<Vec<Body>, Fail> {
+    let words = Locals {
+        count: 2,
+        kind: ValType::I32,
+    };
+    let double = Locals {
+        count: 1,
+        kind: ValType::F64,
+    };
+    let runs = Vec::from_slice(alloc, &[words, double])?;
+    let list = Vec::new(alloc);
+    Ok(vec![in alloc; Body { runs, list }]?)
+}
+
+fn segments(alloc: Global) -> Result<Vec<Segment>, Fail> {
+    let segment = Segment {
         memory: 0,
         offset: constant(alloc, 8)?,
         bytes: Vec::from_slice(alloc, b"abc")?,
-    })?;
-    Ok(module)
+    };
+    Ok(vec![in alloc; segment]?)
+}
+
+fn module_of_all_sections(alloc: Global) -> Result<Module, Fail> {
+    Ok(Module {
+        types: types(alloc)?,
+        imports: imports(alloc)?,
+        functions: Vec::from_slice(alloc, &[1])?,
+        tables: Vec::from_slice(alloc, &[sizes(0, Some(128))])?,
+        memories: Vec::from_slice(alloc, &[sizes(1, None)])?,
+        globals: globals(alloc)?,
+        exports: exports(alloc)?,
+        start: Some(1),
+        elements: elements(alloc)?,
+        bodies: bodies(alloc)?,
+        segments: segments(alloc)?,
+    })
 }
 
 #[test]

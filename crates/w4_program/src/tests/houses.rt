@@ -27,7 +27,7 @@ const RECORDING: [u8; 65] = [
 ];
 
 /// What the edit leaves of it, in version 2.
-const EDITED: [u8; 67] = [
+pub(super) const EDITED: [u8; 67] = [
     0x57, 0x34, 0x52, 0x43, 0x02, 0xcd, 0xfa, 0xdf, 0x8a, 0xd2, 0x7d, 0x9c, 0xb2, 0xa2, 0x3a, 0xe7,
     0xa6, 0x84, 0x74, 0xdd, 0x63, 0x34, 0x52, 0xaa, 0xa1, 0x6a, 0xac, 0xdd, 0x25, 0x92, 0x7c, 0x00,
     0xd5, 0x9a, 0x33, 0x52, 0xfc, 0xa0, 0x86, 0x01, 0x00, 0x00, 0x00, 0x02, 0x00, 0x00, 0x00, 0x1b,
@@ -38,7 +38,7 @@ const EDITED: [u8; 67] = [
 const SCRIPT: &str = "set 0 27 0 0 0 0 0 0\nshow 1\n";
 
 /// The words of the edit of a cart `c`, a recording `r`, a font `f` and a script `s` into `o`.
-fn edit(alloc: Global) -> Result<Vec<String>, OutOfMemory> {
+pub(super) fn edit(alloc: Global) -> Result<Vec<String>, OutOfMemory> {
     let mut words = Vec::new(alloc);
     for word in ["edit", "c", "r", "f", "s", "o"] {
         words.push(String::from_str(alloc, word)?)?;
@@ -90,7 +90,7 @@ fn a_refusal_stays_where_its_line_is_not_written(rt: HostRuntime) -> Result<(), 
 }
 
 /// A house with the files of the edit but its script.
-fn house_without_script(alloc: Global) -> Result<MemoryHouse, OutOfMemory> {
+pub(super) fn house_without_script(alloc: Global) -> Result<MemoryHouse, OutOfMemory> {
     let mut house = MemoryHouse::new(alloc);
     house.put_file("c", &CART)?;
     house.put_file("r", &RECORDING)?;
@@ -113,31 +113,6 @@ fn check_fault<R: Threads + Sync + Abort>(
     assert!(rt; house.err() == line.as_bytes());
     assert_eq!(rt; house.out().len(), written);
     assert!(rt; house.file("o").is_none());
-    Ok(())
-}
-
-/// Tests that the edit ends so where this call of the house fails.
-fn check_failing<R: Threads + Sync + Abort>(
-    rt: &R,
-    alloc: Global,
-    call: u64,
-    expected: Status,
-    line: &str,
-    written: usize,
-) -> Result<(), Fail> {
-    let mut house = house_without_script(alloc)?;
-    house.put_file("s", SCRIPT.as_bytes())?;
-    house.fail_at(call)?;
-    check_fault(rt, alloc, house, expected, line, written)
-}
-
-#[test]
-fn a_call_that_fails_is_a_fault(rt: HostRuntime) -> Result<(), Fail> {
-    let (alloc, read, write) = (rt.alloc(), Status::ReadFault, Status::WriteFault);
-    // the second read, the write of the image, and that of the recording
-    check_failing(&rt, alloc, 2, read, "w4: cannot read\n", 0)?;
-    check_failing(&rt, alloc, 5, write, "w4: cannot write\n", 0)?;
-    check_failing(&rt, alloc, 6, write, "w4: cannot write\n", 76_815)?;
     Ok(())
 }
 

@@ -1,4 +1,4 @@
-use Rattle.std.proofs.Common.{◌≡◌, ℕ, ◌+◌, ◌*◌, ◌<◌, ◌≤◌, ◌∙◌, ap, arith, rules, w32, to_z, of_z}
+use Rattle.std.proofs.Common.{◌≡◌, ℕ, ◌+◌, ◌*◌, ◌<◌, ◌∙◌, ap, arith, rules, w32, to_z, of_z}
 use Rattle.std.specs.Prelude.{pos, ◌-ℤ◌}
 use Rattle.w4_defs.specs.Shapes.{natural}
 use Rattle.w4_defs.proofs.PaintLaws.{paint_ext}

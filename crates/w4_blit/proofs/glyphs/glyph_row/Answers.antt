@@ -1,14 +1,12 @@
-use Rattle.std.proofs.Common.{◌≡◌, ℕ, ◌+◌, ◌-◌, ◌*◌, get_or, ap, ◌∙◌, arith, rules, w64, to_z, of_z}
+use Rattle.std.proofs.Common.{◌≡◌, ℕ, ◌+◌, ◌-◌, ◌*◌, get_or, ap, ◌∙◌, rules, w64, to_z, of_z}
 use Rattle.std.specs.Prelude.{pos, ◌-ℤ◌}
 use Rattle.w4_defs.specs.Shapes.{natural}
-use Rattle.w4_defs.proofs.PaintLaws.{paint_ext, paint_off}
-use Rattle.w4_pixels.proofs.ClippingLaws.{boxed_none}
-use Rattle.w4_blit.specs.Unclipped.{bits_painter}
+use Rattle.w4_defs.proofs.PaintLaws.{paint_ext}
 use Rattle.w4_blit.proofs.TextLaws.{row_of_glyph}
 use Rattle.w4_blit.proofs.glyphs.glyph_row.Goals as goal
 
-pub returns-then-left-right : goal.returns-then-left-right
-returns-then-left-right c =
+pub returns : goal.returns
+returns c =
     let g = c.args.glyph in
     let font = c.args.font.now in
     let y : to_z w64 (of_z w64 g.y) ≡ g.y = search rules in
@@ -23,13 +21,6 @@ returns-then-left-right c =
     ∙ ap (λ (n : ℕ). get_or font (8 * (g.code - 32) + n) 0) below in
     put ∙ paint_ext c.args.page.now _ _ c.told-page
     (λ a b ha hb. row_of_glyph font g.colors g.code c.byte.result c.entry_of.result
-    c.entry_of-then-left-right.result g.x
+    c.entry_of-2.result g.x
     g.y c.args.left c.args.right c.args.v a b bits c.entry_of.ensures.value
-    c.entry_of-then-left-right.ensures.value)
-
-pub returns-else-left-right : goal.returns-else-left-right
-returns-else-left-right c =
-    let g = c.args.glyph in
-    paint_off c.args.page.now _ c.told-page c.fits-page
-    (λ a b ha hb. boxed_none (bits_painter c.args.font.now g.colors g.code g.x g.y) c.args.left c.args.right
-    c.args.v (c.args.v + 1) a b (omega arith))
+    c.entry_of-2.ensures.value)

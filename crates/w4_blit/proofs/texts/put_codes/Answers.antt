@@ -1,12 +1,13 @@
 use Rattle.std.proofs.Common.{◌≡◌, ◌+◌, ◌*◌, ◌<◌, pos, ◌+ℤ◌, List, [], ◌∷◌, length, drop, get_or, refl, sym, ◌∙◌, ap, ℕ, None, w64, to_z, of_z, arith}
 use Rattle.std.proofs.lemmas.Int.{ints, to_z-of_z}
 use Rattle.std.proofs.lemmas.List.{drop_more, drop_all}
+use Rattle.std.specs.Option.{option_or}
 use Rattle.w4_defs.specs.Framebuffer.{Painter, over, paint}
 use Rattle.w4_defs.specs.Text.{codes_painter, glyph_painter, text_codes}
 use Rattle.w4_defs.proofs.PaintLaws.{paint_off, paint-paint, paint_step, length-paint}
 use Rattle.w4_blit.specs.Snapshot.{with_snapshot}
 use Rattle.w4_blit.proofs.SnapshotLaws.{with_snapshot-paint}
-use Rattle.w4_blit.proofs.TextLaws.{code_first, either_below}
+use Rattle.w4_blit.proofs.TextLaws.{below_screen, code_first, either_below}
 use Rattle.w4_blit.proofs.texts.put_codes.Goals as goal
 
 pub loop-k-init : goal.loop-k-init
@@ -18,6 +19,23 @@ loop-k-init c =
       column = omega (arith, ints);
       row = omega (arith, ints);
     }
+
+pub returns-then-pen-ge-SCREEN_END : goal.returns-then-pen-ge-SCREEN_END
+returns-then-pen-ge-SCREEN_END c =
+    let page = with_snapshot c.args.page.now c.args.snapshot.now in
+    let codes = drop c.loop-k.k (text_codes page c.args.source) in
+    let pen = c.loop-k.pen in
+    let same_x : to_z w64 (of_z w64 c.args.x) ≡ c.args.x = to_z-of_z w64 c.args.x c.ranges.x in
+    let same_y : to_z w64 (of_z w64 c.args.y) ≡ c.args.y = to_z-of_z w64 c.args.y c.ranges.y in
+    let rest = simp (same_x, same_y) at c.loop-k.invariant.rest in
+    let f : Painter = c.loop-k.invariant.painted.0 in
+    let painted : c.loop-k.page ≡ paint c.args.page.now f = c.loop-k.invariant.painted.1 in
+    let nothing : Painter = codes_painter c.args.font.now c.args.colors c.args.x codes pen.x pen.y in
+    painted ∙ sym (paint_step c.args.page.now f nothing f c.told-page
+    (λ u v hu hv. ap (λ o. option_or o (f u v))
+    (below_screen c.args.font.now c.args.colors c.args.x pen.x pen.y codes u v hv (omega (arith, ints)))))
+    ∙ ap (λ (p : List ℕ). paint p nothing) (sym painted)
+    ∙ rest
 
 pub code_at-code-requires : goal.code_at-code-requires
 code_at-code-requires c =

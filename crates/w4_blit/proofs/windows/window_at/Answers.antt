@@ -1,4 +1,4 @@
-use Rattle.std.proofs.Common.{◌≡◌, refl, sym, ap, ◌∙◌, arith}
+use Rattle.std.proofs.Common.{◌∙◌, arith}
 use Rattle.w4_blit.specs.Snapshot.{with_snapshot}
 use Rattle.w4_blit.proofs.WindowLaws.{window_values}
 use Rattle.w4_blit.proofs.windows.window_at.Goals as goal

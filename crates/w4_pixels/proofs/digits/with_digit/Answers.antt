@@ -1,4 +1,4 @@
-use Rattle.std.proofs.Common.{◌≡◌, ℕ, ◌+◌, ◌-◌, ◌*◌, ◌/◌, ◌%◌, ◌^◌, ◌<◌, arith}
+use Rattle.std.proofs.Common.{◌+◌, ◌-◌, ◌*◌, ◌<◌, arith}
 use Rattle.w4_pixels.proofs.DigitLaws.{small_digit, small_byte, digit_put}
 use Rattle.w4_pixels.proofs.digits.with_digit.Goals as goal
 

@@ -1,5 +1,4 @@
-use Rattle.std.proofs.Common.{ℕ, ◌+◌, ◌∙◌, Option, Some, arith}
-use Rattle.std.proofs.lemmas.Bool.Decides.{nat_tests}
+use Rattle.std.proofs.Common.{◌+◌, ◌∙◌, Some, arith}
 use Rattle.w4_defs.specs.Framebuffer.{Painter}
 use Rattle.w4_defs.proofs.PaintLaws.{paint_off, paint_step, paint_ext}
 use Rattle.w4_pixels.proofs.ClippingLaws.{boxed_no_row, boxed_down, dot_more}

@@ -2,7 +2,6 @@ use Rattle.std.proofs.Common.{refl}
 use Rattle.w4_program.specs.Answers.{answer_text}
 use Rattle.w4_program.specs.Queries.{editor_pages}
 use Rattle.w4_program.specs.RamAnswers.{watch_text}
-use Rattle.w4_program.proofs.AnswerLaws.{on_ok}
 use Rattle.w4_program.proofs.RamLaws.{told_on_text}
 use Rattle.w4_program.proofs.asking.answer_line.Goals as goal
 
@@ -14,5 +13,5 @@ returns-in-Watch-clause-told g c =
     rw c.in-Watch.is
     (told_on_text c.tell_watched.result (g.H.House.world c.args.house.now)
     (g.H.House.world c.tell_watched.new.house) old c.tell_watched.new.editor search text
-    (answer_text search text) (on_ok c.tell_watched.result refl) c.tell_watched.ensures.out
+    (answer_text search text) refl c.tell_watched.ensures.out
     c.tell_watched.ensures.shows)

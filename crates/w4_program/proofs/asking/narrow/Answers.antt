@@ -2,8 +2,8 @@ use Rattle.std.proofs.Common.{Some, refl}
 use Rattle.w4_program.specs.Answering.{no_frame}
 use Rattle.w4_program.specs.Queries.{editor_pages}
 use Rattle.w4_program.specs.RamAnswers.{answer_narrow, no_search}
-use Rattle.w4_program.proofs.AnswerLaws.{on_ok, on_ok_map}
-use Rattle.w4_program.proofs.RamLaws.{narrow_past, narrow_there, told_alone, told_on_text}
+use Rattle.w4_program.proofs.AnswerLaws.{on_ok}
+use Rattle.w4_program.proofs.RamLaws.{narrow_past, narrow_there, refused_on_text, told_alone, told_on_text}
 use Rattle.w4_program.proofs.SessionLaws.{only_shows, shows_none, shows_same}
 use Rattle.w4_program.proofs.asking.narrow.Goals as goal
 
@@ -12,7 +12,7 @@ returns-in-None-clause-told g c =
     let old = c.args.editor.now in
     told_on_text c.print.result (g.H.House.world c.args.house.now) (g.H.House.world c.print.new.house) old old
     c.args.search.now no_search (answer_narrow (editor_pages old) c.args.search.now c.args.p c.args.test)
-    (on_ok c.print.result (rw c.in-None.is refl)) c.print.ensures.out
+    (rw c.in-None.is refl) c.print.ensures.out
     (on_ok c.print.result (shows_none old))
 
 pub returns-in-Ok-clause-told : goal.returns-in-Ok-clause-told
@@ -27,14 +27,11 @@ returns-in-Ok-clause-told g c =
 pub returns-in-Err-clause-told : goal.returns-in-Err-clause-told
 returns-in-Err-clause-told g c =
     let old = c.args.editor.now in
-    told_on_text c.refuse_place.result (g.H.House.world c.args.house.now)
+    refused_on_text c.refuse_place.result (g.H.House.world c.args.house.now)
     (g.H.House.world c.refuse_place.new.house) old c.narrow.new.editor (Some c.narrow.new.self) no_frame
     (answer_narrow (editor_pages old) c.args.search.now c.args.p c.args.test)
-    (on_ok_map c.refuse_place.result
+    c.refuse_place.ensures.cause
     (λ other. rw (c.in-Some.is, c.in-Err.ensures.same_search)
     (narrow_past old c.in-Some.standing c.args.p c.args.test c.in-Err.refusal c.in-Err.ensures.refused other))
-    c.refuse_place.ensures.cause)
-    c.refuse_place.ensures.out
-    (on_ok_map c.refuse_place.result
     (λ other. shows_same old c.narrow.new.editor (c.in-Err.ensures.unchanged other))
-    c.refuse_place.ensures.cause)
+    c.refuse_place.ensures.out

@@ -2,8 +2,7 @@ use Rattle.std.proofs.Common.{Some}
 use Rattle.w4_program.specs.Answering.{no_frame}
 use Rattle.w4_program.specs.Queries.{editor_pages}
 use Rattle.w4_program.specs.RamAnswers.{answer_start}
-use Rattle.w4_program.proofs.AnswerLaws.{on_ok_map}
-use Rattle.w4_program.proofs.RamLaws.{start_past, start_there, told_alone, told_on_text}
+use Rattle.w4_program.proofs.RamLaws.{refused_on_text, start_past, start_there, told_alone}
 use Rattle.w4_program.proofs.SessionLaws.{only_shows, shows_same}
 use Rattle.w4_program.proofs.asking.start.Goals as goal
 
@@ -19,13 +18,11 @@ returns-in-Ok-clause-told g c =
 pub returns-in-Err-clause-told : goal.returns-in-Err-clause-told
 returns-in-Err-clause-told g c =
     let old = c.args.editor.now in
-    told_on_text c.refuse_place.result (g.H.House.world c.args.house.now)
+    refused_on_text c.refuse_place.result (g.H.House.world c.args.house.now)
     (g.H.House.world c.refuse_place.new.house) old c.start.new.editor c.args.search.now no_frame
     (answer_start (editor_pages old) c.args.search.now c.args.width c.args.p)
-    (on_ok_map c.refuse_place.result
+    c.refuse_place.ensures.cause
     (λ other. start_past old c.args.search.now c.args.width c.args.p c.in-Err.refusal c.in-Err.ensures.refused
-    other) c.refuse_place.ensures.cause)
-    c.refuse_place.ensures.out
-    (on_ok_map c.refuse_place.result
+    other)
     (λ other. shows_same old c.start.new.editor (c.in-Err.ensures.unchanged other))
-    c.refuse_place.ensures.cause)
+    c.refuse_place.ensures.out

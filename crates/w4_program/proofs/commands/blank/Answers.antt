@@ -17,4 +17,4 @@ returns-in-Err-clause-ends g c =
     let out = encoding 2 (blank_recording c.args.file.now.digest c.args.budget.units) in
     let why = manner_of c.in-Err.status in
     ends_printed old new why out c.print_blank.ensures.rest.files
-    (prints_stopped old new why out c.in-Err.ensures.stops)
+    (prints_stopped old new why out c.in-Err.ensures.out)

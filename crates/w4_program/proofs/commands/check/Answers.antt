@@ -14,4 +14,4 @@ returns-in-Err-clause-ends g c =
     let new = g.H.House.world c.print.new.house in
     let why = manner_of c.in-Err.status in
     ends_printed old new why checked c.print.ensures.rest.files
-    (prints_stopped old new why checked c.in-Err.ensures.stops)
+    (prints_stopped old new why checked c.in-Err.ensures.out)

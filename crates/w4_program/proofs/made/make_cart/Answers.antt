@@ -14,4 +14,4 @@ returns-in-Err-clause-ends g c =
     let new = g.H.House.world c.print_made.new.house in
     let why = manner_of c.in-Err.status in
     ends_printed old new why (made_text c.args.number) c.print_made.ensures.rest.files
-    (prints_stopped old new why (made_text c.args.number) c.in-Err.ensures.stops)
+    (prints_stopped old new why (made_text c.args.number) c.in-Err.ensures.out)

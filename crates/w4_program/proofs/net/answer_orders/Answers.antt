@@ -1,12 +1,14 @@
 use Rattle.std.proofs.Common.{ap, drop, get_or}
+use Rattle.std.proofs.lemmas.Result.{err_from_is_err_and}
 use Rattle.w4_editor.specs.Editing.{editing_setup}
 use Rattle.w4_house.proofs.WorldLaws.{printing_then}
 use Rattle.w4_program.specs.Answers.{Answered}
+use Rattle.w4_program.specs.Endings.{manner_of}
 use Rattle.w4_program.specs.NetSessions.{NetSession, net_answer, net_answers}
 use Rattle.w4_program.specs.Replicas.{net_session}
-use Rattle.w4_program.proofs.AnswerLaws.{answers-out-step, answers-end}
+use Rattle.w4_program.proofs.AnswerLaws.{answers-out-step, answers-stop, answers-end}
 use Rattle.w4_program.proofs.OwesLaws.{owes_nothing}
-use Rattle.w4_program.proofs.RollingLaws.{heard_at_first, past_log}
+use Rattle.w4_program.proofs.RollingLaws.{heard_at_first, stopped_at_first, past_log}
 use Rattle.w4_program.proofs.SessionLaws.{rest_then}
 use Rattle.w4_program.proofs.net.answer_orders.Goals as goal
 
@@ -43,3 +45,22 @@ returns-clause-out g c =
     (answers-end (net_answer setup) (net_session now) c.args.orders.now c.loop-order.order-index
     c.loop-order-test.false))
     c.loop-order.invariant.0
+
+pub returns-in_err-answer_order-clause-out : goal.returns-in_err-answer_order-clause-out
+returns-in_err-answer_order-clause-out g c =
+    let p = err_from_is_err_and c.from_residual.result c.from_residual.ensures.1 in
+    let first = c.args.replica.now in
+    let now = c.loop-order.replica in
+    let setup = editing_setup first.editor in
+    let before = g.H.House.world c.loop-order.house in
+    let after = g.H.House.world c.answer_order.new.house in
+    let why = manner_of c.in_err-answer_order.field-0.0 in
+    let order = get_or c.args.orders.now c.loop-order.order-index past_log in
+    rw (p.1, p.2)
+    (answers-stop (g.H.House.world c.args.house.now) before after why (net_answer setup) (net_session now)
+    c.args.orders.now c.loop-order.order-index past_log
+    (net_answers setup (net_session first) c.args.orders.now).out c.loop-order-test.true
+    c.loop-order.invariant.2.later
+    (stopped_at_first before after why first now order c.loop-order.invariant.1
+    c.in_err-answer_order.ensures.heard)
+    c.loop-order.invariant.0)

@@ -1,7 +1,9 @@
-use Rattle.std.proofs.Common.{List, ap, sym, ◌∙◌}
+use Rattle.std.proofs.Common.{List, ap, refl, sym, ◌∙◌}
+use Rattle.std.proofs.lemmas.Result.{err_from_is_err_and}
 use Rattle.w4_defs.specs.declared.netplay.NetOrder.{NetOrder}
 use Rattle.w4_defs.specs.KeptList.{state_at}
 use Rattle.w4_editor.specs.Editing.{editing_setup}
+use Rattle.w4_house.proofs.WorldLaws.{front_none}
 use Rattle.w4_program.specs.NetSessions.{net_answers}
 use Rattle.w4_program.specs.Replicas.{net_session}
 use Rattle.w4_program.specs.ToolOutputs.{net_text}
@@ -28,3 +30,11 @@ returns-clause-out g c =
     ∙ ap (λ (orders : List NetOrder). (net_answers (editing_setup r.editor) (net_session r) orders).out)
     (sym c.as_slice-lines.ensures.value))
     c.answer_orders.ensures.out
+
+pub returns-in_err-image-clause-out : goal.returns-in_err-image-clause-out
+returns-in_err-image-clause-out g c =
+    let p = err_from_is_err_and c.from_residual.result c.from_residual.ensures.1 in
+    let world = g.H.House.world c.args.house.now in
+    rw (p.1, p.2)
+    (front_none world.out world.out
+    (net_text c.args.file.cart c.args.budget.units (net_loaded_view c.args.loaded)) refl)

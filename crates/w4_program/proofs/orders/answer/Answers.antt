@@ -1,9 +1,9 @@
 use Rattle.std.proofs.Common.{sym, subst}
-use Rattle.std.specs.Prelude.{ℕ, OnOk}
+use Rattle.std.specs.Prelude.{ℕ}
 use Rattle.w4_defs.specs.Session.{Session}
 use Rattle.w4_editor.specs.Editing.{editing_setup}
 use Rattle.w4_program.specs.Answers.{Answered}
-use Rattle.w4_program.specs.Editors.{IsAnswered, place_session}
+use Rattle.w4_program.specs.Editors.{GivesAnswer, place_session}
 use Rattle.w4_program.proofs.ChangeLaws.{change_answers}
 use Rattle.w4_program.specs.declared.place_text.PlaceText.TheVariants.{Image, DiskBytes}
 use Rattle.w4_program.proofs.TellLaws.{one_range}
@@ -38,9 +38,8 @@ pub returns-in_default-clause-answered : goal.returns-in_default-clause-answered
 returns-in_default-clause-answered g c =
     let old = c.args.desk.now.editor in
     let other = c.in_default in
-    subst (λ (a : Answered (Session ℕ)). OnOk c.answer_change.result (IsAnswered (g.H.House.world
-    c.args.house.now)
-    (g.H.House.world c.answer_change.new.house) old c.answer_change.new.editor a))
+    subst (λ (a : Answered (Session ℕ)). GivesAnswer (g.H.House.world c.args.house.now)
+    (g.H.House.world c.answer_change.new.house) c.answer_change.result old c.answer_change.new.editor a)
     (sym (change_answers (editing_setup old) old.disk (place_session old) c.args.order.now other.not-Show
     other.not-Film other.not-Tones other.not-Traces other.not-DiskAt other.not-StateAt))
     c.answer_change.ensures.answered

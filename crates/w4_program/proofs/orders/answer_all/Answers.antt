@@ -1,9 +1,11 @@
 use Rattle.std.proofs.Common.{get_or}
+use Rattle.std.proofs.lemmas.Result.{err_from_is_err_and}
 use Rattle.w4_editor.specs.Editing.{editing_setup}
 use Rattle.w4_house.proofs.WorldLaws.{printing_then}
 use Rattle.w4_program.specs.Answering.{answer, answers}
 use Rattle.w4_program.specs.Editors.{place_session}
-use Rattle.w4_program.proofs.AnswerLaws.{past_end, answered_at_first, answers-out-step, answers-session-step, answers-done}
+use Rattle.w4_program.specs.Endings.{manner_of}
+use Rattle.w4_program.proofs.AnswerLaws.{past_end, answered_at_first, stopped_at_first, answers-out-step, answers-session-step, answers-stop, answers-done}
 use Rattle.w4_program.proofs.SessionLaws.{rest_then}
 use Rattle.w4_program.proofs.orders.answer_all.Goals as goal
 
@@ -38,3 +40,22 @@ returns-clause-answered g c =
     c.loop-order.desk.editor setup first.disk c.args.orders.now c.loop-order.order-index
     (answers setup first.disk (place_session first) c.args.orders.now) c.loop-order-test.false
     c.loop-order.invariant.0 c.loop-order.invariant.1 c.loop-order.invariant.2
+
+pub returns-in_err-answer-clause-answered : goal.returns-in_err-answer-clause-answered
+returns-in_err-answer-clause-answered g c =
+    let p = err_from_is_err_and c.from_residual.result c.from_residual.ensures.1 in
+    let first = c.args.desk.now.editor in
+    let now = c.loop-order.desk.editor in
+    let setup = editing_setup first in
+    let before = g.H.House.world c.loop-order.house in
+    let after = g.H.House.world c.answer.new.house in
+    let why = manner_of c.in_err-answer.field-0.0 in
+    let order = get_or c.args.orders.now c.loop-order.order-index past_end in
+    rw (p.1, p.2)
+    (answers-stop (g.H.House.world c.args.house.now) before after why (answer setup first.disk)
+    (place_session now) c.args.orders.now c.loop-order.order-index past_end
+    (answers setup first.disk (place_session first) c.args.orders.now).out c.loop-order-test.true
+    c.loop-order.invariant.3.later
+    (stopped_at_first before after why first now order c.loop-order.invariant.2
+    c.in_err-answer.ensures.answered)
+    c.loop-order.invariant.0)

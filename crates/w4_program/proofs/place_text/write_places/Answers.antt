@@ -1,11 +1,13 @@
 -- What was told so far and the places that are left make the whole; the stage stands at the place that was
 -- told last.
 use Rattle.std.proofs.Common.{◌+◌, ◌-◌, List, ℕ, refl, arith}
+use Rattle.std.proofs.lemmas.Result.{err_from_is_err_and}
 use Rattle.w4_defs.specs.Run.{run}
 use Rattle.w4_house.proofs.WorldLaws.{printing_then}
+use Rattle.w4_program.specs.Endings.{manner_of}
 use Rattle.w4_program.specs.Scenes.{scene_setup, stage_moment}
 use Rattle.w4_program.specs.Texts.{place_text, moment_text, place_texts}
-use Rattle.w4_program.proofs.PlaceTextLaws.{texts-begins, texts-goes_on, texts-ends}
+use Rattle.w4_program.proofs.PlaceTextLaws.{texts-begins, texts-goes_on, texts-ends, texts-stop, texts-stop_first}
 use Rattle.w4_program.proofs.place_text.write_places.Goals as goal
 
 pub loop-place-init : goal.loop-place-init
@@ -50,3 +52,33 @@ returns-clause-out g c =
     texts-ends (g.H.House.world c.args.house.now) (g.H.House.world c.loop-place.house) text
     (place_texts text c.args.from (c.args.to + 1 - c.args.from)) c.loop-place.place c.args.to
     c.loop-place-test.false c.loop-place.invariant.0
+
+pub returns-in_err-write_place-clause-out : goal.returns-in_err-write_place-clause-out
+returns-in_err-write_place-clause-out g c =
+    let p = err_from_is_err_and c.from_residual.result c.from_residual.ensures.1 in
+    let text : ℕ → List ℕ =
+    λ place.
+    place_text c.args.wanted place
+    (run (scene_setup c.args.scene.now) c.args.scene.now.disk.now c.args.inputs.now place) in
+    rw (p.1, p.2)
+    (texts-stop_first (g.H.House.world c.args.house.now) (g.H.House.world c.write_place.new.house)
+    (manner_of c.in_err-write_place.field-0.0) text
+    (moment_text c.args.wanted c.args.from (stage_moment c.run_to.new.stage)) c.args.from c.args.to
+    c.requires.order (rw c.run_to.ensures.0 refl) c.in_err-write_place.ensures.out)
+
+pub returns-in_err-write_place-2-clause-out : goal.returns-in_err-write_place-2-clause-out
+returns-in_err-write_place-2-clause-out g c =
+    let p =
+    err_from_is_err_and c.from_residual-in_err-write_place-2.result
+    c.from_residual-in_err-write_place-2.ensures.1 in
+    let text : ℕ → List ℕ =
+    λ place.
+    place_text c.args.wanted place
+    (run (scene_setup c.args.scene.now) c.args.scene.now.disk.now c.args.inputs.now place) in
+    rw (p.1, p.2)
+    (texts-stop (g.H.House.world c.args.house.now) (g.H.House.world c.loop-place.house)
+    (g.H.House.world c.write_place-in-loop-place.new.house) (manner_of c.in_err-write_place-2.field-0.0) text
+    (moment_text c.args.wanted (c.loop-place.place + 1) (stage_moment c.step.new.stage))
+    (place_texts text c.args.from (c.args.to + 1 - c.args.from)) c.loop-place.place c.args.to
+    c.loop-place-test.true (rw c.step.ensures.0 refl) c.loop-place.invariant.3.later c.loop-place.invariant.0
+    c.in_err-write_place-2.ensures.out)

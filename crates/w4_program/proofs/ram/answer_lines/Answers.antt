@@ -1,12 +1,14 @@
 use Rattle.std.proofs.Common.{ap, drop, get_or, None, Option}
+use Rattle.std.proofs.lemmas.Result.{err_from_is_err_and}
 use Rattle.w4_defs.specs.Search.{Search}
 use Rattle.w4_house.proofs.WorldLaws.{printing_then}
 use Rattle.w4_program.specs.Answers.{Answered}
+use Rattle.w4_program.specs.Endings.{manner_of}
 use Rattle.w4_program.specs.Queries.{editor_pages}
 use Rattle.w4_program.specs.RamAnswers.{ram_answer, ram_answers}
-use Rattle.w4_program.proofs.AnswerLaws.{answers-out-step, answers-end}
+use Rattle.w4_program.proofs.AnswerLaws.{answers-out-step, answers-stop, answers-end}
 use Rattle.w4_program.proofs.OwesLaws.{owes_nothing}
-use Rattle.w4_program.proofs.RamLaws.{told_at_first, past_query}
+use Rattle.w4_program.proofs.RamLaws.{told_at_first, stopped_at_first, past_query}
 use Rattle.w4_program.proofs.SessionLaws.{shows_then}
 use Rattle.w4_program.proofs.ram.answer_lines.Goals as goal
 
@@ -40,3 +42,20 @@ returns-clause-out g c =
     (answers-end (ram_answer pages) c.loop-line.search c.args.lines.now c.loop-line.line-index
     c.loop-line-test.false))
     c.loop-line.invariant.0
+
+pub returns-in_err-answer_line-clause-out : goal.returns-in_err-answer_line-clause-out
+returns-in_err-answer_line-clause-out g c =
+    let p = err_from_is_err_and c.from_residual.result c.from_residual.ensures.1 in
+    let first = c.args.editor.now in
+    let pages = editor_pages first in
+    let before = g.H.House.world c.loop-line.house in
+    let after = g.H.House.world c.answer_line.new.house in
+    let why = manner_of c.in_err-answer_line.field-0.0 in
+    let line = get_or c.args.lines.now c.loop-line.line-index past_query in
+    rw (p.1, p.2)
+    (answers-stop (g.H.House.world c.args.house.now) before after why (ram_answer pages) c.loop-line.search
+    c.args.lines.now c.loop-line.line-index past_query (ram_answers pages None c.args.lines.now).out
+    c.loop-line-test.true c.loop-line.invariant.2.later
+    (stopped_at_first before after why first c.loop-line.editor c.loop-line.search line
+    c.loop-line.invariant.1 c.in_err-answer_line.ensures.told)
+    c.loop-line.invariant.0)

@@ -4,7 +4,6 @@ use Rattle.w4_netplay.specs.Replicas.{known_of}
 use Rattle.w4_program.specs.Answering.{refused_line}
 use Rattle.w4_program.specs.NetSessions.{answer_packet, net_words}
 use Rattle.w4_program.specs.Replicas.{net_session}
-use Rattle.w4_program.proofs.AnswerLaws.{on_ok}
 use Rattle.w4_program.proofs.RollingLaws.{heard_alone, heard_on_text, packet_heard, same_netplay, same_rest}
 use Rattle.w4_program.proofs.rolling.hear.Goals as goal
 
@@ -27,5 +26,5 @@ returns-in-Err-clause-heard g c =
     old new
     (refused_line (net_words c.in-Err.refusal))
     (answer_packet (net_session old) c.args.packet (packet_refusal (known_of old) c.args.packet))
-    (on_ok c.refuse.result (rw c.in-Err.ensures.refused refl)) c.refuse.ensures.out
-    (on_ok c.refuse.result (same_netplay old new c.in-Err.ensures.unchanged))
+    (rw c.in-Err.ensures.refused refl) c.refuse.ensures.out
+    (same_netplay old new c.in-Err.ensures.unchanged)

@@ -3,8 +3,7 @@ use Rattle.w4_netplay.specs.Replicas.{predicted_draft}
 use Rattle.w4_program.specs.Answering.{refused_line}
 use Rattle.w4_program.specs.NetSessions.{answer_keep, net_words}
 use Rattle.w4_program.specs.Replicas.{net_session}
-use Rattle.w4_program.proofs.AnswerLaws.{on_ok_map}
-use Rattle.w4_program.proofs.RollingLaws.{heard_alone, heard_on_text, keep_refused, place_kept, rest_kept, same_netplay}
+use Rattle.w4_program.proofs.RollingLaws.{heard_alone, refused_on_text, keep_refused, place_kept, rest_kept, same_netplay}
 use Rattle.w4_program.proofs.rolling.keep.Goals as goal
 
 pub returns-in-Ok-clause-heard : goal.returns-in-Ok-clause-heard
@@ -22,12 +21,9 @@ returns-in-Err-clause-heard g c =
     let old = c.args.replica.now in
     let new = c.keep.new.self in
     let found = keep_refusal places_alone c.args.p (predicted_draft old) in
-    heard_on_text c.refuse.result (g.H.House.world c.args.house.now) (g.H.House.world c.refuse.new.house)
+    refused_on_text c.refuse.result (g.H.House.world c.args.house.now) (g.H.House.world c.refuse.new.house)
     old new
     (refused_line (net_words c.in-Err.refusal)) (answer_keep (net_session old) c.args.p found)
-    (on_ok_map c.refuse.result
+    c.refuse.ensures.cause
     (λ other. keep_refused old c.args.p found c.in-Err.refusal c.in-Err.ensures.refused other)
-    c.refuse.ensures.cause)
-    c.refuse.ensures.out
-    (on_ok_map c.refuse.result (λ other. same_netplay old new (c.in-Err.ensures.unchanged other))
-    c.refuse.ensures.cause)
+    (λ other. same_netplay old new (c.in-Err.ensures.unchanged other)) c.refuse.ensures.out

@@ -8,8 +8,7 @@ use Rattle.w4_program.specs.Answers.{answer_text}
 use Rattle.w4_program.specs.Editors.{place_session}
 use Rattle.w4_program.specs.NetSessions.{if_passed, net_words, predicted_state}
 use Rattle.w4_program.specs.Replicas.{net_session}
-use Rattle.w4_program.proofs.AnswerLaws.{on_ok, on_ok_map}
-use Rattle.w4_program.proofs.RollingLaws.{heard_on_text, not_passed, passed_text, same_netplay, state_told}
+use Rattle.w4_program.proofs.RollingLaws.{heard_on_text, refused_on_text, not_passed, passed_text, same_netplay, state_told}
 use Rattle.w4_program.proofs.rolling.tell_state.Goals as goal
 
 pub returns-in_ok-line-in-Ok-clause-heard : goal.returns-in_ok-line-in-Ok-clause-heard
@@ -25,26 +24,23 @@ returns-in_ok-line-in-Ok-clause-heard g c =
     sym keeps.kept ∙ ap (λ (e : Editing). (place_session e).current.kept) (sym c.editor.ensures) in
     heard_on_text c.print.result (g.H.House.world c.args.house.now) (g.H.House.world c.print.new.house) old
     c.facts.new.replica c.as_slice.result.now (answer_text s (if_passed s c.args.p text))
-    (on_ok c.print.result
     (ap (λ (out : List ℕ). answer_text s out)
     (passed_text old c.args.p text c.in-Ok.ensures.accepted
     ∙ state_told old c.args.p found.0 c.requires found.1
     ∙ (λ i. state_line c.args.p (count i) found.0 (kept i))
-    ∙ sym line ∙ sym c.as_slice.ensures.value)))
-    c.print.ensures.out (on_ok c.print.result keeps)
+    ∙ sym line ∙ sym c.as_slice.ensures.value))
+    c.print.ensures.out keeps
 
 pub returns-in-Err-clause-heard : goal.returns-in-Err-clause-heard
 returns-in-Err-clause-heard g c =
     let old = c.args.replica.now in
     let s = net_session old in
     let text = predicted_state (editing_setup old.editor) s c.args.p in
-    heard_on_text c.refuse.result (g.H.House.world c.args.house.now) (g.H.House.world c.refuse.new.house) old
+    refused_on_text c.refuse.result (g.H.House.world c.args.house.now)
+    (g.H.House.world c.refuse.new.house) old
     c.facts.new.replica (refused_line (net_words c.in-Err.refusal))
     (answer_text s (if_passed s c.args.p text))
-    (on_ok_map c.refuse.result
+    c.refuse.ensures.cause
     (λ other. not_passed old c.args.p text c.in-Err.refusal c.in-Err.ensures.refused other)
-    c.refuse.ensures.cause)
-    c.refuse.ensures.out
-    (on_ok_map c.refuse.result
     (λ other. same_netplay old c.facts.new.replica (c.in-Err.ensures.unchanged other))
-    c.refuse.ensures.cause)
+    c.refuse.ensures.out

@@ -1,14 +1,15 @@
 -- Each clause is what its status says, over the worlds before the words are obeyed and after the report.
-use Rattle.std.proofs.Common.{map, ◌∙◌, Result, string_bytes}
+use Rattle.std.proofs.Common.{◌≡◌, map, ◌∙◌, None, Result, string_bytes}
 use Rattle.w4_house.specs.World.{Files}
 use Rattle.w4_program.specs.declared.status.Status.TheVariants as status
 use Rattle.w4_program.specs.Lines.{status_line}
 use Rattle.w4_program.specs.declared.status.Status.{Status}
+use Rattle.w4_program.specs.Forms.{form_of}
 use Rattle.w4_program.specs.Output.{Output}
 use Rattle.w4_program.specs.Outputs.{Outputs}
 use Rattle.w4_program.specs.CartRuns.{CartRunsHaveMeaning}
 use Rattle.w4_program.proofs.CartLaws.{cart_runs}
-use Rattle.w4_program.proofs.EndLaws.{ends_reported}
+use Rattle.w4_program.proofs.EndLaws.{cut_short, ends_reported}
 use Rattle.w4_program.proofs.StatusLaws as laws
 use Rattle.w4_program.proofs.run.w4_run_gated.Goals as goal
 
@@ -46,6 +47,11 @@ returns g c =
       read_fault = laws.read_fault old new result step ends;
       write_fault = λ e. (laws.write_fault old new result step ends e).0;
       write_fault_made = λ e. (laws.write_fault old new result step ends e).1;
+      out_of_memory =
+          λ e.
+          let cut = c.report.ensures.cut e in
+          cut_short old mid new c.obey-status.result (form_of words ≡ None) step c.report.ensures.rest
+          c.obey-status.ensures.err cut.0 c.obey-status.ensures.usage c.obey-status.ensures.ends cut.1;
       refused_out = λ r. (laws.refused old new result step ends r).0;
       refused_files = λ r. (laws.refused old new result step ends r).1;
       line =

@@ -1,7 +1,9 @@
-use Rattle.std.proofs.Common.{length, sym, ◌∙◌}
+use Rattle.std.proofs.Common.{length, refl, sym, ◌∙◌}
+use Rattle.std.proofs.lemmas.Result.{err_from_is_err_and}
 use Rattle.w4_defs.specs.FrameTexts.{state_line}
 use Rattle.w4_defs.specs.Run.{run}
 use Rattle.w4_editor.specs.Editing.{editing_setup}
+use Rattle.w4_house.proofs.WorldLaws.{front_none}
 use Rattle.w4_program.specs.Answering.{if_place, no_frame, state_answer}
 use Rattle.w4_program.specs.Editors.{place_session}
 use Rattle.w4_program.proofs.AnswerLaws.{on_ok}
@@ -37,3 +39,14 @@ returns-clause-answered g c =
     ∙ (λ i. state_line c.args.p (sym c.last_place-count.ensures.last i) found.0 (sym same i).current.kept)
     ∙ sym line ∙ sym c.as_slice.ensures.value)
     (on_ok c.print.result c.in_ok-facts.ensures.shows) c.print.ensures.out
+
+pub returns-in_err-text-clause-answered : goal.returns-in_err-text-clause-answered
+returns-in_err-text-clause-answered g c =
+    let p =
+    err_from_is_err_and c.from_residual-in_err-text.result c.from_residual-in_err-text.ensures.1 in
+    let world = g.H.House.world c.args.house.now in
+    let old = c.args.editor.now in
+    let s = place_session old in
+    rw (p.1, p.2)
+    (front_none world.out world.out
+    (if_place s c.args.p (state_answer (editing_setup old) old.disk s c.args.p)) refl)

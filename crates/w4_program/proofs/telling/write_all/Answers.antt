@@ -1,9 +1,11 @@
 use Rattle.std.proofs.Common.{◌+◌, ◌-◌}
+use Rattle.std.proofs.lemmas.Result.{err_from_is_err_and}
 use Rattle.w4_house.proofs.WorldLaws.{printing_then}
 use Rattle.w4_program.specs.Editors.{text_by}
+use Rattle.w4_program.specs.Endings.{manner_of}
 use Rattle.w4_program.specs.Texts.{place_texts}
 use Rattle.w4_program.proofs.SessionLaws.{same_text, shows_then}
-use Rattle.w4_program.proofs.TellLaws.{texts-more, texts-all}
+use Rattle.w4_program.proofs.TellLaws.{texts-more, texts-all, texts-stop}
 use Rattle.w4_program.proofs.telling.write_all.Goals as goal
 
 pub loop-place-preserved : goal.loop-place-preserved
@@ -30,3 +32,17 @@ returns-clause-out g c =
     texts-all (g.H.House.world c.args.house.now) (g.H.House.world c.loop-place.house) text
     (place_texts text c.args.a (c.args.b + 1 - c.args.a)) c.loop-place.place (c.args.b + 1)
     c.loop-place-test.false c.loop-place.invariant.0
+
+pub returns-in_err-write_one-clause-out : goal.returns-in_err-write_one-clause-out
+returns-in_err-write_one-clause-out g c =
+    let p = err_from_is_err_and c.from_residual.result c.from_residual.ensures.1 in
+    let first = c.args.desk.now.editor in
+    let now = c.loop-place.desk.editor in
+    let text = text_by first c.args.wanted in
+    rw (p.1, p.2)
+    (texts-stop (g.H.House.world c.args.house.now) (g.H.House.world c.loop-place.house)
+    (g.H.House.world c.write_one.new.house) (manner_of c.in_err-write_one.field-0.0) text
+    (text_by now c.args.wanted c.loop-place.place) (place_texts text c.args.a (c.args.b + 1 - c.args.a))
+    c.loop-place.place (c.args.b + 1) c.loop-place-test.true
+    (same_text first now c.args.wanted c.loop-place.place c.loop-place.invariant.1)
+    c.loop-place.invariant.2.later c.loop-place.invariant.0 c.in_err-write_one.ensures.out)

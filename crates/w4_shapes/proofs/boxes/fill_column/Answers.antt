@@ -1,6 +1,5 @@
-use Rattle.std.proofs.Common.{arith, refl, w64, ◌∙◌}
+use Rattle.std.proofs.Common.{arith}
 use Rattle.std.proofs.lemmas.Bool.Decides.{nat_tests}
-use Rattle.std.proofs.lemmas.Int.{to_z-of_z}
 use Rattle.w4_defs.proofs.PaintLaws.{paint_off}
 use Rattle.w4_shapes.proofs.boxes.fill_column.Goals as goal
 

@@ -2,27 +2,10 @@
 use Rattle.std.proofs.Common.{◌++◌, ◌∷◌, ap, ◌∙◌, sym, append_assoc}
 use Rattle.w4_defs.specs.declared.instruction.Instr.{If}
 use Rattle.w4_defs.specs.View.{before, expression_of}
-use Rattle.wasm_write.specs.EncodeNumber.{unsigned_bytes}
 use Rattle.wasm_write.specs.EncodeType.{block_type_code}
 use Rattle.wasm_write.specs.EncodeInstruction.{list_bytes}
 use Rattle.wasm_write.proofs.ViewLaws.{block_before, loop_before, if_then_before, if_else_before}
 use Rattle.wasm_write.proofs.instruction_table.encoding_of.Goals as goal
-
-pub returns-in-MemorySize : goal.returns-in-MemorySize
-unfolding before list_bytes unsigned_bytes
-returns-in-MemorySize c = λ close rest. ap (λ i. list_bytes close (before i rest)) c.in-MemorySize.is
-
-pub returns-in-MemoryGrow : goal.returns-in-MemoryGrow
-unfolding before list_bytes unsigned_bytes
-returns-in-MemoryGrow c = λ close rest. ap (λ i. list_bytes close (before i rest)) c.in-MemoryGrow.is
-
-pub returns-in-MemoryCopy : goal.returns-in-MemoryCopy
-unfolding before list_bytes unsigned_bytes
-returns-in-MemoryCopy c = λ close rest. ap (λ i. list_bytes close (before i rest)) c.in-MemoryCopy.is
-
-pub returns-in-MemoryFill : goal.returns-in-MemoryFill
-unfolding before list_bytes unsigned_bytes
-returns-in-MemoryFill c = λ close rest. ap (λ i. list_bytes close (before i rest)) c.in-MemoryFill.is
 
 pub returns-in-Block : goal.returns-in-Block
 unfolding list_bytes

@@ -7,6 +7,7 @@ use Rattle.wasm_write.proofs.module.write_module.Goals as goal
 
 pub returns-clause-encodes : goal.returns-clause-encodes
 returns-clause-encodes c =
-    let Spelled : List ℕ → Type 0 = λ text. SpellsModule text c.args.module.now in
-    let encoded : Spelled (module_bytes c.args.module.now) = module_encodes c.args.module.now c.requires in
+    let m = c.args.wasm_module.now in
+    let Spelled : List ℕ → Type 0 = λ text. SpellsModule text m in
+    let encoded : Spelled (module_bytes m) = module_encodes m c.requires in
     IfOk-weaker c.module_bytes.result _ _ (λ v e. subst Spelled (sym e) encoded) c.module_bytes.ensures

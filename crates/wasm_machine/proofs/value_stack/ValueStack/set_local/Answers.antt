@@ -19,6 +19,6 @@ returns-clause-long c =
     omega (
       arith,
       length-from_top (set c.self.inside.cells.items (c.args.base + c.args.index) c.args.slot)
-          c.self.inside.count,
+          c.self.inside.cells.len,
       height _ _ _ c.self.view_is,
     )

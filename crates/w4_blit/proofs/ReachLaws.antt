@@ -1,0 +1,115 @@
+-- A picture reads no more of the framebuffer than is kept.
+use Rattle.std.proofs.Common.{◌≡◌, ℕ, ◌+◌, ◌-◌, ◌*◌, ◌/◌, ◌%◌, ◌^◌, ◌<◌, ◌≤◌, ◌⊎◌, Bool, true, false, ◌&&◌, cond, List, length, get_or, take, Option, refl, ◌∙◌, ap, subst, inl, inr, arith}
+use Rattle.std.specs.Prelude.{slice_range, ℤ, pos, negsuc, ◌+ℤ◌, ◌-ℤ◌, ◌≤ℤ◌, ◌<ℤ◌, int_le, int_lt}
+use Rattle.std.proofs.lemmas.Bool.{cases_lt}
+use Rattle.std.proofs.lemmas.Int.{ints}
+use Rattle.w4_defs.specs.declared.picture.Picture.{Picture}
+use Rattle.w4_defs.specs.Colours.{palette_index}
+use Rattle.w4_defs.specs.Shapes.{natural, only_if, is_inside}
+use Rattle.w4_defs.specs.Blit.{blit_painter, cell_index, has_flag, height_on_screen, landed_index, source_column, source_row, source_value, width_on_screen}
+use Rattle.w4_blit.specs.Reach.{InReach}
+use Rattle.w4_blit.specs.Snapshot.{with_snapshot}
+use Rattle.w4_blit.proofs.SnapshotLaws.{behind, copied, snapshot_inside, snapshot_outside}
+
+kept_byte : (page : List ℕ) (len i : ℕ) → length page ≡ 65536 → len ≤ 6400 → (i < 160 + len) ⊎ (6560 ≤ i)
+    → get_or (with_snapshot page (slice_range page 160 (160 + len))) i 0 ≡ get_or page i 0
+kept_byte page len i size h there = elim there [
+  | inr above ↦ behind page (slice_range page 160 (160 + len)) i size above
+  | inl below ↦ elim (cases_lt i 160) [
+    | inl low ↦ snapshot_outside page (slice_range page 160 (160 + len)) i (omega arith) (inl low)
+    | inr from ↦ snapshot_inside page (slice_range page 160 (160 + len)) i (omega arith) from (omega arith)
+        ∙ copied page 160 (160 + len) i from below
+  ]
+]
+
+value_same : (two : Bool) (page other : List ℕ) (ptr q : ℕ)
+    → (two ≡ true → get_or other (ptr + q / 4) 0 ≡ get_or page (ptr + q / 4) 0)
+    → (two ≡ false → get_or other (ptr + q / 8) 0 ≡ get_or page (ptr + q / 8) 0)
+    → cond two (get_or other (ptr + q / 4) 0 / 4 ^ (3 - q % 4) % 4)
+    (get_or other (ptr + q / 8) 0 / 2 ^ (7 - q % 8) % 2)
+    ≡ cond two (get_or page (ptr + q / 4) 0 / 4 ^ (3 - q % 4) % 4)
+    (get_or page (ptr + q / 8) 0 / 2 ^ (7 - q % 8) % 2)
+value_same true page other ptr q two one = ap (λ (b : ℕ). b / 4 ^ (3 - q % 4) % 4) (two refl)
+value_same false page other ptr q two one = ap (λ (b : ℕ). b / 2 ^ (7 - q % 8) % 2) (one refl)
+
+kept_value : (page : List ℕ) (picture : Picture) (len q : ℕ) → length page ≡ 65536 → len ≤ 6400
+    → InReach picture q (160 + len)
+    → source_value (with_snapshot page (slice_range page 160 (160 + len))) picture q
+    ≡ source_value page picture q
+kept_value page picture len q size h there =
+    value_same (has_flag picture 1) page (with_snapshot page (slice_range page 160 (160 + len))) picture.ptr q
+    (λ two. kept_byte page len (picture.ptr + q / 4) size h (there.0 two))
+    (λ one. kept_byte page len (picture.ptr + q / 8) size h (there.1 one))
+
+cond_same : (b : Bool) (o p q r : Option ℕ) → (b ≡ true → o ≡ q) → (b ≡ false → p ≡ r) → cond b o p
+    ≡ cond b q r
+cond_same true o p q r eo ep = eo refl
+cond_same false o p q r eo ep = ep refl
+
+shown_same : (test : Bool) (o p : Option ℕ) → (test ≡ true → o ≡ p) → only_if test o ≡ only_if test p
+shown_same true o p e = e refl
+shown_same false o p e = refl
+
+first_holds : (a b : Bool) → (a && b) ≡ true → a ≡ true
+first_holds true b e = refl
+first_holds false b e = absurd (cc)
+
+second_holds : (a b : Bool) → (a && b) ≡ true → b ≡ true
+second_holds true b e = e
+second_holds false b e = absurd (cc)
+
+natural_there : (z : ℤ) → pos 0 ≤ℤ z → pos (natural z) ≡ z
+natural_there (pos n) h = refl
+natural_there (negsuc n) h = absurd (omega (arith, ints))
+
+left_of : (x : ℤ) (u : ℕ) → int_le x (pos u) ≡ true → x ≤ℤ pos u
+left_of x u e = grind (arith, ints)
+
+right_of : (x : ℤ) (u : ℕ) → int_lt (pos u) x ≡ true → pos u <ℤ x
+right_of x u e = grind (arith, ints)
+
+side_below : (x : ℤ) (u n : ℕ) → (int_le x (pos u) && int_lt (pos u) (x +ℤ pos n)) ≡ true
+    → natural (pos u -ℤ x) < n
+side_below x u n e =
+    let low : int_le x (pos u) ≡ true = first_holds (int_le x (pos u)) (int_lt (pos u) (x +ℤ pos n)) e in
+    let high : int_lt (pos u) (x +ℤ pos n)
+    ≡ true = second_holds (int_le x (pos u)) (int_lt (pos u) (x +ℤ pos n)) e in
+    let from : x ≤ℤ pos u = left_of x u low in
+    let to : pos u <ℤ (x +ℤ pos n) = right_of (x +ℤ pos n) u high in
+    let there = natural_there (pos u -ℤ x) (omega (arith, ints)) in
+    omega (arith, ints, there)
+
+-- the same picture, from the page and what is kept of its framebuffer
+pub kept_blit : (page : List ℕ) (picture : Picture) (len : ℕ) (x y : ℤ) (u v : ℕ) → length page ≡ 65536
+    → len ≤ 6400
+    → ((i j : ℕ) → i < picture.w → j < picture.h
+    → InReach picture (source_row picture j * picture.stride + source_column picture i) (160 + len))
+    → blit_painter (with_snapshot page (slice_range page 160 (160 + len))) picture x y u v
+    ≡ blit_painter page picture x y u v
+kept_blit page picture len x y u v size h reach =
+    let kept = with_snapshot page (slice_range page 160 (160 + len)) in
+    let right = natural (pos u -ℤ x) in
+    let below = natural (pos v -ℤ y) in
+    let cell : (i j : ℕ) → i < picture.w → j < picture.h → cell_index kept picture i j
+    ≡ cell_index page picture i j =
+    λ i j hi hj. ap (λ (value : ℕ). palette_index picture.colors (value + 1))
+    (kept_value page picture len (source_row picture j * picture.stride + source_column picture i) size h
+    (reach i j hi hj)) in
+    shown_same
+    (is_inside x (x +ℤ pos (width_on_screen picture)) y (y +ℤ pos (height_on_screen picture)) u v)
+    (landed_index kept picture right below) (landed_index page picture right below) (λ inside.
+    let columns : right < width_on_screen picture = side_below x u (width_on_screen picture)
+    (first_holds _ _ inside) in
+    let rows : below < height_on_screen picture = side_below y v (height_on_screen picture)
+    (second_holds _ _ inside) in
+    cond_same (has_flag picture 8) (cell_index kept picture below right) (cell_index kept picture right below)
+    (cell_index page picture below right) (cell_index page picture right below)
+    (λ turned. cell below right
+    (subst (λ (b : Bool). below < cond b picture.w picture.h) turned rows)
+    (subst (λ (b : Bool). right < cond b picture.h picture.w) turned columns))
+    (λ upright. cell right below
+    (subst (λ (b : Bool). right < cond b picture.h picture.w) upright columns)
+    (subst (λ (b : Bool). below < cond b picture.w picture.h) upright rows)))
+
+pub from_the_first : (xs : List ℕ) (len : ℕ) → slice_range xs 0 len ≡ take len xs
+from_the_first xs len = ap (λ n. take n xs) (omega arith)

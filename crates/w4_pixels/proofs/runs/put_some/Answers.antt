@@ -1,0 +1,18 @@
+use Rattle.std.proofs.Common.{Some, arith}
+use Rattle.std.proofs.lemmas.Bool.Decides.{nat_tests}
+use Rattle.w4_defs.proofs.PaintLaws.{set_paint}
+use Rattle.w4_pixels.specs.Packed.{part_painter}
+use Rattle.w4_pixels.proofs.PackedLaws.{part_digit}
+use Rattle.w4_pixels.proofs.runs.put_some.Goals as goal
+
+pub returns : goal.returns
+returns c =
+    let a = c.args in
+    set_paint a.page.now (part_painter a.q a.first a.end a.row (Some a.index)) a.row a.q c.with_part.result
+    c.told-page
+    (omega arith) (omega arith) (omega arith) c.fits-page
+    (λ k hk. part_digit a.page.now a.q a.first a.end a.row a.index c.saturating_sub-low.result
+    c.min-high.result k _
+    (omega arith) (omega arith) (omega arith) (omega arith) (omega arith) (omega arith)
+    c.saturating_sub-low.ensures c.min-high.ensures hk (c.with_part.ensures k hk))
+    (λ u v hu hv away. grind (arith, nat_tests))

@@ -1,0 +1,16 @@
+use Rattle.w4_shapes.proofs.OvalRows.{row_pixel, three_painted}
+use Rattle.w4_shapes.proofs.ovals.put_row.Goals as goal
+
+pub returns : goal.returns
+returns c =
+    let a = c.args in
+    rw (c.put_span-3.ensures, c.put_span-2.ensures, c.put_span.ensures)
+    (three_painted a.page.now _ _ _ _ c.told-page (λ u b hu hb.
+    row_pixel a.cells a.columns a.v a.above a.here a.below c.on_screen-whole.result c.inner_part-inner.result
+    u b
+    c.requires.on_screen.first_cell c.requires.on_screen.last_cell c.requires.first_cell c.requires.last_cell
+    c.requires.above c.requires.here c.requires.below c.on_screen-whole.ensures.first
+    c.on_screen-whole.ensures.end
+    c.inner_part-inner.ensures.low c.inner_part-inner.ensures.order c.inner_part-inner.ensures.high
+    c.inner_part-inner.ensures.same c.index_of-edge.result c.index_of.result c.index_of-edge.ensures.value
+    c.index_of.ensures.value))
