@@ -1,6 +1,6 @@
 #!/usr/bin/env python3
 """Turns glyphs.txt into a font: 1,792 bytes, eight for each code from 32 to 255, one a row, the
-highest bit leftmost. A 0 bit is ink, which the console paints in colour 1, a 1 bit is ground.
+highest bit leftmost. A 0 bit is ink, which the console paints in colour 1, a 1 bit is background.
 
     python3 make_font.py glyphs.txt font.bin
 """

@@ -56,17 +56,17 @@ bit_colour colors (suc zero) h = refl
 bit_colour colors (suc (suc bit)) h = absurd (omega arith)
 
 -- what the cells of a glyph's row paint, by its byte of the font
-pub row_of_glyph : (font : List ℕ) (colors code bits : ℕ) (paper ink : Option ℕ) (x y : ℤ)
+pub row_of_glyph : (font : List ℕ) (colors code bits : ℕ) (ink background : Option ℕ) (x y : ℤ)
     (left right v a b : ℕ)
     → bits ≡ get_or font (8 * (code - 32) + natural (pos v -ℤ y)) 0
-    → paper ≡ palette_index colors 1 → ink ≡ palette_index colors 2
-    → clipped (eight_painter bits paper ink x) left right v (v + 1) a b
+    → ink ≡ palette_index colors 1 → background ≡ palette_index colors 2
+    → clipped (eight_painter bits ink background x) left right v (v + 1) a b
     ≡ clipped (bits_painter font colors code x y) left right v (v + 1) a b
-row_of_glyph font colors code bits paper ink x y left right v a b e eg ei = elim (cases_eq b v) [
+row_of_glyph font colors code bits ink background x y left right v a b e eg ei = elim (cases_eq b v) [
   | inl same ↦ (
       let bit = bits / 2 ^ (7 - natural (pos a -ℤ x)) % 2 in
       ap (only_if ((nat_le left a && nat_lt a right) && (nat_le v b && nat_lt b (v + 1))))
-      (ap (λ (o : Option ℕ). if bit == 1 then o else paper) ei
+      (ap (λ (o : Option ℕ). if bit == 1 then o else ink) ei
       ∙ ap (λ (o : Option ℕ). if bit == 1 then palette_index colors 2 else o) eg
       ∙ bit_colour colors bit (omega arith)
       ∙ ap (λ (byte : ℕ). palette_index colors (byte / 2 ^ (7 - natural (pos a -ℤ x)) % 2 + 1))

@@ -16,5 +16,5 @@ bits_painter font colors code x y u v =
 
 -- the same of one row of a glyph, by its eight bits and what a bit 0 and a bit 1 paint
 abbrev pub eight_painter : ℕ → Option ℕ → Option ℕ → ℤ → Painter
-eight_painter bits paper ink x u v =
-    if bits / 2 ^ (7 - natural (pos u -ℤ x)) % 2 == 1 then ink else paper
+eight_painter bits ink background x u v =
+    if bits / 2 ^ (7 - natural (pos u -ℤ x)) % 2 == 1 then background else ink

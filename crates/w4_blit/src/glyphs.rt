@@ -89,8 +89,8 @@ fn glyph_row(page: &mut PageBytes, font: &Font, glyph: Glyph, left: usize, right
     let first = 8 * u64::from(glyph.code.saturating_sub(FIRST_CODE));
     let row = Row {
         bits: font.byte(first + offset(v, glyph.y)),
-        paper: entry_of(glyph.colors, 1),
-        ink: entry_of(glyph.colors, 2),
+        ink: entry_of(glyph.colors, 1),
+        background: entry_of(glyph.colors, 2),
         x: glyph.x,
         left,
         right,
@@ -99,12 +99,13 @@ fn glyph_row(page: &mut PageBytes, font: &Font, glyph: Glyph, left: usize, right
     put_row(page, row);
 }
 
-/// A part of a row of the screen, with the eight bits that its cells read: a bit 0 is paper, a bit 1 ink.
+/// A part of a row of the screen, with the eight bits that its cells read: a bit 0 is ink, a bit 1
+/// background.
 #[derive(Clone, Copy)]
 struct Row {
     bits: u8,
-    paper: Option<u8>,
     ink: Option<u8>,
+    background: Option<u8>,
     x: i64,
     left: usize,
     right: usize,
@@ -117,10 +118,10 @@ fn put_row(page: &mut PageBytes, row: Row)
     requires row { row.v < 160 }
     requires from { row.x ≤ℤ pos row.left }
     requires to { pos row.right ≤ℤ (row.x +ℤ pos 8) }
-    requires paper { ForSome row.paper (λ e. e < 4) }
     requires ink { ForSome row.ink (λ e. e < 4) }
+    requires background { ForSome row.background (λ e. e < 4) }
     ensures { page.new ≡ paint page.old
-        (clipped (eight_painter row.bits row.paper row.ink row.x) row.left row.right row.v (row.v + 1)) }
+        (clipped (eight_painter row.bits row.ink row.background row.x) row.left row.right row.v (row.v + 1)) }
 {
     for q in row.left / 4..(row.right + 3) / 4 {
         put_byte(page, row, q);
@@ -133,10 +134,10 @@ fn put_byte(page: &mut PageBytes, row: Row, q: usize)
     requires row { row.v < 160 }
     requires from { row.x ≤ℤ pos row.left }
     requires to { pos row.right ≤ℤ (row.x +ℤ pos 8) }
-    requires paper { ForSome row.paper (λ e. e < 4) }
     requires ink { ForSome row.ink (λ e. e < 4) }
+    requires background { ForSome row.background (λ e. e < 4) }
     ensures { page.new ≡ paint page.old
-        (byte_painter (clipped (eight_painter row.bits row.paper row.ink row.x) row.left row.right row.v
+        (byte_painter (clipped (eight_painter row.bits row.ink row.background row.x) row.left row.right row.v
         (row.v + 1)) q row.v) }
 {
     let first = index_in(row, 4 * q);
@@ -151,10 +152,10 @@ fn index_in(row: Row, u: usize) -> Option<u8>
     requires column { u < 160 }
     requires from { row.x ≤ℤ pos row.left }
     requires to { pos row.right ≤ℤ (row.x +ℤ pos 8) }
-    requires paper { ForSome row.paper (λ e. e < 4) }
     requires ink { ForSome row.ink (λ e. e < 4) }
-    ensures value { result ≡ clipped (eight_painter row.bits row.paper row.ink row.x) row.left row.right row.v
-        (row.v + 1) u row.v }
+    requires background { ForSome row.background (λ e. e < 4) }
+    ensures value { result ≡ clipped (eight_painter row.bits row.ink row.background row.x) row.left row.right
+        row.v (row.v + 1) u row.v }
     ensures bound { ForSome result (λ e. e < 4) }
 {
     if row.left <= u && u < row.right {
@@ -168,15 +169,15 @@ fn bit_index(row: Row, u: usize) -> Option<u8>
     requires column { u < 160 }
     requires from { row.x ≤ℤ pos u }
     requires to { (pos u +ℤ pos 1) ≤ℤ (row.x +ℤ pos 8) }
-    requires paper { ForSome row.paper (λ e. e < 4) }
     requires ink { ForSome row.ink (λ e. e < 4) }
-    ensures value { result ≡ eight_painter row.bits row.paper row.ink row.x u row.v }
+    requires background { ForSome row.background (λ e. e < 4) }
+    ensures value { result ≡ eight_painter row.bits row.ink row.background row.x u row.v }
     ensures bound { ForSome result (λ e. e < 4) }
 {
     if (row.bits >> shift_of(row.x, u)) % 2 == 1 {
-        row.ink
+        row.background
     } else {
-        row.paper
+        row.ink
     }
 }
 

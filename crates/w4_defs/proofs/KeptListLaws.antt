@@ -47,7 +47,7 @@ linked_is_run setup disk inputs kept (suc i) is within linked =
     let link : linked_at kept (i + 1) ≡ true = linked (i + 1) (omega arith) in
     let here = linked_is_run setup disk inputs kept i is (omega arith) (λ j le. linked j (omega arith)) in
     subst (IsRun setup disk inputs kept) (add-one i) (next_is_run setup disk inputs kept i here
-    (is.rising i next) (is.links i next link))
+    (is.true_links.rising i next) (is.true_links.links i next link))
 
 -- ---- unlinking
 
@@ -101,10 +101,11 @@ pub consistent_places : ConsistentPlaces
 consistent_places setup disk inputs [] is = absurd (omega (arith, is.some))
 consistent_places setup disk inputs (x ∷ kept) is =
     let same : x.place ≡ 0 = is.first_place in
-    let rise = rise_on (length inputs) x.place kept (λ i h. is.within (suc i) (omega arith)) (is.within 0
-    (omega arith))
-    (λ some. is.rising 0 (omega arith))
-    (rising_after x kept is.rising) in (
+    let within = is.true_links.within in
+    let rise = rise_on (length inputs) x.place kept (λ i h. within (suc i) (omega arith))
+    (within 0 (omega arith))
+    (λ some. is.true_links.rising 0 (omega arith))
+    (rising_after x kept is.true_links.rising) in (
       same,
       subst (λ from. Rise from (length inputs) (places_of kept)) same rise,
       omega

@@ -61,7 +61,15 @@ kept_segment inputs kept i = slice_range inputs (place_at kept i) (place_at kept
 abbrev pub computed : Setup → List Input → List Entry → ℕ → Option State
 computed setup inputs kept i = fold setup (state_at kept i) (kept_segment inputs kept i)
 
--- the kept list of these inputs: places rise from 0, entry 0 has the reset's state, and every link is true
+-- true of its inputs: places rise within them, states have the cart's types, and every link is true
+pub record HasTrueLinks (setup : Setup) (inputs : List Input) (kept : List Entry) : Type 0 where
+  pub rising : (i : ℕ) → i + 1 < length kept → place_at kept i < place_at kept (i + 1)
+  pub within : (i : ℕ) → i < length kept → place_at kept i ≤ length inputs
+  pub globals : (i : ℕ) → i < length kept → HasGlobals setup.cart (state_at kept i)
+  pub links : (i : ℕ) → i + 1 < length kept → linked_at kept (i + 1) ≡ true
+      → computed setup inputs kept i ≡ Some (state_at kept (i + 1))
+
+-- the kept list of these inputs: entry 0 has place 0 and the reset's state, and every link is true
 pub record IsConsistent (setup : Setup) (disk : List ℕ) (inputs : List Input)
     (kept : List Entry) : Type 0 where
   pub some : 0 < length kept
@@ -69,11 +77,7 @@ pub record IsConsistent (setup : Setup) (disk : List ℕ) (inputs : List Input)
   pub first_place : place_at kept 0 ≡ 0
   pub first_state : option_map (λ moment. moment.state) (reset setup disk) ≡ Some (state_at kept 0)
   pub first_linked : linked_at kept 0 ≡ true
-  pub rising : (i : ℕ) → i + 1 < length kept → place_at kept i < place_at kept (i + 1)
-  pub within : (i : ℕ) → i < length kept → place_at kept i ≤ length inputs
-  pub globals : (i : ℕ) → i < length kept → HasGlobals setup.cart (state_at kept i)
-  pub links : (i : ℕ) → i + 1 < length kept → linked_at kept (i + 1) ≡ true
-      → computed setup inputs kept i ≡ Some (state_at kept (i + 1))
+  pub true_links : HasTrueLinks setup inputs kept
 
 -- a draft within its limits, with a consistent kept list
 pub record IsDraft (setup : Setup) (disk : List ℕ) (draft : Draft Entry) : Type 0 where

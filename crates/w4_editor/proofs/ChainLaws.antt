@@ -7,8 +7,7 @@ use Rattle.w4_defs.specs.declared.console.Input.{Input}
 use Rattle.w4_defs.specs.State.{State, Moment, HasGlobals}
 use Rattle.w4_defs.specs.Reset.{Setup, reset}
 use Rattle.w4_defs.specs.Run.{fold}
-use Rattle.w4_defs.specs.KeptList.{Entry, place_at, state_at, linked_at, IsConsistent}
-use Rattle.w4_editor.specs.Settling.{HasTrueLinks}
+use Rattle.w4_defs.specs.KeptList.{Entry, place_at, state_at, linked_at, IsConsistent, HasTrueLinks}
 
 -- which links are owed, by the places before and after them: all, or all but the one across input K
 abbrev pub any : ℕ → ℕ → Type 0
@@ -135,28 +134,18 @@ from_reset setup disk inputs x kept is = record {
   place = is.first_place;
   state = is.first_state;
   linked = is.first_linked;
-  globals = is.globals 0 (omega arith);
+  globals = is.true_links.globals 0 (omega arith);
   few = let few = is.few in omega (arith, few);
-  chain = chain_of setup inputs x kept (record {
-    rising = is.rising;
-    within = is.within;
-    globals = is.globals;
-    links = is.links;
-  });
+  chain = chain_of setup inputs x kept is.true_links;
 }
 
 pub consistent_from : (setup : Setup) (disk : List ℕ) (inputs : List Input) (x : Entry) (kept : List Entry)
     → FromReset setup disk inputs x kept → IsConsistent setup disk inputs (x ∷ kept)
-consistent_from setup disk inputs x kept from =
-    let s = true_of setup inputs x kept (let at = from.place in omega (arith, at)) from.globals from.chain in
-    record {
-      some = omega arith;
-      few = let few = from.few in omega (arith, few);
-      first_place = from.place;
-      first_state = from.state;
-      first_linked = from.linked;
-      rising = s.rising;
-      within = s.within;
-      globals = s.globals;
-      links = s.links;
-    }
+consistent_from setup disk inputs x kept from = record {
+  some = omega arith;
+  few = let few = from.few in omega (arith, few);
+  first_place = from.place;
+  first_state = from.state;
+  first_linked = from.linked;
+  true_links = true_of setup inputs x kept (let at = from.place in omega (arith, at)) from.globals from.chain;
+}

@@ -137,7 +137,7 @@ module _ (player : Player) (r : Recording) (kept : List Entry) (olds news : Buff
   put_consistent p at fresh room linked globals =
       keep_consistent (setup_of player) r.disk r.frames kept (linked_entry p player.state)
       (record { within = within_here p at; globals = globals; run = run_here p at }) fresh room
-      (λ i lt le. linked i (up_to_last p kept is_consistent.rising i lt le)) is_consistent
+      (λ i lt le. linked i (up_to_last p kept is_consistent.true_links.rising i lt le)) is_consistent
 
   pub is_put : (p : ℕ) → place ≡ Some p → is_kept kept_entries p kept ≡ false → length kept < 1024
       → (new : List Entry)

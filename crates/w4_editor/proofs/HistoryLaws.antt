@@ -206,7 +206,7 @@ module _ (player : Player) (r : Recording) (kept : List Entry) (olds news : Buff
   pub places_are_low : All (λ (x : Entry). x.place < 18446744073709551615) entries
   places_are_low = All-from_get_or (λ (x : Entry). x.place < 18446744073709551615) entries nowhere (λ i h.
       let few = was_good.few in
-      let within = was_good.kept.within i h in
+      let within = was_good.kept.true_links.within i h in
       omega (arith, few, within))
 
 -- ---- an editor that is opened

@@ -13,8 +13,8 @@ use Rattle.w4_defs.specs.SameState.{same_state}
 use Rattle.w4_defs.proofs.SameStateLaws.{same_state_decides}
 use Rattle.w4_defs.specs.KeptList.{Entry, kept_entries, nowhere, kept_entry_at, place_at, state_at, linked_at}
 use Rattle.w4_defs.specs.KeptList.{computed, unlinked_at, relinked_at, replaced_at, SamePlaces, is_sure}
-use Rattle.w4_defs.specs.KeptList.{doubtful, IsSettled}
-use Rattle.w4_editor.specs.Settling.{HasTrueLinks, IsComputed}
+use Rattle.w4_defs.specs.KeptList.{doubtful, IsSettled, HasTrueLinks}
+use Rattle.w4_editor.specs.Settling.{IsComputed}
 
 -- ---- tests of states
 

@@ -8,18 +8,14 @@ use Rattle.w4_defs.specs.State.{State, HasGlobals}
 use Rattle.w4_defs.specs.Reset.{Setup}
 use Rattle.w4_defs.specs.Run.{run_state}
 use Rattle.w4_defs.specs.KeptList.{Entry, nowhere, kept_entry_at, place_at, state_at, linked_at, first_above}
+use Rattle.w4_defs.specs.KeptList.{HasTrueLinks}
 use Rattle.w4_defs.specs.KeptList.{last_up_to, computed, relinked_at, replaced_at, IsConsistent, SamePlaces}
 use Rattle.w4_defs.proofs.KeptListLaws.{linked_is_run}
-use Rattle.w4_editor.specs.Settling.{HasTrueLinks, ShowsFrom, StaysConsistent}
+use Rattle.w4_editor.specs.Settling.{ShowsFrom, StaysConsistent}
 use Rattle.w4_editor.proofs.SettleLaws.{Progress, IsTrueChange, true_change, changed_true, first_keeps}
 use Rattle.w4_editor.proofs.SettleLaws.{relinked_computed, replaced_change}
 use Rattle.w4_editor.proofs.ListLaws.{position_or_len_le}
 use Rattle.w4_editor.proofs.PlayLaws.{run_links}
-
-pub true_of_consistent : (setup : Setup) (disk : List ℕ) (inputs : List Input) (kept : List Entry)
-    → IsConsistent setup disk inputs kept → HasTrueLinks setup inputs kept
-true_of_consistent setup disk inputs kept is =
-    record { rising = is.rising; within = is.within; globals = is.globals; links = is.links }
 
 pub consistent_after : (setup : Setup) (disk : List ℕ) (inputs : List Input) (old new : List Entry)
     → IsConsistent setup disk inputs old → HasTrueLinks setup inputs new → SamePlaces old new
@@ -33,10 +29,7 @@ consistent_after setup disk inputs old new is t same first =
       first_place = ap (λ (x : Entry). x.place) first ∙ is.first_place;
       first_state = is.first_state ∙ ap (λ (x : Entry). Some x.state) (sym first);
       first_linked = ap (λ (x : Entry). x.linked) first ∙ is.first_linked;
-      rising = t.rising;
-      within = t.within;
-      globals = t.globals;
-      links = t.links;
+      true_links = t;
     }
 
 pub progress_consistent : (setup : Setup) (inputs : List Input) (last : ℕ) (old now : List Entry)
@@ -51,9 +44,9 @@ change_consistent : (setup : Setup) (disk : List ℕ) (inputs : List Input) (i :
     → IsTrueChange setup inputs i old new → i + 1 < length old → IsConsistent setup disk inputs old
     → IsConsistent setup disk inputs new
 change_consistent setup disk inputs i old new c lt is =
-    let t = true_of_consistent setup disk inputs old is in
-    consistent_after setup disk inputs old new is (changed_true setup inputs i old new c lt t) c.places
-    (first_keeps setup inputs i old new c lt t)
+    consistent_after setup disk inputs old new is
+    (changed_true setup inputs i old new c lt is.true_links) c.places
+    (first_keeps setup inputs i old new c lt is.true_links)
 
 module _ (setup : Setup) (disk : List ℕ) (inputs : List Input) (kept : List Entry) (i : ℕ) (some : 1 ≤ i)
     (there : i < length kept)
@@ -71,7 +64,7 @@ module _ (setup : Setup) (disk : List ℕ) (inputs : List Input) (kept : List En
       (true_change setup inputs (i - 1) kept (relinked_at (i - 1 + 1) kept)
       (relinked_computed setup inputs (i - 1) kept before
       (state ∙ ap (λ k. Some (state_at kept k)) (sym back))
-      (is.globals (i - 1 + 1) before))) before is)
+      (is.true_links.globals (i - 1 + 1) before))) before is)
 
   pub replace_consistent : (state : State) → computed setup inputs kept (i - 1) ≡ Some state
       → HasGlobals setup.cart state

@@ -1,5 +1,5 @@
--- Kept lists whose links are true of their inputs, and one turn of settling. These words speak of no disk, so
--- that what they say holds for every disk at the reset.
+-- One turn of settling, and what is shown. These words speak of no disk, so that what they say holds for
+-- every disk at the reset.
 use Rattle.std.specs.Prelude.{◌≡◌, ◌≢◌, ℕ, ◌+◌, ◌≤◌, ◌<◌, true, List, length, slice_range, Some}
 use Rattle.w4_defs.specs.declared.console.Input.{Input}
 use Rattle.w4_defs.specs.State.{State, Moment, HasGlobals}
@@ -7,15 +7,6 @@ use Rattle.w4_defs.specs.Reset.{Setup}
 use Rattle.w4_defs.specs.Run.{fold, run, run_state}
 use Rattle.w4_defs.specs.KeptList.{Entry, kept_entry_at, place_at, state_at, linked_at, computed, is_sure}
 use Rattle.w4_defs.specs.KeptList.{IsConsistent, SamePlaces}
-
--- what IsConsistent says of the entries beside the first one's reset: places rise within the inputs, states
--- have the cart's types, and links are true
-pub record HasTrueLinks (setup : Setup) (inputs : List Input) (kept : List Entry) : Type 0 where
-  pub rising : (i : ℕ) → i + 1 < length kept → place_at kept i < place_at kept (i + 1)
-  pub within : (i : ℕ) → i < length kept → place_at kept i ≤ length inputs
-  pub globals : (i : ℕ) → i < length kept → HasGlobals setup.cart (state_at kept i)
-  pub links : (i : ℕ) → i + 1 < length kept → linked_at kept (i + 1) ≡ true
-      → computed setup inputs kept i ≡ Some (state_at kept (i + 1))
 
 -- the entries up to this one are linked
 abbrev pub AreLinked : ℕ → List Entry → Type 0

@@ -2,10 +2,10 @@
 
 ghost use Rattle.std.specs.Prelude.{◌≡◌, ℕ, ◌+◌, ◌-◌, ◌<◌, ◌≤◌, true, IsOk, OnErr, OnOk, length, Some};
 ghost use Rattle.w4_defs.specs.KeptList.{IsSettled, SamePlaces, computed, doubtful, kept_entry_at, linked_at};
-ghost use Rattle.w4_defs.specs.KeptList.{place_at};
+ghost use Rattle.w4_defs.specs.KeptList.{place_at, HasTrueLinks};
 ghost use Rattle.w4_defs.specs.State.{HasGlobals};
 ghost use Rattle.w4_editor.specs.Playing.{in_state, setup_of};
-ghost use Rattle.w4_editor.specs.Settling.{AreLinked, HasTrueLinks, IsComputed, StaysConsistent};
+ghost use Rattle.w4_editor.specs.Settling.{AreLinked, IsComputed, StaysConsistent};
 
 use crate::kept::Kept;
 use crate::kept_list::{entry_at, link_at, replace_at};

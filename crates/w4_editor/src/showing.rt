@@ -4,11 +4,12 @@ ghost use Rattle.std.specs.Prelude.{◌≡◌, ℕ, ◌+◌, ◌-◌, ◌<◌, �
 ghost use Rattle.std.specs.Prelude.{length, Some};
 ghost use Rattle.w4_console.specs.ConsoleCalls.{moment};
 ghost use Rattle.w4_defs.specs.KeptList.{IsSettled, SamePlaces, kept_entries, last_up_to, linked_at};
+ghost use Rattle.w4_defs.specs.KeptList.{HasTrueLinks};
 ghost use Rattle.w4_defs.specs.KeptList.{place_at, relinked_at, replaced_at, settle_frames, show_frames};
 ghost use Rattle.w4_defs.specs.State.{HasGlobals};
 ghost use Rattle.w4_defs.specs.Session.{keep_refusal, with_kept};
 ghost use Rattle.w4_editor.specs.Playing.{in_state, setup_of};
-ghost use Rattle.w4_editor.specs.Settling.{AreLinked, HasTrueLinks, IsOfRun, MovesOn, ShowsFrom};
+ghost use Rattle.w4_editor.specs.Settling.{AreLinked, IsOfRun, MovesOn, ShowsFrom};
 ghost use Rattle.w4_editor.specs.Settling.{StaysConsistent, linked_entry};
 
 use crate::kept::Kept;

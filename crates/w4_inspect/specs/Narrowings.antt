@@ -12,17 +12,18 @@ pub record Narrowing : Type 0 where
   pub place : ℕ
   pub test : Test
 
-abbrev pub step_of : Narrowing → Step
-step_of narrowing = (page_at narrowing.editor narrowing.place, narrowing.test)
+abbrev pub search_step : Narrowing → Step
+search_step narrowing = (page_at narrowing.editor narrowing.place, narrowing.test)
 
 abbrev pub narrowed : Search → Narrowing → Search
-narrowed search narrowing = narrow search (step_of narrowing)
+narrowed search narrowing = narrow search (search_step narrowing)
 
 -- a search that began with this page, after these narrowings: what is left are the addresses at which each
 -- test holds between its page and the one before it
 abbrev pub FoundIsRemaining : Type 0
 FoundIsRemaining = (width : ℕ) (page : List ℕ) (narrowings : List Narrowing) →
-    (fold narrowed (begin width page) narrowings).candidates ≡ remaining width page (map step_of narrowings)
+    (fold narrowed (begin width page) narrowings).candidates
+    ≡ remaining width page (map search_step narrowings)
 
 -- and they rise
 abbrev pub FoundRises : Type 0

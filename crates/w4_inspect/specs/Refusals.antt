@@ -4,8 +4,8 @@ use Rattle.w4_editor.specs.Editing.{Editing}
 use Rattle.w4_inspect.specs.declared.refusal.RamRefusal.{RamRefusal}
 use Rattle.w4_inspect.specs.declared.refusal.RamRefusal.TheVariants.{NoFrame, Outside, OutOfMemory}
 
-abbrev pub place_refusal : Editing → ℕ → Option RamRefusal
-place_refusal e p = if nat_lt (length e.session.current.inputs) p then Some NoFrame else None
+abbrev pub no_frame_refusal : Editing → ℕ → Option RamRefusal
+no_frame_refusal e p = if nat_lt (length e.session.current.inputs) p then Some NoFrame else None
 
 -- the last place, then the bytes that are watched
 abbrev pub watch_refusal : Editing → ℕ → ℕ → ℕ → Option RamRefusal

@@ -4,7 +4,7 @@ ghost use Rattle.std.specs.Prelude.{◌≡◌, ◌≢◌, ◌≤◌, IfErr, IfOk
 ghost use Rattle.w4_defs.specs.Search.{begin, narrow};
 ghost use Rattle.w4_editor.specs.Showing.{IsShown, KeepsRecording};
 ghost use Rattle.w4_inspect.specs.Pages.{page_at};
-ghost use Rattle.w4_inspect.specs.Refusals.{IsRefusal, place_refusal};
+ghost use Rattle.w4_inspect.specs.Refusals.{IsRefusal, no_frame_refusal};
 ghost use Rattle.w4_inspect.specs.Widths.{IsWidth};
 ghost use Rattle.w4_inspect.specs.declared.refusal.RamRefusal.TheVariants.{OutOfMemory as NoMemory};
 
@@ -31,8 +31,8 @@ impl Search {
         requires { IsWidth width }
         ensures begun { IfOk result (λ search. search ≡ begin width (page_at editor.old p)) }
         ensures shown { OnOk result (IsShown p steps.old steps.new editor.old editor.new) }
-        ensures accepted { OnOk result (place_refusal editor.old p ≡ None) }
-        ensures refused { IfErr result (IsRefusal (place_refusal editor.old p)) }
+        ensures accepted { OnOk result (no_frame_refusal editor.old p ≡ None) }
+        ensures refused { IfErr result (IsRefusal (no_frame_refusal editor.old p)) }
         ensures err { OnErr result (KeepsRecording editor.old editor.new) }
         ensures unchanged { IfErr result (λ refusal. refusal ≢ NoMemory → editor.new ≡ editor.old) }
     {
@@ -56,8 +56,8 @@ impl Search {
     ) -> Result<(), RamRefusal>
         ensures narrowed { OnOk result (self.new ≡ narrow self.old (page_at editor.old p, test)) }
         ensures shown { OnOk result (IsShown p steps.old steps.new editor.old editor.new) }
-        ensures accepted { OnOk result (place_refusal editor.old p ≡ None) }
-        ensures refused { IfErr result (IsRefusal (place_refusal editor.old p)) }
+        ensures accepted { OnOk result (no_frame_refusal editor.old p ≡ None) }
+        ensures refused { IfErr result (IsRefusal (no_frame_refusal editor.old p)) }
         ensures same_search { OnErr result (self.new ≡ self.old) }
         ensures err { OnErr result (KeepsRecording editor.old editor.new) }
         ensures unchanged { IfErr result (λ refusal. refusal ≢ NoMemory → editor.new ≡ editor.old) }

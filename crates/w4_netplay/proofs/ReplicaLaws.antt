@@ -22,7 +22,7 @@ use Rattle.w4_netplay.specs.declared.refusal.NetRefusal.{NetRefusal}
 use Rattle.w4_netplay.specs.declared.refusal.NetRefusal.TheVariants as net
 use Rattle.w4_netplay.specs.Pads.{known_in}
 use Rattle.w4_netplay.specs.Refusals.{edit_refusal}
-use Rattle.w4_netplay.specs.Replicas.{Netplay, IsReplica, IsNetRefusal, KeepsNetplay, ShowsPlace, KeepsPlace, known_of, kept_of, prediction, predicted_draft}
+use Rattle.w4_netplay.specs.Replicas.{Netplay, IsReplica, IsNetRefusal, KeepsNetplay, ShowsPlace, KeepsPlace, known_of, places_kept, prediction, predicted_draft}
 use Rattle.w4_netplay.specs.Rolling.{IsRight, IsRolledTo, IsPartlyRolled, IsRolled, KeepsLinks}
 use Rattle.w4_netplay.proofs.BoundLaws.{shown_within}
 use Rattle.w4_netplay.proofs.LinkLaws.{same_places}
@@ -214,7 +214,7 @@ module _ (r : Netplay) (p : ℕ) where
   wanted = keep_refusal places_alone p (predicted_draft r)
 
   -- by the replica's own numbers
-  cause : (there : Bool) → there ≡ is_kept places_alone p (kept_of r)
+  cause : (there : Bool) → there ≡ is_kept places_alone p (places_kept r)
       → wanted ≡ keep_cause p r.frames there (length kept)
   cause there is =
       let long = net_length (known_of r) r.frames in
@@ -222,11 +222,11 @@ module _ (r : Netplay) (p : ℕ) where
       λ i. keep_cause p (long i) (sym is i) (many i)
 
   pub no_frame : r.frames < p → wanted ≡ Some NoFrame
-  no_frame past = cause (is_kept places_alone p (kept_of r)) refl
-      ∙ ap (λ t. cond t (Some NoFrame) (cond (is_kept places_alone p (kept_of r)) (Some Kept)
+  no_frame past = cause (is_kept places_alone p (places_kept r)) refl
+      ∙ ap (λ t. cond t (Some NoFrame) (cond (is_kept places_alone p (places_kept r)) (Some Kept)
       (cond (ltb (length kept) 1024) None (Some FullSnapshots)))) (lt-ltb r.frames p past)
 
-  module _ (within : p ≤ r.frames) (there : Bool) (is : there ≡ is_kept places_alone p (kept_of r)) where
+  module _ (within : p ≤ r.frames) (there : Bool) (is : there ≡ is_kept places_alone p (places_kept r)) where
     passed : wanted ≡ cond there (Some Kept) (cond (ltb (length kept) 1024) None (Some FullSnapshots))
     passed = cause there is
         ∙ ap (λ t. cond t (Some NoFrame) (cond there (Some Kept)

@@ -90,7 +90,7 @@ put_last k input old new setup disk made rest last room is_list =
           (drop_all k inputs (omega (arith, last)) ∙ sym (drop_all (k + 1) inputs (omega (arith, last))));
       kept = inl (ap (λ (s : Session Entry). s.current.kept) is
           ∙ inserted_last k old.session.current.kept
-          (λ i lt. let low = is_list.within i lt in omega (arith, low, last)));
+          (λ i lt. let low = is_list.true_links.within i lt in omega (arith, low, last)));
     }
 
 -- whether an input is the one that is there

@@ -21,8 +21,8 @@ pub record Netplay : Type 0 where
 abbrev pub known_of : Netplay → Known
 known_of r = known_in r.pads
 
-abbrev pub kept_of : Netplay → List ℕ
-kept_of r = places_of r.editor.session.current.kept
+abbrev pub places_kept : Netplay → List ℕ
+places_kept r = places_of r.editor.session.current.kept
 
 -- the predicted inputs of the frames that have passed
 abbrev pub prediction : Netplay → List Input
@@ -30,7 +30,7 @@ prediction r = net_inputs (known_of r) r.frames
 
 -- the recording that is predicted, with the kept places
 abbrev pub predicted_draft : Netplay → Draft ℕ
-predicted_draft r = record { inputs = prediction r; kept = kept_of r }
+predicted_draft r = record { inputs = prediction r; kept = places_kept r }
 
 -- at most 36,000 frames have passed, and the editor has at most so many inputs
 pub record IsReplica (frames : ℕ) (editor : Editing) : Type 0 where
@@ -48,7 +48,7 @@ pub record IsNetRefusal (wanted : Option EditRefusal) (refusal : NetRefusal) : T
 pub record KeepsNetplay (old new : Netplay) : Type 0 where
   pub pads : new.pads ≡ old.pads
   pub frames : new.frames ≡ old.frames
-  pub kept : kept_of new ≡ kept_of old
+  pub kept : places_kept new ≡ places_kept old
   pub rest : new.editor ≡ with_session old.editor new.editor.session new.editor.at
 
 -- place P of the predicted recording is shown. The frames that were run are those that had to be
@@ -66,4 +66,4 @@ pub record KeepsPlace (p before after : ℕ) (old new : Netplay) : Type 0 where
   pub put : IsPut p shown.editor new.editor
   pub pads : new.pads ≡ old.pads
   pub frames : new.frames ≡ old.frames
-  pub kept : kept_of new ≡ with_kept places_alone p (kept_of old)
+  pub kept : places_kept new ≡ with_kept places_alone p (places_kept old)

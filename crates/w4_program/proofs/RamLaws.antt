@@ -15,7 +15,7 @@ use Rattle.w4_defs.specs.State.{Moment}
 use Rattle.w4_editor.specs.Editing.{Editing, editing_setup}
 use Rattle.w4_house.specs.World.{World, Appends}
 use Rattle.w4_inspect.specs.Pages as inspect
-use Rattle.w4_inspect.specs.Refusals.{IsRefusal, place_refusal, watch_refusal}
+use Rattle.w4_inspect.specs.Refusals.{IsRefusal, no_frame_refusal, watch_refusal}
 use Rattle.w4_inspect.specs.Watching.{watched}
 use Rattle.w4_inspect.specs.declared.refusal.RamRefusal.{RamRefusal}
 use Rattle.w4_inspect.specs.declared.refusal.RamRefusal.TheVariants.{NoFrame, Outside, OutOfMemory as MemoryRefused}
@@ -26,7 +26,7 @@ use Rattle.w4_program.specs.Editors.{OnlyShows}
 use Rattle.w4_program.specs.Endings.{Manner, manner_of}
 use Rattle.w4_program.specs.declared.status.Status.{Status}
 use Rattle.w4_program.specs.Queries.{IsTold, GivesTold, ask_answer, editor_pages}
-use Rattle.w4_program.specs.RamAnswers.{Pages, answer_narrow, answer_start, outside, page_of, pages_of, ram_answer, watch_text}
+use Rattle.w4_program.specs.RamAnswers.{Pages, answer_narrow, answer_start, moment_page, outside, pages_of, ram_answer, watch_text}
 use Rattle.w4_program.specs.RamAnswers as answers
 use Rattle.w4_program.proofs.OwesLaws.{stops_as, stops_untold}
 use Rattle.w4_program.proofs.SessionLaws.{appends_nothing, same_disk, same_inputs, same_setup}
@@ -34,7 +34,7 @@ use Rattle.w4_program.proofs.TellLaws.{state_of}
 
 -- ---- pages
 
-page_alone : (m : Option Moment) → inspect.page_of (state_of m) ≡ page_of m
+page_alone : (m : Option Moment) → inspect.page_of (state_of m) ≡ moment_page m
 page_alone (Some moment) = refl
 page_alone None = refl
 
@@ -53,13 +53,13 @@ there_as : (past : Bool) → (if past then Some NoFrame else None) ≡ None → 
 there_as true e = absurd cc
 there_as false e = refl
 
-pub is_past : (e : Editing) (p : ℕ) (refusal : RamRefusal) → IsRefusal (place_refusal e p) refusal
+pub is_past : (e : Editing) (p : ℕ) (refusal : RamRefusal) → IsRefusal (no_frame_refusal e p) refusal
     → refusal ≢ MemoryRefused → length e.session.current.inputs < p
 is_past e p refusal is other =
     ltb-true (length e.session.current.inputs) p
     (past_as (nat_lt (length e.session.current.inputs) p) refusal is other)
 
-pub is_there : (e : Editing) (p : ℕ) → place_refusal e p ≡ None → p ≤ length e.session.current.inputs
+pub is_there : (e : Editing) (p : ℕ) → no_frame_refusal e p ≡ None → p ≤ length e.session.current.inputs
 is_there e p none =
     ltb-false (length e.session.current.inputs) p
     (there_as (nat_lt (length e.session.current.inputs) p) none)
@@ -112,19 +112,19 @@ printed_as result before after written out same h =
 
 -- ---- a search
 
-pub start_there : (e : Editing) (search : Option Search) (width p : ℕ) → place_refusal e p ≡ None
+pub start_there : (e : Editing) (search : Option Search) (width p : ℕ) → no_frame_refusal e p ≡ None
     → answer_start (editor_pages e) search width p ≡ answer_text (Some (begin width (inspect.page_at e p))) []
 start_there e search width p none =
     rw (le-leb p (length e.session.current.inputs) (is_there e p none))
     (ap (λ page. answer_text (Some (begin width page)) []) (sym (same_page e p)))
 
 pub start_past : (e : Editing) (search : Option Search) (width p : ℕ) (refusal : RamRefusal)
-    → IsRefusal (place_refusal e p) refusal → refusal ≢ MemoryRefused
+    → IsRefusal (no_frame_refusal e p) refusal → refusal ≢ MemoryRefused
     → answer_start (editor_pages e) search width p ≡ answer_text search no_frame
 start_past e search width p refusal is other =
     rw (lt-leb p (length e.session.current.inputs) (is_past e p refusal is other)) refl
 
-pub narrow_there : (e : Editing) (search : Search) (p : ℕ) (test : Test) → place_refusal e p ≡ None
+pub narrow_there : (e : Editing) (search : Search) (p : ℕ) (test : Test) → no_frame_refusal e p ≡ None
     → answer_narrow (editor_pages e) (Some search) p test
     ≡ answer_text (Some (narrow search (inspect.page_at e p, test))) []
 narrow_there e search p test none =
@@ -132,7 +132,7 @@ narrow_there e search p test none =
     (ap (λ page. answer_text (Some (narrow search (page, test))) []) (sym (same_page e p)))
 
 pub narrow_past : (e : Editing) (search : Search) (p : ℕ) (test : Test) (refusal : RamRefusal)
-    → IsRefusal (place_refusal e p) refusal → refusal ≢ MemoryRefused
+    → IsRefusal (no_frame_refusal e p) refusal → refusal ≢ MemoryRefused
     → answer_narrow (editor_pages e) (Some search) p test ≡ answer_text (Some search) no_frame
 narrow_past e search p test refusal is other =
     rw (lt-leb p (length e.session.current.inputs) (is_past e p refusal is other)) refl
@@ -169,7 +169,7 @@ pub watch_told : (e : Editing) (address width a b : ℕ) → watch_refusal e add
 watch_told e address width a b none =
     let both =
     both_false (nat_lt (length e.session.current.inputs) b) (nat_lt 65536 (address + width)) none in
-    let same : answers.watched (editor_pages e) address width a b
+    let same : answers.watch_numbers (editor_pages e) address width a b
     ≡ numbered (codes "watch") (address ∷ watched e address width a b)
     = λ i. numbered (codes "watch")
     (address ∷ map (λ p. number_at (sym (same_page e p) i) address width) (range_with_len a (b + 1 - a))) in

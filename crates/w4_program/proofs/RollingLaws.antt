@@ -27,7 +27,7 @@ use Rattle.w4_netplay.specs.declared.refusal.NetRefusal.{NetRefusal}
 use Rattle.w4_netplay.specs.declared.refusal.NetRefusal.TheVariants as net
 use Rattle.w4_netplay.specs.Pads.{known_in}
 use Rattle.w4_netplay.specs.Refusals.{edit_refusal}
-use Rattle.w4_netplay.specs.Replicas.{IsNetRefusal, KeepsNetplay, KeepsPlace, Netplay, kept_of, known_of, predicted_draft, prediction}
+use Rattle.w4_netplay.specs.Replicas.{IsNetRefusal, KeepsNetplay, KeepsPlace, Netplay, places_kept, known_of, predicted_draft, prediction}
 use Rattle.w4_program.specs.Answering.{refused_line, refusal_words}
 use Rattle.w4_program.specs.Answers.{Answered, answer_text}
 use Rattle.w4_program.specs.Causes.{Printed, StopsWriting, WritesNothing}
@@ -110,9 +110,10 @@ pub packet_heard : (old new : Netplay) (packet : Packet) (found : Option NetRefu
 packet_heard old new packet found none known frames editor =
     rw none
     (ap (λ (s : NetSession). answer_text s [])
-    (sym (same_session_as (known_of new) (learned (known_of old) packet) new.frames old.frames (kept_of new)
-    (kept_of old) known frames
-    (ap (λ (e : Editing). kept_of (record { pads = new.pads; frames = new.frames; editor = e })) editor))))
+    (sym (same_session_as (known_of new) (learned (known_of old) packet) new.frames old.frames
+    (places_kept new) (places_kept old) known frames
+    (ap (λ (e : Editing). places_kept (record { pads = new.pads; frames = new.frames; editor = e }))
+    editor))))
 
 pub same_rest : (old new : Netplay) → new.editor ≡ old.editor → KeepsRest old.editor new.editor
 same_rest old new same = subst (λ (e : Editing). KeepsRest old.editor e) (sym same) (rest_none old.editor)
@@ -174,13 +175,14 @@ pub wanted_words : (wanted : Option EditRefusal) (refusal : NetRefusal) → IsNe
 wanted_words wanted refusal is other = by_cause wanted refusal is.reason is.word is.cause other
 
 pub place_kept : (old new : Netplay) (p : ℕ) (found : Option EditRefusal) → found ≡ None
-    → new.pads ≡ old.pads → new.frames ≡ old.frames → kept_of new ≡ with_kept places_alone p (kept_of old)
+    → new.pads ≡ old.pads → new.frames ≡ old.frames
+    → places_kept new ≡ with_kept places_alone p (places_kept old)
     → answer_keep (net_session old) p found ≡ answer_text (net_session new) []
 place_kept old new p found none pads frames kept =
     rw none
     (ap (λ (s : NetSession). answer_text s [])
-    (sym (same_session_as (known_of new) (known_of old) new.frames old.frames (kept_of new)
-    (with_kept places_alone p (kept_of old)) (ap known_in pads) frames kept)))
+    (sym (same_session_as (known_of new) (known_of old) new.frames old.frames (places_kept new)
+    (with_kept places_alone p (places_kept old)) (ap known_in pads) frames kept)))
 
 pub rest_kept : (p before after : ℕ) (old new : Netplay) → KeepsPlace p before after old new
     → KeepsRest old.editor new.editor
@@ -242,9 +244,9 @@ image_told old p state none is =
 pub state_told : (old : Netplay) (p : ℕ) (state : State) → old.editor.disk ≡ []
     → run_state (editing_setup old.editor) old.editor.disk (prediction old) p ≡ Some state
     → predicted_state (editing_setup old.editor) (net_session old) p
-    ≡ state_line p old.frames state (kept_of old)
+    ≡ state_line p old.frames state (places_kept old)
 state_told old p state none is =
-    line_of_state p old.frames (kept_of old) (run (editing_setup old.editor) [] (prediction old) p) state
+    line_of_state p old.frames (places_kept old) (run (editing_setup old.editor) [] (prediction old) p) state
     (subst (λ disk. run_state (editing_setup old.editor) disk (prediction old) p ≡ Some state) none is)
 
 -- ---- lines
@@ -289,7 +291,7 @@ pub begins : (cart : WasmModule) (font digest : List ℕ) (budget : ℕ) (record
 begins cart font digest budget recording state r blank known frames editor = (
   ap (λ (e : Editing). editing_setup e) editor
       ∙ ap (λ (x : Recording). console_setup cart font x.budget) blank,
-  same_session_as (known_of r) nothing_known r.frames 0 (kept_of r) (0 ∷ []) known frames
+  same_session_as (known_of r) nothing_known r.frames 0 (places_kept r) (0 ∷ []) known frames
       (ap (λ (e : Editing). places_of e.session.current.kept) editor),
 )
 

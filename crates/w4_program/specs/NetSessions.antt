@@ -50,8 +50,8 @@ answer_next session = if nat_lt session.frames 36000
     else answer_text session (refused_line (refusal_words FullRecording))
 
 -- the recording that is predicted, with the kept places
-abbrev pub predicted_draft : NetSession → Draft ℕ
-predicted_draft session =
+abbrev pub net_draft : NetSession → Draft ℕ
+net_draft session =
     record { inputs = net_inputs session.known session.frames; kept = session.kept }
 
 abbrev pub answer_keep : NetSession → ℕ → Option EditRefusal → Answered NetSession
@@ -74,7 +74,7 @@ predicted_state setup session p =
 abbrev pub net_answer : Setup → NetSession → NetOrder → Answered NetSession
 net_answer setup s (net.Pad packet) = answer_packet s packet (packet_refusal s.known packet)
 net_answer setup s net.Next = answer_next s
-net_answer setup s (net.Keep p) = answer_keep s p (keep_refusal places_alone p (predicted_draft s))
+net_answer setup s (net.Keep p) = answer_keep s p (keep_refusal places_alone p (net_draft s))
 net_answer setup s (net.Show p) = answer_text s (if_passed s p (predicted_image setup s p))
 net_answer setup s (net.StateAt p) = answer_text s (if_passed s p (predicted_state setup s p))
 

@@ -25,9 +25,9 @@ abbrev pub outside : List ℕ
 outside = refused_line (codes "outside")
 
 -- the page of a place; a run of an accepted cart always comes to one
-abbrev pub page_of : Option Moment → List ℕ
-page_of (Some moment) = moment.state.page
-page_of None = []
+abbrev pub moment_page : Option Moment → List ℕ
+moment_page (Some moment) = moment.state.page
+moment_page None = []
 
 -- the pages of a run, by their places, and how many inputs it has
 pub record Pages : Type 0 where
@@ -35,11 +35,11 @@ pub record Pages : Type 0 where
   pub last : ℕ
 
 abbrev pub pages_of : Setup → List ℕ → List Input → Pages
-pages_of setup disk inputs = record { at = λ p. page_of (run setup disk inputs p); last = length inputs }
+pages_of setup disk inputs = record { at = λ p. moment_page (run setup disk inputs p); last = length inputs }
 
 -- the values at an address, at places A to B
-abbrev pub watched : Pages → ℕ → ℕ → ℕ → ℕ → List ℕ
-watched pages address width a b =
+abbrev pub watch_numbers : Pages → ℕ → ℕ → ℕ → ℕ → List ℕ
+watch_numbers pages address width a b =
     numbered (codes "watch")
     (address ∷ map (λ p. number_at (pages.at p) address width) (range_with_len a (b + 1 - a)))
 
@@ -47,7 +47,7 @@ abbrev pub watch_text : Pages → ℕ → ℕ → ℕ → ℕ → List ℕ
 watch_text pages address width a b =
     if nat_lt pages.last b then no_frame else
     if nat_lt 65536 (address + width) then outside else
-    watched pages address width a b
+    watch_numbers pages address width a b
 
 abbrev pub answer_start : Pages → Option Search → ℕ → ℕ → Answered (Option Search)
 answer_start pages search width p =

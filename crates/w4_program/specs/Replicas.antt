@@ -1,7 +1,7 @@
 -- A replica as the answers of a log see it.
 use Rattle.std.specs.Prelude.{◌≡◌, Result, Ok, Err}
 use Rattle.w4_house.specs.World.{World, Appends}
-use Rattle.w4_netplay.specs.Replicas.{Netplay, known_of, kept_of}
+use Rattle.w4_netplay.specs.Replicas.{Netplay, known_of, places_kept}
 use Rattle.w4_program.specs.declared.status.Status.{Status}
 use Rattle.w4_program.specs.Answers.{Answered}
 use Rattle.w4_program.specs.Causes.{StopsWriting}
@@ -10,7 +10,7 @@ use Rattle.w4_program.specs.Endings.{manner_of}
 use Rattle.w4_program.specs.NetSessions.{NetSession}
 
 abbrev pub net_session : Netplay → NetSession
-net_session r = record { known = known_of r; frames = r.frames; kept = kept_of r }
+net_session r = record { known = known_of r; frames = r.frames; kept = places_kept r }
 
 -- a line was answered so: standard output has got the answer, and the session is the one that is left
 pub record IsHeard (before after : World) (old new : Netplay) (wanted : Answered NetSession) : Type 0 where

@@ -138,7 +138,7 @@ fn keep<L: Ledger, H: House>(
     ensures heard { GivesHeard (H.world house.old) (H.world house.new) result
         replica.old replica.new
         (answer_keep (net_session replica.old) p
-        (keep_refusal places_alone p (session.predicted_draft (net_session replica.old)))) }
+        (keep_refusal places_alone p (session.net_draft (net_session replica.old)))) }
     ensures rest { LeavesPrinting (H.world house.old) (H.world house.new) }
 {
     match replica.keep(alloc, p as usize, steps) {

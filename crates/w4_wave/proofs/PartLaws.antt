@@ -11,7 +11,7 @@ use Rattle.w4_defs.specs.Tones.{sound_of}
 use Rattle.w4_defs.specs.Sound.{Wave, IsWave, heard_voice, channel_output, on_left, on_right, advance, oscillator, noise, next_phase, ticked, after_ticks, ticks_a_second}
 use Rattle.w4_wave.specs.declared.output.Output.{Output}
 use Rattle.w4_wave.specs.declared.output.Part.{Part}
-use Rattle.w4_wave.specs.Outputs.{value_at, tone_and_sound, output_at, given, AreGiven, IsAt, IsPart}
+use Rattle.w4_wave.specs.Outputs.{oscillator_value, tone_and_sound, output_at, side_output, AreGiven, IsAt, IsPart}
 
 channels_stay : (wave : Wave) (tick : ℕ) → (after_ticks wave tick).channels ≡ wave.channels
 unfolding after_ticks
@@ -67,7 +67,7 @@ ranges_stay wave (suc tick) is =
 value_is : (now : Wave) (channel : ℕ) (tone : Tone) (sound : Sound) (register : ℕ) → channel < 4
     → (channel ≡ 3 → register ≡ now.noise)
     → oscillator now channel tone sound
-    ≡ value_at channel tone sound (slice_index now.phases channel) register
+    ≡ oscillator_value channel tone sound (slice_index now.phases channel) register
 value_is now zero tone sound register below same = refl
 value_is now (suc zero) tone sound register below same = refl
 value_is now (suc (suc zero)) tone sound register below same = refl
@@ -103,7 +103,7 @@ step_is channel tick phase register (Some voice) = refl
 pub left_given : (wave : Wave) (channel tick phase register : ℕ) → channel < 4
     → IsAt wave channel tick phase register
     → (output_at channel tick phase register (heard_voice wave channel)).left
-    ≡ given on_left wave channel tick
+    ≡ side_output on_left wave channel tick
 left_given wave channel tick phase register below at =
     let now = after_ticks wave tick in
     ap (λ v. (output_at channel tick phase register v).left) (sym (voice_stays wave tick channel))
@@ -113,7 +113,7 @@ left_given wave channel tick phase register below at =
 pub right_given : (wave : Wave) (channel tick phase register : ℕ) → channel < 4
     → IsAt wave channel tick phase register
     → (output_at channel tick phase register (heard_voice wave channel)).right
-    ≡ given on_right wave channel tick
+    ≡ side_output on_right wave channel tick
 right_given wave channel tick phase register below at =
     let now = after_ticks wave tick in
     ap (λ v. (output_at channel tick phase register v).right) (sym (voice_stays wave tick channel))
@@ -155,7 +155,8 @@ goes_on wave channel tick phase register next moved step below at steps turns sh
 
 -- one more value
 pub given_more : (side : ℕ → Bool) (wave : Wave) (channel count : ℕ) (values : List ℤ) (value : ℤ)
-    → count < length values → AreGiven side wave channel count values → value ≡ given side wave channel count
+    → count < length values → AreGiven side wave channel count values
+    → value ≡ side_output side wave channel count
     → AreGiven side wave channel (count + 1) (set values count value)
 given_more side wave channel count values value within so_far is =
     below_more _ _ (λ k h. let ne : k ≢ count = omega arith in rw get_or-set_other (so_far k h))
@@ -269,7 +270,7 @@ same_output a b l r s =
 pub output_is : (out : Output) (channel tick phase register : ℕ) (voice : Option Voice)
     (tone : Tone) (sound : Sound) (value : ℤ)
     → Some (tone, sound) ≡ option_map (tone_and_sound tick) voice
-    → value ≡ value_at channel tone sound phase register
+    → value ≡ oscillator_value channel tone sound phase register
     → out.left ≡ cond (on_left tone.pan) value (pos 0)
     → out.right ≡ cond (on_right tone.pan) value (pos 0)
     → out.step ≡ sound.frequency
@@ -277,7 +278,7 @@ pub output_is : (out : Output) (channel tick phase register : ℕ) (voice : Opti
 output_is out channel tick phase register None tone sound value e ev el er es = absurd (cc e)
 output_is out channel tick phase register (Some voice) tone sound value e ev el er es =
     let pair : (tone, sound) ≡ tone_and_sound tick voice = cc e in
-    let value_of : Tone × Sound → ℤ = λ p. value_at channel p.0 p.1 phase register in
+    let value_of : Tone × Sound → ℤ = λ p. oscillator_value channel p.0 p.1 phase register in
     same_output out (output_at channel tick phase register (Some voice))
     (el ∙ ap (λ v. cond (on_left tone.pan) v (pos 0)) ev
     ∙ ap (λ (p : Tone × Sound). cond (on_left p.0.pan) (value_of p) (pos 0)) pair)

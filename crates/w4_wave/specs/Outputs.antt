@@ -9,8 +9,8 @@ use Rattle.w4_wave.specs.declared.output.Output.{Output}
 use Rattle.w4_wave.specs.declared.output.Part.{Part}
 
 -- what an oscillator gives at a phase, and for channel 3 by its register
-abbrev pub value_at : ℕ → Tone → Sound → ℕ → ℕ → ℤ
-value_at channel tone sound phase register =
+abbrev pub oscillator_value : ℕ → Tone → Sound → ℕ → ℕ → ℤ
+oscillator_value channel tone sound phase register =
     let amplitude = 80 * sound.level in
     if nat_lt channel 2 then pulse amplitude tone.duty phase
     else if channel == 2 then triangle amplitude phase
@@ -24,7 +24,7 @@ tone_and_sound tick voice = (voice.tone, sound_of tick voice)
 abbrev pub output_at : ℕ → ℕ → ℕ → ℕ → Option Voice → Output
 output_at channel tick phase register None = record { left = pos 0; right = pos 0; step = 0 }
 output_at channel tick phase register (Some voice) =
-    let value = value_at channel voice.tone (sound_of tick voice) phase register in
+    let value = oscillator_value channel voice.tone (sound_of tick voice) phase register in
     record {
       left = if on_left voice.tone.pan then value else pos 0;
       right = if on_right voice.tone.pan then value else pos 0;
@@ -32,15 +32,15 @@ output_at channel tick phase register (Some voice) =
     }
 
 -- what a channel gives to one side at a tick of the frame that begins with this wave
-abbrev pub given : (ℕ → Bool) → Wave → ℕ → ℕ → ℤ
-given side wave channel tick =
+abbrev pub side_output : (ℕ → Bool) → Wave → ℕ → ℕ → ℤ
+side_output side wave channel tick =
     let now = after_ticks wave tick in
     channel_output side tick now channel (heard_voice now channel)
 
 -- and at so many ticks
 abbrev pub AreGiven : (ℕ → Bool) → Wave → ℕ → ℕ → List ℤ → Type 0
 AreGiven side wave channel count values =
-    (tick : ℕ) → tick < count → slice_index_or values tick (pos 0) ≡ given side wave channel tick
+    (tick : ℕ) → tick < count → slice_index_or values tick (pos 0) ≡ side_output side wave channel tick
 
 -- the phase and the register of a channel's oscillator after so many ticks
 pub record IsAt (wave : Wave) (channel count phase register : ℕ) : Type 0 where

@@ -4,7 +4,7 @@
 ghost use Rattle.std.specs.Prelude.{◌≡◌, ◌+◌, ◌*◌, ◌/◌, ◌%◌, ◌<◌, ◌≤ℤ◌, if◌then◌else◌, nat_lt, negsuc, pos};
 ghost use Rattle.w4_defs.specs.Sound.{high_or_low, noise, pulse, ticks_a_second, triangle, triangle_height};
 ghost use Rattle.w4_defs.specs.Tones.{IsTone};
-ghost use Rattle.w4_wave.specs.Outputs.{value_at};
+ghost use Rattle.w4_wave.specs.Outputs.{oscillator_value};
 
 use w4_defs::{Sound, Tone};
 
@@ -15,7 +15,7 @@ const TICKS_A_SECOND: u32 = 44100;
 pub fn value(channel: usize, tone: Tone, sound: Sound, phase: u16, register: u16) -> i16
     requires tone { IsTone tone }
     requires phase { phase < 44100 }
-    ensures { result ≡ value_at channel tone sound phase register }
+    ensures { result ≡ oscillator_value channel tone sound phase register }
 {
     match channel {
         0 | 1 => pulse(sound.level, tone.duty, phase),

@@ -24,24 +24,24 @@ use Rattle.wasm_read.proofs.TypeLaws.{block_type_reads}
 use Rattle.wasm_read.proofs.OperationLaws.{operation_reads}
 
 -- the texts of an entry
-abbrev pub entry_of : Op → List ℕ → Texts
-entry_of (Block r end) labels = provided ((labels ≡ []) × (end ≡ 0)) (byte 0x02 then block_type r)
-entry_of (Loop r end) labels = provided ((labels ≡ []) × (end ≡ 0)) (byte 0x03 then block_type r)
-entry_of (If r other end) labels =
+abbrev pub entry_texts : Op → List ℕ → Texts
+entry_texts (Block r end) labels = provided ((labels ≡ []) × (end ≡ 0)) (byte 0x02 then block_type r)
+entry_texts (Loop r end) labels = provided ((labels ≡ []) × (end ≡ 0)) (byte 0x03 then block_type r)
+entry_texts (If r other end) labels =
     provided ((labels ≡ []) × (other ≡ None) × (end ≡ 0)) (byte 0x04 then block_type r)
-entry_of Else labels = provided (labels ≡ []) (byte 0x05)
-entry_of End labels = provided (labels ≡ []) (byte 0x0b)
-entry_of op labels = with_labels op labels
+entry_texts Else labels = provided (labels ≡ []) (byte 0x05)
+entry_texts End labels = provided (labels ≡ []) (byte 0x0b)
+entry_texts op labels = with_labels op labels
 
 abbrev pub entry : Mark → Texts
-entry m = entry_of m.0 m.1
+entry m = entry_texts m.0 m.1
 
 first_cases : {A : Type 0} (o other : Option A) (x : A) → first_some o other ≡ Some x → (o ≡ Some x)
     ⊎ ((o ≡ None) × (other ≡ Some x))
 first_cases (Some y) other x e = inl e
 first_cases None other x e = inr (refl, e)
 
-operation_entry : (op : Op) (text : List ℕ) → operation op text → entry_of op [] text
+operation_entry : (op : Op) (text : List ℕ) → operation op text → entry_texts op [] text
 operation_entry (Block r end) text h = absurd h
 operation_entry (Loop r end) text h = absurd h
 operation_entry (If r other end) text h = absurd h
@@ -51,7 +51,7 @@ operation_entry BrTable text h = absurd h
 operation_entry op text h = (refl, h)
 
 pub instruction_entry : (op : Op) (labels text : List ℕ) → with_labels op labels text
-    → entry_of op labels text
+    → entry_texts op labels text
 instruction_entry (Block r end) labels text h = absurd h.1
 instruction_entry (Loop r end) labels text h = absurd h.1
 instruction_entry (If r other end) labels text h = absurd h.1
@@ -69,7 +69,7 @@ instruction_leaf op labels text h = tt
 
 -- texts of an entry without labels
 abbrev Unlabelled : Op → Texts
-Unlabelled op text = entry_of op [] text
+Unlabelled op text = entry_texts op [] text
 
 opener_sound : (f : Option ValType → Op) (code : ℕ)
     → ((r : Option ValType) (text : List ℕ) → block_type r text → Unlabelled (f r) (code ∷ text))
@@ -138,16 +138,16 @@ labels_reads = both_reads (vector (unsigned 32)) (unsigned 32) (vector_at (unsig
 table_taken : (b : ℕ) (bs : List ℕ) (x : List ℕ × ℕ) (after labels rest : List ℕ) → b ≡ 0x0e
     → Takes (λ (y : List ℕ × ℕ). vector (unsigned 32) y.0 then unsigned 32 y.1) bs x after
     → read_as (with_last x) after ≡ Some (labels, rest)
-    → Takes (λ ls. entry_of BrTable ls) (b ∷ bs) labels rest
+    → Takes (λ ls. entry_texts BrTable ls) (b ∷ bs) labels rest
 table_taken b bs x after labels rest same t e =
-    moved (λ ls. entry_of BrTable ls) (b ∷ bs) (with_last x) labels after rest (
+    moved (λ ls. entry_texts BrTable ls) (b ∷ bs) (with_last x) labels after rest (
       0x0e ∷ t.0,
       ap (λ k. k ∷ bs) same ∙ ap (λ xs. 0x0e ∷ xs) t.1,
       (0x0e ∷ [], t.0, refl, refl, (x.0, x.1, refl, t.2)),
     ) e
 
 table_sound : (bytes labels rest : List ℕ) → table_at bytes ≡ Some (labels, rest)
-    → Takes (λ ls. entry_of BrTable ls) bytes labels rest
+    → Takes (λ ls. entry_texts BrTable ls) bytes labels rest
 unfolding table_at
 table_sound [] labels rest e = absurd cc
 table_sound (b ∷ bs) labels rest e =
@@ -162,7 +162,8 @@ entry_sound : (bytes : List ℕ) (m : Mark) (rest : List ℕ) → entry_at bytes
     → Takes entry bytes m rest
 unfolding entry_at
 entry_sound bytes m rest e =
-    elim (first_cases (mapped_at mark unlabelled_at bytes) (mapped_at table_mark table_at bytes) (m, rest) e) [
+    elim (first_cases (mapped_at mark unlabelled_at bytes) (mapped_at table_mark table_at bytes) (m, rest)
+    e) [
       | inl h ↦
           let s = bind_some (unlabelled_at bytes) (λ (x : Op × List ℕ). read_as (mark x.0) x.1) (m, rest) h in
           moved entry bytes (mark s.0.0) m s.0.1 rest (unlabelled_sound bytes s.0.0 s.0.1 s.1) s.2
@@ -204,7 +205,7 @@ table_found labels text rest h =
     ap (λ t. entry_at (t ++ rest)) (h.2 ∙ ap (λ a. a ++ h.1) h.3) ∙ (rw e refl)
     ∙ ap (λ k. mark_as BrTable k rest) (sym t.2)
 
-pub entry_found : (op : Op) (labels text rest : List ℕ) → entry_of op labels text
+pub entry_found : (op : Op) (labels text rest : List ℕ) → entry_texts op labels text
     → entry_at (text ++ rest) ≡ Some ((op, labels), rest)
 unfolding entry_at unlabelled_at operation_at
 entry_found (Block r end) labels text rest h = opener_found block_of 0x02 (λ bs. refl) r text rest h.1
@@ -226,7 +227,7 @@ pub entry_reads : Reads entry entry_at
 entry_reads = record { sound = entry_sound; complete = λ text rest m h. entry_found m.0 m.1 text rest h }
 
 -- an entry has a byte
-pub entry_long : (op : Op) (labels text : List ℕ) → entry_of op labels text → 1 ≤ length text
+pub entry_long : (op : Op) (labels text : List ℕ) → entry_texts op labels text → 1 ≤ length text
 unfolding entry_at unlabelled_at operation_at table_at
 entry_long op labels [] h = let e : mark_as op labels [] ≡ None = sym (entry_found op labels [] [] h) in
     absurd cc

@@ -17,7 +17,7 @@ use Rattle.wasm_read.specs.declared.brackets.Close.TheVariants.{Ends, Parts}
 use Rattle.wasm_read.specs.Reader.{read_as, Reads}
 use Rattle.wasm_read.specs.ReadExpression.{entries_at, entry_with_places, entries_with_places, is_one_end, matched, flattening_at, expression_at}
 use Rattle.wasm_read.proofs.Basics.{bind_some, if_some, moved}
-use Rattle.wasm_read.proofs.EntryLaws.{entry_of, entry, entries_long}
+use Rattle.wasm_read.proofs.EntryLaws.{entry_texts, entry, entries_long}
 use Rattle.wasm_read.proofs.Passes.{filled_as, raw, list_proper, raw_spelled, end_spelled, whole_walks, entries_found, entries_sound, filled_raw}
 
 abbrev place_of : Close → ℕ
@@ -287,7 +287,7 @@ grow_else at r j k c cs a b ms h (
 -- one entry more, from the front
 abbrev Grows : ℕ → Op → List ℕ → List Close → Op → List Close → List ℕ → List ℕ → List Mark → Type 0
 Grows at op labels cs x ds a b ms =
-    entry_of op labels a → entry_with_places at op cs ≡ placed_as x ds → Forest (at + 1) cs b ms
+    entry_texts op labels a → entry_with_places at op cs ≡ placed_as x ds → Forest (at + 1) cs b ms
     → Forest at ds (a ++ b) ((x, labels) ∷ ms)
 
 grow : (at : ℕ) (op : Op) (labels : List ℕ) (cs : List Close) (x : Op) (ds : List Close) (a b : List ℕ)

@@ -14,7 +14,7 @@ use Rattle.wasm_read.specs.declared.brackets.Close.TheVariants.{Ends, Parts}
 use Rattle.wasm_read.specs.Reader.{Takes}
 use Rattle.wasm_read.specs.ReadExpression.{entry_at, depth_after, entries_at, entry_with_places, entries_with_places}
 use Rattle.wasm_read.proofs.Basics.{bind_some, split_if, moved, differs_tested}
-use Rattle.wasm_read.proofs.EntryLaws.{entry_of, entry, instruction_entry, instruction_leaf, entry_reads}
+use Rattle.wasm_read.proofs.EntryLaws.{entry_texts, entry, instruction_entry, instruction_leaf, entry_reads}
 
 abbrev pub raw : Op → Expr → List Mark
 raw close done = mark close ∷ []
@@ -53,7 +53,7 @@ items_joined (x ∷ xs) ys a b h k =
 
 -- an entry that opens a list, and the entries after it
 opened : (x : Op) (code : ℕ) (P Q : Texts) (others : List Mark)
-    → ((t : List ℕ) → (byte code then P) t → entry_of x [] t)
+    → ((t : List ℕ) → (byte code then P) t → entry_texts x [] t)
     → ((t : List ℕ) → Q t → items entry others t) → (text : List ℕ) → (byte code then P then Q) text
     → items entry (mark x ∷ others) text
 opened x code P Q others spelled next text h =
@@ -72,14 +72,14 @@ two_joined P Q xs ys p q text h =
     let R : List ℕ → Type 0 = λ t. items entry (xs ++ ys) t in
     subst R (sym h.2) (items_joined xs ys h.0 h.1 (p h.0 h.3) (q h.1 h.4))
 
-pub end_spelled : (t : List ℕ) → byte 0x0b t → entry_of End [] t
+pub end_spelled : (t : List ℕ) → byte 0x0b t → entry_texts End [] t
 end_spelled t h = (refl, h)
 
-else_spelled : (t : List ℕ) → byte 0x05 t → entry_of Else [] t
+else_spelled : (t : List ℕ) → byte 0x05 t → entry_texts Else [] t
 else_spelled t h = (refl, h)
 
 -- a text of the tree is one of its entries
-pub raw_spelled : (k : ℕ) (close : Op) → ((t : List ℕ) → byte k t → entry_of close [] t)
+pub raw_spelled : (k : ℕ) (close : Op) → ((t : List ℕ) → byte k t → entry_texts close [] t)
     → (e : Expr) (text : List ℕ) → list k e text → items entry (raw close e) text
 raw_spelled k close c done text h = (text, [], sym (append-nil text), c text h, refl)
 raw_spelled k close c (plain m rest) text h =

@@ -12,7 +12,7 @@ use Rattle.w4_defs.specs.Flattening.{IsProper}
 use Rattle.w4_defs.specs.Module.{Function}
 use Rattle.wasm_tree.specs.Shifting.{op_after, op_within, shifted_entry}
 use Rattle.wasm_tree.specs.Pool.{operations_of}
-use Rattle.wasm_tree.specs.Layout.{StandsAt, IsBody, entry_of, size_with}
+use Rattle.wasm_tree.specs.Layout.{StandsAt, IsBody, mark_of, size_with}
 use Rattle.wasm_tree.proofs.ShiftLaws.{flattening_shifted, op_back, length_flat}
 
 got_first : {X : Type 0} (xs ys : List X) (k : ℕ) → k < length xs → slice_get (xs ++ ys) k ≡ slice_get xs k
@@ -45,7 +45,7 @@ pub record Stands (ms : List Mark) (start place : ℕ) (entry : Option Mark) : T
 
 stands : (ms : List Mark) (start place : ℕ) (f : Option Function) → StandsAt ms start f
     → IfSome f (λ g. IsProper g.list) → place < size_with f
-    → Stands ms start place (entry_of f place)
+    → Stands ms start place (mark_of f place)
 stands ms start place None h p small = absurd h
 stands ms start place (Some f) h p small =
     let m = got_within (flat f.list) place small in
@@ -74,7 +74,7 @@ stands ms start place (Some f) h p small =
 pub stands_in : (ms : List Mark) (fs : List Function) (func start place : ℕ)
     → StandsAt ms start (slice_get fs func) → All (λ f. IsProper f.list) fs
     → place < size_with (slice_get fs func)
-    → Stands ms start place (entry_of (slice_get fs func) place)
+    → Stands ms start place (mark_of (slice_get fs func) place)
 stands_in ms fs func start place h p small =
     stands ms start place (slice_get fs func) h (got_all (λ f. IsProper f.list) fs func p) small
 

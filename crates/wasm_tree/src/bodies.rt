@@ -3,7 +3,7 @@
 ghost use Rattle.std.specs.Prelude.{◌+◌, ◌++◌, ◌<◌, ◌≡◌, ◌≤◌, ◌∷◌, All, IfOk, IfSome, Some, [], length, map, option_map, slice_get, take, drop};
 ghost use Rattle.w4_defs.specs.Flattening.{IsProper};
 ghost use Rattle.w4_defs.specs.Tree.{flat};
-ghost use Rattle.wasm_tree.specs.Layout.{IsBody, StandsAt, entry_of, laid_from, size_with, starts_from};
+ghost use Rattle.wasm_tree.specs.Layout.{IsBody, StandsAt, mark_of, laid_from, size_with, starts_from};
 ghost use Rattle.wasm_tree.specs.Shifting.{shifted_entry};
 
 use crate::marks::Marks;
@@ -131,7 +131,7 @@ impl Bodies {
     /// The entry of a body at a place that counts from the body's first.
     pub fn op(&self, func: usize, place: usize) -> Op
         requires { place < size_with (slice_get self.now func) }
-        ensures { option_map (λ m. m.0) (entry_of (slice_get self.now func) place) ≡ Some result }
+        ensures { option_map (λ m. m.0) (mark_of (slice_get self.now func) place) ≡ Some result }
     {
         let start = self.start(func);
         let marks = self.marks();
@@ -142,7 +142,7 @@ impl Bodies {
     /// The labels of the entry of a body at a place that counts from the body's first.
     pub fn labels(&self, func: usize, place: usize) -> &[u32]
         requires { place < size_with (slice_get self.now func) }
-        ensures { option_map (λ m. m.1) (entry_of (slice_get self.now func) place) ≡ Some result.now }
+        ensures { option_map (λ m. m.1) (mark_of (slice_get self.now func) place) ≡ Some result.now }
     {
         let start = self.start(func);
         let marks = self.marks();

@@ -3,7 +3,7 @@
 ghost use Rattle.std.specs.Prelude.{◌<◌, ◌≤◌, ◌≡◌, All, IfSome, Some, length, option_map, slice_get};
 ghost use Rattle.w4_defs.specs.Flattening.{IsProper};
 ghost use Rattle.w4_defs.specs.Tree.{flat};
-ghost use Rattle.wasm_tree.specs.Layout.{IsBody, StandsAt, body_size, body_starts, entries, entry_in};
+ghost use Rattle.wasm_tree.specs.Layout.{IsBody, StandsAt, body_size, body_starts, entries, mark_in};
 ghost use Rattle.wasm_tree.specs.Pool.{label_begins, operations_of, pool_of};
 
 use crate::bodies::Bodies;
@@ -249,7 +249,7 @@ impl Code {
     /// The entry at a place.
     pub fn op(&self, func: usize, place: usize) -> Op
         requires { place < body_size self.now func }
-        ensures { option_map (λ m. m.0) (entry_in self.now func place) ≡ Some result }
+        ensures { option_map (λ m. m.0) (mark_in self.now func place) ≡ Some result }
     {
         self.bodies.op(func, place)
     }
@@ -257,7 +257,7 @@ impl Code {
     /// The labels of the entry at a place: those of a br_table, the default last; none at any other.
     pub fn labels(&self, func: usize, place: usize) -> &[u32]
         requires { place < body_size self.now func }
-        ensures { option_map (λ m. m.1) (entry_in self.now func place) ≡ Some result.now }
+        ensures { option_map (λ m. m.1) (mark_in self.now func place) ≡ Some result.now }
     {
         self.bodies.labels(func, place)
     }

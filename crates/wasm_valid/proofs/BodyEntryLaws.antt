@@ -16,7 +16,7 @@ use Rattle.w4_defs.specs.Typing.{Context, body_context, BodyHasType}
 use Rattle.w4_defs.specs.Validity.{IsTypedAt}
 use Rattle.wasm_tree.specs.Shifting.{op_after, shifted_entry}
 use Rattle.wasm_tree.specs.Pool.{operations_of}
-use Rattle.wasm_tree.specs.Layout.{IsBody, entry_of, size_with}
+use Rattle.wasm_tree.specs.Layout.{IsBody, mark_of, size_with}
 use Rattle.wasm_tree.proofs.ShiftLaws.{flattening_shifted}
 use Rattle.wasm_valid.specs.AbstractStackLaw.{body_stands}
 use Rattle.wasm_valid.specs.Pass.{OpenBlock, opened, blocks_after}
@@ -85,7 +85,7 @@ entry_at c start ms ops place d labels old h small hl =
 pub entry_next : (c : Context) (o : Option Function) (ops : List Op) (place : ℕ) (d : Op) (labels : List ℕ)
     (old new : List OpenBlock) (went : Bool) → IsBody o ops → IfSome o (λ f. IsProper f.list)
     → place < length ops
-    → option_map (λ m. m.1) (entry_of o place) ≡ Some labels
+    → option_map (λ m. m.1) (mark_of o place) ≡ Some labels
     → after_entry c (get_or ops place d) labels old ≡ cond went (Some new) None
     → blocks_after c (drop place (entries_with o)) old
     ≡ option_and_then (blocks_after c (drop (place + 1) (entries_with o))) (cond went (Some new) None)

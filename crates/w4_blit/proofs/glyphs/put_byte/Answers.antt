@@ -8,7 +8,8 @@ use Rattle.w4_blit.proofs.glyphs.put_byte.Goals as goal
 pub returns : goal.returns
 returns c =
     let row = c.args.row in
-    let f = clipped (eight_painter row.bits row.paper row.ink row.x) row.left row.right row.v (row.v + 1) in
+    let eight = eight_painter row.bits row.ink row.background row.x in
+    let f = clipped eight row.left row.right row.v (row.v + 1) in
     c.put_quad.ensures ∙ paint_ext c.args.page.now _ _ c.told-page
     (λ a b ha hb. four_asked f c.args.q row.v a b _ _ _ _ c.index_in-first.ensures.value
     c.index_in-second.ensures.value c.index_in-third.ensures.value c.index_in-fourth.ensures.value)

@@ -7,6 +7,6 @@ use Rattle.w4_blit.proofs.glyphs.put_row.Given as goal
 abbrev pub invariant-loop-q : goal.invariant-loop-q
 invariant-loop-q l =
     l.page ≡ paint l.initial.page
-    (clipped (eight_painter l.row.bits l.row.paper l.row.ink l.row.x) l.row.left (min l.row.right (4 *
+    (clipped (eight_painter l.row.bits l.row.ink l.row.background l.row.x) l.row.left (min l.row.right (4 *
     l.q)) l.row.v
     (l.row.v + 1))

@@ -14,7 +14,8 @@ returns-in_err-font-clause-gives g c =
     rw (p.1, p.2)
     (stops_first (g.H.House.world c.args.house.now) (g.H.House.world c.load_font.new.house)
     (manner_of c.in_err-font.field-0.0) (λ files. font_in files c.args.names.font.now)
-    (λ files font. names_in files c.args.names.list.now >>= λ names. listed_files names files >>= λ recordings.
+    (λ files font. names_in files c.args.names.list.now >>= λ names.
+    listed_files names files >>= λ recordings.
     Ok (record { font = font; names = names; recordings = recordings }))
     c.in_err-font.ensures.gives)
 
@@ -28,7 +29,8 @@ returns-in_err-listed-clause-gives g c =
     (stops_later (g.H.House.world c.args.house.now) (g.H.House.world c.load_font.new.house)
     (g.H.House.world c.load_names.new.house) (manner_of c.in_err-listed.field-0.0)
     (λ files. font_in files c.args.names.font.now) font
-    (λ files font. names_in files c.args.names.list.now >>= λ names. listed_files names files >>= λ recordings.
+    (λ files font. names_in files c.args.names.list.now >>= λ names.
+    listed_files names files >>= λ recordings.
     Ok (record { font = font; names = names; recordings = recordings }))
     c.in_ok-font.ensures.rest c.in_ok-font.ensures.gives
     (stops_first (g.H.House.world c.load_font.new.house) (g.H.House.world c.load_names.new.house)
@@ -51,7 +53,8 @@ returns-in_err-recordings-clause-gives g c =
     rw (p.1, p.2)
     (stops_later first second fourth (manner_of c.in_err-recordings.field-0.0)
     (λ files. font_in files c.args.names.font.now) font
-    (λ files font. names_in files c.args.names.list.now >>= λ names. listed_files names files >>= λ recordings.
+    (λ files font. names_in files c.args.names.list.now >>= λ names.
+    listed_files names files >>= λ recordings.
     Ok (record { font = font; names = names; recordings = recordings }))
     c.in_ok-font.ensures.rest c.in_ok-font.ensures.gives
     (stops_later second third fourth (manner_of c.in_err-recordings.field-0.0)

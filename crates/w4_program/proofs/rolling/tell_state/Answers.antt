@@ -2,7 +2,7 @@ use Rattle.std.proofs.Common.{◌≡◌, ap, sym, ◌∙◌}
 use Rattle.std.specs.Prelude.{List, ℕ}
 use Rattle.w4_defs.specs.FrameTexts.{state_line}
 use Rattle.w4_editor.specs.Editing.{Editing, editing_setup}
-use Rattle.w4_netplay.specs.Replicas.{kept_of}
+use Rattle.w4_netplay.specs.Replicas.{places_kept}
 use Rattle.w4_program.specs.Answering.{refused_line}
 use Rattle.w4_program.specs.Answers.{answer_text}
 use Rattle.w4_program.specs.Editors.{place_session}
@@ -20,7 +20,7 @@ returns-in_ok-line-in-Ok-clause-heard g c =
     let keeps = c.in-Ok.ensures.keeps in
     let line = c.in_ok-line-in-Ok.ensures found.0 found.2 found.3 in
     let count : old.frames ≡ c.count-count.result = sym keeps.frames ∙ sym c.count-count.ensures.frames in
-    let kept : kept_of old ≡ (place_session c.editor.result.now).current.kept =
+    let kept : places_kept old ≡ (place_session c.editor.result.now).current.kept =
     sym keeps.kept ∙ ap (λ (e : Editing). (place_session e).current.kept) (sym c.editor.ensures) in
     heard_on_text c.print.result (g.H.House.world c.args.house.now) (g.H.House.world c.print.new.house) old
     c.facts.new.replica c.as_slice.result.now (answer_text s (if_passed s c.args.p text))

@@ -43,7 +43,7 @@ loop-alloc-preserved g c =
     let next = c.loop-alloc.next in
     let team = c.film_all.new.team in
     let cut = cut_at e.session.current.kept first end in
-    let rises = cut_rises e.session.current.kept first end c.is_consistent.ensures.kept.rising in
+    let rises = cut_rises e.session.current.kept first end c.is_consistent.ensures.kept.true_links.rising in
     let order = c.requires.order in
     let filmed : EachDid (HasFilmed (editing_setup e) e.disk e.session.current.inputs) c.deal.new.team team =
     subst (λ (m : WasmModule). EachDid (HasFilmed (console_setup m e.font e.budget) e.disk

@@ -14,6 +14,6 @@ restore-requires c =
     ∙ ap (λ (kept : List Entry). kept_entry_at kept c.args.i) c.as_slice.ensures.value in
     ap (λ (s : State). length s.globals) (c.snap.ensures ∙ ap (λ (x : Entry). x.state) entry)
     ∙ globals_as_many c.self.inside.player.cart (state_at items c.args.i)
-    (c.self.invariant.session.current.kept.globals c.args.i there)
+    (c.self.invariant.session.current.kept.true_links.globals c.args.i there)
     ∙ ap (λ (e : Editing). length e.cart.globals) c.self.view_is
     ∙ sym c.requires.globals

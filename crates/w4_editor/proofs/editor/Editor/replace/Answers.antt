@@ -22,7 +22,7 @@ invariant_of-self-2 c =
     let globals = fold_keeps inside.player.cart inside.player.font inside.player.budget
     (state_at kept (i - 1))
     c.args.state.now (kept_segment inside.recording.frames kept (i - 1)) c.has_types.ensures.first
-    (is.globals (i - 1) (omega (arith, there))) state in
+    (is.true_links.globals (i - 1) (omega (arith, there))) state in
     stays _ _ _ _ _ _ _ c.self.invariant inside.player c.replace.new.kept.items inside.at refl
     (subst (IsConsistent setup inside.recording.disk inside.recording.frames) (sym c.in_ok-replace.ensures.ok)
     (replace_consistent setup inside.recording.disk inside.recording.frames kept i c.requires.some there is
