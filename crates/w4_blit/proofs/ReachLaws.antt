@@ -1,5 +1,5 @@
 -- A picture reads no more of the framebuffer than is kept.
-use Rattle.std.proofs.Common.{◌≡◌, ℕ, ◌+◌, ◌-◌, ◌*◌, ◌/◌, ◌%◌, ◌^◌, ◌<◌, ◌≤◌, ◌⊎◌, Bool, true, false, ◌&&◌, cond, List, length, get_or, take, Option, refl, ◌∙◌, ap, subst, inl, inr, arith}
+use Rattle.std.proofs.Common.{◌≡◌, ℕ, ◌+◌, ◌-◌, ◌*◌, ◌/◌, ◌%◌, ◌^◌, ◌<◌, ◌≤◌, ◌⊎◌, Bool, true, false, ◌&&◌, cond, List, length, get_or, Option, refl, ap, subst, inl, inr, arith}
 use Rattle.std.specs.Prelude.{slice_range, ℤ, pos, negsuc, ◌+ℤ◌, ◌-ℤ◌, ◌≤ℤ◌, ◌<ℤ◌, int_le, int_lt}
 use Rattle.std.proofs.lemmas.Bool.{cases_lt}
 use Rattle.std.proofs.lemmas.Int.{ints}
@@ -8,19 +8,21 @@ use Rattle.w4_defs.specs.Colours.{palette_index}
 use Rattle.w4_defs.specs.Shapes.{natural, only_if, is_inside}
 use Rattle.w4_defs.specs.Blit.{blit_painter, cell_index, has_flag, height_on_screen, landed_index, source_column, source_row, source_value, width_on_screen}
 use Rattle.w4_blit.specs.Reach.{InReach}
-use Rattle.w4_blit.specs.Snapshot.{with_snapshot}
-use Rattle.w4_blit.proofs.SnapshotLaws.{behind, copied, snapshot_inside, snapshot_outside}
+use Rattle.w4_blit.specs.Snapshot.{IsAtHand, with_snapshot}
+use Rattle.w4_blit.proofs.SnapshotLaws.{kept_own}
 
-kept_byte : (page : List ℕ) (len i : ℕ) → length page ≡ 65536 → len ≤ 6400 → (i < 160 + len) ⊎ (6560 ≤ i)
-    → get_or (with_snapshot page (slice_range page 160 (160 + len))) i 0 ≡ get_or page i 0
-kept_byte page len i size h there = elim there [
-  | inr above ↦ behind page (slice_range page 160 (160 + len)) i size above
+there_or_behind : (len i : ℕ) → (i < 160 + len) ⊎ (6560 ≤ i) → IsAtHand 160 len i
+there_or_behind len i there = elim there [
+  | inr above ↦ inl (inr above)
   | inl below ↦ elim (cases_lt i 160) [
-    | inl low ↦ snapshot_outside page (slice_range page 160 (160 + len)) i (omega arith) (inl low)
-    | inr from ↦ snapshot_inside page (slice_range page 160 (160 + len)) i (omega arith) from (omega arith)
-        ∙ copied page 160 (160 + len) i from below
+    | inl low ↦ inl (inl low)
+    | inr from ↦ inr (from, below)
   ]
 ]
+
+kept_byte : (page : List ℕ) (len i : ℕ) → length page ≡ 65536 → (i < 160 + len) ⊎ (6560 ≤ i)
+    → get_or (with_snapshot page (slice_range page 160 (160 + len))) i 0 ≡ get_or page i 0
+kept_byte page len i size there = kept_own page 160 len i size (there_or_behind len i there)
 
 value_same : (two : Bool) (page other : List ℕ) (ptr q : ℕ)
     → (two ≡ true → get_or other (ptr + q / 4) 0 ≡ get_or page (ptr + q / 4) 0)
@@ -32,14 +34,14 @@ value_same : (two : Bool) (page other : List ℕ) (ptr q : ℕ)
 value_same true page other ptr q two one = ap (λ (b : ℕ). b / 4 ^ (3 - q % 4) % 4) (two refl)
 value_same false page other ptr q two one = ap (λ (b : ℕ). b / 2 ^ (7 - q % 8) % 2) (one refl)
 
-kept_value : (page : List ℕ) (picture : Picture) (len q : ℕ) → length page ≡ 65536 → len ≤ 6400
+kept_value : (page : List ℕ) (picture : Picture) (len q : ℕ) → length page ≡ 65536
     → InReach picture q (160 + len)
     → source_value (with_snapshot page (slice_range page 160 (160 + len))) picture q
     ≡ source_value page picture q
-kept_value page picture len q size h there =
+kept_value page picture len q size there =
     value_same (has_flag picture 1) page (with_snapshot page (slice_range page 160 (160 + len))) picture.ptr q
-    (λ two. kept_byte page len (picture.ptr + q / 4) size h (there.0 two))
-    (λ one. kept_byte page len (picture.ptr + q / 8) size h (there.1 one))
+    (λ two. kept_byte page len (picture.ptr + q / 4) size (there.0 two))
+    (λ one. kept_byte page len (picture.ptr + q / 8) size (there.1 one))
 
 cond_same : (b : Bool) (o p q r : Option ℕ) → (b ≡ true → o ≡ q) → (b ≡ false → p ≡ r) → cond b o p
     ≡ cond b q r
@@ -81,19 +83,18 @@ side_below x u n e =
 
 -- the same picture, from the page and what is kept of its framebuffer
 pub kept_blit : (page : List ℕ) (picture : Picture) (len : ℕ) (x y : ℤ) (u v : ℕ) → length page ≡ 65536
-    → len ≤ 6400
     → ((i j : ℕ) → i < picture.w → j < picture.h
     → InReach picture (source_row picture j * picture.stride + source_column picture i) (160 + len))
     → blit_painter (with_snapshot page (slice_range page 160 (160 + len))) picture x y u v
     ≡ blit_painter page picture x y u v
-kept_blit page picture len x y u v size h reach =
+kept_blit page picture len x y u v size reach =
     let kept = with_snapshot page (slice_range page 160 (160 + len)) in
     let right = natural (pos u -ℤ x) in
     let below = natural (pos v -ℤ y) in
     let cell : (i j : ℕ) → i < picture.w → j < picture.h → cell_index kept picture i j
     ≡ cell_index page picture i j =
     λ i j hi hj. ap (λ (value : ℕ). palette_index picture.colors (value + 1))
-    (kept_value page picture len (source_row picture j * picture.stride + source_column picture i) size h
+    (kept_value page picture len (source_row picture j * picture.stride + source_column picture i) size
     (reach i j hi hj)) in
     shown_same
     (is_inside x (x +ℤ pos (width_on_screen picture)) y (y +ℤ pos (height_on_screen picture)) u v)
@@ -110,6 +111,3 @@ kept_blit page picture len x y u v size h reach =
     (λ upright. cell right below
     (subst (λ (b : Bool). right < cond b picture.h picture.w) upright columns)
     (subst (λ (b : Bool). below < cond b picture.w picture.h) upright rows)))
-
-pub from_the_first : (xs : List ℕ) (len : ℕ) → slice_range xs 0 len ≡ take len xs
-from_the_first xs len = ap (λ n. take n xs) (omega arith)

@@ -14,39 +14,40 @@ use Rattle.w4_defs.specs.Colours.{palette_index}
 use Rattle.w4_defs.specs.Shapes.{natural, only_if, is_inside}
 use Rattle.w4_defs.specs.Blit.{has_flag, source_column, source_row, source_value, cell_index, width_on_screen, height_on_screen, blit_painter}
 use Rattle.w4_defs.proofs.PaintLaws.{length-paint, paint-outside}
-use Rattle.w4_blit.specs.Snapshot.{snapshot_byte, source_start, with_snapshot}
+use Rattle.w4_blit.specs.Snapshot.{IsAtHand, kept_byte, source_start, with_kept, with_snapshot}
 
-pub length-with_snapshot : (page snapshot : List ℕ) → length (with_snapshot page snapshot) ≡ length page
-unfolding with_snapshot
-length-with_snapshot page snapshot = length-map-range_with_len (snapshot_byte page snapshot) 0 (length page)
+pub length-with_kept : (page : List ℕ) (first : ℕ) (kept : List ℕ)
+    → length (with_kept page first kept) ≡ length page
+unfolding with_kept
+length-with_kept page first kept = length-map-range_with_len (kept_byte page first kept) 0 (length page)
 
-pub get_or-with_snapshot : (page snapshot : List ℕ) (i : ℕ) → i < length page
-    → get_or (with_snapshot page snapshot) i 0 ≡ snapshot_byte page snapshot i
-unfolding with_snapshot
-get_or-with_snapshot page snapshot i h =
-    get_or-map-range_with_len (snapshot_byte page snapshot) 0 (length page) i i 0 h (omega arith)
+pub get_or-with_kept : (page : List ℕ) (first : ℕ) (kept : List ℕ) (i : ℕ) → i < length page
+    → get_or (with_kept page first kept) i 0 ≡ kept_byte page first kept i
+unfolding with_kept
+get_or-with_kept page first kept i h =
+    get_or-map-range_with_len (kept_byte page first kept) 0 (length page) i i 0 h (omega arith)
 
 -- a byte outside the framebuffer is read where it stands
-pub snapshot_outside : (page snapshot : List ℕ) (i : ℕ) → i < length page → (i < 160) ⊎ (6560 ≤ i)
-    → get_or (with_snapshot page snapshot) i 0 ≡ get_or page i 0
-snapshot_outside page snapshot i h out = get_or-with_snapshot page snapshot i h ∙ grind (arith, nat_tests)
+pub kept_outside : (page : List ℕ) (first : ℕ) (kept : List ℕ) (i : ℕ) → i < length page
+    → (i < 160) ⊎ (6560 ≤ i) → get_or (with_kept page first kept) i 0 ≡ get_or page i 0
+kept_outside page first kept i h out = get_or-with_kept page first kept i h ∙ grind (arith, nat_tests)
 
--- one of the framebuffer from the copy
-pub snapshot_inside : (page snapshot : List ℕ) (i : ℕ) → i < length page → 160 ≤ i → i < 6560
-    → get_or (with_snapshot page snapshot) i 0 ≡ get_or snapshot (i - 160) 0
-snapshot_inside page snapshot i h low high = get_or-with_snapshot page snapshot i h ∙ grind (arith, nat_tests)
+-- one of the framebuffer from what is kept
+pub kept_inside : (page : List ℕ) (first : ℕ) (kept : List ℕ) (i : ℕ) → i < length page → 160 ≤ i → i < 6560
+    → get_or (with_kept page first kept) i 0 ≡ get_or kept (i - first) 0
+kept_inside page first kept i h low high = get_or-with_kept page first kept i h ∙ grind (arith, nat_tests)
 
-pub snapshot_past : (page snapshot : List ℕ) (i : ℕ) → length page ≤ i
-    → get_or (with_snapshot page snapshot) i 0 ≡ 0
-snapshot_past page snapshot i h =
-    get_or_past (with_snapshot page snapshot) i 0
-    (subst (λ (n : ℕ). n ≤ i) (sym (length-with_snapshot page snapshot)) h)
+pub kept_past : (page : List ℕ) (first : ℕ) (kept : List ℕ) (i : ℕ) → length page ≤ i
+    → get_or (with_kept page first kept) i 0 ≡ 0
+kept_past page first kept i h =
+    get_or_past (with_kept page first kept) i 0
+    (subst (λ (n : ℕ). n ≤ i) (sym (length-with_kept page first kept)) h)
 
 -- where two pages agree outside the framebuffer
-snapshot_same : (page other snapshot : List ℕ) (i : ℕ)
+kept_same : (page other : List ℕ) (first : ℕ) (kept : List ℕ) (i : ℕ)
     → ((i < 160) ⊎ (6560 ≤ i) → get_or other i 0 ≡ get_or page i 0)
-    → snapshot_byte other snapshot i ≡ snapshot_byte page snapshot i
-snapshot_same page other snapshot i same = elim (cases_lt i 160) [
+    → kept_byte other first kept i ≡ kept_byte page first kept i
+kept_same page other first kept i same = elim (cases_lt i 160) [
   | inl low ↦ (let e = same (inl low) in grind (arith, nat_tests))
   | inr above ↦ elim (cases_lt i 6560) [
     | inl below ↦ grind (arith, nat_tests)
@@ -55,20 +56,18 @@ snapshot_same page other snapshot i same = elim (cases_lt i 160) [
 ]
 
 -- what is painted doesn't show
-pub with_snapshot-paint : (page snapshot : List ℕ) (f : Painter)
-    → with_snapshot (paint page f) snapshot ≡ with_snapshot page snapshot
-with_snapshot-paint page snapshot f =
-    let len : length (with_snapshot (paint page f) snapshot) ≡ length (with_snapshot page snapshot) =
-    length-with_snapshot (paint page f) snapshot ∙ length-paint page f
-    ∙ sym (length-with_snapshot page snapshot) in
-    let size : length (with_snapshot (paint page f) snapshot) ≡ length page =
-    length-with_snapshot (paint page f) snapshot ∙ length-paint page f in
-    ext_get_or 0 (with_snapshot (paint page f) snapshot) (with_snapshot page snapshot) len (λ i hi.
+pub with_kept-paint : (page : List ℕ) (first : ℕ) (kept : List ℕ) (f : Painter)
+    → with_kept (paint page f) first kept ≡ with_kept page first kept
+with_kept-paint page first kept f =
+    let size : length (with_kept (paint page f) first kept) ≡ length page =
+    length-with_kept (paint page f) first kept ∙ length-paint page f in
+    ext_get_or 0 (with_kept (paint page f) first kept) (with_kept page first kept)
+    (size ∙ sym (length-with_kept page first kept)) (λ i hi.
     let below : i < length page = subst (λ (n : ℕ). i < n) size hi in
-    get_or-with_snapshot (paint page f) snapshot i
+    get_or-with_kept (paint page f) first kept i
     (subst (λ (n : ℕ). i < n) (sym (length-paint page f)) below)
-    ∙ snapshot_same page (paint page f) snapshot i (paint-outside page f i)
-    ∙ sym (get_or-with_snapshot page snapshot i below))
+    ∙ kept_same page (paint page f) first kept i (paint-outside page f i)
+    ∙ sym (get_or-with_kept page first kept i below))
 
 -- a range of a list has the list's own items
 pub copied : (page : List ℕ) (a b i : ℕ) → a ≤ i → i < b
@@ -77,29 +76,40 @@ copied page a b i low high =
     get_or-take (b - a) (drop a page) (i - a) 0 (omega arith) ∙ get_or-drop a page (i - a) 0
     ∙ ap (λ j. get_or page j 0) (omega arith)
 
--- when the call begins it is the page itself
-pub with_snapshot-own : (page : List ℕ) → length page ≡ 65536
-    → with_snapshot page (slice_range page 160 6560) ≡ page
-with_snapshot-own page len =
-    let snapshot = slice_range page 160 6560 in
-    ext_get_or 0 (with_snapshot page snapshot) page (length-with_snapshot page snapshot) (λ i hi.
-    let below : i < length page = subst (λ (n : ℕ). i < n) (length-with_snapshot page snapshot) hi in
-    elim (cases_lt i 160) [
-      | inl low ↦ snapshot_outside page snapshot i below (inl low)
+-- what is kept when the call begins is the page's own
+pub kept_own : (page : List ℕ) (first len i : ℕ) → length page ≡ 65536 → IsAtHand first len i
+    → get_or (with_kept page first (slice_range page first (first + len))) i 0 ≡ get_or page i 0
+kept_own page first len i size there = elim (cases_lt i 65536) [
+  | inr past ↦ kept_past page first (slice_range page first (first + len)) i (omega arith)
+      ∙ sym (get_or_past page i 0 (omega arith))
+  | inl below ↦ elim there [
+    | inl outside ↦ kept_outside page first (slice_range page first (first + len)) i (omega arith) outside
+    | inr within ↦ elim (cases_lt i 160) [
+      | inl low ↦ kept_outside page first (slice_range page first (first + len)) i (omega arith) (inl low)
       | inr above ↦ elim (cases_lt i 6560) [
-        | inl within ↦ snapshot_inside page snapshot i below above within
-            ∙ copied page 160 6560 i above within
-        | inr high ↦ snapshot_outside page snapshot i below (inr high)
+        | inr high ↦ kept_outside page first (slice_range page first (first + len)) i (omega arith)
+            (inr high)
+        | inl inside ↦ kept_inside page first (slice_range page first (first + len)) i (omega arith) above
+            inside
+            ∙ copied page first (first + len) i within.0 within.1
       ]
-    ])
+    ]
+  ]
+]
+
+pub length-dropped : (page : List ℕ) (first : ℕ) (kept : List ℕ) (ptr : ℕ)
+    → length (drop ptr (with_kept page first kept)) ≡ length (drop ptr page)
+length-dropped page first kept ptr =
+    length-drop ptr (with_kept page first kept) ∙ ap (λ n. n - ptr) (length-with_kept page first kept)
+    ∙ sym (length-drop ptr page)
 
 -- ---- a source that lies behind the framebuffer is read where it stands
 
-pub behind : (page snapshot : List ℕ) (i : ℕ) → length page ≡ 65536 → 6560 ≤ i
-    → get_or (with_snapshot page snapshot) i 0 ≡ get_or page i 0
-behind page snapshot i len h = elim (cases_lt i 65536) [
-  | inl below ↦ snapshot_outside page snapshot i (omega arith) (inr h)
-  | inr past ↦ snapshot_past page snapshot i (omega arith) ∙ sym (get_or_past page i 0 (omega arith))
+pub behind : (page : List ℕ) (first : ℕ) (kept : List ℕ) (i : ℕ) → length page ≡ 65536 → 6560 ≤ i
+    → get_or (with_kept page first kept) i 0 ≡ get_or page i 0
+behind page first kept i len h = elim (cases_lt i 65536) [
+  | inl below ↦ kept_outside page first kept i (omega arith) (inr h)
+  | inr past ↦ kept_past page first kept i (omega arith) ∙ sym (get_or_past page i 0 (omega arith))
 ]
 
 behind_value : (page snapshot : List ℕ) (picture : Picture) (q : ℕ) → length page ≡ 65536
@@ -107,8 +117,8 @@ behind_value : (page snapshot : List ℕ) (picture : Picture) (q : ℕ) → leng
     → source_value (with_snapshot page snapshot) picture q ≡ source_value page picture q
 behind_value page snapshot picture q len h =
     rw (
-      behind page snapshot (picture.ptr + q / 4) len (omega arith),
-      behind page snapshot (picture.ptr + q / 8) len (omega arith),
+      behind page 160 snapshot (picture.ptr + q / 4) len (omega arith),
+      behind page 160 snapshot (picture.ptr + q / 8) len (omega arith),
     ) refl
 
 behind_cell : (page snapshot : List ℕ) (picture : Picture) (i j : ℕ) → length page ≡ 65536
@@ -134,19 +144,21 @@ behind_blit page snapshot picture x y u v len h =
     (either_same (has_flag picture 8) _ _ _ _ (behind_cell page snapshot picture below right len h)
     (behind_cell page snapshot picture right below len h))
 
-behind_bytes : (page snapshot : List ℕ) (ptr : ℕ) → length page ≡ 65536 → 6560 ≤ ptr
-    → drop ptr (with_snapshot page snapshot) ≡ drop ptr page
-behind_bytes page snapshot ptr len h =
-    let size : length (drop ptr (with_snapshot page snapshot)) ≡ length (drop ptr page) =
-    length-drop ptr (with_snapshot page snapshot)
-    ∙ ap (λ n. n - ptr) (length-with_snapshot page snapshot) ∙ sym (length-drop ptr page) in
-    ext_get_or 0 (drop ptr (with_snapshot page snapshot)) (drop ptr page) size (λ i hi.
-    get_or-drop ptr (with_snapshot page snapshot) i 0 ∙ behind page snapshot (ptr + i) len (omega arith)
+behind_bytes : (page : List ℕ) (first : ℕ) (kept : List ℕ) (ptr : ℕ) → length page ≡ 65536 → 6560 ≤ ptr
+    → drop ptr (with_kept page first kept) ≡ drop ptr page
+behind_bytes page first kept ptr len h =
+    ext_get_or 0 (drop ptr (with_kept page first kept)) (drop ptr page) (length-dropped page first kept ptr)
+    (λ i hi.
+    get_or-drop ptr (with_kept page first kept) i 0 ∙ behind page first kept (ptr + i) len (omega arith)
     ∙ sym (get_or-drop ptr page i 0))
 
-pub behind_codes : (page snapshot : List ℕ) (source : TextSource) → length page ≡ 65536
-    → 6560 ≤ source_start source → text_codes (with_snapshot page snapshot) source ≡ text_codes page source
-behind_codes page snapshot (Cstr ptr) len h = ap before_zero (behind_bytes page snapshot ptr len h)
-behind_codes page snapshot (Utf8 ptr size) len h = ap (take size) (behind_bytes page snapshot ptr len h)
-behind_codes page snapshot (Utf16 ptr size) len h =
-    ap (λ bytes. units (take size bytes)) (behind_bytes page snapshot ptr len h)
+pub behind_codes : (page : List ℕ) (first : ℕ) (kept : List ℕ) (source : TextSource) → length page ≡ 65536
+    → 6560 ≤ source_start source
+    → text_codes (with_kept page first kept) source ≡ text_codes page source
+behind_codes page first kept (Cstr ptr) len h = ap before_zero (behind_bytes page first kept ptr len h)
+behind_codes page first kept (Utf8 ptr size) len h = ap (take size) (behind_bytes page first kept ptr len h)
+behind_codes page first kept (Utf16 ptr size) len h =
+    ap (λ bytes. units (take size bytes)) (behind_bytes page first kept ptr len h)
+
+pub from_the_first : (xs : List ℕ) (len : ℕ) → slice_range xs 0 len ≡ take len xs
+from_the_first xs len = ap (λ n. take n xs) (omega arith)

@@ -1,18 +1,33 @@
--- The page when the call began, by the page that is painted and a snapshot of the framebuffer.
-use Rattle.std.specs.Prelude.{ℕ, ◌-◌, ◌||◌, List, map, length, nat_lt, nat_le, if◌then◌else◌, slice_index}
+-- The page when the call began, by the page that is painted and those bytes of the framebuffer that are kept.
+use Rattle.std.specs.Prelude.{ℕ, ◌+◌, ◌-◌, ◌<◌, ◌≤◌, ◌⊎◌, ◌||◌, min, List, map, length, nat_lt, nat_le, if◌then◌else◌, slice_index}
 use Rattle.std.specs.List.{range_with_len}
 use Rattle.w4_defs.specs.declared.console.TextSource.{TextSource}
 use Rattle.w4_defs.specs.declared.console.TextSource.TheVariants.{Cstr, Utf8, Utf16}
 
-abbrev pub snapshot_byte : List ℕ → List ℕ → ℕ → ℕ
-snapshot_byte page snapshot i =
-    if nat_lt i 160 || nat_le 6560 i then slice_index page i else slice_index snapshot (i - 160)
+-- where those from address `first` on are kept
+abbrev pub kept_byte : List ℕ → ℕ → List ℕ → ℕ → ℕ
+kept_byte page first kept i =
+    if nat_lt i 160 || nat_le 6560 i then slice_index page i else slice_index kept (i - first)
 
-unfoldable pub with_snapshot : List ℕ → List ℕ → List ℕ
-with_snapshot page snapshot = map (snapshot_byte page snapshot) (range_with_len 0 (length page))
+unfoldable pub with_kept : List ℕ → ℕ → List ℕ → List ℕ
+with_kept page first kept = map (kept_byte page first kept) (range_with_len 0 (length page))
+
+-- where a snapshot has those from the framebuffer's first on
+abbrev pub with_snapshot : List ℕ → List ℕ → List ℕ
+with_snapshot page snapshot = with_kept page 160 snapshot
 
 -- where a text begins
 abbrev pub source_start : TextSource → ℕ
 source_start (Cstr ptr) = ptr
 source_start (Utf8 ptr len) = ptr
 source_start (Utf16 ptr len) = ptr
+
+-- how many bytes from there on are read for a text of so many codes: of a C string the 0 behind them too
+abbrev pub bytes_read : TextSource → ℕ → ℕ
+bytes_read (Cstr ptr) count = count + 1
+bytes_read (Utf8 ptr len) count = min len (65536 - ptr)
+bytes_read (Utf16 ptr len) count = min len (65536 - ptr)
+
+-- a byte outside the framebuffer, or one of the `len` that are kept
+abbrev pub IsAtHand : ℕ → ℕ → ℕ → Type 0
+IsAtHand first len i = ((i < 160) ⊎ (6560 ≤ i)) ⊎ ((first ≤ i) × (i < first + len))

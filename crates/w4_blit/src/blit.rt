@@ -13,7 +13,7 @@ ghost use Rattle.w4_pixels.specs.Packed.{byte_painter};
 
 use crate::cells::{distance, height_on_screen, index_at, width_on_screen};
 use crate::reach::framebuffer_read;
-use crate::source::{FRAMEBUFFER_END, few_bytes, framebuffer_start};
+use crate::source::{FRAMEBUFFER, FRAMEBUFFER_END, few_bytes, many_bytes};
 use crate::walks::{Walk, place_at, walk_of};
 use crate::windows::four_from;
 use w4_defs::{PageBytes, Picture};
@@ -79,10 +79,10 @@ fn blit_inside(page: &mut PageBytes, picture: &Picture, x: i32, y: i32)
 {
     let len = framebuffer_read(picture);
     if len <= 256 {
-        let snapshot = few_bytes(page, len);
+        let snapshot = few_bytes(page, FRAMEBUFFER, len);
         blit_rows(page, &snapshot[..len], picture, x, y);
     } else {
-        let snapshot = framebuffer_start(page, len);
+        let snapshot = many_bytes(page, FRAMEBUFFER, len);
         blit_rows(page, &snapshot[..len], picture, x, y);
     }
 }

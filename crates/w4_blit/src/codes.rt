@@ -1,38 +1,84 @@
 //! The codes of a text, read from the page as it was when the call began.
 
-ghost use Rattle.std.specs.Prelude.{◌-◌, ◌<◌, ◌==◌, ◌≡◌, ◌≤◌, drop, length, min, not, slice_index, take_while};
-ghost use Rattle.w4_blit.specs.Snapshot.{with_snapshot};
+ghost use Rattle.std.specs.Prelude.{◌+◌, ◌-◌, ◌<◌, ◌==◌, ◌≡◌, ◌≤◌, ℕ, drop, length, min, not, slice_index, take_while};
+ghost use Rattle.w4_blit.specs.Snapshot.{IsAtHand, bytes_read, source_start, with_kept};
 ghost use Rattle.w4_defs.specs.Text.{text_codes};
 
-use crate::source::source_byte;
+use crate::source::{FRAMEBUFFER, FRAMEBUFFER_END, byte_at};
 use w4_defs::{PageBytes, TextSource};
 
 /// How many codes a text has.
-pub(crate) fn code_count(page: &PageBytes, snapshot: &[u8], source: TextSource) -> usize
-    ensures value { result ≡ length (text_codes (with_snapshot page.now snapshot.now) source) }
+pub(crate) fn code_count(page: &PageBytes, source: TextSource) -> usize
+    ensures value { result ≡ length (text_codes page.now source) }
     ensures bound { result ≤ 65536 }
 {
     match source {
-        TextSource::Cstr { ptr } => bytes_before_zero(page, snapshot, ptr),
+        TextSource::Cstr { ptr } => bytes_before_zero(page, ptr),
         TextSource::Utf8 { ptr, len } => bytes_there(ptr, len),
         TextSource::Utf16 { ptr, len } => bytes_there(ptr, len) / 2,
     }
 }
 
-/// The code of number `k`: a byte, or a little-endian unit of 16 bits.
-pub(crate) fn code_at(page: &PageBytes, snapshot: &[u8], source: TextSource, k: usize) -> u16
-    requires there { k < length (text_codes (with_snapshot page.now snapshot.now) source) }
+/// Where a text begins.
+pub(crate) fn start_of(source: TextSource) -> u32
+    ensures { result ≡ source_start source }
+{
+    match source {
+        TextSource::Cstr { ptr } => ptr,
+        TextSource::Utf8 { ptr, .. } => ptr,
+        TextSource::Utf16 { ptr, .. } => ptr,
+    }
+}
+
+/// The first byte that is kept of a text of `count` codes, and how many are: all that are read of it in the
+/// framebuffer.
+pub(crate) fn part_kept(source: TextSource, count: usize) -> (usize, usize)
+    requires { count ≤ 65536 }
+    ensures bound { result.1 ≤ 6400 }
+    ensures there { result.0 + result.1 ≤ 65536 }
+    ensures at_hand { (i : ℕ) → i < bytes_read source count
+        → IsAtHand result.0 result.1 (source_start source + i) }
+{
+    let start = start_of(source) as usize;
+    let first = start.clamp(FRAMEBUFFER, FRAMEBUFFER_END as usize);
+    let end = (start + bytes_read(source, count)).min(FRAMEBUFFER_END as usize);
+    (first, end.saturating_sub(first))
+}
+
+/// How many bytes of a text of `count` codes are read: of a C string the 0 behind them too.
+fn bytes_read(source: TextSource, count: usize) -> usize
+    requires { count ≤ 65536 }
+    ensures value { result ≡ bytes_read source count }
+    ensures bound { result ≤ 65537 }
+{
+    match source {
+        TextSource::Cstr { .. } => count + 1,
+        TextSource::Utf8 { ptr, len } => bytes_there(ptr, len),
+        TextSource::Utf16 { ptr, len } => bytes_there(ptr, len),
+    }
+}
+
+/// The code of number `k`, where the framebuffer's bytes are kept from `first` on: a byte, or a
+/// little-endian unit of 16 bits.
+pub(crate) fn code_at(
+    page: &PageBytes,
+    first: usize,
+    kept: &[u8],
+    source: TextSource,
+    k: usize,
+) -> u16
+    requires there { k < length (text_codes (with_kept page.now first kept.now) source) }
     requires small { k < 65536 }
-    ensures { result ≡ slice_index (text_codes (with_snapshot page.now snapshot.now) source) k }
+    ensures { result ≡ slice_index (text_codes (with_kept page.now first kept.now) source) k }
 {
     let k = k as u64;
     match source {
-        TextSource::Cstr { ptr } => u16::from(source_byte(page, snapshot, u64::from(ptr) + k)),
-        TextSource::Utf8 { ptr, .. } => u16::from(source_byte(page, snapshot, u64::from(ptr) + k)),
+        TextSource::Cstr { ptr } => u16::from(byte_at(page, first, kept, u64::from(ptr) + k)),
+        TextSource::Utf8 { ptr, .. } => u16::from(byte_at(page, first, kept, u64::from(ptr) + k)),
         TextSource::Utf16 { ptr, .. } => {
             let at = u64::from(ptr) + 2 * k;
-            let low = source_byte(page, snapshot, at);
-            let high = source_byte(page, snapshot, at + 1);
+            let low = byte_at(page, first, kept, at);
+            let high = byte_at(page, first, kept, at + 1);
             u16::from(low) + 256 * u16::from(high)
         }
     }
@@ -47,14 +93,13 @@ fn bytes_there(ptr: u32, len: u32) -> usize
 }
 
 /// How many bytes from `ptr` on stand before the first 0 or the page's end.
-fn bytes_before_zero(page: &PageBytes, snapshot: &[u8], ptr: u32) -> usize
-    ensures value { result
-        ≡ length (take_while (λ b. not (b == 0)) (drop ptr (with_snapshot page.now snapshot.now))) }
+fn bytes_before_zero(page: &PageBytes, ptr: u32) -> usize
+    ensures value { result ≡ length (take_while (λ b. not (b == 0)) (drop ptr page.now)) }
     ensures bound { result ≤ 65536 }
 {
     let first = ptr.min(65536) as usize;
     for at in first..65536 {
-        if source_byte(page, snapshot, at as u64) == 0 {
+        if page[at] == 0 {
             return at - first;
         }
     }

@@ -1,53 +1,54 @@
 //! The page as it was when the call began, while the framebuffer is painted: the bytes outside are read where
-//! they stand, those of the framebuffer from a copy.
+//! they stand, those of the framebuffer from a copy of those that the call reads.
 
 ghost use Rattle.std.specs.Prelude.{◌+◌, ◌-ℤ◌, ◌<◌, ◌≡◌, ◌≤◌, pos, slice_index, slice_range};
-ghost use Rattle.w4_blit.specs.Snapshot.{with_snapshot};
+ghost use Rattle.w4_blit.specs.Snapshot.{with_kept, with_snapshot};
 ghost use Rattle.w4_defs.specs.Shapes.{natural};
 
 use w4_defs::PageBytes;
 
-/// A snapshot of the framebuffer's bytes, taken when the call begins.
-pub(crate) type Snapshot = [u8; 6400];
+/// The first byte of the framebuffer.
+pub(crate) const FRAMEBUFFER: usize = 160;
 
-/// The first byte behind the framebuffer. A source that begins there or further up is never painted, so it
-/// needs no snapshot.
+/// The first byte behind the framebuffer. A source that begins there or further up is never painted, so
+/// nothing of it is kept.
 pub(crate) const FRAMEBUFFER_END: u32 = 6560;
 
 /// What a byte past the page's end reads.
 const PAST_THE_END: u8 = 0;
 
-pub(crate) fn framebuffer(page: &PageBytes) -> Snapshot
-    ensures { result ≡ slice_range page.now 160 6560 }
+/// `len` bytes of the page from `first` on, and 0 for the others.
+pub(crate) fn many_bytes(page: &PageBytes, first: usize, len: usize) -> [u8; 6400]
+    requires many { len ≤ 6400 }
+    requires there { first + len ≤ 65536 }
+    ensures { slice_range result 0 len ≡ slice_range page.now first (first + len) }
 {
-    let mut snapshot = [0; 6400];
-    snapshot.copy_from_slice(&page[160..6560]);
-    snapshot
+    let mut kept = [0; 6400];
+    kept[..len].copy_from_slice(&page[first..first + len]);
+    kept
 }
 
-/// The first `len` bytes of the framebuffer, and 0 for the others.
-pub(crate) fn framebuffer_start(page: &PageBytes, len: usize) -> Snapshot
-    requires { len ≤ 6400 }
-    ensures { slice_range result 0 len ≡ slice_range page.now 160 (160 + len) }
+/// `len` bytes of the page from `first` on, where they are few.
+pub(crate) fn few_bytes(page: &PageBytes, first: usize, len: usize) -> [u8; 256]
+    requires few { len ≤ 256 }
+    requires there { first + len ≤ 65536 }
+    ensures { slice_range result 0 len ≡ slice_range page.now first (first + len) }
 {
-    let mut snapshot = [0; 6400];
-    snapshot[..len].copy_from_slice(&page[160..160 + len]);
-    snapshot
+    let mut kept = [0; 256];
+    kept[..len].copy_from_slice(&page[first..first + len]);
+    kept
 }
 
-/// The first `len` bytes of the framebuffer, where they are few.
-pub(crate) fn few_bytes(page: &PageBytes, len: usize) -> [u8; 256]
-    requires { len ≤ 256 }
-    ensures { slice_range result 0 len ≡ slice_range page.now 160 (160 + len) }
-{
-    let mut snapshot = [0; 256];
-    snapshot[..len].copy_from_slice(&page[160..160 + len]);
-    snapshot
-}
-
-/// A byte of the page when the call began; 0 past its end.
+/// A byte of the page when the call began, where a snapshot has the framebuffer's from its first on.
 pub(crate) fn source_byte(page: &PageBytes, snapshot: &[u8], at: u64) -> u8
     ensures { result ≡ slice_index (with_snapshot page.now snapshot.now) at }
+{
+    byte_at(page, FRAMEBUFFER, snapshot, at)
+}
+
+/// A byte of the page when the call began, where the framebuffer's are kept from `first` on; 0 past its end.
+pub(crate) fn byte_at(page: &PageBytes, first: usize, kept: &[u8], at: u64) -> u8
+    ensures { result ≡ slice_index (with_kept page.now first kept.now) at }
 {
     if 65536 <= at {
         PAST_THE_END
@@ -56,15 +57,15 @@ pub(crate) fn source_byte(page: &PageBytes, snapshot: &[u8], at: u64) -> u8
     } else if at < 160 {
         page[at as usize]
     } else {
-        kept_byte(snapshot, at as usize - 160)
+        kept_byte(kept, (at as usize).saturating_sub(first))
     }
 }
 
-fn kept_byte(snapshot: &[u8], at: usize) -> u8
-    ensures { result ≡ slice_index snapshot.now at }
+fn kept_byte(kept: &[u8], at: usize) -> u8
+    ensures { result ≡ slice_index kept.now at }
 {
-    if at < snapshot.len() {
-        snapshot[at]
+    if at < kept.len() {
+        kept[at]
     } else {
         PAST_THE_END
     }

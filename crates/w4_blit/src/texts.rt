@@ -1,14 +1,14 @@
 //! Text, code by code.
 
-ghost use Rattle.std.specs.Prelude.{◌+ℤ◌, ◌==◌, ◌≡◌, ◌≤◌, ◌≤ℤ◌, if◌then◌else◌, pos};
-ghost use Rattle.w4_blit.specs.Snapshot.{source_start, with_snapshot};
+ghost use Rattle.std.specs.Prelude.{◌+ℤ◌, ◌==◌, ◌≡◌, ◌≤◌, ◌≤ℤ◌, if◌then◌else◌, length, pos};
+ghost use Rattle.w4_blit.specs.Snapshot.{source_start, with_kept};
 ghost use Rattle.w4_defs.specs.Framebuffer.{paint};
 ghost use Rattle.w4_defs.specs.Text.{text_codes, text_painter};
 
-use crate::codes::{code_at, code_count};
+use crate::codes::{code_at, code_count, part_kept, start_of};
 use crate::font::Font;
 use crate::glyphs::{Glyph, put_glyph};
-use crate::source::{FRAMEBUFFER_END, framebuffer};
+use crate::source::{FRAMEBUFFER, FRAMEBUFFER_END, few_bytes, many_bytes};
 use w4_defs::{PageBytes, TextSource};
 
 /// From this row on nothing is on the screen, and no code goes back up.
@@ -26,68 +26,111 @@ struct Pen {
 pub fn text(page: &mut PageBytes, font: &Font, colors: u16, source: TextSource, x: i32, y: i32)
     ensures { page.new ≡ paint page.old (text_painter font.now colors (text_codes page.old source) x y) }
 {
+    let count = code_count(page, source);
     if FRAMEBUFFER_END <= start_of(source) {
-        text_outside(page, font, colors, source, x, y);
+        text_outside(page, font, colors, source, count, x, y);
     } else {
-        text_inside(page, font, colors, source, x, y);
+        text_inside(page, font, colors, source, count, x, y);
     }
 }
 
-fn start_of(source: TextSource) -> u32
-    ensures { result ≡ source_start source }
-{
-    match source {
-        TextSource::Cstr { ptr } => ptr,
-        TextSource::Utf8 { ptr, .. } => ptr,
-        TextSource::Utf16 { ptr, .. } => ptr,
-    }
-}
-
-/// Paints a text that lies behind the framebuffer.
-fn text_outside(page: &mut PageBytes, font: &Font, colors: u16, source: TextSource, x: i32, y: i32)
-    requires { 6560 ≤ source_start source }
+/// Paints a text that lies behind the framebuffer. Nothing of it is kept.
+fn text_outside(
+    page: &mut PageBytes,
+    font: &Font,
+    colors: u16,
+    source: TextSource,
+    count: usize,
+    x: i32,
+    y: i32,
+)
+    requires behind { 6560 ≤ source_start source }
+    requires count { count ≡ length (text_codes page.old source) }
+    requires few { count ≤ 65536 }
     ensures { page.new ≡ paint page.old (text_painter font.now colors (text_codes page.old source) x y) }
 {
-    put_codes(page, &[], font, colors, source, i64::from(x), i64::from(y));
-}
-
-/// Paints a text that may lie in the framebuffer.
-fn text_inside(page: &mut PageBytes, font: &Font, colors: u16, source: TextSource, x: i32, y: i32)
-    ensures { page.new ≡ paint page.old (text_painter font.now colors (text_codes page.old source) x y) }
-{
-    let snapshot = framebuffer(page);
     put_codes(
         page,
-        &snapshot,
+        FRAMEBUFFER,
+        &[],
         font,
         colors,
         source,
+        count,
         i64::from(x),
         i64::from(y),
     );
 }
 
-fn put_codes(
+/// Paints a text that may lie in the framebuffer. What it reads of that is kept aside.
+fn text_inside(
     page: &mut PageBytes,
-    snapshot: &[u8],
     font: &Font,
     colors: u16,
     source: TextSource,
+    count: usize,
+    x: i32,
+    y: i32,
+)
+    requires count { count ≡ length (text_codes page.old source) }
+    requires few { count ≤ 65536 }
+    ensures { page.new ≡ paint page.old (text_painter font.now colors (text_codes page.old source) x y) }
+{
+    let (first, len) = part_kept(source, count);
+    if len <= 256 {
+        let kept = few_bytes(page, first, len);
+        put_codes(
+            page,
+            first,
+            &kept[..len],
+            font,
+            colors,
+            source,
+            count,
+            i64::from(x),
+            i64::from(y),
+        );
+    } else {
+        let kept = many_bytes(page, first, len);
+        put_codes(
+            page,
+            first,
+            &kept[..len],
+            font,
+            colors,
+            source,
+            count,
+            i64::from(x),
+            i64::from(y),
+        );
+    }
+}
+
+/// Paints the `count` codes of a text, where the framebuffer's bytes are kept from `first` on.
+fn put_codes(
+    page: &mut PageBytes,
+    first: usize,
+    kept: &[u8],
+    font: &Font,
+    colors: u16,
+    source: TextSource,
+    count: usize,
     x: i64,
     y: i64,
 )
+    requires count { count ≡ length (text_codes (with_kept page.old first kept.now) source) }
+    requires few { count ≤ 65536 }
     requires column { x ≤ℤ pos 2147483648 }
     requires row { y ≤ℤ pos 2147483648 }
     ensures { page.new ≡ paint page.old
-        (text_painter font.now colors (text_codes (with_snapshot page.old snapshot.now) source) x y) }
+        (text_painter font.now colors (text_codes (with_kept page.old first kept.now) source) x y) }
 {
     let mut pen = Pen { x, y };
-    let count = code_count(page, snapshot, source);
     for k in 0..count {
         if SCREEN_END <= pen.y {
             return;
         }
-        let code = code_at(page, snapshot, source, k);
+        let code = code_at(page, first, kept, source, k);
         let glyph = Glyph {
             colors,
             code,

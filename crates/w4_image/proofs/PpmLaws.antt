@@ -1,5 +1,5 @@
 -- The steps of writing an image: what is written so far and the colours that are left are the image.
-use Rattle.std.proofs.Common.{◌≡◌, ℕ, suc, ◌+◌, ◌-◌, ◌*◌, ◌/◌, ◌%◌, ◌^◌, ◌<◌, ◌≤◌, List, [], ◌∷◌, ◌++◌, length, take, drop, get_or, refl, sym, ◌∙◌, ap, append_assoc, arith}
+use Rattle.std.proofs.Common.{◌≡◌, ℕ, suc, ◌+◌, ◌-◌, ◌*◌, ◌/◌, ◌%◌, ◌^◌, ◌<◌, ◌≤◌, List, ◌++◌, length, take, drop, get_or, refl, sym, ◌∙◌, ap, append_assoc, arith}
 use Rattle.std.proofs.lemmas.List.{take_all, append-nil}
 use Rattle.std.proofs.lemmas.Grind.{common_steps}
 use Rattle.w4_defs.specs.Bytes.{replaced}
@@ -7,6 +7,7 @@ use Rattle.w4_defs.specs.Framebuffer.{pixel}
 use Rattle.w4_defs.specs.Image.{image_header, pixel_colour, pixel_colours, image}
 use Rattle.w4_defs.specs.MemoryMap.{palette}
 use Rattle.w4_defs.proofs.PaintLaws.{below_four}
+use Rattle.w4_image.specs.Quads.{index_colour, quad_colours}
 
 -- ---- four pixels
 
@@ -14,14 +15,9 @@ use Rattle.w4_defs.proofs.PaintLaws.{below_four}
 abbrev pub palettes : List ℕ → List ℕ
 palettes page = palette page 0 ++ palette page 1 ++ palette page 2 ++ palette page 3
 
--- the three bytes that colours have for a palette index
-abbrev pub colour_of : List ℕ → ℕ → List ℕ
-colour_of colours index =
-    get_or colours (3 * index) 0 ∷ get_or colours (3 * index + 1) 0 ∷ get_or colours (3 * index + 2) 0 ∷ []
-
-picked : (page : List ℕ) (index : ℕ) → index < 4 → colour_of (palettes page) index ≡ palette page index
+picked : (page : List ℕ) (index : ℕ) → index < 4 → index_colour (palettes page) index ≡ palette page index
 picked page index h =
-    let P : ℕ → Type 0 = λ k. colour_of (palettes page) k ≡ palette page k in
+    let P : ℕ → Type 0 = λ k. index_colour (palettes page) k ≡ palette page k in
     below_four P refl refl refl refl index h
 
 -- the k-th of the pixels in a byte
@@ -34,7 +30,7 @@ pixel_in_byte page q k h =
 
 colour_in_byte : (page : List ℕ) (q k n index : ℕ) → k < 4 → n ≡ 4 * q + k
     → index ≡ get_or page (160 + q) 0 / 4 ^ k % 4
-    → colour_of (palettes page) index ≡ pixel_colour page n
+    → index_colour (palettes page) index ≡ pixel_colour page n
 colour_in_byte page q k n index h en e =
     picked page index (omega arith)
     ∙ ap (palette page) (e ∙ sym (pixel_in_byte page q k h) ∙ ap (λ m. pixel page (m % 160) (m / 160)) (sym
@@ -52,10 +48,10 @@ together : (a b c d i j k l : List ℕ) → a ≡ i → b ≡ j → c ≡ k → 
 together a b c d i j k l ea eb ec ed = rw (ea, eb, ec, ed) refl
 
 -- the twelve bytes of four pixels, by the four digits of their byte
-pub by_digits : (page colours : List ℕ) (q a b c d : ℕ) → colours ≡ palettes page
+by_digits : (page colours : List ℕ) (q a b c d : ℕ) → colours ≡ palettes page
     → a ≡ get_or page (160 + q) 0 % 4 → b ≡ get_or page (160 + q) 0 / 4 % 4
     → c ≡ get_or page (160 + q) 0 / 16 % 4 → d ≡ get_or page (160 + q) 0 / 64 % 4
-    → colour_of colours a ++ colour_of colours b ++ colour_of colours c ++ colour_of colours d
+    → index_colour colours a ++ index_colour colours b ++ index_colour colours c ++ index_colour colours d
     ≡ pixel_colours page (4 * q) 4
 by_digits page colours q a b c d e ea eb ec ed =
     let n = 4 * q in
@@ -65,6 +61,10 @@ by_digits page colours q a b c d e ea eb ec ed =
     (colour_in_byte page q 2 (n + 1 + 1) c (omega arith) (omega arith) ec)
     (colour_in_byte page q 3 (n + 1 + 1 + 1) d (omega arith) (omega arith) ed)
     ∙ sym (four_colours page n))
+
+pub quad_in_page : (page colours : List ℕ) (q : ℕ) → colours ≡ palettes page
+    → quad_colours colours (get_or page (160 + q) 0) ≡ pixel_colours page (4 * q) 4
+quad_in_page page colours q e = by_digits page colours q _ _ _ _ e refl refl refl refl
 
 -- ---- the loop
 

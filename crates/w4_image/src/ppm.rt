@@ -1,9 +1,11 @@
-//! The writer of images. A byte of the framebuffer has four pixels, and so twelve bytes of the image.
+//! The writer of images. A byte of the framebuffer has four pixels, and so twelve bytes of the image. Those
+//! of each of the 256 bytes are made first, so that a byte of the framebuffer costs one copy.
 
-ghost use Rattle.std.specs.Prelude.{◌+◌, ◌*◌, ◌++◌, ◌<◌, ◌≡◌, ◌≤◌, drop};
+ghost use Rattle.std.specs.Prelude.{◌+◌, ◌++◌, ◌<◌, ◌≡◌, ◌≤◌, ℕ, [], drop, slice_index_or};
 ghost use Rattle.w4_defs.specs.Bytes.{replaced};
-ghost use Rattle.w4_defs.specs.Image.{image, image_header, pixel_colours};
+ghost use Rattle.w4_defs.specs.Image.{image, image_header};
 ghost use Rattle.w4_defs.specs.MemoryMap.{palette};
+ghost use Rattle.w4_image.specs.Quads.{quad_colours};
 
 use w4_defs::PageBytes;
 
@@ -13,14 +15,18 @@ pub const IMAGE_LEN: usize = 76815;
 /// Red, green and blue of each of the four palette indices.
 type Colors = [u8; 12];
 
+/// Red, green and blue of each of the four pixels in a byte of the framebuffer.
+type Quad = [u8; 12];
+
 /// Writes the page's image.
 pub fn image_into(page: &PageBytes, out: &mut [u8; IMAGE_LEN])
     ensures { out.new ≡ image page.now }
 {
     put_header(out);
-    let colors = palette_colors(page);
+    let mut quads = [[0; 12]; 256];
+    fill_quads(&mut quads, &palette_colors(page));
     for q in 0..6400 {
-        put_four(out, 15 + 12 * q, four_pixels(page, &colors, q));
+        put_quad(out, 15 + 12 * q, quads[page[160 + q] as usize]);
     }
 }
 
@@ -41,14 +47,19 @@ fn palette_colors(page: &PageBytes) -> Colors
     ]
 }
 
-/// The colours of the four pixels in framebuffer byte `q`.
-fn four_pixels(page: &PageBytes, colors: &Colors, q: usize) -> [u8; 12]
-    requires byte { q < 6400 }
-    requires colors { colors.now
-        ≡ palette page.now 0 ++ palette page.now 1 ++ palette page.now 2 ++ palette page.now 3 }
-    ensures { result ≡ pixel_colours page.now (4 * q) 4 }
+/// Each byte's pixels.
+fn fill_quads(quads: &mut [Quad; 256], colors: &Colors)
+    ensures { (byte : ℕ) → byte < 256 → slice_index_or quads.new byte [] ≡ quad_colours colors.now byte }
 {
-    let byte = page[160 + q] as usize;
+    for byte in 0..256 {
+        quads[byte] = quad_of(colors, byte);
+    }
+}
+
+/// The colours of the four pixels in a byte.
+fn quad_of(colors: &Colors, byte: usize) -> Quad
+    ensures { result ≡ quad_colours colors.now byte }
+{
     let (a, b) = (3 * (byte % 4), 3 * (byte / 4 % 4));
     let (c, d) = (3 * (byte / 16 % 4), 3 * (byte / 64 % 4));
     [
@@ -67,9 +78,9 @@ fn four_pixels(page: &PageBytes, colors: &Colors, q: usize) -> [u8; 12]
     ]
 }
 
-fn put_four(out: &mut [u8; IMAGE_LEN], at: usize, pixels: [u8; 12])
+fn put_quad(out: &mut [u8; IMAGE_LEN], at: usize, quad: Quad)
     requires { at + 12 ≤ 76815 }
-    ensures { out.new ≡ replaced out.old at 12 pixels }
+    ensures { out.new ≡ replaced out.old at 12 quad }
 {
-    out[at..at + 12].copy_from_slice(&pixels);
+    out[at..at + 12].copy_from_slice(&quad);
 }

@@ -1,4 +1,4 @@
-use Rattle.std.proofs.Common.{◌≡◌, w64, to_z, of_z, refl, arith}
+use Rattle.std.proofs.Common.{◌≡◌, ◌∙◌, length, sym, ap, w64, to_z, of_z, refl, arith}
 use Rattle.std.proofs.lemmas.Int.{ints}
 use Rattle.w4_blit.proofs.SnapshotLaws.{behind_codes}
 use Rattle.w4_blit.proofs.texts.text_outside.Goals as goal
@@ -9,7 +9,12 @@ returns c =
     let row : to_z w64 (of_z w64 c.from-2.result) ≡ c.args.y = omega (arith, ints) in
     rw (
       c.put_codes.ensures,
-      behind_codes c.args.page.now _ c.args.source c.told-page c.requires,
+      behind_codes c.args.page.now _ _ c.args.source c.told-page c.requires.behind,
       column,
       row,
     ) refl
+
+pub put_codes-requires-clause-count : goal.put_codes-requires-clause-count
+put_codes-requires-clause-count c =
+    c.requires.count
+    ∙ ap length (sym (behind_codes c.args.page.now _ _ c.args.source c.told-page c.requires.behind))

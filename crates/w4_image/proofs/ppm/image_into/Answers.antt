@@ -1,6 +1,6 @@
-use Rattle.std.proofs.Common.{◌++◌, take, ap, arith, ◌∙◌}
+use Rattle.std.proofs.Common.{◌≡◌, ◌+◌, ◌*◌, ◌++◌, [], take, get_or, ap, arith, rules, ◌∙◌}
 use Rattle.w4_defs.specs.Image.{pixel_colours}
-use Rattle.w4_image.proofs.PpmLaws.{starts, more, done}
+use Rattle.w4_image.proofs.PpmLaws.{starts, more, done, quad_in_page}
 use Rattle.w4_image.proofs.ppm.image_into.Goals as goal
 
 pub loop-q-init : goal.loop-q-init
@@ -11,12 +11,17 @@ loop-q-init c = record {
 }
 
 pub loop-q-preserved : goal.loop-q-preserved
-loop-q-preserved c = record {
-  whole = c.put_four.array_long;
-  so_far = more c.args.page.now c.loop-q.out c.put_four.new.out c.four_pixels.result c.loop-q.q
-      c.loop-q-test.true
-      c.loop-q.invariant.whole c.four_pixels.ensures c.put_four.ensures c.loop-q.invariant.so_far;
-}
+loop-q-preserved c =
+    let page = c.args.page.now in
+    let byte = get_or page (160 + c.loop-q.q) 0 in
+    let quad : get_or c.fill_quads.new.quads byte [] ≡ pixel_colours page (4 * c.loop-q.q) 4 =
+    c.fill_quads.ensures byte (search (rules, c.fits-page))
+    ∙ quad_in_page page c.palette_colors.result c.loop-q.q c.palette_colors.ensures in
+    record {
+      whole = c.put_quad.array_long;
+      so_far = more page c.loop-q.out c.put_quad.new.out _ c.loop-q.q c.loop-q-test.true
+          c.loop-q.invariant.whole quad c.put_quad.ensures c.loop-q.invariant.so_far;
+    }
 
 pub returns : goal.returns
 returns c = done c.args.page.now c.loop-q.out c.loop-q.q (omega arith) c.loop-q.invariant.whole
