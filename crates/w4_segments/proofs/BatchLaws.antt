@@ -22,7 +22,7 @@ use Rattle.w4_defs.specs.Reset.{reset}
 use Rattle.w4_defs.specs.Run.{fold, played_on, run_state}
 use Rattle.w4_defs.specs.State.{State, Moment}
 use Rattle.w4_editor.proofs.PlayLaws.{run_links}
-use Rattle.w4_segments.specs.Batching.{bytes_of, bytes_at, row_of, HasRows}
+use Rattle.w4_segments.specs.Batching.{bytes_of, bytes_at, item_row, HasRows}
 
 no_other : (t : Bool) → (t ≡ true → ⊥) → t ≡ false
 no_other true h = absurd (h refl)
@@ -95,7 +95,7 @@ rows_more wanted first stride at rows row here before now j d lt = elim (cases_l
 -- ---- the rows of all items
 
 module _ (cart : WasmModule) (font digest : List ℕ) (items : List (Vec ℕ Global)) where
-  all_rows : (rows : List BatchRow) → HasRows (row_of cart font digest items) (length items) rows
+  all_rows : (rows : List BatchRow) → HasRows (item_row cart font digest items) (length items) rows
       → map (λ row. Some row) rows ≡ file_rows sha256 cart font digest (map bytes_of items)
   all_rows rows has =
       let files : List (List ℕ) = map bytes_of items in
@@ -111,7 +111,7 @@ module _ (cart : WasmModule) (font digest : List ℕ) (items : List (Vec ℕ Glo
       ∙ sym (get_or-map (file_row sha256 cart font digest) files i [] None there))
 
   pub batch_rows : (result : Result (Vec BatchRow Global) OutOfMemory)
-      → IfOk result (λ rows. HasRows (row_of cart font digest items) (length items) rows.items)
+      → IfOk result (λ rows. HasRows (item_row cart font digest items) (length items) rows.items)
       → IfOk result (λ rows. map (λ row. Some row) rows.items
       ≡ file_rows sha256 cart font digest (map bytes_of items))
   batch_rows (Ok rows) has = all_rows rows.items has

@@ -1,14 +1,13 @@
--- Images of a run in parts, the cuts of a film, and what a team adds to it.
-use Rattle.std.proofs.Common.{◌≡◌, ℕ, zero, suc, ◌+◌, ◌-◌, ◌<◌, ◌≤◌, cond, min, max, List, [], ◌∷◌, ◌++◌, length, get_or, take, Option, Some, None, Result, Ok, Err, IfOk, IsOk, inl, inr, refl, sym, ap, ◌∙◌, subst, arith}
-use Rattle.std.specs.Prelude.{Vec}
-use Rattle.std.specs.declared.alloc.Global.{Global}
+-- Images of a run in parts, how they are put in a film, its cuts, and what a team adds to it.
+use Rattle.std.proofs.Common.{◌≡◌, ℕ, zero, suc, ◌+◌, ◌-◌, ◌*◌, ◌<◌, ◌≤◌, cond, min, max, List, [], ◌∷◌, ◌++◌, length, get_or, take, drop, Option, Some, None, inl, inr, refl, sym, ap, ◌∙◌, subst, arith}
 use Rattle.std.specs.List.{All}
 use Rattle.std.proofs.lemmas.Bool.{cases_lt, lt-ltb, le-ltb}
-use Rattle.std.proofs.lemmas.List.{append_assoc, append-nil, take_more, get_or_default}
-use Rattle.std.proofs.lemmas.Grind.{flat_map-append}
+use Rattle.std.proofs.lemmas.List.{append_assoc, append-nil, length-append, length-drop, length-take-le, take_at}
+use Rattle.std.proofs.lemmas.List.Elements.{All-drop}
+use Rattle.std.proofs.lemmas.List.Sums.{sum_by-append, sum_by-cons}
 use Rattle.std.specs.Option.{unwrap_or}
 use Rattle.w4_defs.specs.declared.console.Input.{Input}
-use Rattle.w4_defs.specs.declared.memory.OutOfMemory.{OutOfMemory}
+use Rattle.w4_defs.specs.Bytes.{replaced}
 use Rattle.w4_defs.specs.Image.{image}
 use Rattle.w4_defs.specs.KeptList.{Entry, place_at, state_at, IsDraft}
 use Rattle.w4_defs.specs.Reset.{Setup}
@@ -16,13 +15,14 @@ use Rattle.w4_defs.specs.Run.{run_state}
 use Rattle.w4_defs.specs.State.{State, HasGlobals}
 use Rattle.w4_editor.specs.Editing.{Editing, editing_setup}
 use Rattle.w4_defs.proofs.KeptListLaws.{linked_is_run}
+use Rattle.w4_defs.proofs.RegisterLaws.{length-image}
 use Rattle.w4_editor.specs.Settling.{AreLinked}
 use Rattle.w4_segments.specs.declared.worker.Task.{Task}
 use Rattle.w4_segments.specs.declared.worker.Worker.{Worker}
 use Rattle.w4_segments.specs.Filming.{state_image, run_images}
-use Rattle.w4_segments.specs.Pieces.{images_of, cut_at, AreOfRunBelow, IsPiece, ArePieces, images_made, task_images, worker_images, team_images, IsMade}
-use Rattle.w4_segments.specs.Rounds.{kept_of}
-use Rattle.w4_segments.specs.Working.{HasTypes, CanFilm, HasFilmed, EachDid}
+use Rattle.w4_segments.specs.Pieces.{images_of, piece_begin, AreOfRunBelow, IsPiece, ArePieces, task_count, team_count, task_images, team_images, CanFilmAll}
+use Rattle.w4_segments.specs.Rounds.{entries_of}
+use Rattle.w4_segments.specs.Working.{HasCartTypes, CanFilm}
 
 -- ---- images of a run
 
@@ -81,6 +81,90 @@ module _ (setup : Setup) (disk : List ℕ) (inputs : List Input) where
       let one : 1 ≡ first + 1 - first = omega arith in
       sym (one_image first state is) ∙ ap (images first) one
 
+-- ---- images in a film
+
+-- an image is put after N others
+module _ (film picture after : List ℕ) (n m : ℕ) (long : length picture ≡ 76815) (next : m ≡ n + 1)
+    (room : m * 76815 ≤ length film) (put : after ≡ replaced film (n * 76815) 76815 picture) where
+  abbrev front : List ℕ
+  front = take (n * 76815) film
+
+  length-front : length (front ++ picture) ≡ m * 76815
+  length-front =
+      let before = length-take-le (n * 76815) film (omega (arith, room, next)) in
+      length-append front picture ∙ omega (arith, before, long, next)
+
+  length-put : length after ≡ length film
+  length-put =
+      let back = length-drop (n * 76815 + 76815) film in
+      ap length put
+      ∙ length-append (front ++ picture) (drop (n * 76815 + 76815) film)
+      ∙ omega (arith, length-front, back, next, room)
+
+  front-put : take (m * 76815) after ≡ front ++ picture
+  front-put =
+      ap (take (m * 76815)) put
+      ∙ take_at (front ++ picture) (drop (n * 76815 + 76815) film) (m * 76815) length-front
+
+module _ (setup : Setup) (disk : List ℕ) (inputs : List Input) (film after : List ℕ) (first : ℕ)
+    (state : State) where
+  abbrev shown : ℕ → List ℕ
+  shown count = run_images setup disk inputs first count
+
+  pub image_put : (n : ℕ) → n * 76815 + 76815 ≤ length film
+      → after ≡ replaced film (n * 76815) 76815 (image state.page)
+      → length after ≡ length film
+  image_put n room put =
+      length-put film (image state.page) after n (n + 1) (length-image state.page) refl (omega (arith, room))
+      put
+
+  -- the first image of a film, and one more
+  pub first_put : run_state setup disk inputs first ≡ Some state → 76815 ≤ length film
+      → after ≡ replaced film (0 * 76815) 76815 (image state.page)
+      → take ((first + 1 - first) * 76815) after ≡ shown (first + 1 - first)
+  first_put is room put =
+      let one : first + 1 - first ≡ 0 + 1 = omega arith in
+      front-put film (image state.page) after 0 (first + 1 - first) (length-image state.page) one
+      (omega (arith, one, room)) put
+      ∙ first_image setup disk inputs first state is
+
+  pub more_put : (place : ℕ) → first ≤ place → run_state setup disk inputs (place + 1) ≡ Some state
+      → (place + 1 + 1 - first) * 76815 ≤ length film
+      → take ((place + 1 - first) * 76815) film ≡ shown (place + 1 - first)
+      → after ≡ replaced film ((place + 1 - first) * 76815) 76815 (image state.page)
+      → take ((place + 1 + 1 - first) * 76815) after ≡ shown (place + 1 + 1 - first)
+  more_put place le is room made put =
+      front-put film (image state.page) after (place + 1 - first) (place + 1 + 1 - first)
+      (length-image state.page) (omega (arith, le)) room put
+      ∙ ap (λ xs. xs ++ image state.page) made
+      ∙ images_more setup disk inputs first place state le is
+
+-- ---- parts of a team
+
+-- the second half of a team, whose part of the film is after that of the first
+pub back_half : (setup : Setup) (disk : List ℕ) (inputs : List Input) (team front back : List Worker)
+    (film rest : List ℕ) (mid count : ℕ)
+    → team ≡ front ++ back
+    → back ≡ drop mid team
+    → count ≡ team_count front
+    → length rest + count * 76815 ≡ length film
+    → CanFilmAll setup disk inputs team film
+    → CanFilmAll setup disk inputs back rest
+back_half setup disk inputs team front back film rest mid count both from front_is parts can =
+    let all : team_count team ≡ team_count front + team_count back =
+    ap team_count both ∙ sum_by-append (λ worker. task_count worker.task) front back in
+    let long = can.1 in (
+      subst (All (CanFilm setup disk inputs)) (sym from)
+      (All-drop (CanFilm setup disk inputs) mid team can.0),
+      omega (arith, all, front_is, parts, long),
+    )
+
+pub count_one : (team : List Worker) (d : Worker) → 0 < length team → length team < 2
+    → team_count team ≡ task_count (get_or team 0 d).task
+count_one [] d some few = absurd (omega (arith, some))
+count_one (w ∷ []) d some few = sum_by-cons (λ worker. task_count worker.task) w [] ∙ omega arith
+count_one (w ∷ v ∷ team) d some few = absurd (omega (arith, few))
+
 task_of : (s t : Task) → Some s ≡ Some t → s ≡ t
 task_of s t e = ap (λ o. unwrap_or o s) e
 
@@ -88,7 +172,7 @@ task_of s t e = ap (λ o. unwrap_or o s) e
 
 module _ (kept : List Entry) (first end : ℕ) where
   abbrev cut : ℕ → ℕ
-  cut i = cut_at kept first end i
+  cut i = piece_begin kept first end i
 
   pub cut_there : (i : ℕ) → i < length kept → cut i ≡ min end (max first (place_at kept i))
   cut_there i lt = ap (λ t. cond t (min end (max first (place_at kept i))) end) (lt-ltb i (length kept) lt)
@@ -137,7 +221,7 @@ module _ (kept : List Entry) (first end : ℕ) where
 
 module _ (e : Editing) (first end : ℕ) where
   abbrev cut_of : ℕ → ℕ
-  cut_of i = cut_at (kept_of e) first end i
+  cut_of i = piece_begin (entries_of e) first end i
 
   abbrev span : ℕ → ℕ → List ℕ
   span from to = images_of e from (to - from)
@@ -153,33 +237,25 @@ module _ (e : Editing) (first end : ℕ) where
       sym (images_in_parts (editing_setup e) e.disk e.session.current.inputs (middle - from) (to - middle)
       (to - from) from middle (omega (arith, one, two)) (omega (arith, one)))
 
-  made_images : (r : Result (Vec ℕ Global) OutOfMemory) (wanted : List ℕ) → IsOk r
-      → IfOk r (λ images. images.items ≡ wanted)
-      → images_made r ≡ wanted
-  made_images (Ok images) wanted ok is = is
-  made_images (Err refusal) wanted ok is = absurd cc
+  abbrev images_in : Option Task → List ℕ
+  images_in task = task_images (editing_setup e) e.disk e.session.current.inputs task
 
-  added : (i : ℕ) (task : Option Task) (images : List ℕ)
-      → ((t : Task) → task ≡ Some t → images ≡ span (cut_of i) (cut_of (i + 1)))
+  abbrev team_in : List Worker → List ℕ
+  team_in team = team_images (editing_setup e) e.disk e.session.current.inputs team
+
+  -- the images from one cut to another, and how many these are
+  abbrev Adds : List ℕ → ℕ → ℕ → ℕ → Type 0
+  Adds images count from to = (images ≡ span from to) × (count ≡ to - from)
+
+  task_adds : (i : ℕ) (task : Option Task) → ((t : Task) → task ≡ Some t → t.first ≡ cut_of i)
+      → ((t : Task) → task ≡ Some t → t.end ≡ cut_of (i + 1))
       → (task ≡ None → cut_of (i + 1) ≡ cut_of i)
-      → task_images task images ≡ span (cut_of i) (cut_of (i + 1))
-  added i None images some none = span_none (cut_of i) (cut_of (i + 1)) (none refl)
-  added i (Some t) images some none = some t refl
-
-  pub worker_adds : (i : ℕ) (dealt w : Worker) → IsPiece e first end i dealt
-      → HasFilmed (editing_setup e) e.disk e.session.current.inputs dealt w
-      → IsMade w
-      → worker_images w ≡ span (cut_of i) (cut_of (i + 1))
-  worker_adds i dealt w piece filmed made =
-      added i w.task (images_made w.images)
-      (λ t is.
-      let some = sym filmed.task ∙ is in
-      made_images w.images (span (cut_of i) (cut_of (i + 1))) (made t is)
-      (subst (λ count. IfOk w.images (λ images. images.items ≡ images_of e (cut_of i) count))
-      (λ k. piece.ends t some k - piece.begins t some k)
-      (subst (λ from. IfOk w.images (λ images. images.items ≡ images_of e from (t.end - t.first)))
-      (piece.begins t some) (filmed.images t some))))
-      (λ none. piece.none (sym filmed.task ∙ none))
+      → Adds (images_in task) (task_count task) (cut_of i) (cut_of (i + 1))
+  task_adds i None begins ends none =
+      let same = none refl in (span_none (cut_of i) (cut_of (i + 1)) same, omega (arith, same))
+  task_adds i (Some t) begins ends none =
+      let from = begins t refl in
+      let to = ends t refl in ((λ k. images_of e (from k) (to k - from k)), omega (arith, from, to))
 
   rises_far : ((j : ℕ) → cut_of j ≤ cut_of (j + 1)) → (n i j : ℕ) → j ≡ i + n → cut_of i ≤ cut_of j
   rises_far rises zero i j at =
@@ -198,109 +274,103 @@ module _ (e : Editing) (first end : ℕ) where
   rises_over rises i n = rises_far rises n i (i + n) refl
 
   team_adds : ((j : ℕ) → cut_of j ≤ cut_of (j + 1)) → (team : List Worker) (i j : ℕ) → j ≡ i + length team
-      → ((k : ℕ) (d : Worker) → k < length team
-      → worker_images (get_or team k d) ≡ span (cut_of (i + k)) (cut_of (i + k + 1)))
-      → team_images team ≡ span (cut_of i) (cut_of j)
+      → ((k : ℕ) (d : Worker) → k < length team → IsPiece e first end (i + k) (get_or team k d))
+      → Adds (team_in team) (team_count team) (cut_of i) (cut_of j)
   team_adds rises [] i j at each =
       let same : j ≡ i = omega (arith, at) in
-      span_none (cut_of i) (cut_of j) (ap cut_of same)
+      let cuts = ap cut_of same in (span_none (cut_of i) (cut_of j) cuts, omega (arith, cuts))
   team_adds rises (w ∷ team) i j at each =
-      let zero_is : i + 0 ≡ i = omega arith in
+      let here : i + 0 ≡ i = omega arith in
       let rest : j ≡ i + 1 + length team = omega (arith, at) in
-      let one : worker_images w ≡ span (cut_of i) (cut_of (i + 1)) =
-      subst (λ n. worker_images w ≡ span (cut_of n) (cut_of (n + 1))) zero_is (each 0 w (omega arith)) in
+      let piece : IsPiece e first end i w =
+      subst (λ n. IsPiece e first end n w) here (each 0 w (omega arith)) in
+      let one = task_adds i w.task piece.begins piece.ends piece.none in
       let others = team_adds rises team (i + 1) j rest
       (λ k d lt.
       let shift : i + suc k ≡ i + 1 + k = omega arith in
-      subst (λ n. worker_images (get_or team k d) ≡ span (cut_of n) (cut_of (n + 1))) shift
-      (each (suc k) d (omega (arith, lt)))) in
-      (λ n. one n ++ others n)
-      ∙ span_both (cut_of i) (cut_of (i + 1)) (cut_of j) (rises i) (rises_far rises (length team) (i + 1) j
-      rest)
+      subst (λ n. IsPiece e first end n (get_or team k d)) shift (each (suc k) d (omega (arith, lt)))) in
+      let up = rises i in
+      let on = rises_far rises (length team) (i + 1) j rest in
+      let all = sum_by-cons (λ worker. task_count worker.task) w team in
+      let count_one = one.1 in
+      let count_others = others.1 in (
+        (λ n. one.0 n ++ others.0 n) ∙ span_both (cut_of i) (cut_of (i + 1)) (cut_of j) up on,
+        omega (arith, all, count_one, count_others, up, on),
+      )
 
-  -- a team that had its pieces, and memory, adds the images from its first piece to after its last
-  pub pieces_add : ((j : ℕ) → cut_of j ≤ cut_of (j + 1)) → (next : ℕ) (old dealt team : List Worker)
+  -- a team that has its pieces adds the images from its first piece to after its last
+  pub pieces_add : ((j : ℕ) → cut_of j ≤ cut_of (j + 1)) → (next : ℕ) (old dealt : List Worker)
       → ArePieces e first end next old dealt
-      → EachDid (HasFilmed (editing_setup e) e.disk e.session.current.inputs) dealt team
-      → All IsMade team
-      → team_images team ≡ span (cut_of next) (cut_of (next + length team))
-  pieces_add rises next old dealt team pieces filmed made =
-      let many = filmed.many in
-      team_adds rises team next (next + length team) refl
-      (λ k d lt.
-      let low : k < length dealt = omega (arith, lt, many) in
-      worker_adds (next + k) (get_or dealt k d) (get_or team k d) (pieces.each k d low) (filmed.each k d low)
-      (made k d lt))
+      → Adds (team_in dealt) (team_count dealt) (cut_of next) (cut_of (next + length dealt))
+  pieces_add rises next old dealt pieces =
+      team_adds rises dealt next (next + length dealt) refl pieces.each
 
--- one worker more
-pub team_more : (team : List Worker) (i : ℕ) (d : Worker) → i < length team
-    → team_images (take (i + 1) team) ≡ team_images (take i team) ++ worker_images (get_or team i d)
-team_more team i d lt =
-    ap team_images (take_more team i d lt)
-    ∙ flat_map-append worker_images (take i team) (get_or team i d ∷ [])
-    ∙ ap (λ xs. team_images (take i team) ++ xs) (append-nil (worker_images (get_or team i d)))
+  -- a film of the places before the first of these pieces, with a round of images more
+  module _ (rises : (j : ℕ) → cut_of j ≤ cut_of (j + 1)) (some : first ≤ end) (next : ℕ)
+      (old dealt team : List Worker) (pieces : ArePieces e first end next old dealt)
+      (many : length team ≡ length dealt) where
+    abbrev last : ℕ
+    last = next + length dealt
 
-pub join_more : (first before after : List ℕ) (team : List Worker) (i : ℕ) (w : Worker) → i < length team
-    → w ≡ get_or team i w
-    → before ≡ first ++ team_images (take i team)
-    → after ≡ before ++ worker_images w
-    → after ≡ first ++ team_images (take (i + 1) team)
-join_more first before after team i w lt read so_far one =
-    one
-    ∙ (λ k. so_far k ++ worker_images (read k))
-    ∙ append_assoc first (team_images (take i team)) (worker_images (get_or team i w))
-    ∙ ap (λ xs. first ++ xs) (sym (team_more team i w lt))
+    last_is : cut_of last ≡ cut_of (next + length team)
+    last_is = ap (λ n. cut_of (next + n)) (sym many)
 
-pub made_more : (team : List Worker) (i : ℕ) (w : Worker) → i < length team → w ≡ get_or team i w
-    → ((k : ℕ) (d : Worker) → k < i → IsMade (get_or team k d))
-    → IsMade w
-    → (k : ℕ) (d : Worker) → k < i + 1 → IsMade (get_or team k d)
-made_more team i w lt read before now k d below = elim (cases_lt k i) [
-  | inl low ↦ before k d low
-  | inr high ↦
-      let same : i ≡ k = omega (arith, below, high) in
-      subst (λ n. IsMade (get_or team n d)) same
-      (subst IsMade (read ∙ get_or_default team i w d lt) now)
-]
+    pub round_adds : (before after : List ℕ) → before ≡ span first (cut_of next)
+        → after ≡ before ++ team_in dealt
+        → after ≡ span first (cut_of (next + length team))
+    round_adds before after so_far more =
+        let added = (pieces_add rises next old dealt pieces).0 in
+        let from = cut_from_first (entries_of e) first end next some in
+        more
+        ∙ (λ k. so_far k ++ added k)
+        ∙ span_both first (cut_of next) (cut_of last) from (rises_over rises next (length dealt))
+        ∙ ap (span first) last_is
+
+    -- how many bytes it has, and that these are within those of the whole film
+    pub round_lengthens : (before after : ℕ) → before ≡ (cut_of next - first) * 76815
+        → after ≡ before + team_count dealt * 76815
+        → (after ≡ (cut_of (next + length team) - first) * 76815) × (after ≤ (end - first) * 76815)
+    round_lengthens before after so_far more =
+        let added = (pieces_add rises next old dealt pieces).1 in
+        let from = cut_from_first (entries_of e) first end next some in
+        let up = rises_over rises next (length dealt) in
+        let within = cut_to_end (entries_of e) first end last in
+        let is = last_is in
+        (omega (arith, so_far, more, added, from, up, is),
+        omega (arith, so_far, more, added, from, up, within))
 
 -- where all entries up to the last below a place are linked, their states are those of the run
 pub states_below : (e : Editing) (last end : ℕ) → IsDraft (editing_setup e) e.disk e.session.current
-    → AreLinked last (kept_of e)
-    → ((i : ℕ) → last < i → i < length (kept_of e) → end ≤ place_at (kept_of e) i)
+    → AreLinked last (entries_of e)
+    → ((i : ℕ) → last < i → i < length (entries_of e) → end ≤ place_at (entries_of e) i)
     → AreOfRunBelow end e
 states_below e last end draft linked above i lt below =
     let up : i ≤ last = elim (cases_lt last i) [
       | inl past ↦ absurd (let high = above i past lt in omega (arith, high, below))
       | inr low ↦ low
     ] in
-    linked_is_run (editing_setup e) e.disk e.session.current.inputs (kept_of e) i draft.kept lt
+    linked_is_run (editing_setup e) e.disk e.session.current.inputs (entries_of e) i draft.kept lt
     (λ j le. linked j (omega (arith, le, up)))
 
--- what the pieces of a team ask for, and what is left of it
+-- what the pieces of a team ask for
 pub pieces_can_film : (e : Editing) (first end next : ℕ) (old dealt : List Worker)
     → ArePieces e first end next old dealt
     → All (CanFilm (editing_setup e) e.disk e.session.current.inputs) dealt
 pieces_can_film e first end next old dealt pieces k d lt = (pieces.each k d lt).ready
 
-pub filmed_types : (setup : Setup) (disk : List ℕ) (inputs : List Input) (dealt team : List Worker)
-    → EachDid (HasFilmed setup disk inputs) dealt team
-    → All (HasTypes setup.cart) team
-filmed_types setup disk inputs dealt team filmed k d lt =
-    let many = filmed.many in (filmed.each k d (omega (arith, lt, many))).types
-
 -- the piece that a worker is dealt
 module _ (e : Editing) (disk : List ℕ) (first end i : ℕ) (w : Worker)
     (draft : IsDraft (editing_setup e) disk e.session.current) (le : first ≤ end) where
   abbrev begin : ℕ
-  begin = cut_at (kept_of e) first end i
+  begin = piece_begin (entries_of e) first end i
 
   abbrev after : ℕ
-  after = cut_at (kept_of e) first end (i + 1)
+  after = piece_begin (entries_of e) first end (i + 1)
 
   -- none, where the piece is empty
-  pub idle_piece : HasTypes e.cart w → after ≤ begin → w.task ≡ None → IsPiece e first end i w
+  pub idle_piece : HasCartTypes e.cart w → after ≤ begin → w.task ≡ None → IsPiece e first end i w
   idle_piece types empty none =
-      let rises = cut_rises (kept_of e) first end draft.kept.rising i in
+      let rises = cut_rises (entries_of e) first end draft.kept.true_links.rising i in
       let no_task : (t : Task) → w.task ≡ Some t → ⊥ = λ t some. let e : None ≡ Some t = sym none ∙ some in
       cc in record {
         ready = record {
@@ -317,21 +387,21 @@ module _ (e : Editing) (disk : List ℕ) (first end i : ℕ) (w : Worker)
 
   -- the entry's, from its state on
   pub busy_piece : begin < after → end ≤ length e.session.current.inputs + 1 → AreOfRunBelow end e
-      → w.console ≡ state_at (kept_of e) i
+      → w.console ≡ state_at (entries_of e) i
       → (task : Task) → w.task ≡ Some task
-      → task.place ≡ place_at (kept_of e) i
+      → task.place ≡ place_at (entries_of e) i
       → task.first ≡ begin
       → task.end ≡ after
       → IsPiece e first end i w
   busy_piece some within states console task is place from to =
-      let to_end = cut_to_end (kept_of e) first end (i + 1) in
-      let inside = cut_inside (kept_of e) first end i (omega (arith, some, to_end)) in
+      let to_end = cut_to_end (entries_of e) first end (i + 1) in
+      let inside = cut_inside (entries_of e) first end i (omega (arith, some, to_end)) in
       let there = inside.0 in
       let low = inside.1 in
       let task_is : (t : Task) → w.task ≡ Some t → task ≡ t = λ t one. task_of task t (sym is ∙ one) in
       record {
         ready = record {
-          types = subst (HasGlobals e.cart) (sym console) (draft.kept.globals i there);
+          types = subst (HasGlobals e.cart) (sym console) (draft.kept.true_links.globals i there);
           order = λ t one. subst (λ (x : Task). x.place ≤ x.first) (task_is t one) (omega
               (arith, place, from, low));
           some = λ t one. subst (λ (x : Task). x.first < x.end) (task_is t one) (omega

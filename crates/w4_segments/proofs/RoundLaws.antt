@@ -17,8 +17,8 @@ use Rattle.w4_editor.proofs.SettleLaws.{relinked_computed, replaced_computed}
 use Rattle.w4_segments.specs.declared.worker.Task.{Task}
 use Rattle.w4_segments.specs.declared.worker.Worker.{Worker}
 use Rattle.w4_segments.specs.Filming.{KeepsShown}
-use Rattle.w4_segments.specs.Rounds.{kept_of, IsSegment, IsDealt, AreRising, AreDealt, AreComputed, LinksNext, CanTake, IsTaken, LengthensFront}
-use Rattle.w4_segments.specs.Working.{HasTypes, CanPlay, HasPlayed, EachDid}
+use Rattle.w4_segments.specs.Rounds.{entries_of, IsSegment, IsDealt, AreRising, AreDealt, AreComputed, LinksNext, CanTake, IsTaken, LengthensFront}
+use Rattle.w4_segments.specs.Working.{HasCartTypes, CanPlay, HasPlayed, EachDid}
 use Rattle.w4_segments.proofs.TeamLaws.{up_to_here, all_changed, changed_here, unchanged}
 
 -- ---- linked entries
@@ -35,7 +35,7 @@ all_before kept n first after (suc i) le =
 
 -- what the first so many workers have, and where the next one goes on
 pub record Dealing (e : Editing) (last hand next : ℕ) (team : List Worker) : Type 0 where
-  pub types : All (HasTypes e.cart) team
+  pub types : All (HasCartTypes e.cart) team
   pub within : next ≤ last
   pub segment : (i : ℕ) (d : Worker) → i < hand → (task : Task) → (get_or team i d).task ≡ Some task
       → IsSegment e last (get_or team i d) task × (task.entry < next)
@@ -46,11 +46,11 @@ pub record Dealing (e : Editing) (last hand next : ℕ) (team : List Worker) : T
   pub start : hand ≡ 0 → next ≡ 0
   pub before : (d : Worker) (task : Task) → 0 < hand → (get_or team 0 d).task ≡ Some task → (i : ℕ)
       → i < task.entry
-      → linked_at (kept_of e) (i + 1) ≡ true
+      → linked_at (entries_of e) (i + 1) ≡ true
   pub none : (d : Worker) → 0 < hand → (get_or team 0 d).task ≡ None → (i : ℕ) → i < last
-      → linked_at (kept_of e) (i + 1) ≡ true
+      → linked_at (entries_of e) (i + 1) ≡ true
 
-pub dealing_none : (e : Editing) (last : ℕ) (team : List Worker) → All (HasTypes e.cart) team
+pub dealing_none : (e : Editing) (last : ℕ) (team : List Worker) → All (HasCartTypes e.cart) team
     → Dealing e last 0 0 team
 dealing_none e last team types = record {
   types = types;
@@ -117,7 +117,7 @@ module _ (e : Editing) (last hand next after : ℕ) (team : List Worker) (w : Wo
 
   before_more : (d : Worker) (task : Task) → 0 < hand + 1 → (get_or team_now 0 d).task ≡ Some task → (i : ℕ)
       → i < task.entry
-      → linked_at (kept_of e) (i + 1) ≡ true
+      → linked_at (entries_of e) (i + 1) ≡ true
   before_more d task _ some i below = elim (cases_lt 0 hand) [
     | inl more ↦ p.before d task more (task_there 0 d (Some task) more some) i below
     | inr first ↦
@@ -127,7 +127,7 @@ module _ (e : Editing) (last hand next after : ℕ) (team : List Worker) (w : Wo
   ]
 
   none_more : (d : Worker) → 0 < hand + 1 → (get_or team_now 0 d).task ≡ None → (i : ℕ) → i < last
-      → linked_at (kept_of e) (i + 1) ≡ true
+      → linked_at (entries_of e) (i + 1) ≡ true
   none_more d _ none i below = elim (cases_lt 0 hand) [
     | inl more ↦ p.none d more (task_there 0 d None more none) i below
     | inr first ↦
@@ -138,7 +138,7 @@ module _ (e : Editing) (last hand next after : ℕ) (team : List Worker) (w : Wo
 
   pub dealing_more : Dealing e last (hand + 1) after team_now
   dealing_more = record {
-    types = all_changed team hand w lt (HasTypes e.cart) p.types dealt.types;
+    types = all_changed team hand w lt (HasCartTypes e.cart) p.types dealt.types;
     within = dealt.within;
     segment = segment_more;
     rising = rising_more;
@@ -225,7 +225,7 @@ some_task : (s t : Task) → Some s ≡ Some t → s ≡ t
 some_task s t e = ap (λ o. unwrap_or o s) e
 
 -- another kept list with the same places
-pub list_keeps : (e new : Editing) (kept : List Entry) → SamePlaces (kept_of e) kept
+pub list_keeps : (e new : Editing) (kept : List Entry) → SamePlaces (entries_of e) kept
     → new ≡ with_session e (with_list e.session kept) e.at
     → KeepsShown e new
 list_keeps e new kept same is = subst (KeepsShown e) (sym is) (record {
@@ -235,18 +235,19 @@ list_keeps e new kept same is = subst (KeepsShown e) (sym is) (record {
 
 module _ (disk : List ℕ) (e new : Editing) (entry : ℕ) (found : State)
     (draft : IsDraft (editing_setup e) disk e.session.current)
-    (lt : entry + 1 < length (kept_of e))
-    (is : computed (editing_setup e) e.session.current.inputs (kept_of e) entry ≡ Some found) where
+    (lt : entry + 1 < length (entries_of e))
+    (is : computed (editing_setup e) e.session.current.inputs (entries_of e) entry ≡ Some found) where
   -- the state is the one that is kept
-  module _ (same : state_at (kept_of e) (entry + 1) ≡ found)
-      (linked : new ≡ with_session e (with_list e.session (relinked_at (entry + 1) (kept_of e))) e.at) where
-    link_computed : IsComputed (editing_setup e) e.session.current.inputs entry (kept_of e)
-        (relinked_at (entry + 1) (kept_of e))
-    link_computed = relinked_computed (editing_setup e) e.session.current.inputs entry (kept_of e) lt
-        (is ∙ ap Some (sym same)) (draft.kept.globals (entry + 1) lt)
+  module _ (same : state_at (entries_of e) (entry + 1) ≡ found)
+      (linked : new
+      ≡ with_session e (with_list e.session (relinked_at (entry + 1) (entries_of e))) e.at) where
+    link_computed : IsComputed (editing_setup e) e.session.current.inputs entry (entries_of e)
+        (relinked_at (entry + 1) (entries_of e))
+    link_computed = relinked_computed (editing_setup e) e.session.current.inputs entry (entries_of e) lt
+        (is ∙ ap Some (sym same)) (draft.kept.true_links.globals (entry + 1) lt)
 
     pub link_keeps : KeepsShown e new
-    link_keeps = list_keeps e new (relinked_at (entry + 1) (kept_of e)) link_computed.places linked
+    link_keeps = list_keeps e new (relinked_at (entry + 1) (entries_of e)) link_computed.places linked
 
     pub link_put : (replaced : Option ℕ) → LinksNext entry replaced replaced e new
     link_put replaced = subst (LinksNext entry replaced replaced e) (sym linked) (record {
@@ -259,18 +260,18 @@ module _ (disk : List ℕ) (e new : Editing) (entry : ℕ) (found : State)
     })
 
   -- it is another
-  module _ (globals : HasGlobals e.cart found) (other : state_at (kept_of e) (entry + 1) ≢ found)
-      (put : new ≡ with_session e (with_list e.session (replaced_at (entry + 1) found (kept_of e))) e.at)
+  module _ (globals : HasGlobals e.cart found) (other : state_at (entries_of e) (entry + 1) ≢ found)
+      (put : new ≡ with_session e (with_list e.session (replaced_at (entry + 1) found (entries_of e))) e.at)
     where
-      replace_computed : IsComputed (editing_setup e) e.session.current.inputs entry (kept_of e)
-          (replaced_at (entry + 1) found (kept_of e))
-      replace_computed = replaced_computed (editing_setup e) e.session.current.inputs entry (kept_of e)
+      replace_computed : IsComputed (editing_setup e) e.session.current.inputs entry (entries_of e)
+          (replaced_at (entry + 1) found (entries_of e))
+      replace_computed = replaced_computed (editing_setup e) e.session.current.inputs entry (entries_of e)
           found lt
           is globals other
 
       pub replace_keeps : KeepsShown e new
       replace_keeps =
-          list_keeps e new (replaced_at (entry + 1) found (kept_of e)) replace_computed.places put
+          list_keeps e new (replaced_at (entry + 1) found (entries_of e)) replace_computed.places put
 
       pub replace_put : (replaced : Option ℕ) → LinksNext entry replaced (Some (entry + 1)) e new
       replace_put replaced = subst (LinksNext entry replaced (Some (entry + 1)) e) (sym put) (record {
@@ -287,16 +288,16 @@ pub record Taking (e : Editing) (team : List Worker) (hand : ℕ) (replaced : Op
   pub stands : (i : ℕ) (d : Worker) (task : Task) → hand ≤ i → i < length team
       → (get_or team i d).task ≡ Some task
       → replaced ≢ Some task.entry
-      → state_at (kept_of now) task.entry ≡ state_at (kept_of e) task.entry
+      → state_at (entries_of now) task.entry ≡ state_at (entries_of e) task.entry
   pub low : (i : ℕ) (d : Worker) (task : Task) (entry : ℕ) → hand ≤ i → i < length team
       → (get_or team i d).task ≡ Some task
       → replaced ≡ Some entry
       → entry ≤ task.entry
   pub front : (d : Worker) (task : Task) → 0 < length team → (get_or team 0 d).task ≡ Some task → (j : ℕ)
       → j ≤ task.entry
-      → linked_at (kept_of now) j ≡ linked_at (kept_of e) j
+      → linked_at (entries_of now) j ≡ linked_at (entries_of e) j
   pub next : (d : Worker) (task : Task) → 0 < hand → 0 < length team → (get_or team 0 d).task ≡ Some task
-      → linked_at (kept_of now) (task.entry + 1) ≡ true
+      → linked_at (entries_of now) (task.entry + 1) ≡ true
 
 pub taking_none : (e : Editing) (team : List Worker) → Taking e team 0 None e
 taking_none e team = record {
@@ -312,14 +313,14 @@ module _ (e : Editing) (team : List Worker) (hand : ℕ) (replaced : Option ℕ)
     (p : Taking e team hand replaced now)
     (lt : hand < length team) (w : Worker) (read : (d : Worker) → get_or team hand d ≡ w) where
   -- what this worker played may be taken over
-  pub can_take : (last : ℕ) → AreComputed e last team → last < length (kept_of e) → CanTake now replaced w
+  pub can_take : (last : ℕ) → AreComputed e last team → last < length (entries_of e) → CanTake now replaced w
   can_take last a there =
       let many = p.keeps.recording.places.many in
       let places = p.keeps.recording.places.places in
       let task_is : (task : Task) → w.task ≡ Some task → (get_or team hand w).task ≡ Some task
       = λ task some. ap (λ (x : Worker). x.task) (read w) ∙ some in record {
-        types = subst (λ (x : Editing). HasTypes x.cart w) (sym p.keeps.recording.same)
-            (subst (HasTypes e.cart) (read w) (a.types hand w lt));
+        types = subst (λ (x : Editing). HasCartTypes x.cart w) (sym p.keeps.recording.same)
+            (subst (HasCartTypes e.cart) (read w) (a.types hand w lt));
         there = λ task some.
             let below = a.there hand w task lt (task_is task some) in
             omega (arith, many, there, below);
@@ -367,7 +368,7 @@ module _ (e : Editing) (team : List Worker) (hand : ℕ) (replaced : Option ℕ)
     old_low entry is = p.low hand w task entry (omega arith) lt (here w) is
 
     next_stays : last ≢ Some (task.entry + 1)
-        → state_at (kept_of new) (task.entry + 1) ≡ state_at (kept_of now) (task.entry + 1)
+        → state_at (entries_of new) (task.entry + 1) ≡ state_at (entries_of now) (task.entry + 1)
     next_stays other = elim put.last_is [
       | inl is ↦ absurd (other is)
       | inr same ↦ same.1
@@ -375,20 +376,20 @@ module _ (e : Editing) (team : List Worker) (hand : ℕ) (replaced : Option ℕ)
 
     -- entries above keep their states
     state_stays : (k : ℕ) → task.entry < k → last ≢ Some k
-        → state_at (kept_of new) k ≡ state_at (kept_of now) k
+        → state_at (entries_of new) k ≡ state_at (entries_of now) k
     state_stays k above other = elim (cases_eq k (task.entry + 1)) [
-      | inl same ↦ ap (state_at (kept_of new)) same
+      | inl same ↦ ap (state_at (entries_of new)) same
           ∙ next_stays (λ is. other (is ∙ ap Some (sym same)))
-          ∙ ap (state_at (kept_of now)) (sym same)
+          ∙ ap (state_at (entries_of now)) (sym same)
       | inr far ↦ elim (cases_eq k (task.entry + 1 + 1)) [
-        | inl same ↦ ap (state_at (kept_of new)) same ∙ put.computed.next_state
-            ∙ ap (state_at (kept_of now)) (sym same)
+        | inl same ↦ ap (state_at (entries_of new)) same ∙ put.computed.next_state
+            ∙ ap (state_at (entries_of now)) (sym same)
         | inr farther ↦ ap (λ (x : Entry). x.state) (put.computed.others k far farther)
       ]
     ]
 
     -- entries up to this one keep their links
-    link_stays : (k : ℕ) → k ≤ task.entry → linked_at (kept_of new) k ≡ linked_at (kept_of now) k
+    link_stays : (k : ℕ) → k ≤ task.entry → linked_at (entries_of new) k ≡ linked_at (entries_of now) k
     link_stays k le =
         let one : k ≢ task.entry + 1 = λ e. absurd (omega (arith, le, e)) in
         let two : k ≢ task.entry + 1 + 1 = λ e. absurd (omega (arith, le, e)) in
@@ -397,7 +398,7 @@ module _ (e : Editing) (team : List Worker) (hand : ℕ) (replaced : Option ℕ)
     stands_on : (i : ℕ) (d : Worker) (s : Task) → hand + 1 ≤ i → i < length team
         → (get_or team i d).task ≡ Some s
         → last ≢ Some s.entry
-        → state_at (kept_of new) s.entry ≡ state_at (kept_of e) s.entry
+        → state_at (entries_of new) s.entry ≡ state_at (entries_of e) s.entry
     stands_on i d s le below is other =
         let above = later i d s le below is in
         state_stays s.entry above other
@@ -425,7 +426,7 @@ module _ (e : Editing) (team : List Worker) (hand : ℕ) (replaced : Option ℕ)
 
     front_on : (d : Worker) (first : Task) → 0 < length team → (get_or team 0 d).task ≡ Some first → (j : ℕ)
         → j ≤ first.entry
-        → linked_at (kept_of new) j ≡ linked_at (kept_of e) j
+        → linked_at (entries_of new) j ≡ linked_at (entries_of e) j
     front_on d first there is j le = elim (cases_lt 0 hand) [
       | inl more ↦
           let below = rising 0 hand d first task more lt is (here d) in
@@ -437,14 +438,14 @@ module _ (e : Editing) (team : List Worker) (hand : ℕ) (replaced : Option ℕ)
 
     next_on : (d : Worker) (first : Task) → 0 < hand + 1 → 0 < length team
         → (get_or team 0 d).task ≡ Some first
-        → linked_at (kept_of new) (first.entry + 1) ≡ true
+        → linked_at (entries_of new) (first.entry + 1) ≡ true
     next_on d first _ there is = elim (cases_lt 0 hand) [
       | inl more ↦
           let below = rising 0 hand d first task more lt is (here d) in
           link_stays (first.entry + 1) (omega (arith, below)) ∙ p.next d first more there is
       | inr none ↦
           let same = ap (λ (t : Task). t.entry) (first_is (omega (arith, none)) d first is) in
-          ap (λ n. linked_at (kept_of new) (n + 1)) same ∙ put.computed.linked
+          ap (λ n. linked_at (entries_of new) (n + 1)) same ∙ put.computed.linked
     ]
 
     pub taking_put : Taking e team (hand + 1) last new
@@ -474,7 +475,7 @@ pub taking_done : (e : Editing) (team : List Worker) (hand : ℕ) (replaced : Op
 taking_done e team hand replaced now p all d task some is linked i le = elim (cases_lt task.entry i) [
   | inl last ↦
       let at : i ≡ task.entry + 1 = omega (arith, le, last) in
-      ap (linked_at (kept_of now)) at ∙ p.next d task (omega (arith, some, all)) some is
+      ap (linked_at (entries_of now)) at ∙ p.next d task (omega (arith, some, all)) some is
   | inr low ↦ p.front d task some is i low ∙ linked i low
 ]
 
@@ -501,7 +502,7 @@ busy_first team w none lt is off =
 pub idle_linked : (e : Editing) (last : ℕ) (old dealt : List Worker) → AreDealt e last old dealt
     → 0 < length dealt
     → ((d : Worker) → (get_or dealt 0 d).task ≡ None)
-    → (i : ℕ) → i < last → linked_at (kept_of e) (i + 1) ≡ true
+    → (i : ℕ) → i < last → linked_at (entries_of e) (i + 1) ≡ true
 idle_linked e last old [] a some idle = absurd (omega (arith, some))
 idle_linked e last old (w ∷ dealt) a some idle = a.none w some (idle w)
 
@@ -513,15 +514,15 @@ pub front_lengthens : (setup : Setup) (inputs : List Input) (e : Editing) (last 
     → LengthensFront played e now
     → 0 < length dealt
     → (task : Task) → ((d : Worker) → (get_or dealt 0 d).task ≡ Some task)
-    → linked_at (kept_of e) 0 ≡ true
-    → (m : ℕ) → AreLinked m (kept_of e) → AreLinked (m + 1) (kept_of now)
+    → linked_at (entries_of e) 0 ≡ true
+    → (m : ℕ) → AreLinked m (entries_of e) → AreLinked (m + 1) (entries_of now)
 front_lengthens setup inputs e last old [] played now a did longer some task is first m linked i le =
     absurd (omega (arith, some))
 front_lengthens setup inputs e last old (w ∷ dealt) played now a did longer some task is first m linked i le =
     let many = did.many in
     let segment = a.segment 0 w task some (is w) in
-    let front : AreLinked task.entry (kept_of e) =
-    all_before (kept_of e) task.entry first (a.before w task some (is w)) in
+    let front : AreLinked task.entry (entries_of e) =
+    all_before (entries_of e) task.entry first (a.before w task some (is w)) in
     let past : m ≤ task.entry = elim (cases_lt task.entry m) [
       | inl inside ↦ absurd (let on = linked (task.entry + 1) (omega (arith, inside)) in
           let off : true ≡ false = sym on ∙ segment.unlinked in cc)
@@ -532,7 +533,7 @@ front_lengthens setup inputs e last old (w ∷ dealt) played now a did longer so
 -- what a team that was dealt its segments can play
 pub dealt_can_play : (disk : List ℕ) (e : Editing) (last : ℕ) (old dealt : List Worker)
     → IsDraft (editing_setup e) disk e.session.current
-    → last < length (kept_of e)
+    → last < length (entries_of e)
     → AreDealt e last old dealt
     → All (CanPlay e.cart e.session.current.inputs) dealt
 dealt_can_play disk e last old dealt draft there a i d lt = record {
@@ -540,14 +541,14 @@ dealt_can_play disk e last old dealt draft there a i d lt = record {
   order = λ task some.
       let is = a.segment i d task lt some in
       let below = is.there in
-      let up = draft.kept.rising task.entry (omega (arith, below, there)) in
+      let up = draft.kept.true_links.rising task.entry (omega (arith, below, there)) in
       let from = is.place in
       let to = is.end in
       omega (arith, up, from, to);
   within = λ task some.
       let is = a.segment i d task lt some in
       let below = is.there in
-      let in_range = draft.kept.within (task.entry + 1) (omega (arith, below, there)) in
+      let in_range = draft.kept.true_links.within (task.entry + 1) (omega (arith, below, there)) in
       let to = is.end in
       omega (arith, in_range, to);
 }

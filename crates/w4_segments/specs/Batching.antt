@@ -15,8 +15,8 @@ abbrev pub bytes_at : List (Vec ℕ Global) → ℕ → List ℕ
 bytes_at items k = slice_index_or (map bytes_of items) k []
 
 -- the row of the K-th item
-abbrev pub row_of : WasmModule → List ℕ → List ℕ → List (Vec ℕ Global) → ℕ → Option BatchRow
-row_of cart font digest items k = file_row sha256 cart font digest (bytes_at items k)
+abbrev pub item_row : WasmModule → List ℕ → List ℕ → List (Vec ℕ Global) → ℕ → Option BatchRow
+item_row cart font digest items k = file_row sha256 cart font digest (bytes_at items k)
 
 -- the rows of so many items, each the wanted one
 pub record HasRows (wanted : ℕ → Option BatchRow) (count : ℕ) (rows : List BatchRow) : Type 0 where

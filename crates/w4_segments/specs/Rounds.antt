@@ -5,30 +5,30 @@ use Rattle.w4_editor.specs.Editing.{Editing, editing_setup}
 use Rattle.w4_editor.specs.Settling.{AreLinked, IsComputed}
 use Rattle.w4_segments.specs.declared.worker.Task.{Task}
 use Rattle.w4_segments.specs.declared.worker.Worker.{Worker}
-use Rattle.w4_segments.specs.Working.{HasTypes}
+use Rattle.w4_segments.specs.Working.{HasCartTypes}
 
 -- the kept list of an editor
-abbrev pub kept_of : Editing → List Entry
-kept_of e = e.session.current.kept
+abbrev pub entries_of : Editing → List Entry
+entries_of e = e.session.current.kept
 
 -- the worker stands at an entry after which there is no link, and is to go to the next one
 pub record IsSegment (e : Editing) (last : ℕ) (worker : Worker) (task : Task) : Type 0 where
   pub there : task.entry < last
-  pub place : task.place ≡ place_at (kept_of e) task.entry
-  pub end : task.end ≡ place_at (kept_of e) (task.entry + 1)
-  pub state : worker.console ≡ state_at (kept_of e) task.entry
-  pub unlinked : IsFalse (linked_at (kept_of e) (task.entry + 1))
+  pub place : task.place ≡ place_at (entries_of e) task.entry
+  pub end : task.end ≡ place_at (entries_of e) (task.entry + 1)
+  pub state : worker.console ≡ state_at (entries_of e) task.entry
+  pub unlinked : IsFalse (linked_at (entries_of e) (task.entry + 1))
 
 -- the worker has the first segment from this entry on that isn't linked, and the next worker goes on after it
 pub record IsDealt (e : Editing) (from last next : ℕ) (worker : Worker) : Type 0 where
-  pub types : HasTypes e.cart worker
+  pub types : HasCartTypes e.cart worker
   pub order : from ≤ next
   pub within : next ≤ last
   pub segment : (task : Task) → worker.task ≡ Some task → IsSegment e last worker task
   pub next_is : (task : Task) → worker.task ≡ Some task → (from ≤ task.entry) × (next ≡ task.entry + 1)
   pub before : (task : Task) → worker.task ≡ Some task → (i : ℕ) → from ≤ i → i < task.entry
-      → linked_at (kept_of e) (i + 1) ≡ true
-  pub none : worker.task ≡ None → (i : ℕ) → from ≤ i → i < last → linked_at (kept_of e) (i + 1) ≡ true
+      → linked_at (entries_of e) (i + 1) ≡ true
+  pub none : worker.task ≡ None → (i : ℕ) → from ≤ i → i < last → linked_at (entries_of e) (i + 1) ≡ true
 
 -- the tasks of a team rise
 abbrev pub AreRising : List Worker → Type 0
@@ -40,42 +40,43 @@ AreRising team = (i j : ℕ) (d : Worker) (s t : Task) → i < j → j < length 
 -- the first segments that aren't linked, in order
 pub record AreDealt (e : Editing) (last : ℕ) (old new : List Worker) : Type 0 where
   pub many : length new ≡ length old
-  pub types : All (HasTypes e.cart) new
+  pub types : All (HasCartTypes e.cart) new
   pub segment : (i : ℕ) (d : Worker) (task : Task) → i < length new
       → (slice_index_or new i d).task ≡ Some task
       → IsSegment e last (slice_index_or new i d) task
   pub rising : AreRising new
   pub before : (d : Worker) (task : Task) → 0 < length new → (slice_index_or new 0 d).task ≡ Some task
       → (i : ℕ) → i < task.entry
-      → linked_at (kept_of e) (i + 1) ≡ true
+      → linked_at (entries_of e) (i + 1) ≡ true
   pub none : (d : Worker) → 0 < length new → (slice_index_or new 0 d).task ≡ None → (i : ℕ) → i < last
-      → linked_at (kept_of e) (i + 1) ≡ true
+      → linked_at (entries_of e) (i + 1) ≡ true
 
 -- what each worker has is what the inputs make of the state that is kept before
 pub record AreComputed (e : Editing) (last : ℕ) (team : List Worker) : Type 0 where
-  pub types : All (HasTypes e.cart) team
+  pub types : All (HasCartTypes e.cart) team
   pub there : (i : ℕ) (d : Worker) (task : Task) → i < length team
       → (slice_index_or team i d).task ≡ Some task
       → task.entry < last
   pub state : (i : ℕ) (d : Worker) (task : Task) → i < length team
       → (slice_index_or team i d).task ≡ Some task
-      → computed (editing_setup e) e.session.current.inputs (kept_of e) task.entry
+      → computed (editing_setup e) e.session.current.inputs (entries_of e) task.entry
       ≡ Some (slice_index_or team i d).console
   pub rising : AreRising team
 
 -- the entry after this one is linked with the state that was found, and is the one replaced last unless it
 -- had that state
 pub record LinksNext (entry : ℕ) (replaced last : Option ℕ) (old new : Editing) : Type 0 where
-  pub computed : IsComputed (editing_setup old) old.session.current.inputs entry (kept_of old) (kept_of new)
+  pub computed : IsComputed (editing_setup old) old.session.current.inputs entry (entries_of old)
+      (entries_of new)
   pub last_is : (last ≡ Some (entry + 1))
-      ⊎ ((last ≡ replaced) × (state_at (kept_of new) (entry + 1) ≡ state_at (kept_of old) (entry + 1)))
+      ⊎ ((last ≡ replaced) × (state_at (entries_of new) (entry + 1) ≡ state_at (entries_of old) (entry + 1)))
 
 -- what a worker played may be taken over unless its first state was replaced
 pub record CanTake (e : Editing) (replaced : Option ℕ) (worker : Worker) : Type 0 where
-  pub types : HasTypes e.cart worker
-  pub there : (task : Task) → worker.task ≡ Some task → task.entry + 1 < length (kept_of e)
+  pub types : HasCartTypes e.cart worker
+  pub there : (task : Task) → worker.task ≡ Some task → task.entry + 1 < length (entries_of e)
   pub found : (task : Task) → worker.task ≡ Some task → replaced ≢ Some task.entry
-      → computed (editing_setup e) e.session.current.inputs (kept_of e) task.entry ≡ Some worker.console
+      → computed (editing_setup e) e.session.current.inputs (entries_of e) task.entry ≡ Some worker.console
 
 -- it is thrown away, or taken over
 abbrev pub IsTaken : Worker → Option ℕ → Option ℕ → Editing → Editing → Type 0
@@ -91,5 +92,5 @@ IsTaken worker replaced last old new =
 abbrev pub LengthensFront : List Worker → Editing → Editing → Type 0
 LengthensFront team old new = (d : Worker) (task : Task) → 0 < length team
     → (slice_index_or team 0 d).task ≡ Some task
-    → AreLinked task.entry (kept_of old)
-    → AreLinked (task.entry + 1) (kept_of new)
+    → AreLinked task.entry (entries_of old)
+    → AreLinked (task.entry + 1) (entries_of new)

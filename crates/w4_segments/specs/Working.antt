@@ -1,5 +1,5 @@
 -- What a worker is given, and what it does with it.
-use Rattle.std.specs.Prelude.{◌≡◌, ℕ, ◌+◌, ◌-◌, ◌≤◌, ◌<◌, List, length, slice_range, slice_index_or, Some, IfOk}
+use Rattle.std.specs.Prelude.{◌≡◌, ℕ, ◌+◌, ◌≤◌, ◌<◌, List, length, slice_range, slice_index_or, Some}
 use Rattle.w4_defs.specs.declared.console.Input.{Input}
 use Rattle.w4_defs.specs.Module.{WasmModule}
 use Rattle.w4_defs.specs.Reset.{Setup}
@@ -7,40 +7,32 @@ use Rattle.w4_defs.specs.Run.{fold, run_state}
 use Rattle.w4_defs.specs.State.{HasGlobals}
 use Rattle.w4_segments.specs.declared.worker.Task.{Task}
 use Rattle.w4_segments.specs.declared.worker.Worker.{Worker}
-use Rattle.w4_segments.specs.Filming.{run_images}
 
 -- the console's globals have the cart's types
-abbrev pub HasTypes : WasmModule → Worker → Type 0
-HasTypes cart worker = HasGlobals cart worker.console
+abbrev pub HasCartTypes : WasmModule → Worker → Type 0
+HasCartTypes cart worker = HasGlobals cart worker.console
 
 -- a worker that can play from its place to its end
 pub record CanPlay (cart : WasmModule) (inputs : List Input) (worker : Worker) : Type 0 where
-  pub types : HasTypes cart worker
+  pub types : HasCartTypes cart worker
   pub order : (task : Task) → worker.task ≡ Some task → task.place ≤ task.end
   pub within : (task : Task) → worker.task ≡ Some task → task.end ≤ length inputs
 
 -- it has played the inputs between
 pub record HasPlayed (setup : Setup) (inputs : List Input) (old new : Worker) : Type 0 where
-  pub types : HasTypes setup.cart new
+  pub types : HasCartTypes setup.cart new
   pub task : new.task ≡ old.task
   pub state : (task : Task) → old.task ≡ Some task
       → fold setup old.console (slice_range inputs task.place task.end) ≡ Some new.console
 
 -- a worker whose state is that of a run, and that can make images from its first to its end
 pub record CanFilm (setup : Setup) (disk : List ℕ) (inputs : List Input) (worker : Worker) : Type 0 where
-  pub types : HasTypes setup.cart worker
+  pub types : HasCartTypes setup.cart worker
   pub order : (task : Task) → worker.task ≡ Some task → task.place ≤ task.first
   pub some : (task : Task) → worker.task ≡ Some task → task.first < task.end
   pub within : (task : Task) → worker.task ≡ Some task → task.end ≤ length inputs + 1
   pub state : (task : Task) → worker.task ≡ Some task
       → run_state setup disk inputs task.place ≡ Some worker.console
-
--- it has made them
-pub record HasFilmed (setup : Setup) (disk : List ℕ) (inputs : List Input) (old new : Worker) : Type 0 where
-  pub types : HasTypes setup.cart new
-  pub task : new.task ≡ old.task
-  pub images : (task : Task) → old.task ≡ Some task → IfOk new.images (λ images.
-      images.items ≡ run_images setup disk inputs task.first (task.end - task.first))
 
 -- each worker of a team did so
 pub record EachDid (Did : Worker → Worker → Type 0) (old new : List Worker) : Type 0 where

@@ -5,7 +5,7 @@ ghost use Rattle.std.specs.Prelude.{◌≡◌, ℕ, ◌+◌, ◌<◌, ◌≤◌,
 ghost use Rattle.w4_defs.specs.Batch.{file_row, file_rows, ran_row, run_row};
 ghost use Rattle.w4_defs.specs.State.{HasGlobals};
 ghost use Rattle.w4_defs.specs.declared.batch.BatchRow.{BatchRow};
-ghost use Rattle.w4_segments.specs.Batching.{AreDealtOut, AreOfHands, AreRows, CoverAll, HasRows, bytes_of, row_of};
+ghost use Rattle.w4_segments.specs.Batching.{AreDealtOut, AreOfHands, AreRows, CoverAll, HasRows, bytes_of, item_row};
 
 use crate::gate::Gate;
 use crate::playing::play;
@@ -57,7 +57,7 @@ fn all_rows<R: Threads + Sync, G: Gate + Sync>(
 ) -> Result<Vec<Result<Vec<BatchRow>, OutOfMemory>>, OutOfMemory>
     requires { hands ≤ 16 }
     ensures many { IfOk result (λ dealt. length dealt.items ≡ hands) }
-    ensures rows { IfOk result (λ dealt. AreOfHands (row_of cart.now font.now digest.now items.now)
+    ensures rows { IfOk result (λ dealt. AreOfHands (item_row cart.now font.now digest.now items.now)
         (length items.now) hands dealt.items) }
 {
     let rows = thread::map_indices(
@@ -89,7 +89,7 @@ fn rows_of<G: Gate>(
 ) -> Result<Vec<BatchRow>, OutOfMemory>
     requires some { 0 < stride }
     requires few { first + stride ≤ 32 }
-    ensures { IfOk result (λ rows. AreRows (row_of cart.now font.now digest.now items.now)
+    ensures { IfOk result (λ rows. AreRows (item_row cart.now font.now digest.now items.now)
         (length items.now) first stride rows.items) }
 {
     let mut runner = Runner {

@@ -1,14 +1,14 @@
 //! Films: the images of a stretch of a run, made by many workers.
 
-ghost use Rattle.std.specs.Prelude.{◌≡◌, ◌≢◌, ℕ, ◌+◌, ◌-◌, ◌<◌, ◌≤◌, ◌++◌, All, IfErr, IfOk, None, OnErr, OnOk, length};
+ghost use Rattle.std.specs.Prelude.{◌≡◌, ◌≢◌, ℕ, ◌+◌, ◌-◌, ◌<◌, ◌≤◌, All, IfErr, IfOk, None, OnOk, length};
 ghost use Rattle.w4_defs.specs.KeptList.{place_at};
 ghost use Rattle.w4_segments.specs.Filming.{IsFilmRefusal, KeepsShown, film_images, film_refusal};
-ghost use Rattle.w4_segments.specs.Pieces.{AreOfRunBelow, ArePieces, IsMade, IsPiece, cut_at, images_of, team_images, worker_images};
-ghost use Rattle.w4_segments.specs.Working.{HasTypes};
+ghost use Rattle.w4_segments.specs.Pieces.{AreOfRunBelow, ArePieces, IsPiece, piece_begin, images_of};
+ghost use Rattle.w4_segments.specs.Working.{HasCartTypes};
 ghost use Rattle.w4_segments.specs.declared.refusal.FilmRefusal.TheVariants.{OutOfMemory as NoMemory};
 
 use crate::gate::{Gate, OpenGate};
-use crate::pieces::film_all;
+use crate::pieces::film_round;
 use crate::refusal::FilmRefusal;
 use crate::rounds::{is_consistent, settle_rounds, unlinked};
 use crate::worker::{Task, Worker, team};
@@ -16,6 +16,7 @@ use std::alloc::Global;
 use std::thread::Threads;
 use w4_defs::OutOfMemory;
 use w4_editor::Editor;
+use w4_image::IMAGE_LEN;
 
 /// How many images a film may have.
 const MOST_IMAGES: usize = 600;
@@ -108,7 +109,8 @@ fn last_up_to(editor: &Editor, p: usize) -> usize
     last
 }
 
-/// The film of places `first` up to `end`, whose first piece goes on from `entry`, in rounds of pieces.
+/// The film of places `first` up to `end`, whose first piece goes on from `entry`, in rounds of pieces. All
+/// its memory is taken before the first round.
 fn film_pieces<R: Threads + Sync, G: Gate + Sync>(
     rt: &R,
     alloc: Global,
@@ -126,24 +128,23 @@ fn film_pieces<R: Threads + Sync, G: Gate + Sync>(
     requires states { AreOfRunBelow end editor.now }
     requires some { 0 < length team.old }
     requires few { length team.old ≤ 16 }
-    requires types { All (HasTypes editor.now.cart) team.old }
+    requires types { All (HasCartTypes editor.now.cart) team.old }
     ensures { IfOk result (λ film. film.items ≡ images_of editor.now first (end - first)) }
 {
     is_consistent(editor);
-    let mut film = Vec::new(alloc);
+    let mut film = Vec::with_capacity(alloc, (end - first) * IMAGE_LEN)?;
     let mut next = entry;
     while cut(editor, first, end, next) < end {
         deal(editor, next - entry, next, first, end, team);
-        film_all(
+        film_round(
             rt,
-            alloc,
             gate,
             editor.cart(),
             editor.font(),
             editor.recording(),
             team,
-        );
-        join(team, &mut film)?;
+            &mut film,
+        )?;
         next += team.len();
     }
     Ok(film)
@@ -151,7 +152,7 @@ fn film_pieces<R: Threads + Sync, G: Gate + Sync>(
 
 /// Where the piece of entry `i` begins.
 fn cut(editor: &Editor, first: usize, end: usize, i: usize) -> usize
-    ensures { result ≡ cut_at editor.now.session.current.kept first end i }
+    ensures { result ≡ piece_begin editor.now.session.current.kept first end i }
 {
     if i < editor.kept_count() {
         editor.kept_place(i).max(first).min(end)
@@ -168,7 +169,7 @@ fn deal(editor: &Editor, number: usize, next: usize, first: usize, end: usize, t
     requires order { first ≤ end }
     requires within { end ≤ length editor.now.session.current.inputs + 1 }
     requires states { AreOfRunBelow end editor.now }
-    requires types { All (HasTypes editor.now.cart) team.old }
+    requires types { All (HasCartTypes editor.now.cart) team.old }
     ensures { ArePieces editor.now first end next team.old team.new }
 {
     for hand in 0..team.len() {
@@ -196,7 +197,7 @@ fn deal_one(
     requires order { first ≤ end }
     requires within { end ≤ length editor.now.session.current.inputs + 1 }
     requires states { AreOfRunBelow end editor.now }
-    requires types { HasTypes editor.now.cart worker.old }
+    requires types { HasCartTypes editor.now.cart worker.old }
     ensures { IsPiece editor.now first end entry worker.new }
 {
     is_consistent(editor);
@@ -216,30 +217,4 @@ fn deal_one(
         first: from,
         end: to,
     });
-}
-
-/// Appends the images that the workers made, in the order of the pieces. Errors: OutOfMemory, also where a
-/// worker had too little.
-fn join(team: &[Worker], film: &mut Vec<u8>) -> Result<(), OutOfMemory>
-    ensures images { OnOk result (film.new.items ≡ film.old.items ++ team_images team.now) }
-    ensures made { OnOk result (All IsMade team.now) }
-{
-    for worker in team {
-        join_one(worker, film)?;
-    }
-    Ok(())
-}
-
-/// Appends the images of a worker, if it had a task.
-fn join_one(worker: &Worker, film: &mut Vec<u8>) -> Result<(), OutOfMemory>
-    ensures images { OnOk result (film.new.items ≡ film.old.items ++ worker_images worker.now) }
-    ensures made { OnOk result (IsMade worker.now) }
-{
-    if worker.task.is_none() {
-        return Ok(());
-    }
-    match &worker.images {
-        Ok(images) => Ok(film.extend_from_slice(images.as_slice())?),
-        Err(refusal) => Err(*refusal),
-    }
 }

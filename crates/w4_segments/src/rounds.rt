@@ -11,7 +11,7 @@ ghost use Rattle.w4_segments.specs.Filming.{KeepsShown};
 ghost use Rattle.w4_segments.specs.Rounds.{AreComputed, AreDealt, CanTake, IsDealt, LinksNext, IsTaken, LengthensFront};
 ghost use Rattle.w4_segments.specs.declared.worker.Task.{Task};
 ghost use Rattle.w4_segments.specs.declared.worker.Worker.{Worker};
-ghost use Rattle.w4_segments.specs.Working.{CanPlay, EachDid, HasPlayed, HasTypes};
+ghost use Rattle.w4_segments.specs.Working.{CanPlay, EachDid, HasPlayed, HasCartTypes};
 
 use crate::gate::Gate;
 use crate::playing::play;
@@ -37,11 +37,11 @@ pub(crate) fn settle_rounds<R: Threads + Sync, G: Gate + Sync>(
 ) -> Result<(), OutOfMemory>
     requires there { last < length editor.old.session.current.kept }
     requires some { 0 < length team.old }
-    requires types { All (HasTypes editor.old.cart) team.old }
+    requires types { All (HasCartTypes editor.old.cart) team.old }
     ensures linked { OnOk result (AreLinked last editor.new.session.current.kept) }
     ensures keeps { KeepsShown editor.old editor.new }
     ensures many { length team.new ≡ length team.old }
-    ensures types { OnOk result (All (HasTypes editor.old.cart) team.new) }
+    ensures types { OnOk result (All (HasCartTypes editor.old.cart) team.new) }
 {
     is_consistent(editor);
     for _ in 0..last {
@@ -63,14 +63,14 @@ fn settle_round<R: Threads + Sync, G: Gate + Sync>(
 ) -> Result<bool, OutOfMemory>
     requires there { last < length editor.old.session.current.kept }
     requires some { 0 < length team.old }
-    requires types { All (HasTypes editor.old.cart) team.old }
+    requires types { All (HasCartTypes editor.old.cart) team.old }
     ensures none { IfOk result (λ found. IsFalse found → AreLinked last editor.new.session.current.kept) }
     ensures front { IfOk result (λ found. IsTrue found → (m : ℕ) → m < last →
         AreLinked m editor.old.session.current.kept
         → AreLinked (m + 1) editor.new.session.current.kept) }
     ensures keeps { KeepsShown editor.old editor.new }
     ensures many { length team.new ≡ length team.old }
-    ensures types { OnOk result (All (HasTypes editor.old.cart) team.new) }
+    ensures types { OnOk result (All (HasCartTypes editor.old.cart) team.new) }
 {
     is_consistent(editor);
     deal(editor, last, team);
@@ -102,7 +102,7 @@ fn is_idle(team: &[Worker]) -> bool
 /// Gives each worker a segment that isn't linked, in order, as long as there are any.
 fn deal(editor: &Editor, last: usize, team: &mut [Worker])
     requires there { last < length editor.now.session.current.kept }
-    requires types { All (HasTypes editor.now.cart) team.old }
+    requires types { All (HasCartTypes editor.now.cart) team.old }
     ensures { AreDealt editor.now last team.old team.new }
 {
     let mut next = 0;
@@ -115,7 +115,7 @@ fn deal(editor: &Editor, last: usize, team: &mut [Worker])
 fn deal_one(editor: &Editor, number: usize, from: usize, last: usize, worker: &mut Worker) -> usize
     requires there { last < length editor.now.session.current.kept }
     requires from { from ≤ last }
-    requires types { HasTypes editor.now.cart worker.old }
+    requires types { HasCartTypes editor.now.cart worker.old }
     ensures { IsDealt editor.now from last result worker.new }
 {
     let entry = first_unlinked(editor, from, last);

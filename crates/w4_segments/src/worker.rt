@@ -1,7 +1,8 @@
 //! Workers: each has a console of its own. None has a snapshot or an editor.
 
 ghost use Rattle.std.specs.Prelude.{◌≡◌, All, IfOk, vec_len};
-ghost use Rattle.w4_segments.specs.Working.{HasTypes};
+ghost use Rattle.w4_segments.specs.Pieces.{task_count};
+ghost use Rattle.w4_segments.specs.Working.{HasCartTypes};
 
 use std::alloc::Global;
 use w4_console::Console;
@@ -19,31 +20,39 @@ pub struct Task {
     pub end: usize,
 }
 
-/// A worker with its task, if it has one, and the images that it made last.
+/// A worker with its task, if it has one.
 #[derive(Drop)]
 pub struct Worker {
     pub console: Console,
     pub task: Option<Task>,
-    pub images: Result<Vec<u8>, OutOfMemory>,
 }
 
 impl Worker {
     /// A worker without a task.
     fn new(alloc: Global, cart: &Cart) -> Result<Worker, OutOfMemory>
-        ensures { IfOk result (HasTypes cart.now) }
+        ensures { IfOk result (HasCartTypes cart.now) }
     {
         Ok(Worker {
             console: Console::new(alloc, cart)?,
             task: None,
-            images: Ok(Vec::new(alloc)),
         })
+    }
+
+    /// How many images its piece of a film has.
+    pub(crate) fn image_count(&self) -> usize
+        ensures { result ≡ task_count self.now.task }
+    {
+        match self.task {
+            Some(task) => task.end.saturating_sub(task.first),
+            None => 0,
+        }
     }
 }
 
 /// So many workers without a task. All the memory for consoles is taken here.
 pub(crate) fn team(alloc: Global, cart: &Cart, count: usize) -> Result<Vec<Worker>, OutOfMemory>
     ensures many { IfOk result (λ team. vec_len team ≡ count) }
-    ensures types { IfOk result (λ team. All (HasTypes cart.now) team.items) }
+    ensures types { IfOk result (λ team. All (HasCartTypes cart.now) team.items) }
 {
     let mut team = Vec::with_capacity(alloc, count)?;
     for _ in 0..count {

@@ -1,12 +1,12 @@
 use Rattle.std.proofs.Common.{length, subst, sym}
-use Rattle.w4_segments.specs.Batching.{row_of, AreDealtOut, AreOfHands}
+use Rattle.w4_segments.specs.Batching.{item_row, AreDealtOut, AreOfHands}
 use Rattle.w4_segments.proofs.BatchLaws.{batch_rows}
 use Rattle.w4_segments.proofs.batching.batch.Goals as goal
 
 pub returns : goal.returns
 returns g c =
     let args = c.args in
-    let wanted = row_of args.cart.now args.font.now args.digest.now args.items.now in
+    let wanted = item_row args.cart.now args.font.now args.digest.now args.items.now in
     let count = length args.items.now in
     let dealt = c.in_ok-dealt.dealt.items in
     batch_rows args.cart.now args.font.now args.digest.now args.items.now c.in_order.result

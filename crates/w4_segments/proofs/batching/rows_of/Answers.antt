@@ -2,7 +2,7 @@ use Rattle.std.proofs.Common.{◌+◌, ◌*◌, [], ◌∷◌, length, ap, sym, 
 use Rattle.std.proofs.lemmas.List.{length-append}
 use Rattle.sha2.specs.Sha256.{sha256}
 use Rattle.w4_defs.specs.Batch.{file_row}
-use Rattle.w4_segments.specs.Batching.{row_of}
+use Rattle.w4_segments.specs.Batching.{item_row}
 use Rattle.w4_segments.proofs.BatchLaws.{item_bytes, next_at, rows_more}
 use Rattle.w4_segments.proofs.batching.rows_of.Goals as goal
 
@@ -10,7 +10,7 @@ pub loop-at-preserved : goal.loop-at-preserved
 loop-at-preserved g c =
     let args = c.args in
     let row = file_row sha256 args.cart.now args.font.now args.digest.now in
-    let wanted = row_of args.cart.now args.font.now args.digest.now args.items.now in
+    let wanted = item_row args.cart.now args.font.now args.digest.now args.items.now in
     let now = c.loop-at.rows.items in
     let here = c.loop-at.invariant.1 in
     let bytes = item_bytes args.items.now c.loop-at.at c.index-items-at.result c.loop-at-test.true

@@ -2,7 +2,7 @@ use Rattle.std.proofs.Common.{◌≡◌, ℕ, ◌+◌, ◌*◌, ◌-◌, ◌<◌
 use Rattle.w4_defs.specs.declared.batch.BatchRow.{BatchRow}
 use Rattle.std.specs.List.{slice_index_or}
 use Rattle.w4_defs.specs.State.{HasGlobals}
-use Rattle.w4_segments.specs.Batching.{row_of}
+use Rattle.w4_segments.specs.Batching.{item_row}
 use Rattle.w4_segments.proofs.batching.rows_of.Given as goal
 
 abbrev pub invariant-loop-at : goal.invariant-loop-at
@@ -10,7 +10,8 @@ invariant-loop-at g l =
     HasGlobals l.cart l.runner.console
     × (l.at ≡ l.first + length l.rows.items * l.stride)
     × ((j : ℕ) (d : BatchRow) → j < length l.rows.items
-    → row_of l.cart l.font l.digest l.items (l.first + j * l.stride) ≡ Some (slice_index_or l.rows.items j d))
+    → item_row l.cart l.font l.digest l.items (l.first + j * l.stride)
+    ≡ Some (slice_index_or l.rows.items j d))
 
 abbrev pub decreases-loop-at : goal.decreases-loop-at
 decreases-loop-at g l = length l.items - l.at

@@ -1,6 +1,6 @@
 use Rattle.std.proofs.Common.{◌+◌, ◌<◌, length, ◌∙◌, length-set, arith}
 use Rattle.w4_segments.specs.Pieces.{IsPiece}
-use Rattle.w4_segments.specs.Working.{HasTypes}
+use Rattle.w4_segments.specs.Working.{HasCartTypes}
 use Rattle.w4_segments.proofs.TeamLaws.{all_changed, up_to_here}
 use Rattle.w4_segments.proofs.filming.deal.Goals as goal
 
@@ -14,7 +14,8 @@ loop-hand-preserved c =
     let test = c.loop-hand-test.true in
     let below : hand < length team = omega (arith, many, test) in (
       length-set team hand w ∙ many,
-      all_changed team hand w below (HasTypes e.cart) c.loop-hand.invariant.1 c.deal_one.ensures.ready.types,
+      all_changed team hand w below (HasCartTypes e.cart) c.loop-hand.invariant.1
+          c.deal_one.ensures.ready.types,
       up_to_here team hand w below (λ k x. IsPiece e c.args.first c.args.end (c.args.next + k) x)
           c.loop-hand.invariant.2 c.deal_one.ensures,
     )

@@ -1,7 +1,7 @@
 use Rattle.std.proofs.Common.{refl, ◌∙◌, subst, arith}
 use Rattle.std.specs.List.{All}
 use Rattle.w4_editor.specs.Editing.{Editing}
-use Rattle.w4_segments.specs.Working.{HasTypes}
+use Rattle.w4_segments.specs.Working.{HasCartTypes}
 use Rattle.w4_segments.proofs.RoundLaws.{all_before, keeps_same, keeps_both}
 use Rattle.w4_segments.proofs.rounds.settle_rounds.Goals as goal
 
@@ -22,6 +22,6 @@ loop-preserved g c =
       c.in_ok-settle_round.ensures.front found c.loop.counter c.loop-test.true c.loop.invariant.0,
       keeps_both c.args.editor.now now c.settle_round.new.editor before c.settle_round.ensures.keeps,
       c.settle_round.ensures.many ∙ c.loop.invariant.2,
-      subst (λ (e : Editing). All (HasTypes e.cart) c.settle_round.new.team) before.recording.same
+      subst (λ (e : Editing). All (HasCartTypes e.cart) c.settle_round.new.team) before.recording.same
           c.in_ok-settle_round.ensures.types,
     )

@@ -3,7 +3,7 @@ use Rattle.std.specs.List.{All}
 use Rattle.w4_editor.specs.Settling.{AreLinked}
 use Rattle.w4_segments.specs.declared.worker.Worker.{Worker}
 use Rattle.w4_segments.specs.Filming.{KeepsShown}
-use Rattle.w4_segments.specs.Working.{HasTypes}
+use Rattle.w4_segments.specs.Working.{HasCartTypes}
 use Rattle.w4_segments.proofs.rounds.settle_rounds.Given as goal
 
 abbrev pub invariant-loop : goal.invariant-loop
@@ -11,4 +11,4 @@ invariant-loop g l =
     AreLinked l.counter l.editor.session.current.kept
     × KeepsShown l.fn.editor l.editor
     × (length {A = Worker} l.team ≡ length {A = Worker} l.fn.team)
-    × All (HasTypes l.fn.editor.cart) l.team
+    × All (HasCartTypes l.fn.editor.cart) l.team
