@@ -4,7 +4,10 @@ use Rattle.std.specs.Option.{ForSome}
 use Rattle.w4_defs.specs.declared.refusal.CartKind.{CartKind}
 use Rattle.sha2.specs.Sha256.{sha256}
 use Rattle.w4_defs.specs.Cart.{IsCart, IsRefused}
+use Rattle.w4_defs.specs.Generator.{made_module}
 use Rattle.w4_console.specs.Meaning.{RunsHaveMeaning, AcceptedRunsHaveMeaning}
+use Rattle.wasm_write.specs.EncodeModule.{module_bytes}
+use Rattle.wasm_write.specs.Laws.{MadeModulesAreCarts}
 use Rattle.w4_house.specs.World.{Files, World}
 use Rattle.w4_program.specs.declared.status.Status.{Status}
 use Rattle.w4_program.specs.declared.status.Status.TheVariants.{CartRefused}
@@ -45,8 +48,10 @@ judged_cart_runs : AcceptedRunsHaveMeaning
 judged_cart_runs law (Err refusal) cart judged = absurd (not_both cart refusal (Ok cart) refl judged)
 judged_cart_runs law (Ok bytes) cart judged = law bytes cart.code judged.0
 
--- each run of a cart that the words name has a meaning
-pub cart_runs : AcceptedRunsHaveMeaning
+-- each run of a cart that the words name, or have made, has a meaning
+pub cart_runs : AcceptedRunsHaveMeaning → MadeModulesAreCarts
     → (words : List (List ℕ)) (files : Files) → CartRunsHaveMeaning words files
-cart_runs law words files = λ name named cart judged.
-    judged_cart_runs law (reading files name 65537) cart judged
+cart_runs law made words files = (
+  λ name named cart judged. judged_cart_runs law (reading files name 65537) cart judged,
+  λ number named. law (module_bytes (made_module number)) (made_module number) (made number),
+)

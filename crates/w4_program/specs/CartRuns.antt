@@ -1,13 +1,20 @@
--- Each run of the cart that the words name has a meaning at every place.
-use Rattle.std.specs.Prelude.{ℕ, List, Ok}
+-- Each run of the cart that the words name, or of the one that they have made, has a meaning at every place.
+use Rattle.std.specs.Prelude.{ℕ, List, Option, Some, None, Ok}
 use Rattle.std.specs.Option.{ForSome}
+use Rattle.w4_defs.specs.Generator.{made_module}
 use Rattle.w4_defs.specs.Reading.{◌>>=◌}
 use Rattle.w4_console.specs.Meaning.{RunsHaveMeaning}
 use Rattle.w4_house.specs.World.{Files}
-use Rattle.w4_program.specs.Forms.{form_of}
+use Rattle.w4_program.specs.Forms.{Form, Make, form_of}
 use Rattle.w4_program.specs.Output.{CartFile, CartIn}
 use Rattle.w4_program.specs.Outputs.{cart_word}
+
+-- the number that a cart is made of, where the form is `make`
+abbrev pub made_number : Form → Option ℕ
+made_number (Make number) = Some number
+made_number form = None
 
 abbrev pub CartRunsHaveMeaning : List (List ℕ) → Files → Type 0
 CartRunsHaveMeaning words files = ForSome (form_of words >>= cart_word) (λ name.
     (cart : CartFile) → CartIn name files (Ok cart) → RunsHaveMeaning cart.code)
+    × ForSome (form_of words >>= made_number) (λ number. RunsHaveMeaning (made_module number))

@@ -45,6 +45,7 @@ use w4_console::laws::accepted_runs_have_meaning;
 use w4_house::{House, WriteRefusal};
 use w4_segments::{Gate, OpenGate};
 use wasm_read::at_most_one;
+use wasm_write::laws::made_modules_are_carts;
 
 /// Does all that the program does for these words, and says how it ended.
 ///
@@ -58,7 +59,7 @@ pub fn w4_run<R: Threads + Sync, H: House>(
 ) -> Status
     // Where it is done, standard output has got exactly the definition's bytes, and the files are the
     // definition's: OUT is the recording left, and no other file has changed. Each run of the cart has a
-    // meaning.
+    // meaning, be it named or made.
     ensures done { result ≡ Status.Done → ForSome (H.world house.old).files (λ files.
         (made : Output) × Outputs (map string_bytes words.now) files (Ok made)
         × Appends (H.world house.old).out (H.world house.new).out made.out
@@ -171,6 +172,7 @@ pub fn w4_run_gated<R: Threads + Sync, H: House, G: Gate + Sync>(
         IsExact result (λ made. Outputs (map string_bytes words.now) files made)) }
 {
     accepted_runs_have_meaning();
+    made_modules_are_carts();
     let status = obey(rt, alloc, words, house, gate);
     report(alloc, house, status)
 }

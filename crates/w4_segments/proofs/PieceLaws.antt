@@ -155,7 +155,7 @@ back_half setup disk inputs team front back film rest mid count both from front_
     ap team_count both ∙ sum_by-append (λ worker. task_count worker.task) front back in
     let long = can.1 in (
       subst (All (CanFilm setup disk inputs)) (sym from)
-      (All-drop (CanFilm setup disk inputs) mid team can.0),
+          (All-drop (CanFilm setup disk inputs) mid team can.0),
       omega (arith, all, front_is, parts, long),
     )
 
@@ -335,9 +335,10 @@ module _ (e : Editing) (first end : ℕ) where
         let from = cut_from_first (entries_of e) first end next some in
         let up = rises_over rises next (length dealt) in
         let within = cut_to_end (entries_of e) first end last in
-        let is = last_is in
-        (omega (arith, so_far, more, added, from, up, is),
-        omega (arith, so_far, more, added, from, up, within))
+        let is = last_is in (
+          omega (arith, so_far, more, added, from, up, is),
+          omega (arith, so_far, more, added, from, up, within),
+        )
 
 -- where all entries up to the last below a place are linked, their states are those of the run
 pub states_below : (e : Editing) (last end : ℕ) → IsDraft (editing_setup e) e.disk e.session.current

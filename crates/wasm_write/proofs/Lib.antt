@@ -14,3 +14,4 @@ pub mod SequenceLaws
 pub mod DrawLaws
 pub mod MadeFits
 pub mod PartsOfModules
+pub mod OneListFits

@@ -1,4 +1,4 @@
--- The binary format can encode a made module, and its encoding has at most 65,536 bytes.
+-- The binary format can encode a made module, and its encoding has at most 65,536 bytes: it is a cart.
 use lib.Utf8.{encode}
 use Rattle.std.proofs.Common.{◌≡◌, refl, ℕ, zero, suc, ◌+◌, ◌*◌, ◌%◌, ◌^◌, ◌<◌, ◌≤◌, List, [], ◌∷◌, ◌++◌, length, map, replicate, Some, ap, sym, subst, arith, append_assoc, length-append}
 use Rattle.std.specs.Prelude.{flat_map, IsUtf8, codes}
@@ -12,14 +12,15 @@ use Rattle.w4_defs.specs.BinaryModule.{preamble}
 use Rattle.w4_defs.specs.Tree.{Expr, mark, sequence}
 use Rattle.w4_defs.specs.Module.{Function}
 use Rattle.w4_defs.specs.Generator.{draw, operations, chosen, small_function, step_of, byte_at, update_function, made_types, made_imports, made_module}
-use Rattle.w4_defs.proofs.GeneratorLaws.{draws_are_small}
+use Rattle.w4_defs.proofs.GeneratorLaws.{draws_are_small, made_modules_are_accepted}
 use Rattle.wasm_write.specs.EncodeNumber.{unsigned_bytes, signed_bytes}
 use Rattle.wasm_write.specs.EncodeType.{vector_bytes, func_type_bytes, limits_bytes, table_type_bytes}
 use Rattle.wasm_write.specs.EncodeInstruction.{instruction_bytes, list_bytes, expression_bytes}
 use Rattle.wasm_write.specs.EncodeModule.{imported_bytes, global_bytes, exported_bytes, element_bytes, data_segment_bytes, locals_bytes, function_bytes, body_bytes, section_bytes, first_sections, last_sections, module_bytes}
 use Rattle.wasm_write.specs.Fits.{IndexFits, NameFits, LabelledFits, ExpressionFits, SectionFits, TypeFits, LimitsFit, ImportFits, GlobalFits, ExportFits, ElementFits, FunctionFits, SegmentFits, ModuleFits}
+use Rattle.wasm_write.specs.Laws.{MadeModulesAreCarts}
 use Rattle.wasm_write.proofs.NumberLaws.{unsigned_encodes, signed_encodes}
-use Rattle.wasm_write.proofs.ModuleLaws.{leb_is_short}
+use Rattle.wasm_write.proofs.ModuleLaws.{leb_is_short, module_encodes}
 
 -- ---- operations
 
@@ -173,10 +174,10 @@ rectangle-short = (
 -- ---- functions
 
 -- a function with no locals of its own, whose list is short
-plain_function : Expr → Function
+unfoldable pub plain_function : Expr → Function
 plain_function list = record { runs = []; list = list }
 
-plain-fits : (list : Expr) → ExpressionFits list → length (expression_bytes list) ≤ 6000
+pub plain-fits : (list : Expr) → ExpressionFits list → length (expression_bytes list) ≤ 6000
     → FunctionFits (plain_function list)
 unfolding plain_function
 plain-fits list fits short =
@@ -190,7 +191,7 @@ plain-fits list fits short =
       ),
     )
 
-plain-short : (list : Expr) → length (expression_bytes list) ≤ 6000
+pub plain-short : (list : Expr) → length (expression_bytes list) ≤ 6000
     → length (body_bytes (plain_function list)) ≤ length (expression_bytes list) + 10
 unfolding plain_function
 plain-short list short =
@@ -396,7 +397,7 @@ exports-fit number =
       omega arith,
     )
 
-nothing-fits : {A : Type 0} (Fits : A → Type 0) (encode : A → List ℕ) → SectionFits Fits encode []
+pub nothing-fits : {A : Type 0} (Fits : A → Type 0) (encode : A → List ℕ) → SectionFits Fits encode []
 nothing-fits Fits encode = (
   (omega arith, All-from_recursion Fits [] tt),
   omega (arith, index_short 0 (omega arith), length-append (unsigned_bytes 0) []),
@@ -464,4 +465,13 @@ made_is_short number =
       last-short number,
       length-append preamble (first_sections m),
       length-append (preamble ++ first_sections m) (last_sections m),
+    )
+
+pub made_modules_are_carts : MadeModulesAreCarts
+made_modules_are_carts number =
+    let accepted = made_modules_are_accepted number in (
+      made_is_short number,
+      module_encodes (made_module number) (made_fits number),
+      accepted.0,
+      accepted.1,
     )

@@ -3,6 +3,8 @@ use Rattle.std.specs.Prelude.{ℕ, ◌^◌, ◌<◌, ◌≤◌, List, length}
 use Rattle.std.specs.List.{AllByRecursion}
 use Rattle.w4_defs.specs.BinaryNumber.{unsigned, signed}
 use Rattle.w4_defs.specs.BinaryModule.{SpellsModule}
+use Rattle.w4_defs.specs.Cart.{IsCart}
+use Rattle.w4_defs.specs.Generator.{made_module}
 use Rattle.w4_defs.specs.Module.{WasmModule}
 use Rattle.wasm_write.specs.EncodeNumber.{unsigned_bytes, signed_bytes}
 use Rattle.wasm_write.specs.EncodeModule.{module_bytes}
@@ -11,6 +13,10 @@ use Rattle.wasm_write.specs.Fits.{ModuleFits}
 -- they encode the module, wherever the format can
 abbrev pub ModulesAreEncoded : Type 0
 ModulesAreEncoded = (m : WasmModule) → ModuleFits m → SpellsModule (module_bytes m) m
+
+-- those of each made module are a cart
+abbrev pub MadeModulesAreCarts : Type 0
+MadeModulesAreCarts = (number : ℕ) → IsCart (module_bytes (made_module number)) (made_module number)
 
 abbrev pub AreBytes : List ℕ → Type 0
 AreBytes text = AllByRecursion (λ b. b < 256) text

@@ -28,7 +28,8 @@ returns g c =
     record {
       done =
           laws.done old new result step (λ files. CartRunsHaveMeaning words files) ends
-          (λ files. cart_runs c.accepted_runs_have_meaning.ensures words files);
+          (λ files. cart_runs c.accepted_runs_have_meaning.ensures c.made_modules_are_carts.ensures
+          words files);
       done_err = λ e. c.report.ensures.done e ∙ c.obey-status.ensures.err.0;
       usage =
           λ e.

@@ -1,13 +1,12 @@
-use Rattle.std.proofs.Common.{◌≡◌, ◌≤◌, ◌∙◌, List, ℕ, length, ap, sym, subst}
-use Rattle.w4_defs.specs.BinaryModule.{SpellsModule}
+use Rattle.std.proofs.Common.{◌≡◌, ◌∙◌, List, ℕ, ap, sym, subst}
+use Rattle.w4_defs.specs.Cart.{IsCart}
 use Rattle.w4_defs.specs.Module.{WasmModule}
 use Rattle.w4_defs.specs.Generator.{made_module}
-use Rattle.w4_defs.proofs.GeneratorLaws.{made_modules_are_accepted}
 use Rattle.wasm_write.specs.Draws.{inputs_from}
 use Rattle.wasm_write.specs.EncodeModule.{module_bytes}
 use Rattle.wasm_write.specs.Fits.{ModuleFits}
 use Rattle.wasm_write.proofs.DrawLaws.{later_inputs}
-use Rattle.wasm_write.proofs.MadeFits.{made_fits, made_is_short}
+use Rattle.wasm_write.proofs.MadeFits.{made_fits, made_modules_are_carts}
 use Rattle.wasm_write.proofs.made.Maker.make.Goals as goal
 
 pub write_module-requires : goal.write_module-requires
@@ -19,17 +18,10 @@ write_module-requires c =
 pub returns-clause-accepted : goal.returns-clause-accepted
 returns-clause-accepted c =
     let m : WasmModule = made_module c.args.number in
-    let same = c.in_ok-module.ensures c.args.number c.in_ok-bodies.ensures.bodies in
     let written : c.in_ok-cart.cart.items ≡ module_bytes m = c.in_ok-cart.ensures.shortest
-    ∙ ap module_bytes same in
-    let Short : List ℕ → Type 0 = λ bytes. length bytes ≤ 65536 in
-    let Spelled : WasmModule → Type 0 = λ n. SpellsModule c.in_ok-cart.cart.items n in
-    let accepted = made_modules_are_accepted c.args.number in (
-      subst Short (sym written) (made_is_short c.args.number),
-      subst Spelled same c.in_ok-cart.ensures.encodes,
-      accepted.0,
-      accepted.1,
-    )
+    ∙ ap module_bytes (c.in_ok-module.ensures c.args.number c.in_ok-bodies.ensures.bodies) in
+    let Cart : List ℕ → Type 0 = λ bytes. IsCart bytes m in
+    subst Cart (sym written) (made_modules_are_carts c.args.number)
 
 pub returns-clause-shortest : goal.returns-clause-shortest
 returns-clause-shortest c =
