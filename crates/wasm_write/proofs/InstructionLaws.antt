@@ -18,7 +18,7 @@ use Rattle.wasm_write.specs.EncodeType.{vector_bytes, value_type_bytes, block_ty
 use Rattle.wasm_write.specs.EncodeInstruction.{labels_bytes, labelled_bytes, instruction_bytes, list_bytes, expression_bytes}
 use Rattle.wasm_write.specs.Fits.{IndexFits, LabelledFits, ExpressionFits}
 use Rattle.wasm_write.proofs.NumberLaws.{unsigned_encodes}
-use Rattle.wasm_write.proofs.CombineLaws.{joined, after_byte, vector_encodes}
+use Rattle.wasm_write.proofs.CombineLaws.{two_in_turn, after_byte, vector_encodes}
 use Rattle.wasm_write.proofs.OperationLaws.{operation_encodes}
 
 -- ---- the labels of a br_table
@@ -61,7 +61,7 @@ labels_encode labels some few all =
     (count, All-from_recursion IndexFits s.0 f.0) in
     let parts : (vector (unsigned 32) s.0 then unsigned 32 s.1)
     (vector_bytes unsigned_bytes s.0 ++ unsigned_bytes s.1) =
-    joined (vector (unsigned 32) s.0) (unsigned 32 s.1) (vector_bytes unsigned_bytes s.0)
+    two_in_turn (vector (unsigned 32) s.0) (unsigned 32 s.1) (vector_bytes unsigned_bytes s.0)
     (unsigned_bytes s.1) others (unsigned_encodes 32 s.1 f.1) in
     let Text : List ℕ → Type 0 = λ t. (vector (unsigned 32) s.0 then unsigned 32 s.1) t in
     (s.0, s.1, s.2, subst Text (sym (ap labels_bytes s.2 ∙ labels_in_parts s.0 s.1)) parts)
@@ -211,19 +211,19 @@ after_head close code r inner rest p q =
     code
     (block_type r then list 0x0b inner then list close rest)
     (block_type_code r ∷ (list_bytes 0x0b inner ++ list_bytes close rest))
-    (joined
+    (two_in_turn
     (block_type r)
     (list 0x0b inner then list close rest)
     (block_type_code r ∷ [])
     (list_bytes 0x0b inner ++ list_bytes close rest)
     (block_type_encodes r)
-    (joined (list 0x0b inner) (list close rest) (list_bytes 0x0b inner) (list_bytes close rest) p q))
+    (two_in_turn (list 0x0b inner) (list close rest) (list_bytes 0x0b inner) (list_bytes close rest) p q))
 
 list_encodes : (close : ℕ) (e : Expr) → ExpressionFits e → list close e (list_bytes close e)
 unfolding list_bytes
 list_encodes close done h = refl
 list_encodes close (plain m rest) h =
-    joined (instruction m) (list close rest) (instruction_bytes m) (list_bytes close rest)
+    two_in_turn (instruction m) (list close rest) (instruction_bytes m) (list_bytes close rest)
     (labelled_encodes m.0 m.1 h.0) (list_encodes close rest h.1)
 list_encodes close (block r inner rest) h =
     after_head close 0x02 r inner rest (list_encodes 0x0b inner h.0) (list_encodes close rest h.1)
@@ -236,19 +236,19 @@ list_encodes close (if_else r taken other rest) h =
     0x04
     (block_type r then list 0x05 taken then list 0x0b other then list close rest)
     _
-    (joined
+    (two_in_turn
     (block_type r)
     (list 0x05 taken then list 0x0b other then list close rest)
     (block_type_code r ∷ [])
     _
     (block_type_encodes r)
-    (joined
+    (two_in_turn
     (list 0x05 taken)
     (list 0x0b other then list close rest)
     (list_bytes 0x05 taken)
     _
     (list_encodes 0x05 taken h.0)
-    (joined (list 0x0b other) (list close rest) (list_bytes 0x0b other) (list_bytes close rest)
+    (two_in_turn (list 0x0b other) (list close rest) (list_bytes 0x0b other) (list_bytes close rest)
     (list_encodes 0x0b other h.1.0) (list_encodes close rest h.1.1))))
 
 pub expression_encodes : (e : Expr) → ExpressionFits e → expression e (expression_bytes e)

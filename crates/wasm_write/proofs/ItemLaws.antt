@@ -23,7 +23,7 @@ use Rattle.wasm_write.specs.EncodeInstruction.{expression_bytes}
 use Rattle.wasm_write.specs.EncodeModule.{import_kind_bytes, imported_bytes, global_bytes, export_kind_code, exported_bytes, element_bytes, locals_bytes, function_bytes, body_bytes, data_segment_bytes}
 use Rattle.wasm_write.specs.Fits.{IndexFits, VectorFits, NameFits, TypeFits, LimitsFit, ImportKindFits, ImportFits, GlobalFits, ExportFits, ElementFits, FunctionFits, SegmentFits}
 use Rattle.wasm_write.proofs.NumberLaws.{unsigned_encodes}
-use Rattle.wasm_write.proofs.CombineLaws.{joined, joined_three, after_byte, vector_encodes, sized_encodes}
+use Rattle.wasm_write.proofs.CombineLaws.{two_in_turn, three_in_turn, after_byte, vector_encodes, sized_encodes}
 use Rattle.wasm_write.proofs.InstructionLaws.{value_type_encodes, expression_encodes}
 
 -- ---- names and types
@@ -53,7 +53,8 @@ func_type_encodes s h =
           0x60
           (vector value_type s.params then vector value_type s.results)
           _
-          (joined (vector value_type s.params) (vector value_type s.results) _ _ (types_encode s.params h.1)
+          (two_in_turn (vector value_type s.params) (vector value_type s.results) _ _
+          (types_encode s.params h.1)
           (types_encode s.results few)),
     )
 
@@ -66,7 +67,7 @@ sizes_encode least (Some greatest) h k =
     0x01
     (unsigned 32 least then unsigned 32 greatest)
     _
-    (joined (unsigned 32 least) (unsigned 32 greatest) _ _ (unsigned_encodes 32 least h)
+    (two_in_turn (unsigned 32 least) (unsigned 32 greatest) _ _ (unsigned_encodes 32 least h)
     (unsigned_encodes 32 greatest k))
 
 pub limits_encode : (l : Limits) → LimitsFit l → limits l (limits_bytes l)
@@ -81,7 +82,7 @@ mutability_encodes true = refl
 
 global_type_encodes : (g : GlobalType) → global_type g (global_type_bytes g)
 global_type_encodes g =
-    joined (value_type g.value) (mutability g.mutable) (value_type_bytes g.value)
+    two_in_turn (value_type g.value) (mutability g.mutable) (value_type_bytes g.value)
     (mutability_code g.mutable ∷ []) (value_type_encodes g.value) (mutability_encodes g.mutable)
 
 -- ---- items of sections
@@ -97,7 +98,7 @@ import_kind_encodes (imports.Global g) h =
 
 pub import_encodes : (i : Imported) → ImportFits i → imported i (imported_bytes i)
 import_encodes i h =
-    joined_three
+    three_in_turn
     (name i.module_name)
     (name i.name)
     (import_kind i.kind)
@@ -110,7 +111,7 @@ import_encodes i h =
 
 pub global_encodes : (g : Global) → GlobalFits g → global g (global_bytes g)
 global_encodes g h =
-    joined (global_type g.global) (expression g.first) (global_type_bytes g.global)
+    two_in_turn (global_type g.global) (expression g.first) (global_type_bytes g.global)
     (expression_bytes g.first) (global_type_encodes g.global) (expression_encodes g.first h)
 
 export_kind_encodes : (kind : ExportKind) → export_kind kind (export_kind_code kind ∷ [])
@@ -121,7 +122,7 @@ export_kind_encodes exports.Global = refl
 
 pub export_encodes : (e : Exported) → ExportFits e → exported e (exported_bytes e)
 export_encodes e h =
-    joined_three
+    three_in_turn
     (name e.name)
     (export_kind e.kind)
     (unsigned 32 e.index)
@@ -138,7 +139,7 @@ indices_encode xs h = vector_encodes (unsigned 32) unsigned_bytes IndexFits (uns
 
 pub element_encodes : (s : ElementSegment) → ElementFits s → element s (element_bytes s)
 element_encodes s h =
-    joined_three
+    three_in_turn
     (unsigned 32 s.table)
     (expression s.offset)
     (vector (unsigned 32) s.functions)
@@ -151,14 +152,14 @@ element_encodes s h =
 
 locals_encode : (l : Locals) → IndexFits l.count → locals_run l (locals_bytes l)
 locals_encode l h =
-    joined (unsigned 32 l.count) (value_type l.kind) (unsigned_bytes l.count) (value_type_bytes l.kind)
+    two_in_turn (unsigned 32 l.count) (value_type l.kind) (unsigned_bytes l.count) (value_type_bytes l.kind)
     (unsigned_encodes 32 l.count h) (value_type_encodes l.kind)
 
 function_encodes : (f : Function) → FunctionFits f → function f (function_bytes f)
 function_encodes f h =
     let CountFits : Locals → Type 0 = λ run. IndexFits run.count in (
       h.0,
-      joined
+      two_in_turn
           (vector locals_run f.runs)
           (expression f.list)
           (vector_bytes locals_bytes f.runs)
@@ -172,7 +173,7 @@ body_encodes f h = sized_encodes function f (function_bytes f) h.1.1.1 (function
 
 pub segment_encodes : (s : DataSegment) → SegmentFits s → segment s (data_segment_bytes s)
 segment_encodes s h =
-    joined_three
+    three_in_turn
     (unsigned 32 s.memory)
     (expression s.offset)
     (bytes s.bytes)

@@ -11,12 +11,12 @@ use Rattle.wasm_write.specs.EncodeNumber.{unsigned_bytes, signed_bytes}
 use Rattle.wasm_write.specs.EncodeInstruction.{immediate_bytes, operation_bytes}
 use Rattle.wasm_write.specs.Fits.{ImmediateFits, OperationFits}
 use Rattle.wasm_write.proofs.NumberLaws.{unsigned_encodes, signed_encodes}
-use Rattle.wasm_write.proofs.CombineLaws.{joined}
+use Rattle.wasm_write.proofs.CombineLaws.{two_in_turn}
 
 immediate_encodes : (align offset : ℕ) → ImmediateFits align offset
     → immediate align offset (immediate_bytes align offset)
 immediate_encodes align offset h =
-    joined (unsigned 32 align) (unsigned 32 offset) _ _ (unsigned_encodes 32 align h.0)
+    two_in_turn (unsigned 32 align) (unsigned 32 offset) _ _ (unsigned_encodes 32 align h.0)
     (unsigned_encodes 32 offset h.1)
 
 bits32_encode : (bits : ℕ) → bits < 2 ^ 32 → little_endian w32 bits (to_le_bytes w32 bits)

@@ -11,7 +11,7 @@ use Rattle.wasm_write.specs.EncodeModule.{section_bytes}
 use Rattle.wasm_write.specs.Fits.{IndexFits}
 use Rattle.wasm_write.specs.Sections.{Slot, present, held, IdsRise}
 use Rattle.wasm_write.proofs.NumberLaws.{bool_cases}
-use Rattle.wasm_write.proofs.CombineLaws.{joined, after_byte, sized_encodes}
+use Rattle.wasm_write.proofs.CombineLaws.{two_in_turn, after_byte, sized_encodes}
 
 -- ---- order
 
@@ -97,7 +97,7 @@ pub sections_encode : (ss : List Slot) → SlotsFit ss → items section (presen
 sections_encode [] h = refl
 sections_encode ((id, None) ∷ ss) h = sections_encode ss h.1
 sections_encode ((id, Some text) ∷ ss) h =
-    joined
+    two_in_turn
     (section (id, text))
     (items section (present ss))
     (id ∷ sized_bytes text)

@@ -300,8 +300,7 @@ fn instructions_of_the_whole_memory_are_encoded_as_the_standard_says(
 }
 
 #[test]
-fn instructions_of_floats_are_encoded_as_the_standard_says(rt: HostRuntime) -> Result<(), Fail> {
-    let bits = 0x3ff0_0000_0000_0000;
+fn accesses_of_floats_have_the_opcodes_of_the_standard(rt: HostRuntime) -> Result<(), Fail> {
     let (align, offset) = (1, 130);
     let list = [
         Instr::FloatMemory {
@@ -324,6 +323,15 @@ fn instructions_of_floats_are_encoded_as_the_standard_says(rt: HostRuntime) -> R
             align,
             offset,
         },
+    ];
+    let want = accesses(rt.alloc(), b"\x2a\x2b\x38\x39")?;
+    check_list(&rt, rt.alloc(), list, want.as_slice())
+}
+
+#[test]
+fn instructions_of_floats_are_encoded_as_the_standard_says(rt: HostRuntime) -> Result<(), Fail> {
+    let bits = 0x3ff0_0000_0000_0000;
+    let list = [
         Instr::F32Const { bits: 0x3f80_0000 },
         Instr::F64Const { bits },
         Instr::FloatPlain { code: 0xa0 },
@@ -336,12 +344,9 @@ fn instructions_of_floats_are_encoded_as_the_standard_says(rt: HostRuntime) -> R
         Instr::FloatCut { code: 6 },
         Instr::FloatCut { code: 7 },
     ];
-    let mut want = accesses(rt.alloc(), b"\x2a\x2b\x38\x39")?;
-    want.extend_from_slice(
-        b"\x43\x00\x00\x80\x3f\x44\x00\x00\x00\x00\x00\x00\xf0\x3f\xa0\
-        \xfc\x00\xfc\x01\xfc\x02\xfc\x03\xfc\x04\xfc\x05\xfc\x06\xfc\x07",
-    )?;
-    check_list(&rt, rt.alloc(), list, want.as_slice())
+    let want = b"\x43\x00\x00\x80\x3f\x44\x00\x00\x00\x00\x00\x00\xf0\x3f\xa0\
+        \xfc\x00\xfc\x01\xfc\x02\xfc\x03\xfc\x04\xfc\x05\xfc\x06\xfc\x07";
+    check_list(&rt, rt.alloc(), list, want)
 }
 
 /// The instructions of floats that are an opcode alone, from one opcode to before another.
