@@ -9,7 +9,7 @@ use Rattle.std.proofs.lemmas.List.Sums.{take_while-cons}
 use Rattle.w4_defs.specs.declared.console.TextSource.{TextSource}
 use Rattle.w4_defs.specs.declared.console.TextSource.TheVariants.{Cstr, Utf8, Utf16}
 use Rattle.w4_defs.specs.Text.{text_codes, units}
-use Rattle.w4_blit.specs.Snapshot.{IsAtHand, bytes_read, source_start, with_kept}
+use Rattle.w4_blit.specs.Snapshot.{IsAtHand, bytes_read, source_start, with_copied_bytes}
 use Rattle.w4_blit.proofs.SnapshotLaws.{from_the_first, kept_own, length-dropped}
 
 -- the bytes of a text of `len` bytes that stand in the page
@@ -100,18 +100,19 @@ same_bytes size xs ys len same =
 
 -- from a byte of the string's on
 kept_from : (page : List ℕ) (first len ptr i : ℕ) → length page ≡ 65536 → IsAtHand first len (ptr + i)
-    → get_or (drop ptr (with_kept page first (slice_range page first (first + len)))) i 0
+    → get_or (drop ptr (with_copied_bytes page first (slice_range page first (first + len)))) i 0
     ≡ get_or (drop ptr page) i 0
 kept_from page first len ptr i size there =
-    get_or-drop ptr (with_kept page first (slice_range page first (first + len))) i 0
+    get_or-drop ptr (with_copied_bytes page first (slice_range page first (first + len))) i 0
     ∙ kept_own page first len (ptr + i) size there ∙ sym (get_or-drop ptr page i 0)
 
 kept_bytes : (page : List ℕ) (first len ptr size : ℕ) → length page ≡ 65536
     → ((i : ℕ) → i < min size (65536 - ptr) → IsAtHand first len (ptr + i))
-    → take size (drop ptr (with_kept page first (slice_range page first (first + len))))
+    → take size (drop ptr (with_copied_bytes page first (slice_range page first (first + len))))
     ≡ take size (drop ptr page)
 kept_bytes page first len ptr size full there =
-    same_bytes size (drop ptr page) (drop ptr (with_kept page first (slice_range page first (first + len))))
+    same_bytes size (drop ptr page)
+    (drop ptr (with_copied_bytes page first (slice_range page first (first + len))))
     (length-dropped page first (slice_range page first (first + len)) ptr) (λ i hi.
     let there_are = length-take size (drop ptr page) in
     let left = length-drop ptr page in
@@ -120,10 +121,11 @@ kept_bytes page first len ptr size full there =
 kept_codes : (page : List ℕ) (first len count : ℕ) (source : TextSource) → length page ≡ 65536
     → count ≡ length (text_codes page source)
     → ((i : ℕ) → i < bytes_read source count → IsAtHand first len (source_start source + i))
-    → text_codes (with_kept page first (slice_range page first (first + len))) source ≡ text_codes page source
+    → text_codes (with_copied_bytes page first (slice_range page first (first + len))) source
+    ≡ text_codes page source
 kept_codes page first len count (Cstr ptr) full codes there =
     same_front (λ b. not (b == 0)) (drop ptr page)
-    (drop ptr (with_kept page first (slice_range page first (first + len))))
+    (drop ptr (with_copied_bytes page first (slice_range page first (first + len))))
     (length-dropped page first (slice_range page first (first + len)) ptr)
     (λ i hi. kept_from page first len ptr i full (there i (omega (arith, hi, codes))))
 kept_codes page first len count (Utf8 ptr size) full codes there =
@@ -136,8 +138,8 @@ pub kept_text : (page bytes : List ℕ) (first len count : ℕ) (source : TextSo
     → slice_range bytes 0 len ≡ slice_range page first (first + len)
     → count ≡ length (text_codes page source)
     → ((i : ℕ) → i < bytes_read source count → IsAtHand first len (source_start source + i))
-    → text_codes (with_kept page first (take len bytes)) source ≡ text_codes page source
+    → text_codes (with_copied_bytes page first (take len bytes)) source ≡ text_codes page source
 kept_text page bytes first len count source full front codes there =
-    ap (λ (kept : List ℕ). text_codes (with_kept page first kept) source)
+    ap (λ (kept : List ℕ). text_codes (with_copied_bytes page first kept) source)
     (sym (from_the_first bytes len) ∙ front)
     ∙ kept_codes page first len count source full codes there

@@ -20,9 +20,9 @@ there_or_behind len i there = elim there [
   ]
 ]
 
-kept_byte : (page : List ℕ) (len i : ℕ) → length page ≡ 65536 → (i < 160 + len) ⊎ (6560 ≤ i)
+get_or-with_snapshot : (page : List ℕ) (len i : ℕ) → length page ≡ 65536 → (i < 160 + len) ⊎ (6560 ≤ i)
     → get_or (with_snapshot page (slice_range page 160 (160 + len))) i 0 ≡ get_or page i 0
-kept_byte page len i size there = kept_own page 160 len i size (there_or_behind len i there)
+get_or-with_snapshot page len i size there = kept_own page 160 len i size (there_or_behind len i there)
 
 value_same : (two : Bool) (page other : List ℕ) (ptr q : ℕ)
     → (two ≡ true → get_or other (ptr + q / 4) 0 ≡ get_or page (ptr + q / 4) 0)
@@ -40,8 +40,8 @@ kept_value : (page : List ℕ) (picture : Picture) (len q : ℕ) → length page
     ≡ source_value page picture q
 kept_value page picture len q size there =
     value_same (has_flag picture 1) page (with_snapshot page (slice_range page 160 (160 + len))) picture.ptr q
-    (λ two. kept_byte page len (picture.ptr + q / 4) size (there.0 two))
-    (λ one. kept_byte page len (picture.ptr + q / 8) size (there.1 one))
+    (λ two. get_or-with_snapshot page len (picture.ptr + q / 4) size (there.0 two))
+    (λ one. get_or-with_snapshot page len (picture.ptr + q / 8) size (there.1 one))
 
 cond_same : (b : Bool) (o p q r : Option ℕ) → (b ≡ true → o ≡ q) → (b ≡ false → p ≡ r) → cond b o p
     ≡ cond b q r

@@ -14,40 +14,42 @@ use Rattle.w4_defs.specs.Colours.{palette_index}
 use Rattle.w4_defs.specs.Shapes.{natural, only_if, is_inside}
 use Rattle.w4_defs.specs.Blit.{has_flag, source_column, source_row, source_value, cell_index, width_on_screen, height_on_screen, blit_painter}
 use Rattle.w4_defs.proofs.PaintLaws.{length-paint, paint-outside}
-use Rattle.w4_blit.specs.Snapshot.{IsAtHand, kept_byte, source_start, with_kept, with_snapshot}
+use Rattle.w4_blit.specs.Snapshot.{IsAtHand, byte_with_copy, source_start, with_copied_bytes, with_snapshot}
 
-pub length-with_kept : (page : List ℕ) (first : ℕ) (kept : List ℕ)
-    → length (with_kept page first kept) ≡ length page
-unfolding with_kept
-length-with_kept page first kept = length-map-range_with_len (kept_byte page first kept) 0 (length page)
+pub length-with_copied_bytes : (page : List ℕ) (first : ℕ) (kept : List ℕ)
+    → length (with_copied_bytes page first kept) ≡ length page
+unfolding with_copied_bytes
+length-with_copied_bytes page first kept =
+    length-map-range_with_len (byte_with_copy page first kept) 0 (length page)
 
-pub get_or-with_kept : (page : List ℕ) (first : ℕ) (kept : List ℕ) (i : ℕ) → i < length page
-    → get_or (with_kept page first kept) i 0 ≡ kept_byte page first kept i
-unfolding with_kept
-get_or-with_kept page first kept i h =
-    get_or-map-range_with_len (kept_byte page first kept) 0 (length page) i i 0 h (omega arith)
+pub get_or-with_copied_bytes : (page : List ℕ) (first : ℕ) (kept : List ℕ) (i : ℕ) → i < length page
+    → get_or (with_copied_bytes page first kept) i 0 ≡ byte_with_copy page first kept i
+unfolding with_copied_bytes
+get_or-with_copied_bytes page first kept i h =
+    get_or-map-range_with_len (byte_with_copy page first kept) 0 (length page) i i 0 h (omega arith)
 
 -- a byte outside the framebuffer is read where it stands
 pub kept_outside : (page : List ℕ) (first : ℕ) (kept : List ℕ) (i : ℕ) → i < length page
-    → (i < 160) ⊎ (6560 ≤ i) → get_or (with_kept page first kept) i 0 ≡ get_or page i 0
-kept_outside page first kept i h out = get_or-with_kept page first kept i h ∙ grind (arith, nat_tests)
+    → (i < 160) ⊎ (6560 ≤ i) → get_or (with_copied_bytes page first kept) i 0 ≡ get_or page i 0
+kept_outside page first kept i h out = get_or-with_copied_bytes page first kept i h ∙ grind (arith, nat_tests)
 
 -- one of the framebuffer from what is kept
 pub kept_inside : (page : List ℕ) (first : ℕ) (kept : List ℕ) (i : ℕ) → i < length page → 160 ≤ i → i < 6560
-    → get_or (with_kept page first kept) i 0 ≡ get_or kept (i - first) 0
-kept_inside page first kept i h low high = get_or-with_kept page first kept i h ∙ grind (arith, nat_tests)
+    → get_or (with_copied_bytes page first kept) i 0 ≡ get_or kept (i - first) 0
+kept_inside page first kept i h low high =
+    get_or-with_copied_bytes page first kept i h ∙ grind (arith, nat_tests)
 
 pub kept_past : (page : List ℕ) (first : ℕ) (kept : List ℕ) (i : ℕ) → length page ≤ i
-    → get_or (with_kept page first kept) i 0 ≡ 0
+    → get_or (with_copied_bytes page first kept) i 0 ≡ 0
 kept_past page first kept i h =
-    get_or_past (with_kept page first kept) i 0
-    (subst (λ (n : ℕ). n ≤ i) (sym (length-with_kept page first kept)) h)
+    get_or_past (with_copied_bytes page first kept) i 0
+    (subst (λ (n : ℕ). n ≤ i) (sym (length-with_copied_bytes page first kept)) h)
 
 -- where two pages agree outside the framebuffer
-kept_same : (page other : List ℕ) (first : ℕ) (kept : List ℕ) (i : ℕ)
+byte_with_copy_same : (page other : List ℕ) (first : ℕ) (kept : List ℕ) (i : ℕ)
     → ((i < 160) ⊎ (6560 ≤ i) → get_or other i 0 ≡ get_or page i 0)
-    → kept_byte other first kept i ≡ kept_byte page first kept i
-kept_same page other first kept i same = elim (cases_lt i 160) [
+    → byte_with_copy other first kept i ≡ byte_with_copy page first kept i
+byte_with_copy_same page other first kept i same = elim (cases_lt i 160) [
   | inl low ↦ (let e = same (inl low) in grind (arith, nat_tests))
   | inr above ↦ elim (cases_lt i 6560) [
     | inl below ↦ grind (arith, nat_tests)
@@ -56,18 +58,18 @@ kept_same page other first kept i same = elim (cases_lt i 160) [
 ]
 
 -- what is painted doesn't show
-pub with_kept-paint : (page : List ℕ) (first : ℕ) (kept : List ℕ) (f : Painter)
-    → with_kept (paint page f) first kept ≡ with_kept page first kept
-with_kept-paint page first kept f =
-    let size : length (with_kept (paint page f) first kept) ≡ length page =
-    length-with_kept (paint page f) first kept ∙ length-paint page f in
-    ext_get_or 0 (with_kept (paint page f) first kept) (with_kept page first kept)
-    (size ∙ sym (length-with_kept page first kept)) (λ i hi.
+pub with_copied_bytes-paint : (page : List ℕ) (first : ℕ) (kept : List ℕ) (f : Painter)
+    → with_copied_bytes (paint page f) first kept ≡ with_copied_bytes page first kept
+with_copied_bytes-paint page first kept f =
+    let size : length (with_copied_bytes (paint page f) first kept) ≡ length page =
+    length-with_copied_bytes (paint page f) first kept ∙ length-paint page f in
+    ext_get_or 0 (with_copied_bytes (paint page f) first kept) (with_copied_bytes page first kept)
+    (size ∙ sym (length-with_copied_bytes page first kept)) (λ i hi.
     let below : i < length page = subst (λ (n : ℕ). i < n) size hi in
-    get_or-with_kept (paint page f) first kept i
+    get_or-with_copied_bytes (paint page f) first kept i
     (subst (λ (n : ℕ). i < n) (sym (length-paint page f)) below)
-    ∙ kept_same page (paint page f) first kept i (paint-outside page f i)
-    ∙ sym (get_or-with_kept page first kept i below))
+    ∙ byte_with_copy_same page (paint page f) first kept i (paint-outside page f i)
+    ∙ sym (get_or-with_copied_bytes page first kept i below))
 
 -- a range of a list has the list's own items
 pub copied : (page : List ℕ) (a b i : ℕ) → a ≤ i → i < b
@@ -78,7 +80,7 @@ copied page a b i low high =
 
 -- what is kept when the call begins is the page's own
 pub kept_own : (page : List ℕ) (first len i : ℕ) → length page ≡ 65536 → IsAtHand first len i
-    → get_or (with_kept page first (slice_range page first (first + len))) i 0 ≡ get_or page i 0
+    → get_or (with_copied_bytes page first (slice_range page first (first + len))) i 0 ≡ get_or page i 0
 kept_own page first len i size there = elim (cases_lt i 65536) [
   | inr past ↦ kept_past page first (slice_range page first (first + len)) i (omega arith)
       ∙ sym (get_or_past page i 0 (omega arith))
@@ -98,15 +100,16 @@ kept_own page first len i size there = elim (cases_lt i 65536) [
 ]
 
 pub length-dropped : (page : List ℕ) (first : ℕ) (kept : List ℕ) (ptr : ℕ)
-    → length (drop ptr (with_kept page first kept)) ≡ length (drop ptr page)
+    → length (drop ptr (with_copied_bytes page first kept)) ≡ length (drop ptr page)
 length-dropped page first kept ptr =
-    length-drop ptr (with_kept page first kept) ∙ ap (λ n. n - ptr) (length-with_kept page first kept)
+    length-drop ptr (with_copied_bytes page first kept)
+    ∙ ap (λ n. n - ptr) (length-with_copied_bytes page first kept)
     ∙ sym (length-drop ptr page)
 
 -- ---- a source that lies behind the framebuffer is read where it stands
 
 pub behind : (page : List ℕ) (first : ℕ) (kept : List ℕ) (i : ℕ) → length page ≡ 65536 → 6560 ≤ i
-    → get_or (with_kept page first kept) i 0 ≡ get_or page i 0
+    → get_or (with_copied_bytes page first kept) i 0 ≡ get_or page i 0
 behind page first kept i len h = elim (cases_lt i 65536) [
   | inl below ↦ kept_outside page first kept i (omega arith) (inr h)
   | inr past ↦ kept_past page first kept i (omega arith) ∙ sym (get_or_past page i 0 (omega arith))
@@ -145,16 +148,18 @@ behind_blit page snapshot picture x y u v len h =
     (behind_cell page snapshot picture right below len h))
 
 behind_bytes : (page : List ℕ) (first : ℕ) (kept : List ℕ) (ptr : ℕ) → length page ≡ 65536 → 6560 ≤ ptr
-    → drop ptr (with_kept page first kept) ≡ drop ptr page
+    → drop ptr (with_copied_bytes page first kept) ≡ drop ptr page
 behind_bytes page first kept ptr len h =
-    ext_get_or 0 (drop ptr (with_kept page first kept)) (drop ptr page) (length-dropped page first kept ptr)
+    ext_get_or 0 (drop ptr (with_copied_bytes page first kept)) (drop ptr page)
+    (length-dropped page first kept ptr)
     (λ i hi.
-    get_or-drop ptr (with_kept page first kept) i 0 ∙ behind page first kept (ptr + i) len (omega arith)
+    get_or-drop ptr (with_copied_bytes page first kept) i 0
+    ∙ behind page first kept (ptr + i) len (omega arith)
     ∙ sym (get_or-drop ptr page i 0))
 
 pub behind_codes : (page : List ℕ) (first : ℕ) (kept : List ℕ) (source : TextSource) → length page ≡ 65536
     → 6560 ≤ source_start source
-    → text_codes (with_kept page first kept) source ≡ text_codes page source
+    → text_codes (with_copied_bytes page first kept) source ≡ text_codes page source
 behind_codes page first kept (Cstr ptr) len h = ap before_zero (behind_bytes page first kept ptr len h)
 behind_codes page first kept (Utf8 ptr size) len h = ap (take size) (behind_bytes page first kept ptr len h)
 behind_codes page first kept (Utf16 ptr size) len h =

@@ -72,11 +72,11 @@ column_of_cell picture n upright =
     arith)
     upright)
 
-pub across : (picture : Picture) (start n below : ℕ) (backward : Bool) → has_flag picture 8 ≡ false
+pub good_across : (picture : Picture) (start n below : ℕ) (backward : Bool) → has_flag picture 8 ≡ false
     → backward ≡ has_flag picture 2
     → as_good_as start (source_row picture below * picture.stride + picture.src_x)
     → as_good_as (start + 1 * (if backward then picture.w - 1 - n else n)) (landed_place picture n below)
-across picture start n below backward upright back good =
+good_across picture start n below backward upright back good =
     let m = if backward then picture.w - 1 - n else n in
     let flipped = if has_flag picture 2 then picture.w - 1 - n else n in
     let same : m ≡ flipped = ap (λ (b : Bool). if b then picture.w - 1 - n else n) back in
@@ -94,12 +94,12 @@ rows_apart : (row more stride column : ℕ)
     → (row * stride + column) + stride * more ≡ (row + more) * stride + column
 rows_apart row more stride column = grind arith
 
-pub down : (picture : Picture) (start n below : ℕ) (backward : Bool) → has_flag picture 8 ≡ true
+pub good_down : (picture : Picture) (start n below : ℕ) (backward : Bool) → has_flag picture 8 ≡ true
     → backward ≡ has_flag picture 4
     → as_good_as start (picture.src_y * picture.stride + source_column picture below)
     → as_good_as (start + picture.stride * (if backward then picture.h - 1 - n else n))
     (landed_place picture n below)
-down picture start n below backward turned back good =
+good_down picture start n below backward turned back good =
     let m = if backward then picture.h - 1 - n else n in
     let column = source_column picture below in
     as_good_same (start + picture.stride * m) ((picture.src_y * picture.stride + column) + picture.stride * m)

@@ -1,20 +1,20 @@
--- The page when the call began, by the page that is painted and those bytes of the framebuffer that are kept.
+-- The page when the call began: the page that is painted, with its framebuffer's bytes from a copy.
 use Rattle.std.specs.Prelude.{ℕ, ◌+◌, ◌-◌, ◌<◌, ◌≤◌, ◌⊎◌, ◌||◌, min, List, map, length, nat_lt, nat_le, if◌then◌else◌, slice_index}
 use Rattle.std.specs.List.{range_with_len}
 use Rattle.w4_defs.specs.declared.console.TextSource.{TextSource}
 use Rattle.w4_defs.specs.declared.console.TextSource.TheVariants.{Cstr, Utf8, Utf16}
 
--- where those from address `first` on are kept
-abbrev pub kept_byte : List ℕ → ℕ → List ℕ → ℕ → ℕ
-kept_byte page first kept i =
+-- a byte of it, where the copy begins with that at address `first`
+abbrev pub byte_with_copy : List ℕ → ℕ → List ℕ → ℕ → ℕ
+byte_with_copy page first kept i =
     if nat_lt i 160 || nat_le 6560 i then slice_index page i else slice_index kept (i - first)
 
-unfoldable pub with_kept : List ℕ → ℕ → List ℕ → List ℕ
-with_kept page first kept = map (kept_byte page first kept) (range_with_len 0 (length page))
+unfoldable pub with_copied_bytes : List ℕ → ℕ → List ℕ → List ℕ
+with_copied_bytes page first kept = map (byte_with_copy page first kept) (range_with_len 0 (length page))
 
 -- where a snapshot has those from the framebuffer's first on
 abbrev pub with_snapshot : List ℕ → List ℕ → List ℕ
-with_snapshot page snapshot = with_kept page 160 snapshot
+with_snapshot page snapshot = with_copied_bytes page 160 snapshot
 
 -- where a text begins
 abbrev pub source_start : TextSource → ℕ

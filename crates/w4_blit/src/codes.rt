@@ -1,7 +1,7 @@
 //! The codes of a text, read from the page as it was when the call began.
 
 ghost use Rattle.std.specs.Prelude.{◌+◌, ◌-◌, ◌<◌, ◌==◌, ◌≡◌, ◌≤◌, ℕ, drop, length, min, not, slice_index, take_while};
-ghost use Rattle.w4_blit.specs.Snapshot.{IsAtHand, bytes_read, source_start, with_kept};
+ghost use Rattle.w4_blit.specs.Snapshot.{IsAtHand, bytes_read, source_start, with_copied_bytes};
 ghost use Rattle.w4_defs.specs.Text.{text_codes};
 
 use crate::source::{FRAMEBUFFER, FRAMEBUFFER_END, byte_at};
@@ -67,9 +67,9 @@ pub(crate) fn code_at(
     source: TextSource,
     k: usize,
 ) -> u16
-    requires there { k < length (text_codes (with_kept page.now first kept.now) source) }
+    requires there { k < length (text_codes (with_copied_bytes page.now first kept.now) source) }
     requires small { k < 65536 }
-    ensures { result ≡ slice_index (text_codes (with_kept page.now first kept.now) source) k }
+    ensures { result ≡ slice_index (text_codes (with_copied_bytes page.now first kept.now) source) k }
 {
     let k = k as u64;
     match source {

@@ -2,7 +2,7 @@
 //! they stand, those of the framebuffer from a copy of those that the call reads.
 
 ghost use Rattle.std.specs.Prelude.{◌+◌, ◌-ℤ◌, ◌<◌, ◌≡◌, ◌≤◌, pos, slice_index, slice_range};
-ghost use Rattle.w4_blit.specs.Snapshot.{with_kept, with_snapshot};
+ghost use Rattle.w4_blit.specs.Snapshot.{with_copied_bytes, with_snapshot};
 ghost use Rattle.w4_defs.specs.Shapes.{natural};
 
 use w4_defs::PageBytes;
@@ -48,7 +48,7 @@ pub(crate) fn source_byte(page: &PageBytes, snapshot: &[u8], at: u64) -> u8
 
 /// A byte of the page when the call began, where the framebuffer's are kept from `first` on; 0 past its end.
 pub(crate) fn byte_at(page: &PageBytes, first: usize, kept: &[u8], at: u64) -> u8
-    ensures { result ≡ slice_index (with_kept page.now first kept.now) at }
+    ensures { result ≡ slice_index (with_copied_bytes page.now first kept.now) at }
 {
     if 65536 <= at {
         PAST_THE_END

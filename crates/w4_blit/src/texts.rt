@@ -1,7 +1,7 @@
 //! Text, code by code.
 
 ghost use Rattle.std.specs.Prelude.{◌+ℤ◌, ◌==◌, ◌≡◌, ◌≤◌, ◌≤ℤ◌, if◌then◌else◌, length, pos};
-ghost use Rattle.w4_blit.specs.Snapshot.{source_start, with_kept};
+ghost use Rattle.w4_blit.specs.Snapshot.{source_start, with_copied_bytes};
 ghost use Rattle.w4_defs.specs.Framebuffer.{paint};
 ghost use Rattle.w4_defs.specs.Text.{text_codes, text_painter};
 
@@ -118,12 +118,12 @@ fn put_codes(
     x: i64,
     y: i64,
 )
-    requires count { count ≡ length (text_codes (with_kept page.old first kept.now) source) }
+    requires count { count ≡ length (text_codes (with_copied_bytes page.old first kept.now) source) }
     requires few { count ≤ 65536 }
     requires column { x ≤ℤ pos 2147483648 }
     requires row { y ≤ℤ pos 2147483648 }
     ensures { page.new ≡ paint page.old
-        (text_painter font.now colors (text_codes (with_kept page.old first kept.now) source) x y) }
+        (text_painter font.now colors (text_codes (with_copied_bytes page.old first kept.now) source) x y) }
 {
     let mut pen = Pen { x, y };
     for k in 0..count {

@@ -15,40 +15,41 @@ use Rattle.wasm_machine.specs.declared.ending.Ending.{Ending}
 use Rattle.wasm_machine.specs.declared.ending.Ending.TheVariants as ending
 use Rattle.wasm_machine.specs.Ends.{EndsAs}
 
-abbrev pub store : List ℕ → List Val → Board → Store Board
-store page globals board = record { page = page; globals = globals; host = board }
+abbrev pub board_store : List ℕ → List Val → Board → Store Board
+board_store page globals board = record { page = page; globals = globals; host = board }
 
 -- what an ending says of how it goes on
-ended : (end : Ended Board) (found : Ending) (page : List ℕ) (globals : List Val) (board : Board)
+ended_as_found : (end : Ended Board) (found : Ending) (page : List ℕ) (globals : List Val) (board : Board)
     → EndsAs end found page globals board
     → (go : LoggedState → ℕ → Option LoggedState)
     → then_on end go ≡ gone_on (rest_after found)
-    (logged_state_after (store page globals board) (halt_after found)) go
-ended (RunDone st rest) (ending.Done left) page globals board e go = rw (e.0, e.1) refl
-ended (RunDone st rest) (ending.Trap cause) page globals board e go = absurd e
-ended (RunDone st rest) ending.Spent page globals board e go = absurd e
-ended (RunTrap cause st) (ending.Done left) page globals board e go = absurd e
-ended (RunTrap cause st) (ending.Trap found) page globals board e go = rw (e.0, e.1) refl
-ended (RunTrap cause st) ending.Spent page globals board e go = absurd e
-ended (RunSpent st) (ending.Done left) page globals board e go = absurd e
-ended (RunSpent st) (ending.Trap cause) page globals board e go = absurd e
-ended (RunSpent st) ending.Spent page globals board e go = rw e refl
-ended RunStuck found page globals board e go = absurd e
+    (logged_state_after (board_store page globals board) (halt_after found)) go
+ended_as_found (RunDone st rest) (ending.Done left) page globals board e go = rw (e.0, e.1) refl
+ended_as_found (RunDone st rest) (ending.Trap cause) page globals board e go = absurd e
+ended_as_found (RunDone st rest) ending.Spent page globals board e go = absurd e
+ended_as_found (RunTrap cause st) (ending.Done left) page globals board e go = absurd e
+ended_as_found (RunTrap cause st) (ending.Trap found) page globals board e go = rw (e.0, e.1) refl
+ended_as_found (RunTrap cause st) ending.Spent page globals board e go = absurd e
+ended_as_found (RunSpent st) (ending.Done left) page globals board e go = absurd e
+ended_as_found (RunSpent st) (ending.Trap cause) page globals board e go = absurd e
+ended_as_found (RunSpent st) ending.Spent page globals board e go = rw e refl
+ended_as_found RunStuck found page globals board e go = absurd e
 
 -- a call on a board, and what stands after the devices are put back
 pub called : (cart : WasmModule) (font : List ℕ) (function : ℕ) (now next : LoggedState) (budget : ℕ)
     (found : Ending) (state : State) (first page : List ℕ) (firsts globals back : List Val)
     (board used : Board) (rest : Option ℕ) (halt : Halt)
-    → store state.page state.globals board ≡ store_of font now → first ≡ state.page → firsts ≡ state.globals
-    → EndsAs (run_entry cart console function (store first firsts board) budget) found page globals used
+    → board_store state.page state.globals board ≡ store_of font now → first ≡ state.page
+    → firsts ≡ state.globals
+    → EndsAs (run_entry cart console function (board_store first firsts board) budget) found page globals used
     → back ≡ globals → rest ≡ rest_after found → halt ≡ halt_after found
-    → next ≡ logged_state_after (store page back used) halt
+    → next ≡ logged_state_after (board_store page back used) halt
     → IsCalled cart font function now budget rest next
 called cart font function now next budget found state first page firsts globals back board used rest halt from
     p g e b r h n =
-    let at_first : store first firsts board ≡ store_of font now = rw (p, g) from in
+    let at_first : board_store first firsts board ≡ store_of font now = rw (p, g) from in
     rw (n, r, h, b)
-    (ended (run_entry cart console function (store_of font now) budget) found page globals used
+    (ended_as_found (run_entry cart console function (store_of font now) budget) found page globals used
     (subst
     (λ (st : Store Board).
     EndsAs (run_entry cart console function st budget) found page globals used)

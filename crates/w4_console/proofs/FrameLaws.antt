@@ -44,8 +44,8 @@ unfolding reset
 was_reset setup disk next moment s r = ap (option_map recorded) s ∙ ap Some (sym r)
 
 -- an empty record is that of a start or a frame that begins
-pub begins : (state first : State) (made : Made) → state ≡ first → record_of made ≡ empty_record
+pub frame_begins : (state first : State) (made : Made) → state ≡ first → record_of made ≡ empty_record
     → so_far state made ≡ with_empty_logs first
-begins state first made s r =
+frame_begins state first made s r =
     ap (λ (t : State). so_far t made) s
     ∙ ap (λ (m : FrameRecord). record { state = first; tones = m.tones; traces = m.traces }) r

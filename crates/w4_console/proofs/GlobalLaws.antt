@@ -51,6 +51,6 @@ length_of : (values : List Val) → length (types_of values) ≡ length values
 length_of [] = refl
 length_of (v ∷ values) = ap suc (length_of values)
 
-pub as_long : (values others : List Val) (types : List ValType) → types_of values ≡ types
+pub values_as_long : (values others : List Val) (types : List ValType) → types_of values ≡ types
     → types_of others ≡ types → length values ≡ length others
-as_long values others types a b = sym (length_of values) ∙ ap length (a ∙ sym b) ∙ length_of others
+values_as_long values others types a b = sym (length_of values) ∙ ap length (a ∙ sym b) ∙ length_of others

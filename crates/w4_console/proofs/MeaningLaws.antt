@@ -21,7 +21,7 @@ use Rattle.w4_defs.specs.Validity.{IsStart, IsValid}
 use Rattle.w4_host.specs.Answers.{answers_by_type}
 use Rattle.wasm_valid.specs.TypeSoundness.{HasTypes}
 use Rattle.wasm_valid.proofs.NeverStuck.{never_stuck_with, globals_keep_types_with}
-use Rattle.wasm_valid.proofs.ProfileFacts.{entry_found, update_found}
+use Rattle.wasm_valid.proofs.ProfileFacts.{entry_point_found, update_found}
 use Rattle.w4_console.specs.Meaning.{AcceptedRunsHaveMeaning, RunsHaveMeaning}
 use Rattle.w4_console.proofs.GlobalLaws.{first_types}
 
@@ -91,13 +91,16 @@ start_meant m font budget disk ok =
     calls_meant m font budget (start_functions m) (with_empty_logs (fresh m disk)) budget ok (
       start_found m m.start ok.valid.0.start,
       (
-        entry_found m m.exports (codes "_start") (exported_function m (codes "_start")) ok.within refl refl
+        entry_point_found m m.exports (codes "_start")
+            (exported_function m (codes "_start")) ok.within refl refl
             refl,
         (
-          entry_found m m.exports (codes "_initialize") (exported_function m (codes "_initialize")) ok.within
+          entry_point_found m m.exports (codes "_initialize")
+              (exported_function m (codes "_initialize")) ok.within
               refl refl refl,
           (
-            entry_found m m.exports (codes "start") (exported_function m (codes "start")) ok.within refl refl
+            entry_point_found m m.exports (codes "start")
+                (exported_function m (codes "start")) ok.within refl refl
                 refl,
             tt,
           ),
@@ -123,7 +126,7 @@ update_meant : (m : WasmModule) (font : List ℕ) (budget : ℕ) (input : Input)
 update_meant m font budget input now Running ok globals =
     call_update_meant m font budget (update_entry m) _ ok
     (update_found m m.exports (update_entry m) ok.within refl refl)
-    (entry_found m m.exports (codes "update") (update_entry m) ok.within refl refl refl)
+    (entry_point_found m m.exports (codes "update") (update_entry m) ok.within refl refl refl)
     globals
 update_meant m font budget input now (Trapped cause) ok globals = (now, refl, globals)
 update_meant m font budget input now Spent ok globals = (now, refl, globals)

@@ -16,11 +16,11 @@ more page [] i at bytes a b = absurd cc
 more page (s ∷ segments) zero at bytes a b = rw (← same_Some _ _ a, ← same_Some _ _ b) refl
 more page (s ∷ segments) (suc i) at bytes a b = more page segments i at bytes a b
 
-pub one_more : (page : List ℕ) (segments : List DataSegment) (i at : ℕ) (bytes : List ℕ)
+pub one_more_segment : (page : List ℕ) (segments : List DataSegment) (i at : ℕ) (bytes : List ℕ)
     → option_map (λ s. constant_of s.offset) (slice_get segments i) ≡ Some at
     → option_map (λ s. s.bytes) (slice_get segments i) ≡ Some bytes
     → with_segments page (drop i segments) ≡ with_segments (put_bytes page at bytes) (drop (i + 1) segments)
-one_more page segments i at bytes a b = rw add-one (more page segments i at bytes a b)
+one_more_segment page segments i at bytes a b = rw add-one (more page segments i at bytes a b)
 
 pub none_left : (page : List ℕ) (segments : List DataSegment) (i : ℕ) → length segments ≤ i
     → with_segments page (drop i segments) ≡ page

@@ -16,7 +16,7 @@ use Rattle.w4_defs.specs.MemoryMap.{input_bytes}
 use Rattle.w4_defs.specs.Reading.{◌>>=◌, IsBytes, front_at, little_endian_at}
 use Rattle.w4_defs.specs.Recording.{Recording, IsInput, IsRecording, heading, flag_of, frame_size, frame_bytes, encoding, HasNoReset, IsEncoded, EncodedIsDecoded, DecodedIsEncoded, EncodesAtMostOne, OneEncoding, RewrittenIsSame, EncodingLength, LongestEncoding, version_of, input_of, reset_of, frame_of, frames_of, is_within_limits, recording_of}
 use Rattle.w4_defs.proofs.ReadingLaws.{front_read, front_bytes, rest_bytes, number_read_2, number_read_4}
-use Rattle.w4_defs.proofs.OptionLaws.{bind_some, if_some, some_same, no_none}
+use Rattle.w4_defs.proofs.OptionLaws.{bind_some, held_if, some_same, no_none}
 use Rattle.w4_defs.proofs.RecordingLaws.{IsVersion, regroup, again_1, again_2}
 
 -- ---- a frame that is decoded has these bytes
@@ -147,7 +147,7 @@ frames_read : (version count : ℕ) (bytes : List ℕ) (inputs : List Input) →
     → frames_of version count bytes ≡ Some inputs → AreFrames version count bytes inputs
 unfolding frames_of
 frames_read version zero bytes inputs known small read =
-    let both = if_some (eqb (length bytes) 0) (Some []) inputs read in
+    let both = held_if (eqb (length bytes) 0) (Some []) inputs read in
     let none : [] ≡ inputs = some_same [] inputs both.1 in
     subst (AreFrames version 0 bytes) none (record {
       bytes_are = no_bytes bytes
@@ -285,7 +285,7 @@ count_parts : (version : ℕ) (digest : List ℕ) (budget size : ℕ) (disk rest
 count_parts version digest budget size disk rest after count r known small whole e =
     let frames = bind_some (cond (is_within_limits budget size count) (frames_of version count after) None)
     (with_frames digest budget disk) r e in
-    let tested = if_some (is_within_limits budget size count) (frames_of version count after) frames.0
+    let tested = held_if (is_within_limits budget size count) (frames_of version count after) frames.0
     frames.1 in
     let fit = limits budget size count tested.0 in
     let are = frames_read version count after frames.0 known small tested.1 in

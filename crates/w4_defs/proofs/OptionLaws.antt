@@ -8,10 +8,10 @@ pub bind_some : {A B : Type 0} (o : Option A) (f : A → Option B) (y : B) → (
 bind_some (Some x) f y e = (x, refl, e)
 bind_some None f y e = absurd cc
 
-pub if_some : {A : Type 0} (c : Bool) (o : Option A) (z : A) → cond c o None ≡ Some z
+pub held_if : {A : Type 0} (c : Bool) (o : Option A) (z : A) → cond c o None ≡ Some z
     → (c ≡ true) × (o ≡ Some z)
-if_some true o z e = (refl, e)
-if_some false o z e = absurd cc
+held_if true o z e = (refl, e)
+held_if false o z e = absurd cc
 
 pub some_same : {A : Type 0} (a b : A) → Some a ≡ Some b → a ≡ b
 some_same {A} a b e = let inside : Option A → A = λ o. elim o [ Some x ↦ x | None ↦ a ] in ap inside e

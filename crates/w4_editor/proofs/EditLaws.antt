@@ -225,8 +225,8 @@ insert_consistent setup disk inputs (x ∷ kept) k input within is =
 -- ---- delete
 
 -- two places that would both stand on K
-abbrev apart : ℕ → ℕ → ℕ → Type 0
-apart k p q = p ≡ k → q ≢ k + 1
+abbrev IsApart : ℕ → ℕ → ℕ → Type 0
+IsApart k p q = p ≡ k → q ≢ k + 1
 
 down_stays : (k : ℕ) (x : Entry) → x.place ≤ k → moved_down kept_entries k x ≡ x
 down_stays k x low = ap (λ t. cond t (at_place (x.place - 1) x) x) (le-ltb k x.place low)
@@ -234,7 +234,7 @@ down_stays k x low = ap (λ t. cond t (at_place (x.place - 1) x) x) (le-ltb k x.
 down_moves : (k : ℕ) (x : Entry) → k < x.place → moved_down kept_entries k x ≡ at_place (x.place - 1) x
 down_moves k x past = ap (λ t. cond t (at_place (x.place - 1) x) x) (lt-ltb k x.place past)
 
-across_removed : (k p q : ℕ) → p ≤ k → k < q → apart k p q → p < q - 1
+across_removed : (k p q : ℕ) → p ≤ k → k < q → IsApart k p q → p < q - 1
 across_removed k p q low past other = elim (cases_eq p k) [
   | inl same ↦ elim (cases_eq q (k + 1)) [
     | inl double ↦ absurd (other same double)
@@ -250,7 +250,7 @@ across_removed k p q low past other = elim (cases_eq p k) [
 ]
 
 remove_moves : (inputs : List Input) (k : ℕ) → k < length inputs
-    → Moves k (apart k) inputs (remove inputs k) (λ p. p - 1) (moved_down kept_entries k)
+    → Moves k (IsApart k) inputs (remove inputs k) (λ p. p - 1) (moved_down kept_entries k)
 remove_moves inputs k within =
     let long = length-remove inputs k within in
     let le : k ≤ length inputs = omega (arith, within) in record {
@@ -305,20 +305,20 @@ dropped_double k setup inputs from state (x ∷ kept) c =
     ]
 
 -- without an entry at place K + 1, or without one at K, none would stand on K twice
-none_next : (k from : ℕ) (kept : List Entry) → Neighbours (apart k) from (filter (not_next k) kept)
+none_next : (k from : ℕ) (kept : List Entry) → Neighbours (IsApart k) from (filter (not_next k) kept)
 none_next k from [] = tt
 none_next k from (x ∷ kept) = elim (cases_eq x.place (k + 1)) [
-  | inl same ↦ subst (λ t. Neighbours (apart k) from (cond (not t) (x ∷ filter (not_next k) kept)
+  | inl same ↦ subst (λ t. Neighbours (IsApart k) from (cond (not t) (x ∷ filter (not_next k) kept)
       (filter (not_next k) kept))) (sym (eq-eqb x.place (k + 1) same)) (none_next k from kept)
   | inr other ↦
-      let whole : Neighbours (apart k) from (x ∷ filter (not_next k) kept) =
+      let whole : Neighbours (IsApart k) from (x ∷ filter (not_next k) kept) =
       (λ _. other, none_next k x.place kept) in
-      subst (λ t. Neighbours (apart k) from (cond (not t) (x ∷ filter (not_next k) kept)
+      subst (λ t. Neighbours (IsApart k) from (cond (not t) (x ∷ filter (not_next k) kept)
       (filter (not_next k) kept))) (sym (ne_eqb x.place (k + 1) other)) whole
 ]
 
 none_here : (k from : ℕ) (kept : List Entry) → from ≢ k → is_kept kept_entries k kept ≡ false
-    → Neighbours (apart k) from kept
+    → Neighbours (IsApart k) from kept
 none_here k from [] other none = tt
 none_here k from (x ∷ kept) other none =
     let parts = or_parts (eqb x.place k) (is_kept kept_entries k kept) none in
@@ -339,7 +339,7 @@ record Single (k : ℕ) (setup : Setup) (inputs : List Input) (x : Entry)
     (before kept : List Entry) : Type 0 where
   is : without_double kept_entries k (x ∷ before) ≡ x ∷ kept
   fewer : length kept ≤ length before
-  near : Neighbours (apart k) x.place kept
+  near : Neighbours (IsApart k) x.place kept
   chain : Chain (beside k) setup inputs x.place x.state kept
 
 true_or_false : (b : Bool) → (b ≡ true) ⊎ (b ≡ false)
@@ -385,6 +385,6 @@ delete_consistent setup disk inputs (x ∷ before) k within is =
     let left : Single k setup inputs x before s.0 = s.1 in
     subst (λ (kept : List Entry). IsConsistent setup disk (remove inputs k)
     (map (moved_down kept_entries k) (unlink_above kept_entries k kept))) (sym left.is)
-    (edited_from_reset k (apart k) setup disk inputs (remove inputs k) (λ p. p - 1)
+    (edited_from_reset k (IsApart k) setup disk inputs (remove inputs k) (λ p. p - 1)
     (moved_down kept_entries k)
     (remove_moves inputs k within) x before s.0 from left.fewer left.near left.chain)

@@ -66,11 +66,11 @@ not_refused p draft e =
     (ltb (length draft.kept) 1024) e in
     (parts.0, ltb-true (length draft.kept) 1024 parts.1)
 
-pub at_end : (place : Option ℕ) (n : ℕ) → ((p : ℕ) → place ≡ Some p → p ≤ n)
+pub nowhere_or_at_end : (place : Option ℕ) (n : ℕ) → ((p : ℕ) → place ≡ Some p → p ≤ n)
     → ((p : ℕ) → place ≡ Some p → n ≤ p)
     → (place ≡ None) ⊎ (place ≡ Some n)
-at_end None n low high = inl refl
-at_end (Some p) n low high = inr (ap Some (omega (arith, low p refl, high p refl)))
+nowhere_or_at_end None n low high = inl refl
+nowhere_or_at_end (Some p) n low high = inr (ap Some (omega (arith, low p refl, high p refl)))
 
 -- ---- the parts
 

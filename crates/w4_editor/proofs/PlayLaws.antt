@@ -66,9 +66,9 @@ pub types_as_many : (globals : List Val) → length (types_of globals) ≡ lengt
 types_as_many [] = refl
 types_as_many (v ∷ globals) = ap suc (types_as_many globals)
 
-pub as_long : (cart : WasmModule) (one other : State) → HasGlobals cart one → HasGlobals cart other
+pub globals_as_long : (cart : WasmModule) (one other : State) → HasGlobals cart one → HasGlobals cart other
     → length one.globals ≡ length other.globals
-as_long cart one other a b =
+globals_as_long cart one other a b =
     sym (types_as_many one.globals) ∙ ap length (a ∙ sym b) ∙ types_as_many other.globals
 
 -- a player in another state has the same setup

@@ -68,10 +68,10 @@ quad_in_page page colours q e = by_digits page colours q _ _ _ _ e refl refl ref
 
 -- ---- the loop
 
-pub starts : (page out : List ℕ)
+pub image_starts : (page out : List ℕ)
     → take 15 (image_header ++ drop 15 out) ++ pixel_colours page 0 25600 ≡ image page
 unfolding image
-starts page out = refl
+image_starts page out = refl
 
 shown_next : (page : List ℕ) (n next count rest : ℕ) → next ≡ n + 1 + 1 + 1 + 1
     → count ≡ suc (suc (suc (suc rest)))
@@ -89,12 +89,12 @@ front : (out colours : List ℕ) (at next : ℕ) → length colours ≡ 12 → n
 front out colours at next twelve e h = grind (arith, common_steps)
 
 -- four more pixels
-pub more : (page out next colours : List ℕ) (q : ℕ) → q < 6400 → length out ≡ 76815
+pub image_more : (page out next colours : List ℕ) (q : ℕ) → q < 6400 → length out ≡ 76815
     → colours ≡ pixel_colours page (4 * q) 4
     → next ≡ replaced out (15 + 12 * q) 12 colours
     → take (15 + 12 * q) out ++ pixel_colours page (4 * q) (25600 - 4 * q) ≡ image page
     → take (15 + 12 * (q + 1)) next ++ pixel_colours page (4 * (q + 1)) (25600 - 4 * (q + 1)) ≡ image page
-more page out next colours q h len ec en so_far =
+image_more page out next colours q h len ec en so_far =
     let at = 15 + 12 * q in
     let rest = pixel_colours page (4 * (q + 1)) (25600 - 4 * (q + 1)) in
     let further : pixel_colours page (4 * q) (25600 - 4 * q) ≡ pixel_colours page (4 * q) 4 ++ rest =
@@ -108,10 +108,10 @@ more page out next colours q h len ec en so_far =
     ∙ so_far
 
 -- all pixels
-pub done : (page out : List ℕ) (q : ℕ) → q ≡ 6400 → length out ≡ 76815
+pub image_done : (page out : List ℕ) (q : ℕ) → q ≡ 6400 → length out ≡ 76815
     → take (15 + 12 * q) out ++ pixel_colours page (4 * q) (25600 - 4 * q) ≡ image page → out ≡ image page
 unfolding pixel_colours
-done page out q e len so_far =
+image_done page out q e len so_far =
     let none : 25600 - 4 * q ≡ 0 = omega arith in
     let whole : take (15 + 12 * q) out ≡ out = take_all (15 + 12 * q) out (omega arith) in
     sym (ap (λ m. take (15 + 12 * q) out ++ pixel_colours page (4 * q) m) none

@@ -8,10 +8,10 @@ abbrev after : (ℕ → ℕ) → ℕ → ℕ → List ℕ
 after f a p = map f (range_with_len (a + 1) (p - a))
 
 -- the value of one place more
-pub one_more : (f : ℕ → ℕ) (before so_far new : List ℕ) (x a p : ℕ) → a ≤ p
+pub one_more_value : (f : ℕ → ℕ) (before so_far new : List ℕ) (x a p : ℕ) → a ≤ p
     → so_far ≡ before ++ map f (range_with_len (a + 1) (p - a)) → new ≡ so_far ++ x ∷ [] → x ≡ f (p + 1)
     → new ≡ before ++ map f (range_with_len (a + 1) (p + 1 - a))
-one_more f before so_far new x a p le is pushed value =
+one_more_value f before so_far new x a p le is pushed value =
     pushed ∙ ap (λ xs. xs ++ x ∷ []) is ∙ ap (λ y. (before ++ after f a p) ++ y ∷ []) value
     ∙ append_assoc before (after f a p) (f (p + 1) ∷ [])
     ∙ ap (λ more. before ++ more)

@@ -173,10 +173,10 @@ pad_or_none [] player = refl
 pad_or_none (pad ∷ pads) zero = same_pad pad
 pad_or_none (pad ∷ pads) (suc player) = pad_or_none pads player
 
-pub held : (frames : List (List (Option ℕ))) (frame player : ℕ) (pads : List (Option ℕ))
+pub pad_held : (frames : List (List (Option ℕ))) (frame player : ℕ) (pads : List (Option ℕ))
     → frame < length frames → pads ≡ get_or frames frame pads
     → get_or pads player None ≡ known_in frames player frame
-held frames frame player pads lt read =
+pad_held frames frame player pads lt read =
     pad_or_none pads player
     ∙ sym (ap (option_and_then (λ (row : List (Option ℕ)). option_and_then (λ (pad : Option ℕ). pad)
     (slice_get row player))) (slice_get-get_or frames frame pads lt ∙ ap Some (sym read)))

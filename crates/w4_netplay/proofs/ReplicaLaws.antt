@@ -29,8 +29,8 @@ use Rattle.w4_netplay.proofs.LinkLaws.{same_places}
 use Rattle.w4_netplay.proofs.RollLaws.{rolled_all, rolled_length, net_length}
 
 -- what a replica's parts are seen as
-abbrev pub view : List (List (Option ℕ)) → ℕ → Editing → Netplay
-view pads frames editor = record { pads = pads; frames = frames; editor = editor }
+abbrev pub netplay_view : List (List (Option ℕ)) → ℕ → Editing → Netplay
+netplay_view pads frames editor = record { pads = pads; frames = frames; editor = editor }
 
 pub keeps_same : (r : Netplay) → KeepsNetplay r r
 keeps_same r = record { pads = refl; frames = refl; kept = refl; rest = refl }
@@ -39,8 +39,8 @@ keeps_same r = record { pads = refl; frames = refl; kept = refl; rest = refl }
 
 pub rolled_keeps : (pads : List (List (Option ℕ))) (frames : ℕ) (known : Known) (done : ℕ)
     (old new : Editing) → IsRolledTo known done old new
-    → KeepsNetplay (view pads frames old)
-    (view pads frames new)
+    → KeepsNetplay (netplay_view pads frames old)
+    (netplay_view pads frames new)
 rolled_keeps pads frames known done old new rolled = record {
   pads = refl;
   frames = refl;
@@ -50,15 +50,15 @@ rolled_keeps pads frames known done old new rolled = record {
 
 pub partly_keeps : (pads : List (List (Option ℕ))) (frames : ℕ) (known : Known) (old new : Editing)
     → IsPartlyRolled known frames old new
-    → KeepsNetplay (view pads frames old)
-    (view pads frames new)
+    → KeepsNetplay (netplay_view pads frames old)
+    (netplay_view pads frames new)
 partly_keeps pads frames known old new rolled =
     rolled_keeps pads frames known rolled.done old new rolled.rolled
 
 pub is_rolled : (pads : List (List (Option ℕ))) (frames : ℕ) (old new : Editing) → IsReplica frames old
     → IsRolledTo (known_in pads) frames old new
-    → IsRolled (view pads frames old)
-    (view pads frames new)
+    → IsRolled (netplay_view pads frames old)
+    (netplay_view pads frames new)
 is_rolled pads frames old new limits rolled = record {
   netplay = rolled_keeps pads frames (known_in pads) frames old new rolled;
   inputs = rolled_all (known_in pads) frames old new rolled limits.inputs;
@@ -98,7 +98,7 @@ get_net known frames k lt =
 
 module _ (old mid : Netplay) (rolled : IsRolled old mid) (after_it : Editing) where
   abbrev shown : Netplay
-  shown = view mid.pads mid.frames after_it
+  shown = netplay_view mid.pads mid.frames after_it
 
   net_long : length (prediction old) ≡ old.frames
   net_long = net_length (known_of old) old.frames
@@ -145,10 +145,10 @@ module _ (old mid : Netplay) (rolled : IsRolled old mid) (after_it : Editing) wh
 
 -- ---- what is asked of the editor is what is asked of the prediction
 
-pub same_state : (old mid : Netplay) (p : ℕ) (state : State) → IsRolled old mid
+pub predicted_run_state : (old mid : Netplay) (p : ℕ) (state : State) → IsRolled old mid
     → run_state (editing_setup mid.editor) mid.editor.disk mid.editor.session.current.inputs p ≡ Some state
     → run_state (editing_setup old.editor) old.editor.disk (prediction old) p ≡ Some state
-same_state old mid p state rolled is =
+predicted_run_state old mid p state rolled is =
     ap (λ (inputs : List Input). run_state (editing_setup old.editor) old.editor.disk inputs p)
     (sym rolled.inputs)
     ∙ sym (ap (λ (e : Editing). run_state (editing_setup e) e.disk mid.editor.session.current.inputs p)
@@ -184,9 +184,9 @@ kept_nowhere p (x ∷ kept) other =
     λ j. ne_eqb x.place p (other 0 (omega arith)) j
     || kept_nowhere p kept (λ i lt. other (suc i) (omega (arith, lt))) j
 
-pub is_found : (p i : ℕ) (kept : List Entry) → i < length kept → place_at kept i ≡ p
+pub kept_place_found : (p i : ℕ) (kept : List Entry) → i < length kept → place_at kept i ≡ p
     → true ≡ is_kept places_alone p (places_of kept)
-is_found p i kept lt is = sym (kept_here p i kept lt is) ∙ is_one p kept
+kept_place_found p i kept lt is = sym (kept_here p i kept lt is) ∙ is_one p kept
 
 pub is_nowhere : (p : ℕ) (kept : List Entry) → ((i : ℕ) → i < length kept → place_at kept i ≢ p)
     → false ≡ is_kept places_alone p (places_of kept)
@@ -307,11 +307,11 @@ put_inputs p old new put = ap (λ (s : Session Entry). s.current.inputs) (put_se
 
 pub keeps_place : (old mid : Netplay) (p before after : ℕ) (new : Editing) → IsRolled old mid
     → IsKeptAt p before after mid.editor new
-    → KeepsPlace p before after old (view mid.pads mid.frames new)
+    → KeepsPlace p before after old (netplay_view mid.pads mid.frames new)
 keeps_place old mid p before after new rolled is =
     let shown = shows_place old mid rolled is.shown p before after is.is_shown in
     let now = is.shown.session.current.kept in record {
-      shown = view mid.pads mid.frames is.shown;
+      shown = netplay_view mid.pads mid.frames is.shown;
       is_shown = shown;
       put = is.put;
       pads = rolled.netplay.pads;

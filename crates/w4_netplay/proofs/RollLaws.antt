@@ -29,25 +29,25 @@ rest_at : (old new : Editing) (at : Option ℕ) → new ≡ with_session old new
 rest_at old new at is = is ∙ ap (with_session old new.session) (sym (ap (λ (e : Editing). e.at) is))
 
 -- the session that an edit makes, where it isn't refused
-accepted : (refusal : Option EditRefusal) (after new : Session Entry) → unless refusal after ≡ Ok new
+accepted_session : (refusal : Option EditRefusal) (after new : Session Entry) → unless refusal after ≡ Ok new
     → refusal ≡ None → new ≡ after
-accepted None after new is free = cc
-accepted (Some refusal) after new is free = absurd cc
+accepted_session None after new is free = cc
+accepted_session (Some refusal) after new is free = absurd cc
 
 -- a list around one element
-around : {A : Type 0} (xs : List A) (k : ℕ) (x : A) → slice_get xs k ≡ Some x
+parted_around : {A : Type 0} (xs : List A) (k : ℕ) (x : A) → slice_get xs k ≡ Some x
     → xs ≡ take k xs ++ x ∷ drop (k + 1) xs
-around [] k x is = absurd cc
-around (y ∷ xs) zero x is = λ i. same_Some y x is i ∷ xs
-around (y ∷ xs) (suc k) x is =
+parted_around [] k x is = absurd cc
+parted_around (y ∷ xs) zero x is = λ i. same_Some y x is i ∷ xs
+parted_around (y ∷ xs) (suc k) x is =
     let next : suc (k + 1) ≡ suc k + 1 = omega arith in
-    ap (λ zs. y ∷ zs) (around xs k x is) ∙ ap (λ n. y ∷ (take k xs ++ x ∷ drop n (y ∷ xs))) next
+    ap (λ zs. y ∷ zs) (parted_around xs k x is) ∙ ap (λ n. y ∷ (take k xs ++ x ∷ drop n (y ∷ xs))) next
 
 pub put_same : (k : ℕ) (input : Input) (editor : Editing)
     → slice_get editor.session.current.inputs k ≡ Some input → IsPutAt k input editor editor
 put_same k input editor there = record {
   rest = refl;
-  inputs = around editor.session.current.inputs k input there;
+  inputs = parted_around editor.session.current.inputs k input there;
   kept = inl refl;
 }
 
@@ -58,7 +58,8 @@ pub put_set : (k : ℕ) (input : Input) (old new : Editing)
 put_set k input old new made rest there other =
     let free = ap (λ t. cond t None (Some NoFrame)) (lt-ltb k (length old.session.current.inputs) there) in
     let after = set_draft kept_entries k input old.session.current in
-    let is = accepted (set_refusal k old.session.current) (edited old.session after) new.session made free in
+    let is =
+    accepted_session (set_refusal k old.session.current) (edited old.session after) new.session made free in
     record {
       rest = rest_at old new None rest;
       inputs = ap (λ (s : Session Entry). s.current.inputs) is
@@ -82,7 +83,8 @@ put_last k input old new setup disk made rest last room is_list =
     (le-ltb (length inputs) k (omega (arith, last)))
     ∙ ap (λ t. cond t None (Some FullRecording)) (lt-ltb (length inputs) 36000 within) in
     let after = insert_draft kept_entries k input old.session.current in
-    let is = accepted (insert_refusal k old.session.current) (edited old.session after) new.session made free
+    let is =
+    accepted_session (insert_refusal k old.session.current) (edited old.session after) new.session made free
     in record {
       rest = rest_at old new None rest;
       inputs = ap (λ (s : Session Entry). s.current.inputs) is

@@ -14,7 +14,7 @@ use Rattle.w4_program.specs.Causes.{StopsWriting}
 use Rattle.w4_program.specs.Editors.{KeepsRest, IsAnswered, answer_by, place_session}
 use Rattle.w4_program.specs.Endings.{Manner}
 use Rattle.w4_program.proofs.OwesLaws.{Owes, owes_less, owes_nothing, piece_stopped}
-use Rattle.w4_program.proofs.SessionLaws.{same_setup, same_disk}
+use Rattle.w4_program.proofs.SessionLaws.{same_editing_setup, same_disk}
 
 -- what a list of orders gives past its end
 abbrev pub past_end : Order
@@ -24,7 +24,7 @@ past_end = Set 0 (record { pads = []; mouse_x = pos 0; mouse_y = pos 0; buttons 
 pub same_answer : (first old : Editing) (order : Order) → KeepsRest first old
     → answer_by old order ≡ answer (editing_setup first) first.disk (place_session old) order
 same_answer first old order rest =
-    λ i. answer (same_setup first old rest i) (same_disk first old rest i) (place_session old) order
+    λ i. answer (same_editing_setup first old rest i) (same_disk first old rest i) (place_session old) order
 
 pub answered_at_first : (now after : World) (first old new : Editing) (order : Order)
     → KeepsRest first old

@@ -33,10 +33,10 @@ pub cart_given : (old : World) (name bytes : List ℕ) (cart : CartFile)
     → ForSome old.files (λ files. CartIn name files (Ok cart))
 cart_given old name bytes cart given is digest = λ files texts. rw (given files texts) (is, digest)
 
-pub cart_refused : (old : World) (name bytes : List ℕ) (kind : CartKind)
+pub cart_file_refused : (old : World) (name bytes : List ℕ) (kind : CartKind)
     → ForSome old.files (λ files. reading files name 65537 ≡ Ok bytes) → IsRefused bytes kind
     → StepRefuses old (CartRefused kind) (λ files cart. CartIn name files cart)
-cart_refused old name bytes kind given refused = λ files texts. rw (given files texts) refused
+cart_file_refused old name bytes kind given refused = λ files texts. rw (given files texts) refused
 
 not_both : (cart : CartFile) (refusal : Status) (found : Result CartFile Status) → found ≡ Ok cart
     → found ≡ Err refusal → ⊥

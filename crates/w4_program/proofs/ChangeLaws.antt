@@ -25,8 +25,8 @@ use Rattle.w4_program.proofs.SessionLaws.{rest_then, rest_at, only_shows}
 abbrev pub Made : Type 0
 Made = Result (Session Entry) EditRefusal
 
-abbrev pub Alone : Type 0
-Alone = Result (Session ℕ) EditRefusal
+abbrev pub SessionOrRefusal : Type 0
+SessionOrRefusal = Result (Session ℕ) EditRefusal
 
 -- any input and any entry, where an order has none
 abbrev pub no_input : Input
@@ -34,12 +34,12 @@ no_input = record { pads = []; mouse_x = pos 0; mouse_y = pos 0; buttons = 0; re
 
 -- ---- one order
 
-pub made : (wanted : Made) (alone : Alone) (new : Session Entry)
+pub made : (wanted : Made) (alone : SessionOrRefusal) (new : Session Entry)
     → result_of_places kept_entries wanted ≡ alone → wanted ≡ Ok new
     → alone ≡ Ok (session_of_places kept_entries new)
 made wanted alone new law is = sym law ∙ ap (λ (m : Made). result_of_places kept_entries m) is
 
-pub unmade : (wanted : Made) (alone : Alone) (refusal : EditRefusal)
+pub unmade : (wanted : Made) (alone : SessionOrRefusal) (refusal : EditRefusal)
     → result_of_places kept_entries wanted ≡ alone → wanted ≡ Err refusal → alone ≡ Err refusal
 unmade wanted alone refusal law is = sym law ∙ ap (λ (m : Made). result_of_places kept_entries m) is
 
@@ -49,7 +49,7 @@ refused_as wanted refusal (inl is) other = is
 refused_as wanted refusal (inr memory) other = absurd (other memory.0)
 
 -- an edit that refuses as its definition does, and where memory runs out
-pub changed_by : {X : Type 0} (result : Result X EditRefusal) (wanted : Made) (alone : Alone)
+pub changed_by : {X : Type 0} (result : Result X EditRefusal) (wanted : Made) (alone : SessionOrRefusal)
     (old new : Editing) (at : Option ℕ)
     → result_of_places kept_entries wanted ≡ alone
     → OnOk result (wanted ≡ Ok new.session) → OnOk result (new ≡ with_session old new.session at)
@@ -61,7 +61,7 @@ changed_by (Err refusal) wanted alone old new at law ok rest refused unchanged =
     λ other. (unmade wanted alone refusal law (refused_as wanted refusal refused other), unchanged)
 
 -- one that refuses as its definition does, and never else
-pub changed_exactly : {X : Type 0} (result : Result X EditRefusal) (wanted : Made) (alone : Alone)
+pub changed_exactly : {X : Type 0} (result : Result X EditRefusal) (wanted : Made) (alone : SessionOrRefusal)
     (old new : Editing) (at : Option ℕ)
     → result_of_places kept_entries wanted ≡ alone
     → OnOk result (wanted ≡ Ok new.session) → OnOk result (new ≡ with_session old new.session at)
@@ -154,22 +154,25 @@ change_answers setup disk s (order.Traces a b) show film tones traces at state =
 change_answers setup disk s (order.DiskAt p) show film tones traces at state = absurd (at p refl)
 change_answers setup disk s (order.StateAt p) show film tones traces at state = absurd (state p refl)
 
-pub carried : (world : World) (old new : Editing) (alone : Alone) → alone ≡ Ok (place_session new)
+pub carried : (world : World) (old new : Editing) (alone : SessionOrRefusal) → alone ≡ Ok (place_session new)
     → KeepsRest old new → IsAnswered world world old new (answer_change (place_session old) alone)
 carried world old new alone is rest =
-    subst (λ (m : Alone). IsAnswered world world old new (answer_change (place_session old) m)) (sym is)
+    subst (λ (m : SessionOrRefusal). IsAnswered world world old new (answer_change (place_session old) m))
+    (sym is)
     (record {
       out = λ before texts. texts ∙ ap (λ (bytes : List ℕ). Some bytes) (sym (append-nil before));
       session = refl;
       rest = rest;
     })
 
-pub refused : (before after : World) (old new : Editing) (alone : Alone) (refusal : EditRefusal)
+pub change_refused : (before after : World) (old new : Editing) (alone : SessionOrRefusal)
+    (refusal : EditRefusal)
     → alone ≡ Err refusal → new ≡ old
     → Appends before.out after.out (refused_line (refusal_words refusal))
     → IsAnswered before after old new (answer_change (place_session old) alone)
-refused before after old new alone refusal is same written =
-    subst (λ (m : Alone). IsAnswered before after old new (answer_change (place_session old) m)) (sym is)
+change_refused before after old new alone refusal is same written =
+    subst (λ (m : SessionOrRefusal). IsAnswered before after old new (answer_change (place_session old) m))
+    (sym is)
     (record {
       out = written;
       session = ap (λ (e : Editing). place_session e) same;
@@ -177,19 +180,19 @@ refused before after old new alone refusal is same written =
     })
 
 pub refused_on : {X : Type 0} (result : Result X Status) (before after : World) (old new : Editing)
-    (alone : Alone) (refusal : EditRefusal)
+    (alone : SessionOrRefusal) (refusal : EditRefusal)
     → (refusal ≢ OutOfMemory → (alone ≡ Err refusal) × (new ≡ old))
     → (refusal ≢ OutOfMemory) ⊎ WritesNothing before after result
     → Printed before after result (refused_line (refusal_words refusal))
     → GivesAnswer before after result old new (answer_change (place_session old) alone)
 refused_on (Ok x) before after old new alone refusal why (inl cause) written =
     let is = why cause in
-    refused before after old new alone refusal is.0 is.1 written
+    change_refused before after old new alone refusal is.0 is.1 written
 refused_on (Ok x) before after old new alone refusal why (inr (failed, same)) written = absurd cc
 refused_on (Err e) before after old new alone refusal why (inl cause) written =
     stops_as before after (manner_of e) (refused_line (refusal_words refusal))
     (answer_change (place_session old) alone).out
-    (ap (λ (m : Alone). (answer_change (place_session old) m).out) (why cause).0) written
+    (ap (λ (m : SessionOrRefusal). (answer_change (place_session old) m).out) (why cause).0) written
 refused_on (Err e) before after old new alone refusal why (inr (failed, same)) written =
     stops_untold before after (manner_of e) (refused_line (refusal_words refusal))
     (answer_change (place_session old) alone).out same written

@@ -78,10 +78,10 @@ all_are_kept every p end now whole le so_far =
     sym none ∙ so_far
 
 -- there is room for the next one, where there is for all
-pub room_for_one : (every p end : ℕ) (now whole : List ℕ) → p < end
+pub room_for_multiple : (every p end : ℕ) (now whole : List ℕ) → p < end
     → all_kept (multiples_from every p (end - p)) now ≡ whole → length whole ≤ 1024
     → length (with_multiple every p now) ≤ 1024
-room_for_one every p end now whole lt so_far room =
+room_for_multiple every p end now whole lt so_far room =
     let more = grows (multiples_from every (p + 1) (end - (p + 1))) (with_multiple every p now) in
     let same = ap (λ (xs : List ℕ). length xs) (multiple_kept every p end now whole lt so_far) in
     omega (arith, more, same, room)

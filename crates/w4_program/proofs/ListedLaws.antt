@@ -25,13 +25,13 @@ all_of : (found : Result (List (List ℕ)) Status) → found ≡ after_files [] 
 all_of (Ok more) = refl
 all_of (Err status) = refl
 
-pub owes_all : (old : World) (all : List (List ℕ)) → StillOwes old [] all all
-owes_all old all = λ files told. all_of (listed_files all files)
+pub still_owes_all : (old : World) (all : List (List ℕ)) → StillOwes old [] all all
+still_owes_all old all = λ files told. all_of (listed_files all files)
 
-regroup : (before : List (List ℕ)) (bytes : List ℕ) (more : Result (List (List ℕ)) Status)
+regroup_files : (before : List (List ℕ)) (bytes : List ℕ) (more : Result (List (List ℕ)) Status)
     → after_files before (more >>= λ others. Ok (bytes ∷ others)) ≡ after_files (before ++ bytes ∷ []) more
-regroup before bytes (Ok more) = ap (λ files. Ok files) (sym (append_assoc before (bytes ∷ []) more))
-regroup before bytes (Err status) = refl
+regroup_files before bytes (Ok more) = ap (λ files. Ok files) (sym (append_assoc before (bytes ∷ []) more))
+regroup_files before bytes (Err status) = refl
 
 -- one more file is read
 pub owes_fewer : (old now : World) (before : List (List ℕ)) (bytes : List ℕ) (all : List (List ℕ)) (i : ℕ)
@@ -45,7 +45,7 @@ owes_fewer old now before bytes all i lt leaves read owed = λ files told.
     let one : after_files before (listed_files (drop i all) files)
     ≡ after_files (before ++ bytes ∷ []) (listed_files (drop (i + 1) all) files)
     = rw (first, read files (leaves.files ∙ told))
-    (regroup before bytes (listed_files (drop (i + 1) all) files)) in
+    (regroup_files before bytes (listed_files (drop (i + 1) all) files)) in
     owed files told ∙ one
 
 -- all are read
@@ -84,8 +84,9 @@ pub within_all : (names : List (String Global)) (i : ℕ) → i < length names
     → i < length (map string_bytes names)
 within_all names i lt = subst (λ n. i < n) (sym (length-map names string_bytes)) lt
 
-pub past_all : (names : List (String Global)) (i : ℕ) → length names ≤ i → length (map string_bytes names) ≤ i
-past_all names i le = subst (λ n. n ≤ i) (sym (length-map names string_bytes)) le
+pub past_all_names : (names : List (String Global)) (i : ℕ) → length names ≤ i
+    → length (map string_bytes names) ≤ i
+past_all_names names i le = subst (λ n. n ≤ i) (sym (length-map names string_bytes)) le
 
 pub named_item : (names : List (String Global)) (i : ℕ) (item : String Global) (name : List ℕ) → i < length
     names

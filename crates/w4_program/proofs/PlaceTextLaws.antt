@@ -21,9 +21,9 @@ texts-begins first now text written from to le h e =
     (ap (λ bytes. bytes ++ place_texts text (from + 1) (to - from)) (sym e)
     ∙ sym (texts-first text from to le))
 
-texts-next : (text : ℕ → List ℕ) (written : List ℕ) (at to : ℕ) → at < to → text (at + 1) ≡ written
+next_texts-next : (text : ℕ → List ℕ) (written : List ℕ) (at to : ℕ) → at < to → text (at + 1) ≡ written
     → place_texts text (at + 1) (to - at) ≡ written ++ place_texts text (at + 1 + 1) (to - (at + 1))
-texts-next text written at to lt e =
+next_texts-next text written at to lt e =
     let k : to - at ≡ suc (to - (at + 1)) = omega arith in
     rw k (ap (λ bytes. bytes ++ place_texts text (at + 1 + 1) (to - (at + 1))) e)
 
@@ -34,7 +34,7 @@ pub texts-goes_on : (first now next : World) (text : ℕ → List ℕ) (written 
     → Owes first next (place_texts text (at + 1 + 1) (to - (at + 1))) whole
 texts-goes_on first now next text written whole at to lt h e so_far =
     owes_less first now next written (place_texts text (at + 1 + 1) (to - (at + 1))) whole h
-    (subst (λ owed. Owes first now owed whole) (texts-next text written at to lt e) so_far)
+    (subst (λ owed. Owes first now owed whole) (next_texts-next text written at to lt e) so_far)
 
 -- where the first, or a later one, stopped
 pub texts-stop_first : (old new : World) (why : Manner) (text : ℕ → List ℕ) (written : List ℕ) (from to : ℕ)
@@ -46,13 +46,13 @@ texts-stop_first old new why text written from to le e h =
     (stops_more old new why (text from) (place_texts text (from + 1) (to - from))
     (stops_as old new why written (text from) e h))
 
-pub texts-stop : (first now next : World) (why : Manner) (text : ℕ → List ℕ) (written whole : List ℕ)
+pub next_texts-stop : (first now next : World) (why : Manner) (text : ℕ → List ℕ) (written whole : List ℕ)
     (at to : ℕ) → at < to → text (at + 1) ≡ written → first.write_faults ≤ now.write_faults
     → Owes first now (place_texts text (at + 1) (to - at)) whole
     → StopsWriting now next why written → StopsWriting first next why whole
-texts-stop first now next why text written whole at to lt e le so_far h =
+next_texts-stop first now next why text written whole at to lt e le so_far h =
     piece_stopped first now next why written (place_texts text (at + 1 + 1) (to - (at + 1)))
-    (place_texts text (at + 1) (to - at)) whole (texts-next text written at to lt e) le so_far h
+    (place_texts text (at + 1) (to - at)) whole (next_texts-next text written at to lt e) le so_far h
 
 pub texts-ends : (first now : World) (text : ℕ → List ℕ) (whole : List ℕ) (at to : ℕ) → to ≤ at
     → Owes first now (place_texts text (at + 1) (to - at)) whole → Appends first.out now.out whole

@@ -29,7 +29,7 @@ use Rattle.w4_program.specs.Queries.{IsTold, GivesTold, ask_answer, editor_pages
 use Rattle.w4_program.specs.RamAnswers.{Pages, answer_narrow, answer_start, moment_page, outside, pages_of, ram_answer, watch_text}
 use Rattle.w4_program.specs.RamAnswers as answers
 use Rattle.w4_program.proofs.OwesLaws.{stops_as, stops_untold}
-use Rattle.w4_program.proofs.SessionLaws.{appends_nothing, same_disk, same_inputs, same_setup}
+use Rattle.w4_program.proofs.SessionLaws.{appends_nothing, same_disk, same_inputs, same_editing_setup}
 use Rattle.w4_program.proofs.TellLaws.{state_of}
 
 -- ---- pages
@@ -53,14 +53,14 @@ there_as : (past : Bool) → (if past then Some NoFrame else None) ≡ None → 
 there_as true e = absurd cc
 there_as false e = refl
 
-pub is_past : (e : Editing) (p : ℕ) (refusal : RamRefusal) → IsRefusal (no_frame_refusal e p) refusal
+pub place_is_past : (e : Editing) (p : ℕ) (refusal : RamRefusal) → IsRefusal (no_frame_refusal e p) refusal
     → refusal ≢ MemoryRefused → length e.session.current.inputs < p
-is_past e p refusal is other =
+place_is_past e p refusal is other =
     ltb-true (length e.session.current.inputs) p
     (past_as (nat_lt (length e.session.current.inputs) p) refusal is other)
 
-pub is_there : (e : Editing) (p : ℕ) → no_frame_refusal e p ≡ None → p ≤ length e.session.current.inputs
-is_there e p none =
+pub place_is_there : (e : Editing) (p : ℕ) → no_frame_refusal e p ≡ None → p ≤ length e.session.current.inputs
+place_is_there e p none =
     ltb-false (length e.session.current.inputs) p
     (there_as (nat_lt (length e.session.current.inputs) p) none)
 
@@ -115,27 +115,27 @@ printed_as result before after written out same h =
 pub start_there : (e : Editing) (search : Option Search) (width p : ℕ) → no_frame_refusal e p ≡ None
     → answer_start (editor_pages e) search width p ≡ answer_text (Some (begin width (inspect.page_at e p))) []
 start_there e search width p none =
-    rw (le-leb p (length e.session.current.inputs) (is_there e p none))
+    rw (le-leb p (length e.session.current.inputs) (place_is_there e p none))
     (ap (λ page. answer_text (Some (begin width page)) []) (sym (same_page e p)))
 
 pub start_past : (e : Editing) (search : Option Search) (width p : ℕ) (refusal : RamRefusal)
     → IsRefusal (no_frame_refusal e p) refusal → refusal ≢ MemoryRefused
     → answer_start (editor_pages e) search width p ≡ answer_text search no_frame
 start_past e search width p refusal is other =
-    rw (lt-leb p (length e.session.current.inputs) (is_past e p refusal is other)) refl
+    rw (lt-leb p (length e.session.current.inputs) (place_is_past e p refusal is other)) refl
 
 pub narrow_there : (e : Editing) (search : Search) (p : ℕ) (test : Test) → no_frame_refusal e p ≡ None
     → answer_narrow (editor_pages e) (Some search) p test
     ≡ answer_text (Some (narrow search (inspect.page_at e p, test))) []
 narrow_there e search p test none =
-    rw (le-leb p (length e.session.current.inputs) (is_there e p none))
+    rw (le-leb p (length e.session.current.inputs) (place_is_there e p none))
     (ap (λ page. answer_text (Some (narrow search (page, test))) []) (sym (same_page e p)))
 
 pub narrow_past : (e : Editing) (search : Search) (p : ℕ) (test : Test) (refusal : RamRefusal)
     → IsRefusal (no_frame_refusal e p) refusal → refusal ≢ MemoryRefused
     → answer_narrow (editor_pages e) (Some search) p test ≡ answer_text (Some search) no_frame
 narrow_past e search p test refusal is other =
-    rw (lt-leb p (length e.session.current.inputs) (is_past e p refusal is other)) refl
+    rw (lt-leb p (length e.session.current.inputs) (place_is_past e p refusal is other)) refl
 
 -- ---- values
 
@@ -198,8 +198,9 @@ abbrev pub past_query : Ask
 past_query = Watch 0 0 0 0
 
 -- the pages are those of the editor at first
-pub same_pages : (old new : Editing) → OnlyShows old new → editor_pages new ≡ editor_pages old
-same_pages old new shows = λ i. pages_of (same_setup old new shows.rest i) (same_disk old new shows.rest i)
+pub same_editor_pages : (old new : Editing) → OnlyShows old new → editor_pages new ≡ editor_pages old
+same_editor_pages old new shows =
+    λ i. pages_of (same_editing_setup old new shows.rest i) (same_disk old new shows.rest i)
     (same_inputs old new shows i)
 
 pub told_at_first : (before after : World) (first old new : Editing) (search left : Option Search) (line :
@@ -209,12 +210,13 @@ pub told_at_first : (before after : World) (first old new : Editing) (search lef
     → IsTold before after old new left (ram_answer (editor_pages first) search line)
 told_at_first before after first old new search left line shows told =
     subst (λ (pages : Pages). IsTold before after old new left (ram_answer pages search line))
-    (same_pages first old shows) told
+    (same_editor_pages first old shows) told
 
-pub stopped_at_first : (before after : World) (why : Manner) (first old : Editing) (search : Option Search)
+pub ram_stopped_at_first : (before after : World) (why : Manner) (first old : Editing)
+    (search : Option Search)
     (line : Ask)
     → OnlyShows first old → StopsWriting before after why (ask_answer old search line).out
     → StopsWriting before after why (ram_answer (editor_pages first) search line).out
-stopped_at_first before after why first old search line shows told =
+ram_stopped_at_first before after why first old search line shows told =
     subst (λ (pages : Pages). StopsWriting before after why (ram_answer pages search line).out)
-    (same_pages first old shows) told
+    (same_editor_pages first old shows) told

@@ -37,7 +37,7 @@ use Rattle.w4_program.specs.declared.status.Status.{Status}
 use Rattle.w4_program.specs.NetSessions.{NetSession, first_session, net_answer, answer_keep, answer_next, answer_packet, if_passed, net_words, predicted_image, predicted_state}
 use Rattle.w4_program.specs.Replicas.{IsHeard, GivesHeard, net_session}
 use Rattle.w4_program.proofs.OwesLaws.{stops_as, stops_untold}
-use Rattle.w4_program.proofs.SessionLaws.{appends_nothing, rest_at, rest_none, rest_then, same_setup}
+use Rattle.w4_program.proofs.SessionLaws.{appends_nothing, rest_at, rest_none, rest_then, same_editing_setup}
 use Rattle.w4_program.proofs.TellLaws.{image_of_state, line_of_state}
 
 -- ---- sessions
@@ -81,18 +81,19 @@ heard_on_text (Err why) before after old new out wanted is written keeps =
     stops_as before after (manner_of why) out wanted.out (ap (λ (a : Answered NetSession). a.out) is) written
 
 -- a refusal that is told, unless it is memory's
-pub refused_on_text : {X Other : Type 0} (result : Result X Status) (before after : World) (old new : Netplay)
+pub net_refused_on_text : {X Other : Type 0} (result : Result X Status) (before after : World)
+    (old new : Netplay)
     (out : List ℕ) (wanted : Answered NetSession)
     → Other ⊎ WritesNothing before after result
     → (Other → wanted ≡ answer_text (net_session old) out) → (Other → KeepsNetplay old new)
     → Printed before after result out → GivesHeard before after result old new wanted
-refused_on_text (Ok x) before after old new out wanted (inl other) is keeps written =
+net_refused_on_text (Ok x) before after old new out wanted (inl other) is keeps written =
     heard_text before after old new out wanted (is other) written (keeps other)
-refused_on_text (Ok x) before after old new out wanted (inr (failed, same)) is keeps written = absurd cc
-refused_on_text (Err why) before after old new out wanted (inl other) is keeps written =
+net_refused_on_text (Ok x) before after old new out wanted (inr (failed, same)) is keeps written = absurd cc
+net_refused_on_text (Err why) before after old new out wanted (inl other) is keeps written =
     stops_as before after (manner_of why) out wanted.out
     (ap (λ (a : Answered NetSession). a.out) (is other)) written
-refused_on_text (Err why) before after old new out wanted (inr (failed, same)) is keeps written =
+net_refused_on_text (Err why) before after old new out wanted (inr (failed, same)) is keeps written =
     stops_untold before after (manner_of why) out wanted.out same written
 
 pub heard_alone : (world : World) (old new : Netplay) (wanted : Answered NetSession)
@@ -129,9 +130,10 @@ pub same_editor : (old new : Netplay)
     → new ≡ record { pads = old.pads; frames = old.frames + 1; editor = old.editor } → new.editor ≡ old.editor
 same_editor old new is = ap (λ (r : Netplay). r.editor) is
 
-pub frame_refused : (old : Netplay) (refusal : NetRefusal) → refusal ≡ net.FullRecording → 36000 ≤ old.frames
+pub full_recording_refused : (old : Netplay) (refusal : NetRefusal) → refusal ≡ net.FullRecording
+    → 36000 ≤ old.frames
     → answer_next (net_session old) ≡ answer_text (net_session old) (refused_line (net_words refusal))
-frame_refused old refusal is many = rw (le-ltb old.frames 36000 many, is) refl
+full_recording_refused old refusal is many = rw (le-ltb old.frames 36000 many, is) refl
 
 -- ---- places
 
@@ -261,15 +263,15 @@ pub heard_at_first : (before after : World) (first old new : Netplay) (order : N
     → IsHeard before after old new (net_answer (editing_setup first.editor) (net_session old) order)
 heard_at_first before after first old new order rest heard =
     subst (λ (setup : Setup). IsHeard before after old new (net_answer setup (net_session old) order))
-    (same_setup first.editor old.editor rest) heard
+    (same_editing_setup first.editor old.editor rest) heard
 
-pub stopped_at_first : (before after : World) (why : Manner) (first old : Netplay) (order : NetOrder)
+pub net_stopped_at_first : (before after : World) (why : Manner) (first old : Netplay) (order : NetOrder)
     → KeepsRest first.editor old.editor
     → StopsWriting before after why (net_answer (editing_setup old.editor) (net_session old) order).out
     → StopsWriting before after why (net_answer (editing_setup first.editor) (net_session old) order).out
-stopped_at_first before after why first old order rest heard =
+net_stopped_at_first before after why first old order rest heard =
     subst (λ (setup : Setup). StopsWriting before after why (net_answer setup (net_session old) order).out)
-    (same_setup first.editor old.editor rest) heard
+    (same_editing_setup first.editor old.editor rest) heard
 
 -- ---- the beginning
 
@@ -283,12 +285,13 @@ pub blank_as : (r : Recording) (digest : List ℕ) (budget : ℕ) (disk : List �
 blank_as r digest budget disk frames is none no_frames =
     is ∙ (λ i. recording_as digest budget (none i) (no_frames i))
 
-pub begins : (cart : WasmModule) (font digest : List ℕ) (budget : ℕ) (recording : Recording) (state : State)
+pub netplay_begins : (cart : WasmModule) (font digest : List ℕ) (budget : ℕ) (recording : Recording)
+    (state : State)
     (r : Netplay)
     → recording ≡ record { digest = digest; budget = budget; disk = []; frames = [] }
     → known_of r ≡ nothing_known → r.frames ≡ 0 → r.editor ≡ new_editing cart font recording state
     → (editing_setup r.editor ≡ console_setup cart font budget) × (net_session r ≡ first_session)
-begins cart font digest budget recording state r blank known frames editor = (
+netplay_begins cart font digest budget recording state r blank known frames editor = (
   ap (λ (e : Editing). editing_setup e) editor
       ∙ ap (λ (x : Recording). console_setup cart font x.budget) blank,
   same_session_as (known_of r) nothing_known r.frames 0 (places_kept r) (0 ∷ []) known frames

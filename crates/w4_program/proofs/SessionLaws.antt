@@ -31,8 +31,8 @@ pub rest_at : (old new : Editing) (at : Option ℕ) → new ≡ with_session old
 rest_at old new at e =
     e ∙ ap (λ (a : Option ℕ). with_session old new.session a) (sym (ap (λ (x : Editing). x.at) e))
 
-pub same_setup : (old new : Editing) → KeepsRest old new → editing_setup new ≡ editing_setup old
-same_setup old new rest = ap (λ (e : Editing). editing_setup e) rest
+pub same_editing_setup : (old new : Editing) → KeepsRest old new → editing_setup new ≡ editing_setup old
+same_editing_setup old new rest = ap (λ (e : Editing). editing_setup e) rest
 
 pub same_disk : (old new : Editing) → KeepsRest old new → new.disk ≡ old.disk
 same_disk old new rest = ap (λ (e : Editing). e.disk) rest
@@ -93,7 +93,7 @@ same_inputs old new shows = ap (λ (s : Session ℕ). s.current.inputs) shows.se
 pub same_text : (old new : Editing) (wanted : PlaceText) (p : ℕ) → OnlyShows old new
     → text_by new wanted p ≡ text_by old wanted p
 same_text old new wanted p shows =
-    λ i. one_text (same_setup old new shows.rest i) (same_disk old new shows.rest i) (shows.session i)
+    λ i. one_text (same_editing_setup old new shows.rest i) (same_disk old new shows.rest i) (shows.session i)
     wanted p
 
 -- where nothing is to be written

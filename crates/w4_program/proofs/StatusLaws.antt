@@ -12,13 +12,13 @@ use Rattle.w4_program.specs.Output.{Output}
 use Rattle.w4_program.specs.Causes.{ReadFails, StepRefuses, LeavesOutputs, WritesPart, IsExact, ChangesNothing, Reports, LeavesErr}
 use Rattle.w4_program.proofs.EndLaws.{EndsBut}
 
-pub done : (old new : World) (result : Status) (step : Files → Result Output Status → Type 0)
+pub appends_when_done : (old new : World) (result : Status) (step : Files → Result Output Status → Type 0)
     (Means : Files → Type 0)
     → EndsBut old new (manner_of result) step → ((files : Files) → Means files) → result ≡ status.Done
     → ForSome old.files
     (λ files. (made : Output) × step files (Ok made) × Appends old.out new.out made.out
     × (new.files ≡ Some made.files) × Means files)
-done old new result step Means h means e = λ files texts.
+appends_when_done old new result step Means h means e = λ files texts.
     let made = subst (λ s. EndsBut old new (manner_of s) step) e h files texts in
     (made.0, made.1, made.2.0, made.2.1, means files)
 
@@ -65,19 +65,20 @@ pub list_refused : (old new : World) (result : Status) (step : Files → Result 
     → (kind : ScriptKind) → result ≡ status.ListRefused kind → StepRefuses old (status.ListRefused kind) step
 list_refused old new result step h kind e = (subst (λ s. EndsBut old new (manner_of s) step) e h).0
 
-pub refused : (old new : World) (result : Status) (step : Files → Result Output Status → Type 0)
+pub refused_leaves_outputs : (old new : World) (result : Status)
+    (step : Files → Result Output Status → Type 0)
     → EndsBut old new (manner_of result) step → ChangesNothing result → LeavesOutputs old new
-refused old new status.Done step h r = absurd r
-refused old new status.Usage step h r = h.1
-refused old new (status.CartRefused kind) step h r = h.1
-refused old new (status.RecordingRefused kind) step h r = h.1
-refused old new status.FontRefused step h r = h.1
-refused old new (status.ScriptRefused kind) step h r = h.1
-refused old new status.ReadFault step h r = h.1
-refused old new status.WriteFault step h r = absurd r
-refused old new status.OutOfMemory step h r = absurd r
-refused old new (status.FrameRefused number n) step h r = h.1
-refused old new (status.ListRefused kind) step h r = h.1
+refused_leaves_outputs old new status.Done step h r = absurd r
+refused_leaves_outputs old new status.Usage step h r = h.1
+refused_leaves_outputs old new (status.CartRefused kind) step h r = h.1
+refused_leaves_outputs old new (status.RecordingRefused kind) step h r = h.1
+refused_leaves_outputs old new status.FontRefused step h r = h.1
+refused_leaves_outputs old new (status.ScriptRefused kind) step h r = h.1
+refused_leaves_outputs old new status.ReadFault step h r = h.1
+refused_leaves_outputs old new status.WriteFault step h r = absurd r
+refused_leaves_outputs old new status.OutOfMemory step h r = absurd r
+refused_leaves_outputs old new (status.FrameRefused number n) step h r = h.1
+refused_leaves_outputs old new (status.ListRefused kind) step h r = h.1
 
 pub line_reported : (old mid new : World) (line : List ℕ) → LeavesErr old mid → Reports mid new line
     → Reports old new line

@@ -9,7 +9,7 @@ use Rattle.std.proofs.lemmas.Str.{IsUtf8-from_is_utf8, is_utf8-from_IsUtf8}
 use Rattle.w4_defs.specs.Lines.{pieces}
 use Rattle.w4_defs.specs.OrderFile.{ScriptFault, BadLine, with_order}
 use Rattle.w4_script.specs.Names.{NameLine, NameListCases, name_after, name_lines, name_lines_from, names_after, names_of}
-use Rattle.w4_script.proofs.OrderLaws.{with_orders, regroup}
+use Rattle.w4_script.proofs.OrderLaws.{with_orders, regroup_orders}
 
 pub named_before : (number : ℕ) (bytes line rest name : List ℕ)
     → pieces 10 bytes ≡ line ∷ pieces 10 rest → name ≡ strip_last 13 line → 0 < length name
@@ -59,7 +59,7 @@ unfolding names_after
 one_name count before all left line name whole first read so_far =
     let one : with_orders before (names_after count all)
     ≡ with_orders (before ++ name ∷ []) (names_after (count + 1) left)
-    = rw (first, read) (regroup before line.number name (names_after (count + 1) left)) in
+    = rw (first, read) (regroup_orders before line.number name (names_after (count + 1) left)) in
     sym one ∙ so_far
 
 -- and its name is put after those before

@@ -11,11 +11,12 @@ abbrev pub with_orders : {Order : Type 0} → List Order → Result (List Order)
 with_orders before (Ok orders) = Ok (before ++ orders)
 with_orders before (Err fault) = Err fault
 
-pub regroup : {Order : Type 0} (before : List Order) (number : ℕ) (order : Order)
+pub regroup_orders : {Order : Type 0} (before : List Order) (number : ℕ) (order : Order)
     (more : Result (List Order) ScriptFault)
     → with_orders before (with_order number (Some order) more) ≡ with_orders (before ++ order ∷ []) more
-regroup before number order (Ok more) = ap (λ orders. Ok orders) (sym (append_assoc before (order ∷ []) more))
-regroup before number order (Err fault) = refl
+regroup_orders before number order (Ok more) =
+    ap (λ orders. Ok orders) (sym (append_assoc before (order ∷ []) more))
+regroup_orders before number order (Err fault) = refl
 
 -- one more line, whose order is read
 pub one_order : {Order : Type 0} (order_of : OrderReader Order) (before : List Order) (all left : List Line)
@@ -27,7 +28,7 @@ unfolding orders_in
 one_order order_of before all left line order whole first read so_far =
     let one : with_orders before (orders_in order_of all)
     ≡ with_orders (before ++ order ∷ []) (orders_in order_of left)
-    = rw (first, read) (regroup before line.number order (orders_in order_of left)) in
+    = rw (first, read) (regroup_orders before line.number order (orders_in order_of left)) in
     sym one ∙ so_far
 
 -- a bad line

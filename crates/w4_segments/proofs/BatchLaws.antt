@@ -28,16 +28,16 @@ no_other : (t : Bool) → (t ≡ true → ⊥) → t ≡ false
 no_other true h = absurd (h refl)
 no_other false h = refl
 
-pub differs : (a b : List ℕ) → true ≡ not (bytes_eq a b) → a ≢ b
-differs a b other same =
+pub bytes_differ : (a b : List ℕ) → true ≡ not (bytes_eq a b) → a ≢ b
+bytes_differ a b other same =
     let e : true ≡ false = other ∙ ap not ((bytes_eq-Decides a b).1 same) in cc
 
 no_not : (t : Bool) → false ≡ not t → t ≡ true
 no_not true e = refl
 no_not false e = absurd cc
 
-pub agrees : (a b : List ℕ) → false ≡ not (bytes_eq a b) → a ≡ b
-agrees a b same = (bytes_eq-Decides a b).0 (no_not (bytes_eq a b) same)
+pub bytes_agree : (a b : List ℕ) → false ≡ not (bytes_eq a b) → a ≡ b
+bytes_agree a b same = (bytes_eq-Decides a b).0 (no_not (bytes_eq a b) same)
 
 module _ (sha256 : List ℕ → List ℕ) (cart : WasmModule) (font digest bytes : List ℕ) where
   abbrev judged : Option Recording → Option BatchRow
@@ -76,13 +76,14 @@ pub next_at : (first stride at n : ℕ) → at ≡ first + n * stride → at + s
 next_at first stride at n here = grind arith
 
 -- one row more
-pub rows_more : (wanted : ℕ → Option BatchRow) (first stride at : ℕ) (rows : List BatchRow) (row : BatchRow)
+pub one_more_row : (wanted : ℕ → Option BatchRow) (first stride at : ℕ) (rows : List BatchRow)
+    (row : BatchRow)
     → at ≡ first + length rows * stride
     → ((j : ℕ) (d : BatchRow) → j < length rows → wanted (first + j * stride) ≡ Some (get_or rows j d))
     → wanted at ≡ Some row
     → (j : ℕ) (d : BatchRow) → j < length (rows ++ row ∷ [])
     → wanted (first + j * stride) ≡ Some (get_or (rows ++ row ∷ []) j d)
-rows_more wanted first stride at rows row here before now j d lt = elim (cases_lt j (length rows)) [
+one_more_row wanted first stride at rows row here before now j d lt = elim (cases_lt j (length rows)) [
   | inl low ↦ before j d low ∙ ap Some (sym (get_or-append rows (row ∷ []) d j low))
   | inr high ↦
       let last : j ≡ length rows = omega (arith, lt, high, length-append rows (row ∷ [])) in

@@ -189,8 +189,8 @@ dealt_computed e last old dealt played a did =
 
 -- ---- taking over
 
-pub keeps_same : (e : Editing) → KeepsShown e e
-keeps_same e = record {
+pub shown_keeps_same : (e : Editing) → KeepsShown e e
+shown_keeps_same e = record {
   recording = record {
     same = refl;
     inputs = refl;
@@ -301,7 +301,7 @@ pub record Taking (e : Editing) (team : List Worker) (hand : ℕ) (replaced : Op
 
 pub taking_none : (e : Editing) (team : List Worker) → Taking e team 0 None e
 taking_none e team = record {
-  keeps = keeps_same e;
+  keeps = shown_keeps_same e;
   start = λ _. refl;
   stands = λ i d task le lt some other. refl;
   low = λ i d task entry le lt some none. absurd cc;

@@ -17,13 +17,13 @@ union true false None = refl
 union true t (Some n) = refl
 union false t o = refl
 
-shared : (a b c d : Bool) → ((a && b && c) || ((a && b) && d)) ≡ ((a && b) && (d || c))
-shared false b c d = refl
-shared true false c d = refl
-shared true true false false = refl
-shared true true false true = refl
-shared true true true false = refl
-shared true true true true = refl
+shared_conjuncts : (a b c d : Bool) → ((a && b && c) || ((a && b) && d)) ≡ ((a && b) && (d || c))
+shared_conjuncts false b c d = refl
+shared_conjuncts true false c d = refl
+shared_conjuncts true true false false = refl
+shared_conjuncts true true false true = refl
+shared_conjuncts true true true false = refl
+shared_conjuncts true true true true = refl
 
 pub at_row : (row v : ℕ) → is_at (pos row) v ≡ (v == row)
 at_row row v = grind (arith, ints, nat_tests)
@@ -38,7 +38,8 @@ rows_more left right top row u v index h =
     let line : (nat_le top v && nat_lt v (row + 1)) ≡ ((nat_le top v && nat_lt v row) || is_at (pos row) v) =
     next ∙ sym (ap (λ t. (nat_le top v && nat_lt v row) || t) (at_row row v)) in
     union _ _ index ∙ ap (λ t. only_if t index)
-    (shared (int_le left (pos u)) (int_lt (pos u) right) (is_at (pos row) v) (nat_le top v && nat_lt v row)
+    (shared_conjuncts (int_le left (pos u)) (int_lt (pos u) right) (is_at (pos row) v)
+    (nat_le top v && nat_lt v row)
     ∙ ap (λ t. (int_le left (pos u) && int_lt (pos u) right) && t) (sym line))
 
 -- rows of the screen are the rows of the coordinates

@@ -25,8 +25,9 @@ pub second_fails : (a b : Bool) → b ≡ false → (a && b) ≡ false
 second_fails true b e = e
 second_fails false b e = refl
 
-within : (z0 z1 : ℤ) (u : ℕ) → z0 ≤ℤ pos u → pos u <ℤ z1 → (int_le z0 (pos u) && int_lt (pos u) z1) ≡ true
-within z0 z1 u h g = grind (arith, ints)
+within_sides : (z0 z1 : ℤ) (u : ℕ) → z0 ≤ℤ pos u → pos u <ℤ z1
+    → (int_le z0 (pos u) && int_lt (pos u) z1) ≡ true
+within_sides z0 z1 u h g = grind (arith, ints)
 
 before : (z0 z1 : ℤ) (u : ℕ) → pos u <ℤ z0 → (int_le z0 (pos u) && int_lt (pos u) z1) ≡ false
 before z0 z1 u h = grind (arith, ints)
@@ -36,19 +37,19 @@ after z0 z1 u h = grind (arith, ints)
 
 pub is_cell : (x0 x1 y0 y1 : ℤ) (u v : ℕ) → x0 ≤ℤ pos u → pos u <ℤ x1 → y0 ≤ℤ pos v → pos v <ℤ y1
     → is_inside x0 x1 y0 y1 u v ≡ true
-is_cell x0 x1 y0 y1 u v a b c d = both _ _ (within x0 x1 u a b) (within y0 y1 v c d)
+is_cell x0 x1 y0 y1 u v a b c d = both _ _ (within_sides x0 x1 u a b) (within_sides y0 y1 v c d)
 
-pub is_left : (x0 x1 y0 y1 : ℤ) (u v : ℕ) → pos u <ℤ x0 → is_inside x0 x1 y0 y1 u v ≡ false
-is_left x0 x1 y0 y1 u v h = first_fails _ _ (before x0 x1 u h)
+pub left_of_box : (x0 x1 y0 y1 : ℤ) (u v : ℕ) → pos u <ℤ x0 → is_inside x0 x1 y0 y1 u v ≡ false
+left_of_box x0 x1 y0 y1 u v h = first_fails _ _ (before x0 x1 u h)
 
-pub is_right : (x0 x1 y0 y1 : ℤ) (u v : ℕ) → x1 ≤ℤ pos u → is_inside x0 x1 y0 y1 u v ≡ false
-is_right x0 x1 y0 y1 u v h = first_fails _ _ (after x0 x1 u h)
+pub right_of_box : (x0 x1 y0 y1 : ℤ) (u v : ℕ) → x1 ≤ℤ pos u → is_inside x0 x1 y0 y1 u v ≡ false
+right_of_box x0 x1 y0 y1 u v h = first_fails _ _ (after x0 x1 u h)
 
-pub is_above : (x0 x1 y0 y1 : ℤ) (u v : ℕ) → pos v <ℤ y0 → is_inside x0 x1 y0 y1 u v ≡ false
-is_above x0 x1 y0 y1 u v h = second_fails _ _ (before y0 y1 v h)
+pub above_box : (x0 x1 y0 y1 : ℤ) (u v : ℕ) → pos v <ℤ y0 → is_inside x0 x1 y0 y1 u v ≡ false
+above_box x0 x1 y0 y1 u v h = second_fails _ _ (before y0 y1 v h)
 
-pub is_below : (x0 x1 y0 y1 : ℤ) (u v : ℕ) → y1 ≤ℤ pos v → is_inside x0 x1 y0 y1 u v ≡ false
-is_below x0 x1 y0 y1 u v h = second_fails _ _ (after y0 y1 v h)
+pub below_box : (x0 x1 y0 y1 : ℤ) (u v : ℕ) → y1 ≤ℤ pos v → is_inside x0 x1 y0 y1 u v ≡ false
+below_box x0 x1 y0 y1 u v h = second_fails _ _ (after y0 y1 v h)
 
 pub kept_once : (test : Bool) (o : Option ℕ) → only_if test (only_if test o) ≡ only_if test o
 kept_once true o = refl

@@ -147,8 +147,8 @@ other_row b v false n = refl
 not_row : (b v : ℕ) → b ≢ v → (nat_le v b && nat_lt b (v + 1)) ≡ false
 not_row b v n = grind (arith, nat_tests)
 
-outside : (first end n : ℕ) → (first ≤ n → end ≤ n) → (nat_le first n && nat_lt n end) ≡ false
-outside first end n out = grind (arith, nat_tests)
+outside_range : (first end n : ℕ) → (first ≤ n → end ≤ n) → (nat_le first n && nat_lt n end) ≡ false
+outside_range first end n out = grind (arith, nat_tests)
 
 between : (first end n : ℕ) → first ≤ n → n < end → (nat_le first n && nat_lt n end) ≡ true
 between first end n from to = grind (arith, nat_tests)
@@ -183,10 +183,10 @@ row_pixel cells columns v above here below whole inner u b left right top bottom
     → option_or (only_if third edge) (option_or (only_if second inside) (only_if first edge))
     ≡ clipped (painter_of cells) columns.left columns.right v (v + 1) u b =
     λ one two three four. off
-    (first_fails _ (b == v) (outside whole.first inner.first (u + 1) one))
-    (first_fails _ (b == v) (outside inner.first inner.end (u + 1) two))
-    (first_fails _ (b == v) (outside inner.end whole.end (u + 1) three))
-    (first_fails _ (nat_le v b && nat_lt b (v + 1)) (outside columns.left columns.right u four)) in
+    (first_fails _ (b == v) (outside_range whole.first inner.first (u + 1) one))
+    (first_fails _ (b == v) (outside_range inner.first inner.end (u + 1) two))
+    (first_fails _ (b == v) (outside_range inner.end whole.end (u + 1) three))
+    (first_fails _ (nat_le v b && nat_lt b (v + 1)) (outside_range columns.left columns.right u four)) in
     elim (cases_eq b v) [
       | inr n ↦ off (other_row b v _ n) (other_row b v _ n) (other_row b v _ n)
           (second_fails (nat_le columns.left u && nat_lt u columns.right) _ (not_row b v n))

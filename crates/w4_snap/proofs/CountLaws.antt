@@ -8,9 +8,9 @@ use mir.Val.{bool_byte}
 use Rattle.w4_snap.specs.Chunks.{chunk_of, copied_among, differing, differs, is_copied}
 
 -- `u32::from` of a Bool
-pub number_of : (b : Bool) → bool_byte b ≡ (if b then 1 else 0)
-number_of true = refl
-number_of false = refl
+pub bool_byte_is : (b : Bool) → bool_byte b ≡ (if b then 1 else 0)
+bool_byte_is true = refl
+bool_byte_is false = refl
 
 at_most_one : (b : Bool) → (if b then 1 else 0) ≤ 1
 at_most_one true = omega arith

@@ -69,8 +69,8 @@ tone_fields a b e = search rules
 whole_voice : (a : Voice) → a ≡ record { tone = a.tone; age = a.age }
 whole_voice a = refl
 
-same_voice : (a b : Voice) → (a.tone ≡ b.tone) × (a.age ≡ b.age) → a ≡ b
-same_voice a b h = cc (whole_voice a, whole_voice b)
+voice_by_fields : (a b : Voice) → (a.tone ≡ b.tone) × (a.age ≡ b.age) → a ≡ b
+voice_by_fields a b h = cc (whole_voice a, whole_voice b)
 
 voice_fields : (a b : Voice) → a ≡ b → (a.tone ≡ b.tone) × (a.age ≡ b.age)
 voice_fields a b e = search rules
@@ -79,4 +79,4 @@ pub voices_decide : (a b : Voice) → Decides (tone_test a.tone b.tone && a.age 
 voices_decide a b =
     let tones : Decides (tone_test a.tone b.tone) (a.tone ≡ b.tone) =
     Decides-like _ (same_tone a.tone b.tone) (tone_fields a.tone b.tone) (tone_parts a.tone b.tone) in
-    Decides-like _ (same_voice a b) (voice_fields a b) (Decides-and _ _ tones (Decides-eqb _ _))
+    Decides-like _ (voice_by_fields a b) (voice_fields a b) (Decides-and _ _ tones (Decides-eqb _ _))

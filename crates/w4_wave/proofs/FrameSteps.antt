@@ -11,9 +11,9 @@ abbrev pub samples_left : Wave → ℕ → ℕ → List ℕ
 samples_left wave tick count =
     flat_map (λ t. sample_bytes t (after_ticks wave t)) (range_with_len tick count)
 
-pub starts : (wave : Wave) (out : List ℕ) → take 0 out ++ samples_left wave 0 735 ≡ frame_samples wave
+pub samples_start : (wave : Wave) (out : List ℕ) → take 0 out ++ samples_left wave 0 735 ≡ frame_samples wave
 unfolding frame_samples
-starts wave out = refl
+samples_start wave out = refl
 
 left_next : (wave : Wave) (tick count rest : ℕ) → count ≡ suc rest
     → samples_left wave tick count
@@ -25,13 +25,13 @@ front : (out sample : List ℕ) (at next : ℕ) → length sample ≡ 4 → next
 front out sample at next four e h = grind (arith, common_steps)
 
 -- one more sample
-pub more : (wave now : Wave) (out next sample : List ℕ) (tick : ℕ) → tick < 735 → length out ≡ 2940
+pub samples_more : (wave now : Wave) (out next sample : List ℕ) (tick : ℕ) → tick < 735 → length out ≡ 2940
     → now ≡ after_ticks wave tick
     → sample ≡ sample_bytes tick now
     → next ≡ replaced out (4 * tick) 4 sample
     → take (4 * tick) out ++ samples_left wave tick (735 - tick) ≡ frame_samples wave
     → take (4 * (tick + 1)) next ++ samples_left wave (tick + 1) (735 - (tick + 1)) ≡ frame_samples wave
-more wave now out next sample tick h len en es eo so_far =
+samples_more wave now out next sample tick h len en es eo so_far =
     let at = 4 * tick in
     let rest = samples_left wave (tick + 1) (735 - (tick + 1)) in
     let e = es ∙ ap (sample_bytes tick) en in

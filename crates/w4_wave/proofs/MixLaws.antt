@@ -13,9 +13,9 @@ plain : (a b c d : ℤ) → FitsSigned w16 a → FitsSigned w16 b → FitsSigned
 plain a b c d fa fb fc fd =
     rw (to_z-of_z w16 a fa, to_z-of_z w16 b fb, to_z-of_z w16 c fc, to_z-of_z w16 d fd) refl
 
-passed : (sum z : ℤ) → sum ≡ z → negsuc 31999 ≤ℤ z → z ≤ℤ pos 32000
+sum_passed : (sum z : ℤ) → sum ≡ z → negsuc 31999 ≤ℤ z → z ≤ℤ pos 32000
     → (FitsSigned w16 (to_z w32 (of_z w32 sum))) × (to_z w32 (of_z w32 sum) ≡ z)
-passed sum z e low high = (omega (arith, ints), omega (arith, ints))
+sum_passed sum z e low high = (omega (arith, ints), omega (arith, ints))
 
 -- what four channels give at a tick fits 16 bits each
 abbrev pub FourFit : ℕ → List ℤ → List ℤ → List ℤ → List ℤ → Type 0
@@ -35,7 +35,7 @@ pub mixed : (side : ℕ → Bool) (wave : Wave) (tick : ℕ) (first second third
     × (to_z w32 (of_z w32 sum) ≡ sample side tick (after_ticks wave tick))
 mixed side wave tick first second third fourth sum is within a b c d fits e =
     let bounds = samples_are_bounded side tick (after_ticks wave tick) (ranges_stay wave tick is) within in
-    passed sum (sample side tick (after_ticks wave tick))
+    sum_passed sum (sample side tick (after_ticks wave tick))
     (e ∙ plain (get_or first tick (pos 0)) (get_or second tick (pos 0)) (get_or third tick (pos 0))
     (get_or fourth tick (pos 0)) fits.0 fits.1 fits.2 fits.3
     ∙ rw (a tick within, b tick within, c tick within, d tick within) refl) bounds.0 bounds.1

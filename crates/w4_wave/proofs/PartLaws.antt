@@ -126,14 +126,14 @@ shift moved register =
     cond (nat_lt moved ticks_a_second) register (register / 2 + 16384 * ((register + register / 2) % 2))
 
 -- the oscillator after the tick
-pub goes_on : (wave : Wave) (channel tick phase register next moved step : ℕ) → channel < 4
+pub channel_goes_on : (wave : Wave) (channel tick phase register next moved step : ℕ) → channel < 4
     → IsAt wave channel tick phase register
     → step ≡ (output_at channel tick phase register (heard_voice wave channel)).step
     → next ≡ (phase + step) % ticks_a_second
     → (channel ≡ 3 → moved ≡ shift (phase + step) register)
     → moved < 32768
     → IsAt wave channel (tick + 1) next moved
-goes_on wave channel tick phase register next moved step below at steps turns shifts small =
+channel_goes_on wave channel tick phase register next moved step below at steps turns shifts small =
     let now = after_ticks wave tick in
     let far : ℕ → ℕ = λ k. slice_index now.phases k + advance tick (heard_voice now k) in
     let advanced : step ≡ advance tick (heard_voice now channel) =
@@ -206,7 +206,7 @@ part_goes_on wave channel tick part output left right next moved below h ll rl i
       right = given_more on_right wave channel tick part.right right (omega arith) is.right
           (er ∙ ap (λ (o : Output). o.right) e
           ∙ right_given wave channel tick part.phase part.register below is.at);
-      at = goes_on wave channel tick part.phase part.register next moved output.step below is.at
+      at = channel_goes_on wave channel tick part.phase part.register next moved output.step below is.at
           (ap (λ (o : Output). o.step) e) turns shifts small;
     }
 
@@ -226,7 +226,7 @@ mute_at wave channel register (suc tick) below is same small mute =
     let phase = slice_index wave.phases channel in
     let within : phase < ticks_a_second = is.phases channel 0 (omega (arith, below, is.four_phases)) in
     subst (λ t. IsAt wave channel t phase register) (add-one tick)
-    (goes_on wave channel tick phase register phase register 0 below
+    (channel_goes_on wave channel tick phase register phase register 0 below
     (mute_at wave channel register tick below is same small mute)
     (sym (ap (λ v. (output_at channel tick phase register v).step) mute))
     (omega (arith, within))

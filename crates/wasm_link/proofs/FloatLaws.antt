@@ -36,9 +36,9 @@ floats_append xs ys = ap (list_any is_float_entry) (map-append (λ m. m.0) xs ys
     ∙ list_any-append is_float_entry (operations_of xs) (operations_of ys)
 
 -- a list that opens with an entry, and what follows it
-opened : (x : Mark) (xs ys : List Mark) (first inner rest : Bool) → is_float_entry x.0 ≡ first
+opened_floats : (x : Mark) (xs ys : List Mark) (first inner rest : Bool) → is_float_entry x.0 ≡ first
     → floats xs ≡ inner → floats ys ≡ rest → floats ((x ∷ xs) ++ ys) ≡ (first || inner || rest)
-opened x xs ys first inner rest ex exs eys =
+opened_floats x xs ys first inner rest ex exs eys =
     floats_append (x ∷ xs) ys ∙ ap (λ b. (b || floats xs) || floats ys) ex
     ∙ ap (λ b. (first || b) || floats ys) exs ∙ ap (λ b. (first || inner) || b) eys
 
@@ -49,15 +49,15 @@ flat_floats close c at (plain m rest) p =
     ap (λ b. b || floats (flat_at close (at + 1) rest)) (leaf_float m.0 p.0)
     ∙ ap (λ b. is_float_operation m.0 || b) (flat_floats close c (at + 1) rest p.1)
 flat_floats close c at (block r inner rest) p =
-    opened (mark (Block r (at + 1 + span inner))) (flat_at End (at + 1) inner)
+    opened_floats (mark (Block r (at + 1 + span inner))) (flat_at End (at + 1) inner)
     (flat_at close (at + 1 + span inner + 1) rest) _ _ _ refl
     (flat_floats End refl (at + 1) inner p.0) (flat_floats close c (at + 1 + span inner + 1) rest p.1)
 flat_floats close c at (loop r inner rest) p =
-    opened (mark (Loop r (at + 1 + span inner))) (flat_at End (at + 1) inner)
+    opened_floats (mark (Loop r (at + 1 + span inner))) (flat_at End (at + 1) inner)
     (flat_at close (at + 1 + span inner + 1) rest) _ _ _ refl
     (flat_floats End refl (at + 1) inner p.0) (flat_floats close c (at + 1 + span inner + 1) rest p.1)
 flat_floats close c at (if_then r taken rest) p =
-    opened (mark (If r None (at + 1 + span taken))) (flat_at End (at + 1) taken)
+    opened_floats (mark (If r None (at + 1 + span taken))) (flat_at End (at + 1) taken)
     (flat_at close (at + 1 + span taken + 1) rest) _ _ _ refl
     (flat_floats End refl (at + 1) taken p.0) (flat_floats close c (at + 1 + span taken + 1) rest p.1)
 flat_floats close c at (if_else r taken other rest) p =
@@ -66,7 +66,8 @@ flat_floats close c at (if_else r taken other rest) p =
     let front : List Mark = (mark (If r (Some middle) end) ∷ flat_at Else (at + 1) taken)
     ++ flat_at End (middle + 1) other in
     let first : floats front ≡ (is_float_result r || has_float taken || has_float other) =
-    opened (mark (If r (Some middle) end)) (flat_at Else (at + 1) taken) (flat_at End (middle + 1) other) _ _
+    opened_floats (mark (If r (Some middle) end)) (flat_at Else (at + 1) taken)
+    (flat_at End (middle + 1) other) _ _
     _ refl (flat_floats Else refl (at + 1) taken p.0) (flat_floats End refl (middle + 1) other p.1) in
     floats_append front (flat_at close (end + 1) rest) ∙ ap (λ b. b || floats (flat_at close (end + 1) rest))
     first

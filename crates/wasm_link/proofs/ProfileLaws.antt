@@ -4,13 +4,13 @@ use Rattle.std.specs.Prelude.{ℕ, option_map}
 use Rattle.w4_defs.specs.declared.refusal.ProfileRefusal.{ProfileRefusal}
 use Rattle.w4_defs.specs.Profile.{if_so, first_cause}
 
-pub given : (b : Bool) (r : ProfileRefusal) (rest : List (Option ProfileRefusal)) → b ≡ true
+pub cause_given : (b : Bool) (r : ProfileRefusal) (rest : List (Option ProfileRefusal)) → b ≡ true
     → Some r ≡ first_cause (if_so b r ∷ rest)
-given b r rest e = sym (ap (λ x. first_cause (if_so x r ∷ rest)) e)
+cause_given b r rest e = sym (ap (λ x. first_cause (if_so x r ∷ rest)) e)
 
-pub passed : (b : Bool) (r : ProfileRefusal) (rest : List (Option ProfileRefusal)) → b ≡ false
+pub cause_passed : (b : Bool) (r : ProfileRefusal) (rest : List (Option ProfileRefusal)) → b ≡ false
     → first_cause rest ≡ first_cause (if_so b r ∷ rest)
-passed b r rest e = sym (ap (λ x. first_cause (if_so x r ∷ rest)) e)
+cause_passed b r rest e = sym (ap (λ x. first_cause (if_so x r ∷ rest)) e)
 
 pub last : (o : Option ProfileRefusal) → o ≡ first_cause (o ∷ [])
 last None = refl

@@ -27,9 +27,9 @@ use Rattle.wasm_machine.proofs.StraightLaws.{OpAt}
 use Rattle.wasm_machine.proofs.CallIndirectLaws.{direct, indirect, outside_table, empty_entry, full_entry, typed_call, named_there, named_within}
 
 -- a place at which an operation stands
-pub op_within : (ms : List Mark) (place : ℕ) (o : Op) → OpAt ms place o → length ms < 4294967296
+pub next_place_fits : (ms : List Mark) (place : ℕ) (o : Op) → OpAt ms place o → length ms < 4294967296
     → place + 1 < 4294967296
-op_within ms place o at bound =
+next_place_fits ms place o at bound =
     let within : place < length (operations_of ms) = slice_get_within (operations_of ms) place o at in
     let long : length (operations_of ms) ≡ length ms = length-map ms (λ (m : Mark). m.0) in
     omega arith

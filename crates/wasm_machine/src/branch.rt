@@ -2,7 +2,7 @@
 
 ghost use Rattle.std.specs.Prelude.{◌≡◌, ◌≤◌, ◌<◌, ◌+◌, ◌∷◌, drop, length};
 ghost use Rattle.w4_defs.specs.Effects.{truth};
-ghost use Rattle.wasm_machine.specs.Moves.{caller, cut, is_list, lists_of, CanClose, CanLand, CanLeave, Closes, Lands};
+ghost use Rattle.wasm_machine.specs.Moves.{caller, cut_to_height, is_list, lists_of, CanClose, CanLand, CanLeave, Closes, Lands};
 
 use crate::activation::Activation;
 use crate::flow::Flow;
@@ -29,7 +29,7 @@ fn leave(
     slots: &mut ValueStack,
 )
     requires { CanLeave answers reserve slots.old activation.old }
-    ensures slots { slots.new ≡ cut activation.old.base (truth answers) slots.old }
+    ensures slots { slots.new ≡ cut_to_height activation.old.base (truth answers) slots.old }
     ensures activation { activation.new ≡ caller base reserve activation.old }
 {
     slots.cut(activation.base, count(answers));
@@ -40,7 +40,7 @@ fn leave(
 
 /// A branch to the innermost label.
 #[inline(always)]
-pub(crate) fn land(
+fn land(
     rest: u32,
     activation: &mut Activation,
     labels: &mut LabelStack,
@@ -60,10 +60,7 @@ pub(crate) fn land(
         ) => {
             labels.leave(1);
             slots.cut(height as usize, count(answers));
-            Flow::Go {
-                place: end as usize + 1,
-                rest,
-            }
+            Flow::after(end as usize, rest)
         }
         Some(Label::Loop { start, height }) => {
             slots.cut(height as usize, 0);
@@ -122,12 +119,28 @@ fn in_list(labels: &LabelStack) -> bool
 }
 
 /// Leaves all lists that are open in the active function.
-pub(crate) fn leave_lists(labels: &mut LabelStack)
+fn leave_lists(labels: &mut LabelStack)
     ensures left { labels.new ≡ drop (lists_of labels.old) labels.old }
 {
     while in_list(labels) {
         labels.leave(1);
     }
+}
+
+/// A branch to the label of the active function: a return.
+#[inline(always)]
+pub(crate) fn branch_to_caller(
+    rest: u32,
+    activation: &mut Activation,
+    labels: &mut LabelStack,
+    slots: &mut ValueStack,
+) -> Flow
+    requires { CanLand (drop (lists_of labels.old) labels.old) slots.old activation.old }
+    ensures { Lands (drop (lists_of labels.old) labels.old) slots.old activation.old rest result labels.new
+        slots.new activation.new }
+{
+    leave_lists(labels);
+    land(rest, activation, labels, slots)
 }
 
 /// The end of the innermost list, at this place; that of an if may be its else.
@@ -148,17 +161,11 @@ pub(crate) fn close(
         None => Flow::Done { rest },
         Some(Label::List { end, .. }) => {
             labels.leave(1);
-            Flow::Go {
-                place: end as usize + 1,
-                rest,
-            }
+            Flow::after(end as usize, rest)
         }
         Some(Label::Loop { .. }) => {
             labels.leave(1);
-            Flow::Go {
-                place: place + 1,
-                rest,
-            }
+            Flow::after(place, rest)
         }
         Some(
             Label::Call {

@@ -7,8 +7,8 @@ use Rattle.std.specs.Int.Bits.{or_self}
 use Rattle.w4_defs.specs.Integers.{rotl, rotr}
 
 -- the part that moves up, at a width of j + k digits
-moved_up : (j k n : ℕ) → n * 2 ^ k % 2 ^ (j + k) ≡ n % 2 ^ j * 2 ^ k
-moved_up j k n =
+shifted_up : (j k n : ℕ) → n * 2 ^ k % 2 ^ (j + k) ≡ n % 2 ^ j * 2 ^ k
+shifted_up j k n =
     let split : n * 2 ^ k % 2 ^ (j + k) ≡ n * 2 ^ k / 2 ^ k % 2 ^ j * 2 ^ k + n * 2 ^ k % 2 ^ k =
     mod-pow-add (n * 2 ^ k) j k in
     let high : n * 2 ^ k / 2 ^ k % 2 ^ j * 2 ^ k ≡ n % 2 ^ j * 2 ^ k =
@@ -20,7 +20,7 @@ joined : (w j k n : ℕ) → j + k ≡ w → n < 2 ^ w
     → bit_or (n * 2 ^ k % 2 ^ w) (n / 2 ^ j) ≡ n * 2 ^ k % 2 ^ w + n / 2 ^ j
 joined w j k n whole h =
     let up : n * 2 ^ k % 2 ^ w ≡ n % 2 ^ j * 2 ^ k = ap (λ m. n * 2 ^ k % 2 ^ m) (sym whole)
-    ∙ moved_up j k n in
+    ∙ shifted_up j k n in
     let below : n < 2 ^ (k + j) = subst (λ m. n < 2 ^ m) (sym whole ∙ omega arith) h in
     ap (λ m. bit_or m (n / 2 ^ j)) up
     ∙ or_shifted (n % 2 ^ j) k (n / 2 ^ j) (shr_below n k j below)

@@ -8,10 +8,11 @@ use Rattle.w4_defs.specs.BinaryNumber.{unsigned}
 use Rattle.w4_defs.specs.BinaryType.{vector, sized, bytes}
 use Rattle.w4_defs.specs.Reading.{◌>>=◌, front_at}
 use Rattle.w4_defs.proofs.ReadingLaws.{front_again}
+use Rattle.w4_defs.proofs.OptionLaws.{bind_some, held_if}
 use Rattle.wasm_read.specs.Reader.{Reader, read_as, Takes, Reads, ReadsWhole, row_of, coded_at}
 use Rattle.wasm_read.specs.ReadNumber.{unsigned_at}
 use Rattle.wasm_read.specs.Combine.{both_at, mapped_at, tested_at, headed_at, items_at, vector_at, whole_at, sized_bytes_at, sized_at}
-use Rattle.wasm_read.proofs.Basics.{bind_some, split_if, if_some, same_read, moved}
+use Rattle.wasm_read.proofs.Basics.{split_if, same_read, takes_as_read}
 use Rattle.wasm_read.proofs.NumberLaws.{unsigned_reads}
 
 -- one text and then another, taken from the front
@@ -27,7 +28,7 @@ both_reads {A} {B} P Q p q rp rq = record {
   sound = λ bytes x rest e.
       let f = bind_some (p bytes) (λ (a : A × List ℕ). q a.1 >>= λ b. read_as (a.0, b.0) b.1) (x, rest) e in
       let s = bind_some (q f.0.1) (λ (b : B × List ℕ). read_as (f.0.0, b.0) b.1) (x, rest) f.2 in
-      moved (λ (z : A × B). P z.0 then Q z.1) bytes (f.0.0, s.0.0) x s.0.1 rest
+      takes_as_read (λ (z : A × B). P z.0 then Q z.1) bytes (f.0.0, s.0.0) x s.0.1 rest
       (joined_takes P Q bytes f.0.0 f.0.1 s.0.0 s.0.1 (rp.sound bytes f.0.0 f.0.1 f.1)
       (rq.sound f.0.1 s.0.0 s.0.1 s.1)) s.2;
   complete = λ text rest x h.
@@ -44,7 +45,8 @@ mapped_reads {A} {B} P p f g there back r = record {
       let s = bind_some (p bytes) (λ (a : A × List ℕ). read_as (f a.0) a.1) (y, rest) e in
       let t = r.sound bytes s.0.0 s.0.1 s.1 in
       let Q : A → Type 0 = λ a. P a t.0 in
-      moved (λ (b : B). P (g b)) bytes (f s.0.0) y s.0.1 rest (t.0, t.1, subst Q (sym (there s.0.0)) t.2) s.2;
+      takes_as_read (λ (b : B). P (g b)) bytes (f s.0.0) y s.0.1 rest
+      (t.0, t.1, subst Q (sym (there s.0.0)) t.2) s.2;
   complete = λ text rest y h.
       let e = r.complete text rest (g y) h in
       rw e (ap (λ b. read_as b rest) (back y));
@@ -56,9 +58,9 @@ pub tested_reads : {A : Type 0} (P : A → Texts) (p : Reader A) (C : A → Type
 tested_reads {A} P p C test decides r = record {
   sound = λ bytes x rest e.
       let s = bind_some (p bytes) (λ (a : A × List ℕ). if test a.0 then Some a else None) (x, rest) e in
-      let i = if_some (test s.0.0) (Some s.0) (x, rest) s.2 in
+      let i = held_if (test s.0.0) (Some s.0) (x, rest) s.2 in
       let t = r.sound bytes s.0.0 s.0.1 s.1 in
-      moved (λ (a : A). provided (C a) (P a)) bytes s.0.0 x s.0.1 rest
+      takes_as_read (λ (a : A). provided (C a) (P a)) bytes s.0.0 x s.0.1 rest
       (t.0, t.1, ((decides s.0.0).0 i.0, t.2)) i.1;
   complete = λ text rest x h.
       let e = r.complete text rest x h.1 in
@@ -76,7 +78,7 @@ headed_sound : {A : Type 0} (P : A → Texts) (p : Reader A) (code : ℕ) → Re
     → headed_at code p bytes ≡ Some (x, rest) → Takes (λ z. byte code then P z) bytes x rest
 headed_sound P p code r [] x rest e = absurd cc
 headed_sound P p code r (b ∷ bs) x rest e =
-    let i = if_some (eqb b code) (p bs) (x, rest) e in
+    let i = held_if (eqb b code) (p bs) (x, rest) e in
     head_taken P code b bs x rest (eqb-true b code i.0) (r.sound bs x rest i.1)
 
 headed_complete : {A : Type 0} (P : A → Texts) (p : Reader A) (code : ℕ) → Reads P p
@@ -97,7 +99,7 @@ items_sound : {A : Type 0} (P : A → Texts) (p : Reader A) → Reads P p
     → items_at p n bytes ≡ Some (xs, rest) → (length xs ≡ n) × Takes (items P) bytes xs rest
 items_sound {A} P p r zero bytes xs rest e =
     let same = same_read [] xs bytes rest e in
-    (ap (λ ys. length ys) (sym same.0), moved (items P) bytes [] xs bytes rest ([], refl, refl) e)
+    (ap (λ ys. length ys) (sym same.0), takes_as_read (items P) bytes [] xs bytes rest ([], refl, refl) e)
 items_sound {A} P p r (suc n) bytes xs rest e =
     let f = bind_some (p bytes) (λ (a : A × List ℕ). items_at p n a.1 >>= λ b. read_as (a.0 ∷ b.0) b.1)
     (xs, rest) e in
@@ -108,8 +110,10 @@ items_sound {A} P p r (suc n) bytes xs rest e =
     let pair = joined_takes P (items P) bytes f.0.0 f.0.1 s.0.0 s.0.1 front others.1 in
     let t : Takes (items P) bytes (f.0.0 ∷ s.0.0) s.0.1 = pair in
     let same = same_read (f.0.0 ∷ s.0.0) xs s.0.1 rest s.2 in
-    let count : length (f.0.0 ∷ s.0.0) ≡ suc n = omega (arith, others.0) in
-    (ap (λ ys. length ys) (sym same.0) ∙ count, moved (items P) bytes (f.0.0 ∷ s.0.0) xs s.0.1 rest t s.2)
+    let count : length (f.0.0 ∷ s.0.0) ≡ suc n = omega (arith, others.0) in (
+      ap (λ ys. length ys) (sym same.0) ∙ count,
+      takes_as_read (items P) bytes (f.0.0 ∷ s.0.0) xs s.0.1 rest t s.2,
+    )
 
 items_complete : {A : Type 0} (P : A → Texts) (p : Reader A) → Reads P p → (xs : List A) (text rest : List ℕ)
     → items P xs text → items_at p (length xs) (text ++ rest) ≡ Some (xs, rest)
@@ -143,7 +147,7 @@ pub whole_reads : {A : Type 0} (P : A → Texts) (p : Reader A) → Reads P p �
 whole_reads {A} P p r = record {
   sound = λ bytes x e.
       let s = bind_some (p bytes) (λ (a : A × List ℕ). if eqb (length a.1) 0 then Some a.0 else None) x e in
-      let i = if_some (eqb (length s.0.1) 0) (Some s.0.0) x s.2 in
+      let i = held_if (eqb (length s.0.1) 0) (Some s.0.0) x s.2 in
       let t = r.sound bytes s.0.0 s.0.1 s.1 in
       let empty : s.0.1 ≡ [] = nil_from_length s.0.1 (eqb-true (length s.0.1) 0 i.0) in
       let all : bytes ≡ t.0 = t.1 ∙ ap (λ m. t.0 ++ m) empty ∙ append-nil t.0 in
@@ -201,7 +205,7 @@ sized_reads {A} P whole r = record {
       let t = cut_reads.sound text f.0.0 f.0.1 f.1 in
       let c = t.2 in
       let same : List ℕ → Type 0 = λ m. P w.0 m in
-      moved (sized P) text w.0 x f.0.1 rest
+      takes_as_read (sized P) text w.0 x f.0.1 rest
       (t.0, t.1, (c.0, c.1, c.2, c.3, subst same (sym c.4) (r.sound f.0.0 w.0 w.1))) w.2;
   complete = λ text rest x h.
       let e = cut_reads.complete text rest h.1 (h.0, h.1, h.2, h.3, refl) in
@@ -234,7 +238,7 @@ coded_sound : {A : Type 0} (P : A → Texts) (rows : List (ℕ × A)) → AllCod
 coded_sound P rows all [] x rest e = absurd cc
 coded_sound P rows all (b ∷ bs) x rest e =
     let s = bind_some (row_of rows b) (λ y. read_as y bs) (x, rest) e in
-    moved P (b ∷ bs) s.0 x bs rest (b ∷ [], refl, row_coded P rows b s.0 all s.1) s.2
+    takes_as_read P (b ∷ bs) s.0 x bs rest (b ∷ [], refl, row_coded P rows b s.0 all s.1) s.2
 
 pub coded_reads : {A : Type 0} (P : A → Texts) (rows : List (ℕ × A)) → AllCoded P rows
     → ((x : A) (text : List ℕ) → P x text → (b : ℕ) × (text ≡ b ∷ []) × (row_of rows b ≡ Some x))

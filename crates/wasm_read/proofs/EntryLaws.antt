@@ -11,13 +11,14 @@ use Rattle.w4_defs.specs.BinaryType.{vector, block_type}
 use Rattle.w4_defs.specs.BinaryInstruction.{operation, table_labels, with_labels}
 use Rattle.w4_defs.specs.Tree.{Mark, mark}
 use Rattle.w4_defs.specs.Flattening.{IsLeaf}
+use Rattle.w4_defs.proofs.OptionLaws.{bind_some, held_if}
 use Rattle.wasm_read.specs.Reader.{read_as, Takes, Reads}
 use Rattle.wasm_read.specs.ReadNumber.{unsigned_at}
 use Rattle.wasm_read.specs.Combine.{both_at, mapped_at, vector_at}
 use Rattle.wasm_read.specs.ReadType.{block_type_at}
 use Rattle.wasm_read.specs.ReadOperation.{first_some, operation_at}
 use Rattle.wasm_read.specs.ReadExpression.{block_of, loop_of, if_of, bracket_at, unlabelled_at, with_last, table_at, table_mark, entry_at}
-use Rattle.wasm_read.proofs.Basics.{bind_some, split_if, if_some, moved}
+use Rattle.wasm_read.proofs.Basics.{split_if, takes_as_read}
 use Rattle.wasm_read.proofs.NumberLaws.{unsigned_reads}
 use Rattle.wasm_read.proofs.CombineLaws.{both_reads, vector_reads}
 use Rattle.wasm_read.proofs.TypeLaws.{block_type_reads}
@@ -79,13 +80,13 @@ opener_sound f code spelled b bs op rest same e =
     let s = bind_some (block_type_at bs) (λ (r : Option ValType × List ℕ). read_as (f r.0) r.1) (op, rest) e
     in
     let t = block_type_reads.sound bs s.0.0 s.0.1 s.1 in
-    moved Unlabelled (b ∷ bs) (f s.0.0) op s.0.1 rest
+    takes_as_read Unlabelled (b ∷ bs) (f s.0.0) op s.0.1 rest
     (code ∷ t.0, ap (λ k. k ∷ bs) same ∙ ap (λ xs. code ∷ xs) t.1, spelled s.0.0 t.0 t.2) s.2
 
 byte_sound : (x : Op) (code : ℕ) → Unlabelled x (code ∷ []) → (b : ℕ) (bs : List ℕ) (op : Op) (rest : List ℕ)
     → b ≡ code → read_as x bs ≡ Some (op, rest) → Takes Unlabelled (b ∷ bs) op rest
 byte_sound x code h b bs op rest same e =
-    moved Unlabelled (b ∷ bs) x op bs rest (code ∷ [], ap (λ k. k ∷ bs) same, h) e
+    takes_as_read Unlabelled (b ∷ bs) x op bs rest (code ∷ [], ap (λ k. k ∷ bs) same, h) e
 
 bracket_sound : (bytes : List ℕ) (op : Op) (rest : List ℕ) → bracket_at bytes ≡ Some (op, rest)
     → Takes Unlabelled bytes op rest
@@ -111,7 +112,7 @@ bracket_sound (b ∷ bs) op rest e =
                   | inr m ↦ elim (split_if (eqb b 0x05) (read_as Else bs) fourth (read_as op rest) m.1) [
                     | inl p ↦ byte_sound Else 0x05 (refl, refl) b bs op rest (eqb-true b 0x05 p.0) p.1
                     | inr p ↦
-                        let i = if_some (eqb b 0x0b) (read_as End bs) (op, rest) p.1 in
+                        let i = held_if (eqb b 0x0b) (read_as End bs) (op, rest) p.1 in
                         byte_sound End 0x0b (refl, refl) b bs op rest (eqb-true b 0x0b i.0) i.1
                   ]
                 ]
@@ -140,7 +141,7 @@ table_taken : (b : ℕ) (bs : List ℕ) (x : List ℕ × ℕ) (after labels rest
     → read_as (with_last x) after ≡ Some (labels, rest)
     → Takes (λ ls. entry_texts BrTable ls) (b ∷ bs) labels rest
 table_taken b bs x after labels rest same t e =
-    moved (λ ls. entry_texts BrTable ls) (b ∷ bs) (with_last x) labels after rest (
+    takes_as_read (λ ls. entry_texts BrTable ls) (b ∷ bs) (with_last x) labels after rest (
       0x0e ∷ t.0,
       ap (λ k. k ∷ bs) same ∙ ap (λ xs. 0x0e ∷ xs) t.1,
       (0x0e ∷ [], t.0, refl, refl, (x.0, x.1, refl, t.2)),
@@ -151,7 +152,7 @@ table_sound : (bytes labels rest : List ℕ) → table_at bytes ≡ Some (labels
 unfolding table_at
 table_sound [] labels rest e = absurd cc
 table_sound (b ∷ bs) labels rest e =
-    let i = if_some (eqb b 0x0e)
+    let i = held_if (eqb b 0x0e)
     (mapped_at with_last (both_at (vector_at (unsigned_at 32)) (unsigned_at 32)) bs) (labels, rest) e
     in
     let s = bind_some (both_at (vector_at (unsigned_at 32)) (unsigned_at 32) bs)
@@ -166,11 +167,11 @@ entry_sound bytes m rest e =
     e) [
       | inl h ↦
           let s = bind_some (unlabelled_at bytes) (λ (x : Op × List ℕ). read_as (mark x.0) x.1) (m, rest) h in
-          moved entry bytes (mark s.0.0) m s.0.1 rest (unlabelled_sound bytes s.0.0 s.0.1 s.1) s.2
+          takes_as_read entry bytes (mark s.0.0) m s.0.1 rest (unlabelled_sound bytes s.0.0 s.0.1 s.1) s.2
       | inr h ↦
           let s = bind_some (table_at bytes) (λ (x : List ℕ × List ℕ). read_as (table_mark x.0) x.1)
           (m, rest) h.1 in
-          moved entry bytes (table_mark s.0.0) m s.0.1 rest (table_sound bytes s.0.0 s.0.1 s.1) s.2
+          takes_as_read entry bytes (table_mark s.0.0) m s.0.1 rest (table_sound bytes s.0.0 s.0.1 s.1) s.2
     ]
 
 -- the other way

@@ -11,12 +11,13 @@ use Rattle.w4_defs.specs.Tree.{Mark, mark, Expr, done, plain, block, loop, if_th
 use Rattle.w4_defs.specs.Flattening.{read_flat}
 use Rattle.w4_defs.specs.Reading.{◌>>=◌}
 use Rattle.w4_defs.proofs.ReadBack.{flattening_read_back}
+use Rattle.w4_defs.proofs.OptionLaws.{bind_some, held_if}
 use Rattle.wasm_tree.specs.Expressions.{IsFlat}
 use Rattle.wasm_read.specs.declared.brackets.Close.{Close}
 use Rattle.wasm_read.specs.declared.brackets.Close.TheVariants.{Ends, Parts}
 use Rattle.wasm_read.specs.Reader.{read_as, Reads}
 use Rattle.wasm_read.specs.ReadExpression.{entries_at, entry_with_places, entries_with_places, is_one_end, matched, flattening_at, expression_at}
-use Rattle.wasm_read.proofs.Basics.{bind_some, if_some, moved}
+use Rattle.wasm_read.proofs.Basics.{takes_as_read}
 use Rattle.wasm_read.proofs.EntryLaws.{entry_texts, entry, entries_long}
 use Rattle.wasm_read.proofs.Passes.{filled_as, raw, list_proper, raw_spelled, end_spelled, whole_walks, entries_found, entries_sound, filled_raw}
 
@@ -24,9 +25,9 @@ abbrev place_of : Close → ℕ
 place_of (Ends place) = place
 place_of (Parts place) = place
 
-abbrev byte_of : Close → ℕ
-byte_of (Ends place) = 0x0b
-byte_of (Parts place) = 0x05
+abbrev close_byte : Close → ℕ
+close_byte (Ends place) = 0x0b
+close_byte (Parts place) = 0x05
 
 abbrev op_of : Close → Op
 op_of (Ends place) = End
@@ -38,7 +39,8 @@ Forest at [] text ms = (text ≡ []) × (ms ≡ [])
 Forest at (c ∷ cs) text ms =
     (e : Expr) × (next : ℕ) × (a b : List ℕ) × (more : List Mark) × (next ≡ at + span e + 1)
     × (next ≡ place_of c + 1)
-    × (text ≡ a ++ b) × list (byte_of c) e a × (ms ≡ flat_at (op_of c) at e ++ more) × Forest next cs b more
+    × (text ≡ a ++ b) × list (close_byte c) e a × (ms ≡ flat_at (op_of c) at e ++ more)
+    × Forest next cs b more
 
 abbrev pub placed_as : Op → List Close → Option (Op × List Close)
 placed_as op cs = Some (op, cs)
@@ -62,7 +64,7 @@ labels_moved at text op labels cs ms none f =
 
 -- a closing entry begins a list
 grow_done : (at : ℕ) (c : Close) → place_of c ≡ at → (cs : List Close) (a b : List ℕ) (ms : List Mark)
-    → a ≡ byte_of c ∷ [] → Forest (at + 1) cs b ms
+    → a ≡ close_byte c ∷ [] → Forest (at + 1) cs b ms
     → Forest at (c ∷ cs) (a ++ b) (mark (op_of c) ∷ ms)
 grow_done at c e cs a b ms h f = (done, at + 1, a, b, ms, omega arith, omega (arith, e), refl, h, refl, f)
 
@@ -119,7 +121,7 @@ grow_block : (at : ℕ) (r : Option ValType) (k : ℕ) (c : Close) (cs : List Cl
     → Forest (at + 1) (Ends k ∷ (c ∷ cs)) b ms → Forest at (c ∷ cs) (a ++ b) (mark (Block r k) ∷ ms)
 grow_block at r k c cs a b ms h
     (inner, n1, a1, b1, m1, e1, e2, t1, l1, f1, (rest, n2, a2, b2, m2, g1, g2, t2, l2, f2, tail)) =
-    let t = grow_text 2 r a b a1 b1 a2 b2 (list 0x0b inner) (list (byte_of c) rest) h t1 t2 l1 l2 in
+    let t = grow_text 2 r a b a1 b1 a2 b2 (list 0x0b inner) (list (close_byte c) rest) h t1 t2 l1 l2 in
     let end : ℕ = at + 1 + span inner in
     let same : k ≡ end = omega arith in
     let there : n1 ≡ end + 1 = omega arith in
@@ -157,7 +159,7 @@ grow_loop : (at : ℕ) (r : Option ValType) (k : ℕ) (c : Close) (cs : List Clo
     → Forest (at + 1) (Ends k ∷ (c ∷ cs)) b ms → Forest at (c ∷ cs) (a ++ b) (mark (Loop r k) ∷ ms)
 grow_loop at r k c cs a b ms h
     (inner, n1, a1, b1, m1, e1, e2, t1, l1, f1, (rest, n2, a2, b2, m2, g1, g2, t2, l2, f2, tail)) =
-    let t = grow_text 3 r a b a1 b1 a2 b2 (list 0x0b inner) (list (byte_of c) rest) h t1 t2 l1 l2 in
+    let t = grow_text 3 r a b a1 b1 a2 b2 (list 0x0b inner) (list (close_byte c) rest) h t1 t2 l1 l2 in
     let end : ℕ = at + 1 + span inner in
     let same : k ≡ end = omega arith in
     let there : n1 ≡ end + 1 = omega arith in
@@ -196,7 +198,7 @@ grow_if_then : (at : ℕ) (r : Option ValType) (k : ℕ) (c : Close) (cs : List 
     → Forest (at + 1) (Ends k ∷ (c ∷ cs)) b ms → Forest at (c ∷ cs) (a ++ b) (mark (If r None k) ∷ ms)
 grow_if_then at r k c cs a b ms h
     (inner, n1, a1, b1, m1, e1, e2, t1, l1, f1, (rest, n2, a2, b2, m2, g1, g2, t2, l2, f2, tail)) =
-    let t = grow_text 4 r a b a1 b1 a2 b2 (list 0x0b inner) (list (byte_of c) rest) h t1 t2 l1 l2 in
+    let t = grow_text 4 r a b a1 b1 a2 b2 (list 0x0b inner) (list (close_byte c) rest) h t1 t2 l1 l2 in
     let end : ℕ = at + 1 + span inner in
     let same : k ≡ end = omega arith in
     let there : n1 ≡ end + 1 = omega arith in
@@ -259,7 +261,8 @@ grow_else at r j k c cs a b ms h (
   f1,
   (other, n2, a2, b2, m2, g1, g2, t2, l2, f2, (rest, n3, a3, b3, m3, h1, h2, t3, l3, f3, tail)),
 ) =
-    let t = grow_text3 r a b a1 b1 a2 b2 a3 b3 (list 0x05 taken) (list 0x0b other) (list (byte_of c) rest) h
+    let t =
+    grow_text3 r a b a1 b1 a2 b2 a3 b3 (list 0x05 taken) (list 0x0b other) (list (close_byte c) rest) h
     t1 t2 t3 l1 l2 l3 in
     let middle : ℕ = at + 1 + span taken in
     let end : ℕ = middle + 1 + span other in
@@ -376,7 +379,7 @@ matched_sound : (ms : List Mark) (text : List ℕ) (ns : List Mark) → items en
 matched_sound ms text ns h e =
     let f = bind_some (entries_with_places 0 ms)
     (λ (f : List Mark × List Close). if is_one_end f.1 then Some f.0 else None) ns e in
-    let i = if_some (is_one_end f.0.1) (Some f.0.0) ns f.2 in
+    let i = held_if (is_one_end f.0.1) (Some f.0.0) ns f.2 in
     let forest = filled_sound ms 0 text f.0.0 f.0.1 h f.1 in
     let P : List Mark → Type 0 = λ x. Spelled text x in
     let same : f.0.0 ≡ ns = cc in
@@ -392,7 +395,7 @@ flattening_sound bytes ms rest e =
     (λ (x : List Mark × List ℕ). matched x.0 >>= λ ns. read_as ns x.1) (ms, rest) e in
     let t = entries_sound (length bytes) 1 bytes x.0.0 x.0.1 x.1 in
     let n = bind_some (matched x.0.0) (λ ns. read_as ns x.0.1) (ms, rest) x.2 in
-    moved (λ ns text. Spelled text ns) bytes n.0 ms x.0.1 rest
+    takes_as_read (λ ns text. Spelled text ns) bytes n.0 ms x.0.1 rest
     (t.0, t.1, matched_sound x.0.0 t.0 n.0 t.2 n.1) n.2
 
 flattening_complete : (text rest : List ℕ) (e : Expr) → expression e text
@@ -423,7 +426,7 @@ expression_reads = record {
       let back : read_flat s.0.0 ≡ tree = ap read_flat t.2.2
       ∙ flattening_read_back tree (list_proper 0x0b tree t.0 t.2.1) in
       let P : Expr → Type 0 = λ x. expression x t.0 in
-      moved expression bytes (read_flat s.0.0) e s.0.1 rest (t.0, t.1, subst P (sym back) t.2.1) s.2;
+      takes_as_read expression bytes (read_flat s.0.0) e s.0.1 rest (t.0, t.1, subst P (sym back) t.2.1) s.2;
   complete = λ text rest e h.
       let first = flattening_complete text rest e h in
       let back = flattening_read_back e (list_proper 0x0b e text h) in

@@ -19,7 +19,7 @@ use Rattle.wasm_read.specs.Reader.{Reader, read_as, IsUnread}
 use Rattle.wasm_read.specs.Combine.{items_at, after_items}
 use Rattle.wasm_read.proofs.Passes.{filled_as}
 use Rattle.wasm_read.proofs.ExpressionLaws.{placed_as}
-use Rattle.wasm_read.proofs.Basics.{differs_tested}
+use Rattle.wasm_read.proofs.Basics.{numbers_differ_tested}
 use Rattle.wasm_read.specs.ReadExpression.{entry_at, depth_after, entries_at, entry_with_places, entries_with_places, is_one_end, matched}
 
 pub refused : (M N : Type 0) → (M → N) → (e : ReadRefusal) → IsUnread M e → IsUnread N e
@@ -63,7 +63,8 @@ pub entries_more : (ms : List Mark) (m : Mark) (depth n k : ℕ) (bytes after : 
     → depth_after m.0 depth ≢ 0
     → after_items (ms ++ m ∷ []) (entries_at k (depth_after m.0 depth) after) ≡ all
 entries_more ms m depth n k bytes after all inv e h open_left =
-    let test : eqb (depth_after m.0 depth) 0 ≡ false = differs_tested (depth_after m.0 depth) 0 open_left in
+    let test : eqb (depth_after m.0 depth) 0 ≡ false =
+    numbers_differ_tested (depth_after m.0 depth) 0 open_left in
     let step : after_items ms (entries_at (suc k) depth bytes) ≡ after_items ms
     (entries_at k (depth_after m.0 depth) after >>= λ y. read_as (m ∷ y.0) y.1) = rw (h, test) refl in
     sym (after_more ms m (entries_at k (depth_after m.0 depth) after)) ∙ sym step

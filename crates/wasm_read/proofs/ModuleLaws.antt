@@ -10,6 +10,7 @@ use Rattle.w4_defs.specs.BinaryType.{vector, func_type, limits, table_type}
 use Rattle.w4_defs.specs.BinarySection.{contents, Part, Alone, Counted}
 use Rattle.w4_defs.specs.BinaryModule.{preamble, imported, global, exported, element, body, segment, SpellsModule}
 use Rattle.w4_defs.specs.Reading.{◌>>=◌}
+use Rattle.w4_defs.proofs.OptionLaws.{bind_some, held_if}
 use Rattle.wasm_read.specs.declared.refusal.ReadRefusal.{ReadRefusal}
 use Rattle.wasm_read.specs.Reader.{Reader, Reads, Answers}
 use Rattle.wasm_read.specs.ReadNumber.{unsigned_at}
@@ -17,9 +18,9 @@ use Rattle.wasm_read.specs.Combine.{vector_at, whole_at}
 use Rattle.wasm_read.specs.ReadType.{limits_at, table_type_at, func_type_at}
 use Rattle.wasm_read.specs.ReadPart.{import_at, global_at, export_at, element_at, body_at, segment_at}
 use Rattle.wasm_read.specs.ReadSection.{ordered_at, part_at, alone_at, is_number, is_counted}
-use Rattle.wasm_read.specs.ReadModule.{both_some, Contents, Front, front_sections, Middle, middle_sections, Back, back_sections, module_of, collected, contents_in, sections_at, after_these, module_at}
+use Rattle.wasm_read.specs.ReadModule.{both_some, Contents, Front, front_sections, Middle, middle_sections, Back, back_sections, module_of, module_from, contents_in, sections_at, after_these, module_at}
 use Rattle.wasm_read.specs.Unique.{AtMostOneModule}
-use Rattle.wasm_read.proofs.Basics.{bind_some, if_some, and_true}
+use Rattle.wasm_read.proofs.Basics.{and_true}
 use Rattle.wasm_read.proofs.NumberLaws.{unsigned_reads}
 use Rattle.wasm_read.proofs.CombineLaws.{vector_reads, whole_reads}
 use Rattle.wasm_read.proofs.TypeLaws.{limits_reads, table_type_reads, func_type_reads}
@@ -140,8 +141,8 @@ gathered c f k b ef ek eb many count =
       as_many = many;
     }
 
-collected_sound : (c : Contents) (m : WasmModule) → collected c ≡ Some m → Gathers c m
-unfolding collected
+collected_sound : (c : Contents) (m : WasmModule) → module_from c ≡ Some m → Gathers c m
+unfolding module_from
 collected_sound c m e =
     let f = bind_some (front_sections c)
     (λ (f : Front). middle_sections c >>= λ k. back_sections c >>= λ b. if eqb (length f.1.1.0)
@@ -152,7 +153,7 @@ collected_sound c m e =
     let b = bind_some (back_sections c)
     (λ (b : Back). if eqb (length f.0.1.1.0) (length b.1.0) && is_counted (c 12) (length b.1.1)
     then Some (module_of f.0 k.0 b) else None) m k.2 in
-    let i = if_some (eqb (length f.0.1.1.0) (length b.0.1.0) && is_counted (c 12) (length b.0.1.1))
+    let i = held_if (eqb (length f.0.1.1.0) (length b.0.1.0) && is_counted (c 12) (length b.0.1.1))
     (Some (module_of f.0 k.0 b.0)) m b.2 in
     let t = and_true (eqb (length f.0.1.1.0) (length b.0.1.0)) (is_counted (c 12) (length b.0.1.1)) i.0 in
     let g = gathered c f.0 k.0 b.0 f.1 k.1 b.1 (eqb-true (length f.0.1.1.0) (length b.0.1.0) t.0)
@@ -161,8 +162,8 @@ collected_sound c m e =
     let same : module_of f.0 k.0 b.0 ≡ m = ap (λ o. elim o [ Some x ↦ x | None ↦ m ]) i.1 in
     subst P same g
 
-collected_complete : (c : Contents) (m : WasmModule) → Gathers c m → collected c ≡ Some m
-unfolding collected front_sections middle_sections back_sections
+collected_complete : (c : Contents) (m : WasmModule) → Gathers c m → module_from c ≡ Some m
+unfolding module_from front_sections middle_sections back_sections
 collected_complete c m g =
     let f : front_sections c ≡ Some (m.types, (m.imports, (m.functions, m.tables))) =
     both_found (part_at func_type_at (c 1)) _ m.types _
@@ -229,7 +230,7 @@ these_sound : (cs bytes rest : List ℕ) → after_these cs bytes ≡ Some rest 
 these_sound [] bytes rest e = ap (λ o. elim o [ Some x ↦ x | None ↦ bytes ]) e
 these_sound (c ∷ cs) [] rest e = absurd cc
 these_sound (c ∷ cs) (b ∷ bs) rest e =
-    let i = if_some (eqb b c) (after_these cs bs) rest e in
+    let i = held_if (eqb b c) (after_these cs bs) rest e in
     ap (λ k. k ∷ bs) (eqb-true b c i.0) ∙ ap (λ xs. c ∷ xs) (these_sound cs bs rest i.1)
 
 these_found : (cs rest : List ℕ) → after_these cs (cs ++ rest) ≡ Some rest
@@ -244,7 +245,7 @@ unfolding module_at sections_at
 module_sound bytes m e =
     let r = bind_some (after_these preamble bytes) (λ (rest : List ℕ). sections_at rest) m e in
     let rest : List ℕ = r.0 in
-    let o = bind_some (ordered_at (length rest) 0 rest) (λ last. collected (contents_in rest)) m r.2 in
+    let o = bind_some (ordered_at (length rest) 0 rest) (λ last. module_from (contents_in rest)) m r.2 in
     let s = ordered_sound (length rest) 0 rest o.0 o.1 in
     let found = λ (id : ℕ). contents_found s.0 (length rest) id rest s.1 (omega arith) in
     let g = gathers_moved (contents_in rest) (λ id. contents id s.0) m found
@@ -317,15 +318,16 @@ module_complete bytes m (ss, rest, e, spelled, c) =
     ap (λ b. after_these preamble b >>= λ t. sections_at t) e
     ∙ ap (λ o. o >>= λ t. sections_at t) (these_found preamble rest) ∙ (rw last all)
 
-pub no_module : (bytes : List ℕ) (m : WasmModule) → module_at bytes ≡ None → module_at bytes ≡ Some m → ⊥
-no_module bytes m none some = let e : Some m ≡ None = sym some ∙ none in absurd cc
+pub no_module_is_read : (bytes : List ℕ) (m : WasmModule) → module_at bytes ≡ None → module_at bytes ≡ Some m
+    → ⊥
+no_module_is_read bytes m none some = let e : Some m ≡ None = sym some ∙ none in absurd cc
 
 pub read_exactly : (bytes : List ℕ) (r : Result WasmModule ReadRefusal)
     → Answers (λ c. module_at bytes ≡ Some c) (module_at bytes ≡ None) r
     → Answers (λ c. SpellsModule bytes c) ((m : WasmModule) → SpellsModule bytes m → ⊥) r
 read_exactly bytes (Ok c) h = module_sound bytes c h
 read_exactly bytes (Err e) h = refused (module_at bytes ≡ None) ((m : WasmModule) → SpellsModule bytes m → ⊥)
-    (λ none m s. no_module bytes m none (module_complete bytes m s)) e h
+    (λ none m s. no_module_is_read bytes m none (module_complete bytes m s)) e h
 
 pub at_most_one_module : AtMostOneModule
 at_most_one_module bytes m n h k =

@@ -4,9 +4,10 @@ use Rattle.std.proofs.lemmas.Bool.{ltb-true, lt-ltb, le-leb, leb-true, le-ltb}
 use Rattle.std.proofs.lemmas.Bool.Decides.{nat_tests}
 use Rattle.w4_defs.specs.Reading.{◌>>=◌}
 use Rattle.w4_defs.specs.BinaryNumber.{leb, LastUnsigned, LastSigned, unsigned, signed}
+use Rattle.w4_defs.proofs.OptionLaws.{bind_some, held_if}
 use Rattle.wasm_read.specs.Reader.{read_as, Takes, Reads}
 use Rattle.wasm_read.specs.ReadNumber.{last_unsigned, last_signed, with_low_bits, leb_at, unsigned_at, signed_at}
-use Rattle.wasm_read.proofs.Basics.{bind_some, split_if, if_some, same_read}
+use Rattle.wasm_read.proofs.Basics.{split_if, same_read}
 
 -- the last byte is judged as the grammar has it
 pub record IsLast (Last : ℕ → ℕ → ℕ → Type 0) (last : ℕ → ℕ → Option ℕ) : Type 0 where
@@ -41,7 +42,7 @@ leb_sound Last last is w (b ∷ bs) n rest e =
             inl (refl, is.sound w b n (ltb-true b 128 h.0) (s.1 ∙ ap (λ m. Some m) same.0)),
           )
       | inr h ↦
-          let wide = if_some (nat_lt 7 w) (leb_at last (w - 7) bs >>= λ high. Some (with_low_bits b high))
+          let wide = held_if (nat_lt 7 w) (leb_at last (w - 7) bs >>= λ high. Some (with_low_bits b high))
           (n, rest) h.1 in
           let s = bind_some (leb_at last (w - 7) bs) (λ high. Some (with_low_bits b high)) (n, rest) wide.1 in
           joined_sound Last w b n bs rest s.0 (not_below b 128 h.0) (ltb-true 7 w wide.0) s.2
@@ -63,7 +64,7 @@ leb_complete Last last is w (b ∷ bs) rest n (inr (up, wide, m, sum, h)) =
 
 unsigned_last : IsLast LastUnsigned last_unsigned
 unsigned_last = record {
-  sound = λ w b n low e. let s = if_some (nat_lt b (2 ^ w)) (Some b) n e in (low, ltb-true b (2 ^ w) s.0, cc);
+  sound = λ w b n low e. let s = held_if (nat_lt b (2 ^ w)) (Some b) n e in (low, ltb-true b (2 ^ w) s.0, cc);
   low = λ w b n h. h.0;
   complete = λ w b n h. let lt : nat_lt b (2 ^ w) ≡ true = lt-ltb b (2 ^ w) h.1 in
       rw lt (ap (λ k. Some k) (sym h.2));
@@ -74,10 +75,10 @@ signed_sound w b n low e =
     elim (split_if (nat_lt b 64) (if nat_lt (2 * b) (2 ^ w) then Some b else None)
     (if nat_le 256 (2 * b + 2 ^ w) then Some (b + 2 ^ w - 128) else None) (Some n) e) [
       | inl h ↦
-          let s = if_some (nat_lt (2 * b) (2 ^ w)) (Some b) n h.1 in
+          let s = held_if (nat_lt (2 * b) (2 ^ w)) (Some b) n h.1 in
           inl (ltb-true b 64 h.0, ltb-true (2 * b) (2 ^ w) s.0, cc)
       | inr h ↦
-          let s = if_some (nat_le 256 (2 * b + 2 ^ w)) (Some (b + 2 ^ w - 128)) n h.1 in
+          let s = held_if (nat_le 256 (2 * b + 2 ^ w)) (Some (b + 2 ^ w - 128)) n h.1 in
           let least : 256 ≤ 2 * b + 2 ^ w = leb-true 256 (2 * b + 2 ^ w) s.0 in
           let same : b + 2 ^ w - 128 ≡ n = cc in
           inr (not_below b 64 h.0, low, least, omega arith)

@@ -93,25 +93,25 @@ or_left : (a b : Bool) → a ≡ true → (a || b) ≡ true
 or_left true b e = refl
 or_left false b e = absurd cc
 
-within : (low high code : ℕ) → low ≤ code → code ≤ high → is_between low high code ≡ true
-within low high code l h =
+within_is_between : (low high code : ℕ) → low ≤ code → code ≤ high → is_between low high code ≡ true
+within_is_between low high code l h =
     let first : nat_le low code ≡ true = le-leb low code l in
     let second : nat_le code high ≡ true = le-leb code high h in
     rw (first, second) refl
 
 float_tested : (code : ℕ) → IsFloatCode code → is_float_code code ≡ true
-float_tested code (inl (l, h)) = or_left (is_between 0x5b 0x66 code) _ (within 0x5b 0x66 code l h)
+float_tested code (inl (l, h)) = or_left (is_between 0x5b 0x66 code) _ (within_is_between 0x5b 0x66 code l h)
 float_tested code (inr (inl (l, h))) =
     or_right (is_between 0x5b 0x66 code) _
-    (or_left (is_between 0x8b 0xa6 code) _ (within 0x8b 0xa6 code l h))
+    (or_left (is_between 0x8b 0xa6 code) _ (within_is_between 0x8b 0xa6 code l h))
 float_tested code (inr (inr (inl (l, h)))) =
     or_right (is_between 0x5b 0x66 code) _
     (or_right (is_between 0x8b 0xa6 code) _
-    (or_left (is_between 0xa8 0xab code) _ (within 0xa8 0xab code l h)))
+    (or_left (is_between 0xa8 0xab code) _ (within_is_between 0xa8 0xab code l h)))
 float_tested code (inr (inr (inr (l, h)))) =
     or_right (is_between 0x5b 0x66 code) _
     (or_right (is_between 0x8b 0xa6 code) _
-    (or_right (is_between 0xa8 0xab code) _ (within 0xae 0xbf code l h)))
+    (or_right (is_between 0xa8 0xab code) _ (within_is_between 0xae 0xbf code l h)))
 
 float_plain_found : (code : ℕ) (text rest : List ℕ) → IsFloatCode code → text ≡ code ∷ []
     → operation_at (text ++ rest) ≡ Some (FloatPlain code, rest)
@@ -152,12 +152,12 @@ prefixed_found n others op text rest h goes =
     ∙ goes (h.1 ++ rest) (ap (unsigned_at 32) split ∙ e ∙ ap (λ t. read_as n (t ++ rest)) tail.4)
 
 -- two zero bytes
-zeros : (text : List ℕ) → (byte 0 then byte 0) text → text ≡ 0 ∷ 0 ∷ []
-zeros text h = h.2 ∙ ap (λ a. a ++ h.1) h.3 ∙ ap (λ b. 0 ∷ b) h.4
+two_zeros : (text : List ℕ) → (byte 0 then byte 0) text → text ≡ 0 ∷ 0 ∷ []
+two_zeros text h = h.2 ∙ ap (λ a. a ++ h.1) h.3 ∙ ap (λ b. 0 ∷ b) h.4
 
 copy_text : (text : List ℕ) → (byte 0xfc then unsigned 32 10 then byte 0 then byte 0) text
     → (byte 0xfc then unsigned 32 10 then (λ t. t ≡ 0 ∷ 0 ∷ [])) text
-copy_text text h = (h.0, h.1, h.2, h.3, (h.4.0, h.4.1, h.4.2, h.4.3, zeros h.4.1 h.4.4))
+copy_text text h = (h.0, h.1, h.2, h.3, (h.4.0, h.4.1, h.4.2, h.4.3, two_zeros h.4.1 h.4.4))
 
 copy_after : (rest bs : List ℕ) → unsigned_at 32 bs ≡ Some (10, 0 ∷ 0 ∷ rest)
     → operation_after 0xfc bs ≡ Some (MemoryCopy, rest)

@@ -12,12 +12,13 @@ use Rattle.w4_defs.specs.BinaryNumeric.{IsFloatCode}
 use Rattle.w4_defs.specs.BinaryInstruction.{operation}
 use Rattle.w4_defs.specs.Reading.{◌>>=◌, little_endian_at}
 use Rattle.w4_defs.proofs.ReadingLaws.{number_again}
+use Rattle.w4_defs.proofs.OptionLaws.{bind_some, held_if}
 use Rattle.wasm_read.specs.Reader.{Reader, read_as, Takes, Reads, row_of}
 use Rattle.wasm_read.specs.ReadNumber.{unsigned_at, signed_at}
 use Rattle.wasm_read.specs.Combine.{mapped_at, headed_at}
 use Rattle.wasm_read.specs.InstructionTable.{index_rows}
 use Rattle.wasm_read.specs.ReadOperation.{always_at, is_between, is_float_code, has_index, plain_of, access_of, indexed_at, indices_at, access_at, indirect_of, constant_at, prefixed_of, prefixed_at, special_after, operation_after, operation_at}
-use Rattle.wasm_read.proofs.Basics.{bind_some, split_if, if_some, same_read, moved, and_true, differs}
+use Rattle.wasm_read.proofs.Basics.{split_if, same_read, takes_as_read, and_true, numbers_differ}
 use Rattle.wasm_read.proofs.NumberLaws.{unsigned_reads, signed_reads}
 use Rattle.wasm_read.proofs.CombineLaws.{both_reads}
 use Rattle.wasm_read.proofs.InstructionTableLaws.{headed, plain_spelled, indexed_spelled, access_spelled}
@@ -31,7 +32,7 @@ number_sound w bytes n rest e =
       | inl h ↦ absurd cc
       | inr h ↦
           let long : byte_len w ≤ length bytes = grind (arith, nat_tests) in
-          moved (little_endian w) bytes (from_le_bytes w (take (byte_len w) bytes)) n
+          takes_as_read (little_endian w) bytes (from_le_bytes w (take (byte_len w) bytes)) n
           (drop (byte_len w) bytes) rest (
             take (byte_len w) bytes,
             sym (take-append-drop (byte_len w) bytes),
@@ -50,9 +51,10 @@ pub indices_reads : Reads (λ (n : ℕ × ℕ). unsigned 32 n.0 then unsigned 32
 indices_reads = both_reads (unsigned 32) (unsigned 32) (unsigned_at 32) (unsigned_at 32) (unsigned_reads 32)
     (unsigned_reads 32)
 
-taken : (code : ℕ) (bs text rest : List ℕ) (op : Op) → bs ≡ text ++ rest → operation op (code ∷ text)
+takes_operation : (code : ℕ) (bs text rest : List ℕ) (op : Op) → bs ≡ text ++ rest
+    → operation op (code ∷ text)
     → Takes operation (code ∷ bs) op rest
-taken code bs text rest op e h = (code ∷ text, ap (λ t. code ∷ t) e, h)
+takes_operation code bs text rest op e h = (code ∷ text, ap (λ t. code ∷ t) e, h)
 
 at_code : (k code : ℕ) (bs : List ℕ) (op : Op) (rest : List ℕ) → code ≡ k → Takes operation (k ∷ bs) op rest
     → Takes operation (code ∷ bs) op rest
@@ -67,14 +69,14 @@ mapped_sound : {A : Type 0} (P : A → Texts) (p : Reader A) (f : A → Op) (cod
 mapped_sound {A} P p f code r spelled bs op rest e =
     let s = bind_some (p bs) (λ (a : A × List ℕ). read_as (f a.0) a.1) (op, rest) e in
     let t = r.sound bs s.0.0 s.0.1 s.1 in
-    moved operation (code ∷ bs) (f s.0.0) op s.0.1 rest
-    (taken code bs t.0 s.0.1 (f s.0.0) t.1 (spelled s.0.0 t.0 t.2)) s.2
+    takes_as_read operation (code ∷ bs) (f s.0.0) op s.0.1 rest
+    (takes_operation code bs t.0 s.0.1 (f s.0.0) t.1 (spelled s.0.0 t.0 t.2)) s.2
 
 zero_sound : (x op : Op) (bs rest : List ℕ) → headed_at 0 (always_at x) bs ≡ Some (op, rest)
     → (bs ≡ 0 ∷ rest) × (x ≡ op)
 zero_sound x op [] rest e = absurd cc
 zero_sound x op (b ∷ bs) rest e =
-    let i = if_some (eqb b 0) (read_as x bs) (op, rest) e in
+    let i = held_if (eqb b 0) (read_as x bs) (op, rest) e in
     let same = same_read x op bs rest i.1 in
     (ap (λ k. k ∷ bs) (eqb-true b 0 i.0) ∙ ap (λ r. 0 ∷ r) same.1, same.0)
 
@@ -82,7 +84,7 @@ zeros_sound : (x op : Op) (bs rest : List ℕ) → headed_at 0 (headed_at 0 (alw
     → (bs ≡ 0 ∷ 0 ∷ rest) × (x ≡ op)
 zeros_sound x op [] rest e = absurd cc
 zeros_sound x op (b ∷ bs) rest e =
-    let i = if_some (eqb b 0) (headed_at 0 (always_at x) bs) (op, rest) e in
+    let i = held_if (eqb b 0) (headed_at 0 (always_at x) bs) (op, rest) e in
     let z = zero_sound x op bs rest i.1 in
     (ap (λ k. k ∷ bs) (eqb-true b 0 i.0) ∙ ap (λ r. 0 ∷ r) z.0, z.1)
 
@@ -92,7 +94,7 @@ zero_taken : (code : ℕ) (x op : Op) (bs rest : List ℕ) → operation x (code
 zero_taken code x op bs rest h e =
     let z = zero_sound x op bs rest e in
     let P : Op → Type 0 = λ o. Takes operation (code ∷ bs) o rest in
-    subst P z.1 (taken code bs (0 ∷ []) rest x z.0 h)
+    subst P z.1 (takes_operation code bs (0 ∷ []) rest x z.0 h)
 
 -- what follows the number after the prefix
 abbrev Prefixed : ℕ → List ℕ → Op → List ℕ → Type 0
@@ -146,7 +148,7 @@ prefixed_of_sound n bs op rest e =
                 prefixed_moved n bs MemoryCopy op rest z.1
                 (0 ∷ 0 ∷ [], z.0, copy_spelled n (eqb-true n 10 k.0))
             | inr k ↦
-                let i = if_some (eqb n 11) (headed_at 0 (always_at MemoryFill) bs) (op, rest) k.1 in
+                let i = held_if (eqb n 11) (headed_at 0 (always_at MemoryFill) bs) (op, rest) k.1 in
                 let z = zero_sound MemoryFill op bs rest i.1 in
                 prefixed_moved n bs MemoryFill op rest z.1 (0 ∷ [], z.0, fill_spelled n (eqb-true n 11 i.0))
           ]
@@ -158,14 +160,16 @@ prefixed_sound bs op rest e =
     let s = bind_some (unsigned_at 32 bs) (λ (n : ℕ × List ℕ). prefixed_of n.0 n.1) (op, rest) e in
     let t = (unsigned_reads 32).sound bs s.0.0 s.0.1 s.1 in
     let p = prefixed_of_sound s.0.0 s.0.1 op rest s.2 in
-    taken 0xfc bs (t.0 ++ p.0) rest op (t.1 ∙ ap (λ m. t.0 ++ m) p.1 ∙ sym (append_assoc t.0 p.0 rest))
+    takes_operation 0xfc bs (t.0 ++ p.0) rest op (t.1 ∙ ap (λ m. t.0 ++ m) p.1
+    ∙ sym (append_assoc t.0 p.0 rest))
     (p.2 t.0 t.2)
 
 plain_sound : (code : ℕ) (bs : List ℕ) (op : Op) (rest : List ℕ)
     → (plain_of code >>= λ o. read_as o bs) ≡ Some (op, rest) → Takes operation (code ∷ bs) op rest
 plain_sound code bs op rest e =
     let s = bind_some (plain_of code) (λ o. read_as o bs) (op, rest) e in
-    moved operation (code ∷ bs) s.0 op bs rest (code ∷ [], refl, plain_spelled code s.0 [] s.1 refl) s.2
+    takes_as_read operation (code ∷ bs) s.0 op bs rest
+    (code ∷ [], refl, plain_spelled code s.0 [] s.1 refl) s.2
 
 special_sound : (code : ℕ) (bs : List ℕ) (op : Op) (rest : List ℕ) → special_after code bs ≡ Some (op, rest)
     → Takes operation (code ∷ bs) op rest
@@ -208,8 +212,8 @@ between low high code e =
     let h = and_true (nat_le low code) (nat_le code high) e in
     (leb-true low code h.0, leb-true code high h.1)
 
-is_float : (code : ℕ) → is_float_code code ≡ true → IsFloatCode code
-is_float code e =
+is_float_code_sound : (code : ℕ) → is_float_code code ≡ true → IsFloatCode code
+is_float_code_sound code e =
     elim (or_true (is_between 0x5b 0x66 code)
     (is_between 0x8b 0xa6 code || (is_between 0xa8 0xab code || is_between 0xae 0xbf code)) e) [
       | inl h ↦ inl (between 0x5b 0x66 code h)
@@ -228,7 +232,14 @@ last_constant : (code : ℕ) → is_between 0x41 0x44 code ≡ true → eqb code
     → eqb code 0x43 ≡ false → code ≡ 0x44
 last_constant code within a b c =
     let h = between 0x41 0x44 code within in
-    omega (arith, h.0, h.1, differs code 0x41 a, differs code 0x42 b, differs code 0x43 c)
+    omega (
+      arith,
+      h.0,
+      h.1,
+      numbers_differ code 0x41 a,
+      numbers_differ code 0x42 b,
+      numbers_differ code 0x43 c,
+    )
 
 constant_sound : (code : ℕ) (bs : List ℕ) (op : Op) (rest : List ℕ) → is_between 0x41 0x44 code ≡ true
     → constant_at code bs ≡ Some (op, rest) → Takes operation (code ∷ bs) op rest
@@ -268,8 +279,8 @@ indexed_sound code bs op rest e =
     (λ (n : ℕ × List ℕ). row_of (index_rows n.0) code >>= λ o. read_as o n.1) (op, rest) e in
     let t = (unsigned_reads 32).sound bs s.0.0 s.0.1 s.1 in
     let o = bind_some (row_of (index_rows s.0.0) code) (λ x. read_as x s.0.1) (op, rest) s.2 in
-    moved operation (code ∷ bs) o.0 op s.0.1 rest
-    (taken code bs t.0 s.0.1 o.0 t.1 (indexed_spelled s.0.0 code o.0 t.0 o.1 t.2)) o.2
+    takes_as_read operation (code ∷ bs) o.0 op s.0.1 rest
+    (takes_operation code bs t.0 s.0.1 o.0 t.1 (indexed_spelled s.0.0 code o.0 t.0 o.1 t.2)) o.2
 
 access_sound : (code : ℕ) (bs : List ℕ) (op : Op) (rest : List ℕ) → access_at code bs ≡ Some (op, rest)
     → Takes operation (code ∷ bs) op rest
@@ -278,13 +289,14 @@ access_sound code bs op rest e =
     (λ (n : (ℕ × ℕ) × List ℕ). access_of code n.0.0 n.0.1 >>= λ o. read_as o n.1) (op, rest) e in
     let t = indices_reads.sound bs s.0.0 s.0.1 s.1 in
     let o = bind_some (access_of code s.0.0.0 s.0.0.1) (λ x. read_as x s.0.1) (op, rest) s.2 in
-    moved operation (code ∷ bs) o.0 op s.0.1 rest
-    (taken code bs t.0 s.0.1 o.0 t.1 (access_spelled s.0.0.0 s.0.0.1 code o.0 t.0 o.1 t.2)) o.2
+    takes_as_read operation (code ∷ bs) o.0 op s.0.1 rest
+    (takes_operation code bs t.0 s.0.1 o.0 t.1 (access_spelled s.0.0.0 s.0.0.1 code o.0 t.0 o.1 t.2)) o.2
 
 float_sound : (code : ℕ) (bs : List ℕ) (op : Op) (rest : List ℕ) → is_float_code code ≡ true
     → read_as (FloatPlain code) bs ≡ Some (op, rest) → Takes operation (code ∷ bs) op rest
 float_sound code bs op rest is e =
-    moved operation (code ∷ bs) (FloatPlain code) op bs rest (code ∷ [], refl, (is_float code is, refl)) e
+    takes_as_read operation (code ∷ bs) (FloatPlain code) op bs rest
+    (code ∷ [], refl, (is_float_code_sound code is, refl)) e
 
 after_sound : (code : ℕ) (bs : List ℕ) (op : Op) (rest : List ℕ) → operation_after code bs ≡ Some (op, rest)
     → Takes operation (code ∷ bs) op rest

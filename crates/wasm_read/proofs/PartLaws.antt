@@ -17,13 +17,14 @@ use Rattle.w4_defs.specs.BinaryType.{vector, bytes, name, value_type, limits, ta
 use Rattle.w4_defs.specs.BinaryInstruction.{expression}
 use Rattle.w4_defs.specs.BinaryModule.{import_kind, imported, global, export_kind, exported, element, locals_run, function, body, segment}
 use Rattle.w4_defs.specs.Reading.{◌>>=◌}
+use Rattle.w4_defs.proofs.OptionLaws.{bind_some, held_if}
 use Rattle.wasm_read.specs.Reader.{Reader, read_as, Takes, Reads, row_of}
 use Rattle.wasm_read.specs.ReadNumber.{unsigned_at}
 use Rattle.wasm_read.specs.Combine.{both_at, mapped_at, vector_at, whole_at, sized_bytes_at}
 use Rattle.wasm_read.specs.ReadType.{name_at, value_type_at, limits_at, table_type_at, global_type_at}
 use Rattle.wasm_read.specs.ReadExpression.{expression_at}
 use Rattle.wasm_read.specs.ReadPart.{import_kind_at, imported_of, import_at, global_of, global_at, export_kinds, export_kind_at, exported_of, export_at, element_of, element_at, locals_of, run_at, function_of, function_at, body_at, segment_of, segment_at}
-use Rattle.wasm_read.proofs.Basics.{bind_some, split_if, if_some, moved}
+use Rattle.wasm_read.proofs.Basics.{split_if, takes_as_read}
 use Rattle.wasm_read.proofs.NumberLaws.{unsigned_reads}
 use Rattle.wasm_read.proofs.CombineLaws.{both_reads, mapped_reads, tested_reads, vector_reads, whole_reads, cut_reads, sized_reads, coded_reads}
 use Rattle.wasm_read.proofs.TypeLaws.{value_type_reads, limits_reads, table_type_reads, global_type_reads, name_reads}
@@ -37,7 +38,7 @@ coded_sound : {A B : Type 0} (P : A → Texts) (Q : B → Texts) (p : Reader A) 
 coded_sound {A} P Q p f code r spelled b bs y rest same e =
     let s = bind_some (p bs) (λ (x : A × List ℕ). read_as (f x.0) x.1) (y, rest) e in
     let t = r.sound bs s.0.0 s.0.1 s.1 in
-    moved Q (b ∷ bs) (f s.0.0) y s.0.1 rest
+    takes_as_read Q (b ∷ bs) (f s.0.0) y s.0.1 rest
     (code ∷ t.0, ap (λ k. k ∷ bs) same ∙ ap (λ xs. code ∷ xs) t.1, spelled s.0.0 t.0 t.2) s.2
 
 import_kind_sound : (bs : List ℕ) (k : ImportKind) (rest : List ℕ) → import_kind_at bs ≡ Some (k, rest)
@@ -62,7 +63,7 @@ import_kind_sound (b ∷ bs) k rest e =
                   | inl m ↦ coded_sound limits import_kind limits_at imports.Memory 2 limits_reads
                       (λ x text p. (2 ∷ [], text, refl, refl, p)) b bs k rest (eqb-true b 2 m.0) m.1
                   | inr m ↦
-                      let i = if_some (eqb b 3) (mapped_at imports.Global global_type_at bs) (k, rest) m.1 in
+                      let i = held_if (eqb b 3) (mapped_at imports.Global global_type_at bs) (k, rest) m.1 in
                       coded_sound global_type import_kind global_type_at imports.Global 3 global_type_reads
                       (λ x text p. (3 ∷ [], text, refl, refl, p)) b bs k rest (eqb-true b 3 i.0) i.1
                 ]

@@ -9,11 +9,12 @@ use Rattle.w4_defs.specs.BinaryInstruction.{list}
 use Rattle.w4_defs.specs.Tree.{Mark, mark, Expr, done, plain, block, loop, if_then, if_else, span, flat_at}
 use Rattle.w4_defs.specs.Flattening.{IsLeaf, IsProper}
 use Rattle.w4_defs.specs.Reading.{◌>>=◌}
+use Rattle.w4_defs.proofs.OptionLaws.{bind_some}
 use Rattle.wasm_read.specs.declared.brackets.Close.{Close}
 use Rattle.wasm_read.specs.declared.brackets.Close.TheVariants.{Ends, Parts}
 use Rattle.wasm_read.specs.Reader.{Takes}
 use Rattle.wasm_read.specs.ReadExpression.{entry_at, depth_after, entries_at, entry_with_places, entries_with_places}
-use Rattle.wasm_read.proofs.Basics.{bind_some, split_if, moved, differs_tested}
+use Rattle.wasm_read.proofs.Basics.{split_if, takes_as_read, numbers_differ_tested}
 use Rattle.wasm_read.proofs.EntryLaws.{entry_texts, entry, instruction_entry, instruction_leaf, entry_reads}
 
 abbrev pub raw : Op → Expr → List Mark
@@ -52,11 +53,11 @@ items_joined (x ∷ xs) ys a b h k =
     (h.0, h.1 ++ b, ap (λ t. t ++ b) h.2 ∙ append_assoc h.0 h.1 b, h.3, items_joined xs ys h.1 b h.4 k)
 
 -- an entry that opens a list, and the entries after it
-opened : (x : Op) (code : ℕ) (P Q : Texts) (others : List Mark)
+opened_items : (x : Op) (code : ℕ) (P Q : Texts) (others : List Mark)
     → ((t : List ℕ) → (byte code then P) t → entry_texts x [] t)
     → ((t : List ℕ) → Q t → items entry others t) → (text : List ℕ) → (byte code then P then Q) text
     → items entry (mark x ∷ others) text
-opened x code P Q others spelled next text h =
+opened_items x code P Q others spelled next text h =
     let t = h.4 in (
       h.0 ++ t.0,
       t.1,
@@ -85,22 +86,22 @@ raw_spelled k close c done text h = (text, [], sym (append-nil text), c text h, 
 raw_spelled k close c (plain m rest) text h =
     (h.0, h.1, h.2, instruction_entry m.0 m.1 h.0 h.3, raw_spelled k close c rest h.1 h.4)
 raw_spelled k close c (block r inner rest) text h =
-    opened (Block r 0) 0x02 (block_type r) (list 0x0b inner then list k rest)
+    opened_items (Block r 0) 0x02 (block_type r) (list 0x0b inner then list k rest)
     (raw End inner ++ raw close rest) (λ t p. ((refl, refl), p))
     (two_joined (list 0x0b inner) (list k rest) (raw End inner) (raw close rest)
     (raw_spelled 0x0b End end_spelled inner) (raw_spelled k close c rest)) text h
 raw_spelled k close c (loop r inner rest) text h =
-    opened (Loop r 0) 0x03 (block_type r) (list 0x0b inner then list k rest)
+    opened_items (Loop r 0) 0x03 (block_type r) (list 0x0b inner then list k rest)
     (raw End inner ++ raw close rest) (λ t p. ((refl, refl), p))
     (two_joined (list 0x0b inner) (list k rest) (raw End inner) (raw close rest)
     (raw_spelled 0x0b End end_spelled inner) (raw_spelled k close c rest)) text h
 raw_spelled k close c (if_then r taken rest) text h =
-    opened (If r None 0) 0x04 (block_type r) (list 0x0b taken then list k rest)
+    opened_items (If r None 0) 0x04 (block_type r) (list 0x0b taken then list k rest)
     (raw End taken ++ raw close rest) (λ t p. ((refl, refl, refl), p))
     (two_joined (list 0x0b taken) (list k rest) (raw End taken) (raw close rest)
     (raw_spelled 0x0b End end_spelled taken) (raw_spelled k close c rest)) text h
 raw_spelled k close c (if_else r taken other rest) text h =
-    opened (If r None 0) 0x04 (block_type r) (list 0x05 taken then list 0x0b other then list k rest)
+    opened_items (If r None 0) 0x04 (block_type r) (list 0x05 taken then list 0x0b other then list k rest)
     (raw Else taken ++ (raw End other ++ raw close rest)) (λ t p. ((refl, refl, refl), p))
     (two_joined (list 0x05 taken) (list 0x0b other then list k rest) (raw Else taken)
     (raw End other ++ raw close rest) (raw_spelled 0x05 Else else_spelled taken)
@@ -219,7 +220,8 @@ entries_found (suc turns) depth (m ∷ ms) text rest h (inl (zero_left, none)) f
     ∙ (rw (e, test) (ap (λ t. only_as m (t ++ rest)) empty ∙ ap (λ xs. all_as m xs rest) (sym none)))
 entries_found (suc turns) depth (m ∷ ms) text rest h (inr (open_left, w)) few =
     let e = entry_reads.complete h.0 (h.1 ++ rest) m h.3 in
-    let test : eqb (depth_after m.0 depth) 0 ≡ false = differs_tested (depth_after m.0 depth) 0 open_left in
+    let test : eqb (depth_after m.0 depth) 0 ≡ false =
+    numbers_differ_tested (depth_after m.0 depth) 0 open_left in
     let others = entries_found turns (depth_after m.0 depth) ms h.1 rest h.4 w (omega arith) in
     ap (entries_at (suc turns) depth) (ap (λ t. t ++ rest) h.2 ∙ append_assoc h.0 h.1 rest)
     ∙ (rw (e, test, others) refl)
@@ -236,13 +238,13 @@ entries_sound (suc turns) depth bytes ms rest e =
     elim (split_if (eqb (depth_after x.0.0.0 depth) 0) (only_as x.0.0 x.0.1)
     (entries_at turns (depth_after x.0.0.0 depth) x.0.1 >>= λ y. all_as x.0.0 y.0 y.1)
     (all_read ms rest) x.2) [
-      | inl h ↦ moved (items entry) bytes (x.0.0 ∷ []) ms x.0.1 rest
+      | inl h ↦ takes_as_read (items entry) bytes (x.0.0 ∷ []) ms x.0.1 rest
           (front.0, front.1, (front.0, [], sym (append-nil front.0), front.2, refl)) h.1
       | inr h ↦
           let y = bind_some (entries_at turns (depth_after x.0.0.0 depth) x.0.1)
           (λ (y : List Mark × List ℕ). all_as x.0.0 y.0 y.1) (ms, rest) h.1 in
           let others = entries_sound turns (depth_after x.0.0.0 depth) x.0.1 y.0.0 y.0.1 y.1 in
-          moved (items entry) bytes (x.0.0 ∷ y.0.0) ms y.0.1 rest (
+          takes_as_read (items entry) bytes (x.0.0 ∷ y.0.0) ms y.0.1 rest (
             front.0 ++ others.0,
             front.1 ∙ ap (λ m. front.0 ++ m) others.1
                 ∙ sym (append_assoc front.0 others.0 y.0.1),

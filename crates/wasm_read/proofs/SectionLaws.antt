@@ -11,11 +11,12 @@ use Rattle.w4_defs.specs.BinaryText.{◌then◌, byte, items}
 use Rattle.w4_defs.specs.BinaryType.{bytes}
 use Rattle.w4_defs.specs.BinarySection.{Section, section, BeginsWithName, rank, RanksRise, contents}
 use Rattle.w4_defs.specs.Reading.{◌>>=◌}
+use Rattle.w4_defs.proofs.OptionLaws.{bind_some, held_if}
 use Rattle.wasm_read.specs.Reader.{read_as, Takes, Reads}
 use Rattle.wasm_read.specs.Combine.{sized_bytes_at}
 use Rattle.wasm_read.specs.ReadType.{name_at}
 use Rattle.wasm_read.specs.ReadSection.{any_at, section_at, rank_after, ordered_at, contents_at}
-use Rattle.wasm_read.proofs.Basics.{bind_some, split_if, if_some, moved, differs}
+use Rattle.wasm_read.proofs.Basics.{split_if, takes_as_read, numbers_differ}
 use Rattle.wasm_read.proofs.CombineLaws.{both_reads, cut_reads}
 use Rattle.wasm_read.proofs.TypeLaws.{name_reads}
 
@@ -30,7 +31,7 @@ text_tested A B (Err e) bs h = sym (false_of (is_utf8 bs) (λ t. h.0 (IsUtf8-fro
 
 any_sound : (bs : List ℕ) (b : ℕ) (rest : List ℕ) → any_at bs ≡ Some (b, rest) → Takes byte bs b rest
 any_sound [] b rest e = absurd cc
-any_sound (c ∷ bs) b rest e = moved byte (c ∷ bs) c b bs rest (c ∷ [], refl, refl) e
+any_sound (c ∷ bs) b rest e = takes_as_read byte (c ∷ bs) c b bs rest (c ∷ [], refl, refl) e
 
 any_reads : Reads byte any_at
 any_reads = record { sound = any_sound; complete = λ text rest b h. ap (λ t. any_at (t ++ rest)) h }
@@ -60,12 +61,12 @@ ordered_more n m last r (b ∷ bs) after s all inv e some h k =
     sym step ∙ ap (λ i. ordered_at i last (b ∷ bs)) (sym e) ∙ inv
 
 -- one more section
-abbrev Next : ℕ → Section → ℕ → Type 0
-Next last s r =
+abbrev NextSection : ℕ → Section → ℕ → Type 0
+NextSection last s r =
     ((s.0 ≡ 0) × BeginsWithName s.1 × (r ≡ last))
     ⊎ ((s.0 ≢ 0) × (s.0 ≤ 12) × (last < rank s.0) × (r ≡ rank s.0))
 
-rank_sound : (last : ℕ) (s : Section) (r : ℕ) → rank_after last s ≡ Some r → Next last s r
+rank_sound : (last : ℕ) (s : Section) (r : ℕ) → rank_after last s ≡ Some r → NextSection last s r
 unfolding rank_after
 rank_sound last s r e =
     let third : Option ℕ = if nat_lt last (rank s.0) then Some (rank s.0) else None in
@@ -77,14 +78,14 @@ rank_sound last s r e =
           let same : r ≡ last = cc in
           inl (eqb-true s.0 0 h.0, (n.0.0, t.0, n.0.1, t.1, t.2), same)
       | inr h ↦
-          let i = if_some (nat_le s.0 12) third r h.1 in
-          let j = if_some (nat_lt last (rank s.0)) (Some (rank s.0)) r i.1 in
+          let i = held_if (nat_le s.0 12) third r h.1 in
+          let j = held_if (nat_lt last (rank s.0)) (Some (rank s.0)) r i.1 in
           let same : r ≡ rank s.0 = cc in
-          let other : s.0 ≢ 0 = differs s.0 0 h.0 in
+          let other : s.0 ≢ 0 = numbers_differ s.0 0 h.0 in
           inr (other, leb-true s.0 12 i.0, ltb-true last (rank s.0) j.0, same)
     ]
 
-rises_more : (last : ℕ) (s : Section) (r : ℕ) (ss : List Section) → Next last s r → RanksRise r ss
+rises_more : (last : ℕ) (s : Section) (r : ℕ) (ss : List Section) → NextSection last s r → RanksRise r ss
     → RanksRise last (s ∷ ss)
 rises_more last s r ss (inl (zero_id, named, same)) h =
     let P : ℕ → Type 0 = λ k. RanksRise k ss in

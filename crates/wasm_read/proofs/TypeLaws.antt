@@ -11,11 +11,12 @@ use Rattle.w4_defs.specs.Module.{Signature}
 use Rattle.w4_defs.specs.BinaryText.{Texts, ◌then◌, byte}
 use Rattle.w4_defs.specs.BinaryNumber.{unsigned}
 use Rattle.w4_defs.specs.BinaryType.{vector, utf8, name, value_type, func_type, sizes, limits, table_type, mutability, global_type, block_type}
+use Rattle.w4_defs.proofs.OptionLaws.{bind_some, held_if}
 use Rattle.wasm_read.specs.Reader.{read_as, Takes, Reads, ReadsWhole, row_of, coded_at}
 use Rattle.wasm_read.specs.ReadNumber.{unsigned_at}
 use Rattle.wasm_read.specs.Combine.{both_at, mapped_at, headed_at, vector_at}
 use Rattle.wasm_read.specs.ReadType.{utf8_at, name_at, value_type_codes, value_type_at, block_type_codes, block_type_at, mutability_codes, global_type_of, global_type_at, open_limits, closed_limits, limits_at, table_type_at, func_type_of, func_type_at}
-use Rattle.wasm_read.proofs.Basics.{bind_some, split_if, if_some, moved}
+use Rattle.wasm_read.proofs.Basics.{split_if, takes_as_read}
 use Rattle.wasm_read.proofs.NumberLaws.{unsigned_reads}
 use Rattle.wasm_read.proofs.CombineLaws.{both_reads, mapped_reads, tested_reads, headed_reads, vector_reads, sized_reads, coded_reads}
 
@@ -68,7 +69,7 @@ open_sound : (b : ℕ) (bs : List ℕ) (x : Limits) (rest : List ℕ) → b ≡ 
 open_sound b bs x rest zero e =
     let s = bind_some (unsigned_at 32 bs) (λ (n : ℕ × List ℕ). read_as (open_limits n.0) n.1) (x, rest) e in
     let t = (unsigned_reads 32).sound bs s.0.0 s.0.1 s.1 in
-    moved limits (b ∷ bs) (open_limits s.0.0) x s.0.1 rest
+    takes_as_read limits (b ∷ bs) (open_limits s.0.0) x s.0.1 rest
     (0 ∷ t.0, ap (λ k. k ∷ bs) zero ∙ ap (λ xs. 0 ∷ xs) t.1, (0 ∷ [], t.0, refl, refl, t.2)) s.2
 
 closed_sound : (b : ℕ) (bs : List ℕ) (x : Limits) (rest : List ℕ) → b ≡ 1
@@ -78,7 +79,7 @@ closed_sound b bs x rest one e =
     let s = bind_some (both_at (unsigned_at 32) (unsigned_at 32) bs)
     (λ (n : (ℕ × ℕ) × List ℕ). read_as (closed_limits n.0) n.1) (x, rest) e in
     let t = two_numbers.sound bs s.0.0 s.0.1 s.1 in
-    moved limits (b ∷ bs) (closed_limits s.0.0) x s.0.1 rest
+    takes_as_read limits (b ∷ bs) (closed_limits s.0.0) x s.0.1 rest
     (1 ∷ t.0, ap (λ k. k ∷ bs) one ∙ ap (λ xs. 1 ∷ xs) t.1, (1 ∷ [], t.0, refl, refl, t.2)) s.2
 
 limits_sound : (bytes : List ℕ) (x : Limits) (rest : List ℕ) → limits_at bytes ≡ Some (x, rest)
@@ -90,7 +91,7 @@ limits_sound (b ∷ bs) x rest e =
     else None) (Some (x, rest)) e) [
       | inl h ↦ open_sound b bs x rest (eqb-true b 0 h.0) h.1
       | inr h ↦
-          let i = if_some (eqb b 1) (mapped_at closed_limits (both_at (unsigned_at 32) (unsigned_at 32)) bs)
+          let i = held_if (eqb b 1) (mapped_at closed_limits (both_at (unsigned_at 32) (unsigned_at 32)) bs)
           (x, rest) h.1 in
           closed_sound b bs x rest (eqb-true b 1 i.0) i.1
     ]
@@ -133,7 +134,7 @@ func_type_reads =
 utf8_reads : ReadsWhole utf8 utf8_at
 utf8_reads = record {
   sound = λ bytes x e.
-      let i = if_some (is_utf8 bytes) (Some bytes) x e in
+      let i = held_if (is_utf8 bytes) (Some bytes) x e in
       let same : bytes ≡ x = cc in
       let Q : List ℕ → Type 0 = λ m. utf8 m bytes in
       subst Q same (IsUtf8-from_is_utf8 bytes i.0, refl);

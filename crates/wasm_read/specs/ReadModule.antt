@@ -65,8 +65,8 @@ module_of f m b =
     }
 
 -- the module that these contents make, where its counts agree
-unfoldable pub collected : Contents → Option WasmModule
-collected c =
+unfoldable pub module_from : Contents → Option WasmModule
+module_from c =
     front_sections c >>= λ f. middle_sections c >>= λ m. back_sections c
     >>= λ b. if (length f.1.1.0 == length b.1.0) && is_counted (c 12) (length b.1.1)
     then Some (module_of f m b) else None
@@ -75,7 +75,7 @@ abbrev pub contents_in : List ℕ → Contents
 contents_in bytes id = contents_at (length bytes) id bytes
 
 unfoldable pub sections_at : List ℕ → Option WasmModule
-sections_at bytes = ordered_at (length bytes) 0 bytes >>= λ last. collected (contents_in bytes)
+sections_at bytes = ordered_at (length bytes) 0 bytes >>= λ last. module_from (contents_in bytes)
 
 -- the bytes after these
 abbrev pub after_these : List ℕ → List ℕ → Option (List ℕ)

@@ -3,7 +3,7 @@
 ghost use Rattle.std.specs.Prelude.{None, Some, length, option_map, ◌≡◌};
 ghost use Rattle.w4_defs.specs.BinaryModule.{SpellsModule};
 ghost use Rattle.w4_defs.specs.Module.{WasmModule};
-ghost use Rattle.wasm_read.specs.ReadModule.{after_these, back_sections, collected, contents_in, front_sections, middle_sections, module_at, sections_at};
+ghost use Rattle.wasm_read.specs.ReadModule.{after_these, back_sections, module_from, contents_in, front_sections, middle_sections, module_at, sections_at};
 ghost use Rattle.wasm_read.specs.ReadNumber.{unsigned_at};
 ghost use Rattle.wasm_read.specs.ReadSection.{alone_at, is_counted, part_at};
 ghost use Rattle.wasm_read.specs.Reader.{Answers};
@@ -168,10 +168,10 @@ fn back_of(alloc: Global, bytes: &[u8]) -> Result<Back, ReadRefusal>
 }
 
 /// The module of sections that stand in order.
-#[tactic(auto, unfolding(crate::specs::ReadModule::collected))]
+#[tactic(auto, unfolding(crate::specs::ReadModule::module_from))]
 fn collected(alloc: Global, bytes: &[u8]) -> Result<Code, ReadRefusal>
-    ensures { Answers (λ c. collected (contents_in bytes.now) ≡ Some c)
-        (collected (contents_in bytes.now) ≡ None) result }
+    ensures { Answers (λ c. module_from (contents_in bytes.now) ≡ Some c)
+        (module_from (contents_in bytes.now) ≡ None) result }
 {
     let front = front_of(alloc, bytes)?;
     let middle = middle_of(alloc, bytes)?;

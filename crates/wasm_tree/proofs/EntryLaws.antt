@@ -43,11 +43,11 @@ pub record Stands (ms : List Mark) (start place : ℕ) (entry : Option Mark) : T
   pub among : slice_get ms (start + place) ≡ Some (shifted_entry start itself)
   pub within : start + place < length ms
 
-stands : (ms : List Mark) (start place : ℕ) (f : Option Function) → StandsAt ms start f
+function_stands : (ms : List Mark) (start place : ℕ) (f : Option Function) → StandsAt ms start f
     → IfSome f (λ g. IsProper g.list) → place < size_with f
     → Stands ms start place (mark_of f place)
-stands ms start place None h p small = absurd h
-stands ms start place (Some f) h p small =
+function_stands ms start place None h p small = absurd h
+function_stands ms start place (Some f) h p small =
     let m = got_within (flat f.list) place small in
     let there : drop start ms ≡ map (shifted_entry start) (flat f.list) ++ h.0 =
     h.1 ∙ ap (λ xs. xs ++ h.0) (flattening_shifted start f.list p) in
@@ -71,12 +71,12 @@ stands ms start place (Some f) h p small =
     }
 
 -- the entry of the body with this index
-pub stands_in : (ms : List Mark) (fs : List Function) (func start place : ℕ)
+pub stands_in_function : (ms : List Mark) (fs : List Function) (func start place : ℕ)
     → StandsAt ms start (slice_get fs func) → All (λ f. IsProper f.list) fs
     → place < size_with (slice_get fs func)
     → Stands ms start place (mark_of (slice_get fs func) place)
-stands_in ms fs func start place h p small =
-    stands ms start place (slice_get fs func) h (got_all (λ f. IsProper f.list) fs func p) small
+stands_in_function ms fs func start place h p small =
+    function_stands ms start place (slice_get fs func) h (got_all (λ f. IsProper f.list) fs func p) small
 
 pub op_found : (ms : List Mark) (start place : ℕ) (entry : Option Mark) (s : Stands ms start place entry)
     (op op' : Op)

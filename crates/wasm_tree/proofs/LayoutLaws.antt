@@ -13,9 +13,9 @@ use Rattle.wasm_tree.specs.Layout.{Placed, entry_count, laid_from, placed_from, 
 use Rattle.wasm_tree.proofs.ShiftLaws.{flattening_shifted, all_back, length_flat}
 
 -- where one list stands between two others
-part : (front xs back : List Mark) (at count : ℕ) → at ≡ length front → count ≡ length xs
+part_between : (front xs back : List Mark) (at count : ℕ) → at ≡ length front → count ≡ length xs
     → take count (drop at (front ++ (xs ++ back))) ≡ xs
-part front xs back at count ea ec =
+part_between front xs back at count ea ec =
     ap (λ k. take count (drop k (front ++ (xs ++ back)))) ea
     ∙ ap (λ ys. take count ys) (drop-append_seam front (xs ++ back))
     ∙ ap (λ k. take k (xs ++ back)) ec ∙ take-append_seam xs back
@@ -35,7 +35,7 @@ one_back : (front back : List Mark) (at : ℕ) → at ≡ length front → (f : 
     (record { start = at; count = entry_count f; runs = f.runs }) ≡ f
 one_back front back at e f p =
     ap (λ ms. record { runs = f.runs; list = read_flat (map (within at) ms) })
-    (part front (flat_at End at f.list) back at (entry_count f) e (size_right at f))
+    (part_between front (flat_at End at f.list) back at (entry_count f) e (size_right at f))
     ∙ ap (λ x. record { runs = f.runs; list = x }) (read_within at f.list p)
 
 back_from : (front : List Mark) (at : ℕ) → at ≡ length front → (fs : List Function) → AreProper fs
@@ -58,9 +58,10 @@ laid ms ps h = ap (λ xs. functions_of xs ps) h.2 ∙ ap (λ xs. functions_of (l
     ∙ back_from [] 0 refl h.0 h.1
 
 -- the two lists, by the functions that they show
-pub shown : (ms : List Mark) (ps : List Placed) (fs : List Function) → AreLaid ms ps → functions_of ms ps ≡ fs
+pub layout_shown : (ms : List Mark) (ps : List Placed) (fs : List Function) → AreLaid ms ps
+    → functions_of ms ps ≡ fs
     → AreProper fs × (ms ≡ laid_from 0 fs) × (ps ≡ placed_from 0 fs)
-shown ms ps fs h e =
+layout_shown ms ps fs h e =
     let same : h.0 ≡ fs = sym (laid ms ps h) ∙ e in (
       subst (λ (gs : List Function). AreProper gs) same h.1,
       h.2 ∙ ap (λ gs. laid_from 0 gs) same,
@@ -104,13 +105,14 @@ placed_more at (g ∷ fs) f start e =
       size_right at g,
     )))
 
-pub more : (ms ms' : List Mark) (ps ps' : List Placed) (fs : List Function) (f : Function) (start count : ℕ)
+pub one_more_laid : (ms ms' : List Mark) (ps ps' : List Placed) (fs : List Function) (f : Function)
+    (start count : ℕ)
     → AreProper fs × (ms ≡ laid_from 0 fs) × (ps ≡ placed_from 0 fs) → IsProper f.list
     → start ≡ length ms → count ≡ length (flat f.list)
     → ms' ≡ ms ++ map (shifted_entry (length ms)) (flat f.list)
     → ps' ≡ ps ++ record { start = start; count = count; runs = f.runs } ∷ []
     → AreProper (fs ++ f ∷ []) × (ms' ≡ laid_from 0 (fs ++ f ∷ [])) × (ps' ≡ placed_from 0 (fs ++ f ∷ []))
-more ms ms' ps ps' fs f start count h p es ec em ep =
+one_more_laid ms ms' ps ps' fs f start count h p es ec em ep =
     let here : start ≡ 0 + length (laid_from 0 fs) = omega (arith, es, ap length h.1) in
     let size : count ≡ entry_count f = ec ∙ sym (size_right 0 f) in (
       All-push (λ g. IsProper g.list) fs f h.0 p,

@@ -18,10 +18,10 @@ leaf_after start End h = absurd h
 leaf_after start op h = refl
 
 -- a list that opens with an entry, and what follows it
-opened : (start : ℕ) (x y : Mark) (xs ys us vs : List Mark) → x ≡ shifted_entry start y
+opened_shifted : (start : ℕ) (x y : Mark) (xs ys us vs : List Mark) → x ≡ shifted_entry start y
     → xs ≡ map (shifted_entry start) ys → us ≡ map (shifted_entry start) vs
     → (x ∷ xs) ++ us ≡ map (shifted_entry start) ((y ∷ ys) ++ vs)
-opened start x y xs ys us vs ex exs eus =
+opened_shifted start x y xs ys us vs ex exs eus =
     ap (λ z. (z ∷ xs) ++ us) ex ∙ ap (λ zs. (shifted_entry start y ∷ zs) ++ us) exs
     ∙ ap (λ zs. (shifted_entry start y ∷ map (shifted_entry start) ys) ++ zs) eus
     ∙ sym (map-append (shifted_entry start) (y ∷ ys) vs)
@@ -43,19 +43,19 @@ shifted_from close c start at to h (plain m rest) p =
     (shifted_from close c start (at + 1) (to + 1) (omega arith) rest p.1)
 shifted_from close c start at to h (block r inner rest) p =
     let end : to + 1 + span inner ≡ at + 1 + span inner + start = omega arith in
-    opened start _ (mark (Block r (at + 1 + span inner))) _ (flat_at End (at + 1) inner) _
+    opened_shifted start _ (mark (Block r (at + 1 + span inner))) _ (flat_at End (at + 1) inner) _
     (flat_at close (at + 1 + span inner + 1) rest) (ap (λ n. mark (Block r n)) end)
     (shifted_from End (λ s. refl) start (at + 1) (to + 1) (omega arith) inner p.0)
     (shifted_from close c start (at + 1 + span inner + 1) (to + 1 + span inner + 1) (omega arith) rest p.1)
 shifted_from close c start at to h (loop r inner rest) p =
     let end : to + 1 + span inner ≡ at + 1 + span inner + start = omega arith in
-    opened start _ (mark (Loop r (at + 1 + span inner))) _ (flat_at End (at + 1) inner) _
+    opened_shifted start _ (mark (Loop r (at + 1 + span inner))) _ (flat_at End (at + 1) inner) _
     (flat_at close (at + 1 + span inner + 1) rest) (ap (λ n. mark (Loop r n)) end)
     (shifted_from End (λ s. refl) start (at + 1) (to + 1) (omega arith) inner p.0)
     (shifted_from close c start (at + 1 + span inner + 1) (to + 1 + span inner + 1) (omega arith) rest p.1)
 shifted_from close c start at to h (if_then r taken rest) p =
     let end : to + 1 + span taken ≡ at + 1 + span taken + start = omega arith in
-    opened start _ (mark (If r None (at + 1 + span taken))) _ (flat_at End (at + 1) taken) _
+    opened_shifted start _ (mark (If r None (at + 1 + span taken))) _ (flat_at End (at + 1) taken) _
     (flat_at close (at + 1 + span taken + 1) rest) (ap (λ n. mark (If r None n)) end)
     (shifted_from End (λ s. refl) start (at + 1) (to + 1) (omega arith) taken p.0)
     (shifted_from close c start (at + 1 + span taken + 1) (to + 1 + span taken + 1) (omega arith) rest p.1)
@@ -66,7 +66,8 @@ shifted_from close c start at to h (if_else r taken other rest) p =
     parted start _ ((mark (If r (Some (at + 1 + span taken)) (at + 1 + span taken + 1 + span other))
     ∷ flat_at Else (at + 1) taken) ++ flat_at End (at + 1 + span taken + 1) other) _
     (flat_at close (at + 1 + span taken + 1 + span other + 1) rest)
-    (opened start _ (mark (If r (Some (at + 1 + span taken)) (at + 1 + span taken + 1 + span other))) _
+    (opened_shifted start _
+    (mark (If r (Some (at + 1 + span taken)) (at + 1 + span taken + 1 + span other))) _
     (flat_at Else (at + 1) taken) _ (flat_at End (at + 1 + span taken + 1) other)
     (ap (λ n. mark (If r (Some n) (to + 1 + span taken + 1 + span other))) middle
     ∙ ap (λ n. mark (If r (Some (at + 1 + span taken + start)) n)) end)

@@ -10,7 +10,7 @@ use Rattle.w4_defs.specs.Typing.{Context, with_label, HasType, AreInt}
 use Rattle.w4_defs.specs.ValueTypes.{result_types}
 use Rattle.w4_defs.specs.AbstractStack.{AbstractStack, agree, empty, stands, stands_in, taken, given, step, stack_after}
 use Rattle.wasm_valid.specs.AbstractStackLaw.{HasNoFloat, AreIntOperands, LeadsFrom, StackDecides, StackDecidesFrom}
-use Rattle.wasm_valid.proofs.IntLaws.{joined_int, left_int, result_int, inside}
+use Rattle.wasm_valid.proofs.IntLaws.{joined_int, left_int, result_int, label_has_no_float}
 use Rattle.wasm_valid.proofs.TakenLaws.{taken_stands, stands_taken, given_stands, stands_given, taken_int, given_int}
 use Rattle.wasm_valid.proofs.StepLaws.{step_begins, step_int, step_follows}
 
@@ -85,7 +85,7 @@ begins c (plain m rest) s outs n f k i h =
 begins c (block r inner rest) s outs n f k i h =
     let free = three_free (is_float_result r) (has_float inner) (has_float rest) f in
     let ints = result_int r free.0 in
-    let there = inside c (result_types r) ints n in
+    let there = label_has_no_float c (result_types r) ints n in
     let p =
     stands_where (stands_in (stack_after (with_label (result_types r) c) inner empty) (result_types r))
     (stack_after c rest (given (result_types r) s)) outs h in
@@ -103,7 +103,7 @@ begins c (block r inner rest) s outs n f k i h =
 begins c (loop r inner rest) s outs n f k i h =
     let free = three_free (is_float_result r) (has_float inner) (has_float rest) f in
     let ints = result_int r free.0 in
-    let there = inside c [] tt n in
+    let there = label_has_no_float c [] tt n in
     let p =
     stands_where (stands_in (stack_after (with_label [] c) inner empty) (result_types r))
     (stack_after c rest (given (result_types r) s)) outs h in
@@ -120,7 +120,7 @@ begins c (loop r inner rest) s outs n f k i h =
     )
 begins c (if_then None inner rest) s outs n f k i h =
     let free = or_parts (has_float inner) (has_float rest) f in
-    let there = inside c [] tt n in
+    let there = label_has_no_float c [] tt n in
     let p =
     stands_where (stands_in (stack_after (with_label [] c) inner empty) [])
     (option_and_then (stack_after c rest) (taken (I32 ∷ []) s)) outs h in
@@ -140,7 +140,7 @@ begins c (if_else r inner other rest) s outs n f k i h =
     let free = three_free (is_float_result r) (has_float inner) (has_float other) first.0 in
     let ints = result_int r free.0 in
     let label = with_label (result_types r) c in
-    let there = inside c (result_types r) ints n in
+    let there = label_has_no_float c (result_types r) ints n in
     let p =
     stands_where (stands_in (stack_after label inner empty) (result_types r)
     && stands_in (stack_after label other empty) (result_types r))

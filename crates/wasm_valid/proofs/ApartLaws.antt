@@ -15,9 +15,9 @@ Apart e f = e.name ≢ f.name
 abbrev pub IsTested : List Exported → ℕ → Bool → Type 0
 IsTested xs i r = IfSome (slice_get xs i) (λ f. Decides r (All (λ e. Apart e f) (take i xs)))
 
-tested_at : (xs : List Exported) (i : ℕ) (r : Bool) (d : Exported) → i < length xs → IsTested xs i r
+tested_is_apart : (xs : List Exported) (i : ℕ) (r : Bool) (d : Exported) → i < length xs → IsTested xs i r
     → Decides r (All (λ e. Apart e (get_or xs i d)) (take i xs))
-tested_at xs i r d h t =
+tested_is_apart xs i r d h t =
     subst (λ (o : Option Exported). IfSome o (λ f. Decides r (All (λ e. Apart e f) (take i xs))))
     (slice_get-get_or xs i d h) t
 
@@ -34,7 +34,7 @@ pub apart_fails : (xs : List Exported) (i : ℕ) (r : Bool) → i < length xs �
 apart_fails [] i r h t e = absurd (omega arith)
 apart_fails (x ∷ xs) i r h t e = (
   λ f. absurd (false≢true f),
-  λ pairs. sym e ∙ (tested_at (x ∷ xs) i r x h t).1 (before_it (x ∷ xs) i x h pairs),
+  λ pairs. sym e ∙ (tested_is_apart (x ∷ xs) i r x h t).1 (before_it (x ∷ xs) i x h pairs),
 )
 
 pub apart_more : (xs : List Exported) (i : ℕ) (r : Bool) → i < length xs → IsTested xs i r → r ≡ true
@@ -42,7 +42,8 @@ pub apart_more : (xs : List Exported) (i : ℕ) (r : Bool) → i < length xs →
 apart_more [] i r h t e pairs = absurd (omega arith)
 apart_more (x ∷ xs) i r h t e pairs =
     subst (λ (ys : List Exported). AllPairs Apart ys) (sym (take_more (x ∷ xs) i x h))
-    (all_pairs_push Apart (take i (x ∷ xs)) (get_or (x ∷ xs) i x) pairs ((tested_at (x ∷ xs) i r x h t).0 e))
+    (all_pairs_push Apart (take i (x ∷ xs)) (get_or (x ∷ xs) i x) pairs
+    ((tested_is_apart (x ∷ xs) i r x h t).0 e))
 
 pub apart_end : (xs : List Exported) (i : ℕ) → length xs ≤ i → AllPairs Apart (take i xs)
     → Decides true (AllPairs Apart xs)

@@ -42,10 +42,11 @@ run_more : (c : Context) (m : Mark) (ms : List Mark) (os : List OpenBlock)
 run_more c m ms [] = refl
 run_more c m ms (o ∷ os) = refl
 
-cut : {A : Type 0} (xs : List A) (k : ℕ) (x : A) → slice_get xs k ≡ Some x → drop k xs ≡ x ∷ drop (suc k) xs
-cut [] k x h = absurd (cc h)
-cut (y ∷ xs) zero x h = ap (λ z. z ∷ xs) (same_Some _ _ h)
-cut (y ∷ xs) (suc k) x h = cut xs k x h
+dropped_at : {A : Type 0} (xs : List A) (k : ℕ) (x : A) → slice_get xs k ≡ Some x
+    → drop k xs ≡ x ∷ drop (suc k) xs
+dropped_at [] k x h = absurd (cc h)
+dropped_at (y ∷ xs) zero x h = ap (λ z. z ∷ xs) (same_Some _ _ h)
+dropped_at (y ∷ xs) (suc k) x h = dropped_at xs k x h
 
 shifted : (start : ℕ) (f : Function) (ops : List Op) → IsProper f.list
     → ops ≡ operations_of (flat_at op.End start f.list)
@@ -60,12 +61,13 @@ as_many (Some f) ops h p =
     ap length (shifted h.0 f ops p h.1) ∙ length-map marks (λ m. m.0)
     ∙ length-map (flat f.list) (shifted_entry h.0)
 
-entry_at : (c : Context) (start : ℕ) (ms : List Mark) (ops : List Op) (place : ℕ) (d : Op) (labels : List ℕ)
+blocks_from_entry : (c : Context) (start : ℕ) (ms : List Mark) (ops : List Op) (place : ℕ) (d : Op)
+    (labels : List ℕ)
     (old : List OpenBlock) → ops ≡ operations_of (map (shifted_entry start) ms) → place < length ms
     → option_map (λ m. m.1) (slice_get ms place) ≡ Some labels
     → blocks_after c (drop place ms) old
     ≡ option_and_then (blocks_after c (drop (place + 1) ms)) (after_entry c (get_or ops place d) labels old)
-entry_at c start ms ops place d labels old h small hl =
+blocks_from_entry c start ms ops place d labels old h small hl =
     let m : Mark = get_or ms place (mark d) in
     let there : slice_get ms place ≡ Some m = slice_get-get_or ms place (mark d) small in
     let same : m.1 ≡ labels = same_Some _ _ (sym (ap (option_map (λ x. x.1)) there) ∙ hl) in
@@ -73,7 +75,7 @@ entry_at c start ms ops place d labels old h small hl =
     ap (λ xs. slice_get xs place) h ∙ slice_get-map (λ (x : Mark). x.0) (map (shifted_entry start) ms) place
     ∙ ap (option_map (λ x. x.0))
     (slice_get-map (shifted_entry start) ms place ∙ ap (option_map (shifted_entry start)) there) in
-    ap (λ xs. blocks_after c xs old) (cut ms place m there) ∙ run_more c m (drop (suc place) ms) old
+    ap (λ xs. blocks_after c xs old) (dropped_at ms place m there) ∙ run_more c m (drop (suc place) ms) old
     ∙ ap (λ k. option_and_then (blocks_after c (drop k ms)) (after_entry c m.0 m.1 old)) {x = suc place}
     (omega arith)
     ∙ ap (λ ls. option_and_then (blocks_after c (drop (place + 1) ms)) (after_entry c m.0 ls old)) same
@@ -91,7 +93,7 @@ pub entry_next : (c : Context) (o : Option Function) (ops : List Op) (place : �
     ≡ option_and_then (blocks_after c (drop (place + 1) (entries_with o))) (cond went (Some new) None)
 entry_next c None ops place d labels old new went h p small hl t = absurd h
 entry_next c (Some f) ops place d labels old new went h p small hl t =
-    entry_at c h.0 (flat f.list) ops place d labels old (shifted h.0 f ops p h.1)
+    blocks_from_entry c h.0 (flat f.list) ops place d labels old (shifted h.0 f ops p h.1)
     (omega (arith, small, as_many (Some f) ops h p)) hl
     ∙ ap (option_and_then (blocks_after c (drop (place + 1) (flat f.list)))) t
 
@@ -110,10 +112,12 @@ entry_on c ms rest now new went h e =
 pub stopped : (b : Bool) (x : Option (List OpenBlock)) → b ≡ false → x ≡ None → IsTrue b ↔ (x ≡ Some [])
 stopped b x e n = ((λ h. absurd (cc (sym h ∙ e))), (λ h. absurd (cc (sym n ∙ h))))
 
-pub ended : (os : List OpenBlock) (b : Bool) (x : Option (List OpenBlock)) → x ≡ Some os → b ≡ is_open os
+pub ended_with_none_open : (os : List OpenBlock) (b : Bool) (x : Option (List OpenBlock)) → x ≡ Some os
+    → b ≡ is_open os
     → IsTrue (not b) ↔ (x ≡ Some [])
-ended [] b x n e = ((λ h. n), (λ h. ap not e))
-ended (o ∷ os) b x n e = ((λ h. absurd (cc (sym h ∙ ap not e))), (λ h. absurd (cc (sym n ∙ h))))
+ended_with_none_open [] b x n e = ((λ h. n), (λ h. ap not e))
+ended_with_none_open (o ∷ os) b x n e =
+    ((λ h. absurd (cc (sym h ∙ ap not e))), (λ h. absurd (cc (sym n ∙ h))))
 
 nothing_from : {A : Type 0} (xs : List A) (k : ℕ) → length xs ≤ k → drop k xs ≡ []
 nothing_from [] zero h = refl
@@ -181,10 +185,11 @@ typed_from m func index s r None n hi hs hf hb = absurd (cc hb)
 typed_from m func index s r (Some f) n hi hs hf hb =
     typed_with m func index s r f n hi hs hf (same_Some _ _ hb)
 
-pub typed : (m : WasmModule) (func index : ℕ) (s : Signature) (r : Bool) → module_has_float m ≡ false
+pub body_is_typed : (m : WasmModule) (func index : ℕ) (s : Signature) (r : Bool) → module_has_float m ≡ false
     → slice_get m.functions func ≡ Some index → slice_get m.types index ≡ Some s
     → option_map (body_stands m s) (slice_get m.bodies func) ≡ Some r → IsTrue r ↔ IsTypedAt m func
-typed m func index s r n hi hs hb = typed_from m func index s r (slice_get m.bodies func) n hi hs refl hb
+body_is_typed m func index s r n hi hs hb =
+    typed_from m func index s r (slice_get m.bodies func) n hi hs refl hb
 
 pub untyped : (m : WasmModule) (func index : ℕ) → slice_get m.functions func ≡ Some index
     → slice_get m.types index ≡ None → IsTrue false ↔ IsTypedAt m func

@@ -31,7 +31,7 @@ use Rattle.wasm_valid.proofs.DecideLaws.{all_parted}
 use Rattle.wasm_valid.specs.Calls.{number_of_type, result_count, IsCall, AreCalls, IsTypeAt, IsCallAt}
 use Rattle.wasm_valid.proofs.NoneLaws.{none_at}
 use Rattle.wasm_valid.proofs.ProfileFacts.{is_wrong, no_cause}
-use Rattle.wasm_valid.proofs.ProfileLaws.{IsRight, right_import}
+use Rattle.wasm_valid.proofs.ProfileLaws.{IsRightImport, right_import}
 
 pub zip_joined : {A B : Type 0} (R : A → B → Type 0) (xs us : List A) (ys vs : List B) → AllZip R xs ys
     → AllZip R us vs → AllZip R (xs ++ us) (ys ++ vs)
@@ -90,7 +90,7 @@ pub record IsFunctionImport (m : WasmModule) (x : Imported) (index : ℕ) : Type
   pub typed : slice_get m.types index ≡ Some (import_type name)
 
 function_kind : (m : WasmModule) (x : Imported) (index : ℕ) → x.kind ≡ Func index
-    → IsRight m.types x.kind (import_named x.module_name x.name) → IsFunctionImport m x index
+    → IsRightImport m.types x.kind (import_named x.module_name x.name) → IsFunctionImport m x index
 function_kind m x index e (inl p) = absurd (cc (sym p.1 ∙ e))
 function_kind m x index e (inr t) =
     let same : t.index ≡ index = cc (sym t.function ∙ e) in

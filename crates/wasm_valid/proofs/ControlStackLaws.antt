@@ -11,8 +11,8 @@ use Rattle.wasm_valid.specs.declared.control_stack.ControlFrame.{ControlFrame}
 use Rattle.wasm_valid.specs.ControlStack.{on_top, without_operands, with_operand, popped, block_of_frame, blocks_of_frames, all_frames, AreNested}
 
 -- the lists of some frames, where so many operand types are the innermost list's own
-abbrev cut_at : ControlFrame → List ControlFrame → List OperandType → ℕ → List OpenBlock
-cut_at f fs ks n = block_of_frame f n ks ∷ blocks_of_frames fs (drop n ks)
+abbrev blocks_cut_at : ControlFrame → List ControlFrame → List OperandType → ℕ → List OpenBlock
+blocks_cut_at f fs ks n = block_of_frame f n ks ∷ blocks_of_frames fs (drop n ks)
 
 -- the innermost list's operand types lie over its base
 pub nested_base : (inner : Option ControlFrame) (f : ControlFrame) (outer : List ControlFrame) (count : ℕ)
@@ -38,7 +38,7 @@ topmost_more false k ks = refl
 pub held_more : (f : ControlFrame) (fs : List ControlFrame) (k : OperandType) (ks : List OperandType)
     → f.height ≤ length ks
     → blocks_of_frames (f ∷ fs) (k ∷ ks) ≡ on_top (with_operand k) (blocks_of_frames (f ∷ fs) ks)
-held_more f fs k ks h = ap (cut_at f fs (k ∷ ks)) {y = suc (length ks - f.height)} (omega (arith, h))
+held_more f fs k ks h = ap (blocks_cut_at f fs (k ∷ ks)) {y = suc (length ks - f.height)} (omega (arith, h))
 
 popped_more : (f : ControlFrame) (fs : List ControlFrame) (k : OperandType) (ks : List OperandType)
     → f.height ≤ length ks
@@ -93,8 +93,9 @@ restarted f fs old new unreachable e h =
     let same : reverse new ≡ drop n (reverse old) = ap reverse e ∙ reverse_taken f.height old h in
     let none : length (reverse new) - f.height ≡ 0 =
     omega (arith, h, ap length same, length-drop n (reverse old), length-reverse old) in
-    ap (cut_at g fs (reverse new)) none ∙ ap (λ ks. block_of_frame g 0 [] ∷ blocks_of_frames fs ks) same
-    ∙ ap (λ k. on_top (without_operands unreachable) (cut_at f fs (reverse old) k)) {x = n}
+    ap (blocks_cut_at g fs (reverse new)) none
+    ∙ ap (λ ks. block_of_frame g 0 [] ∷ blocks_of_frames fs ks) same
+    ∙ ap (λ k. on_top (without_operands unreachable) (blocks_cut_at f fs (reverse old) k)) {x = n}
     (omega (arith, length-reverse old))
 
 left_to : (f : ControlFrame) (fs gs : List ControlFrame) (old new : List OperandType)
@@ -105,7 +106,7 @@ left_to f fs gs old new e h same =
     let n : ℕ = length old - f.height in
     ap (λ xs. blocks_of_frames xs (reverse new)) same
     ∙ ap (blocks_of_frames fs) (ap reverse e ∙ reverse_taken f.height old h)
-    ∙ ap (λ k. drop 1 (cut_at f fs (reverse old) k)) {x = n} (omega (arith, length-reverse old))
+    ∙ ap (λ k. drop 1 (blocks_cut_at f fs (reverse old) k)) {x = n} (omega (arith, length-reverse old))
 
 nothing_left : {A : Type 0} (xs : List A) → length xs ≡ 0 → [] ≡ reverse xs
 nothing_left [] h = refl

@@ -12,8 +12,8 @@ pub second_decides : {A B C : Type 0} (a b : Bool) → Decides a A → a ≡ tru
 second_decides a b da ea db to from = (λ e. to (da.0 ea) (db.0 e), λ c. db.1 (from c))
 
 -- a test fails whose fact the whole would give
-pub first_fails : {A C : Type 0} (a : Bool) → Decides a A → a ≡ false → (C → A) → Decides a C
-first_fails a da ea from = (λ e. absurd (false≢true (sym ea ∙ e)), λ c. da.1 (from c))
+pub first_decides_against : {A C : Type 0} (a : Bool) → Decides a A → a ≡ false → (C → A) → Decides a C
+first_decides_against a da ea from = (λ e. absurd (false≢true (sym ea ∙ e)), λ c. da.1 (from c))
 
 joined_option : {Y : Type 0} (o : Option Y) (xs ys : List Y)
     → cons_option o (xs ++ ys) ≡ cons_option o xs ++ ys
@@ -63,5 +63,5 @@ pub imported_fails : {X Y : Type 0} (f : X → Option Y) (P : Y → Type 0) (xs 
     (a : Bool) → is ≡ xs
     → Decides a (All (λ x. IfSome (f x) P) is) → a ≡ false → Decides a (All P (filter_map f xs ++ ys))
 imported_fails f P xs is ys a ei da ea =
-    first_fails {A = All (λ x. IfSome (f x) P) is} a da ea
+    first_decides_against {A = All (λ x. IfSome (f x) P) is} a da ea
     (λ h. subst (All (λ x. IfSome (f x) P)) (sym ei) (all_parted f P xs ys h).0)

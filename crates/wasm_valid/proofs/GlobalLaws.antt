@@ -35,12 +35,12 @@ first_is (loop r inner rest) t h = absurd (cc h)
 first_is (if_then r taken rest) t h = absurd (cc h)
 first_is (if_else r taken other rest) t h = absurd (cc h)
 
-given : (o : Option Global) (ops : List Op) (v : Val)
+first_value_given : (o : Option Global) (ops : List Op) (v : Val)
     → ((g : Global) → o ≡ Some g → IsConstant g.global.value g.first)
     → option_map (λ g. operations_of (flat g.first)) o ≡ Some ops
     → v ≡ first_constant ops → option_map entries.first_value o ≡ Some v
-given None ops v h e is = absurd cc
-given (Some g) ops v h e is =
+first_value_given None ops v h e is = absurd cc
+first_value_given (Some g) ops v h e is =
     ap Some (sym (first_is g.first g.global.value (h g refl)) ∙ ap first_constant (same_Some _ _ e) ∙ sym is)
 
 pub global_given : (gs : List Global) (i : ℕ) (ops : List Op) (v : Val)
@@ -48,4 +48,5 @@ pub global_given : (gs : List Global) (i : ℕ) (ops : List Op) (v : Val)
     → option_map (λ g. operations_of (flat g.first)) (slice_get gs i) ≡ Some ops
     → v ≡ first_constant ops → option_map entries.first_value (slice_get gs i) ≡ Some v
 global_given gs i ops v h e is =
-    given (slice_get gs i) ops v (λ g at. all_at (λ z. IsConstant z.global.value z.first) gs i g h at) e is
+    first_value_given (slice_get gs i) ops v
+    (λ g at. all_at (λ z. IsConstant z.global.value z.first) gs i g h at) e is

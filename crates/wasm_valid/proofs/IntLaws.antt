@@ -23,7 +23,7 @@ use Rattle.w4_defs.specs.OperandTypes.{StackType, stack_type_if, row_type, gives
 use Rattle.w4_defs.specs.Typing.{Context, with_label, IsInt, AreInt, only_type, consumes, sets, branches, calls, calls_indirectly}
 use Rattle.w4_defs.specs.AbstractStack.{OperandType, agrees, agree, below, below_all, topmost, common_type}
 use Rattle.wasm_valid.specs.AbstractStackLaw.{HasNoFloat, IsIntOperand, AreIntOperands}
-use Rattle.wasm_valid.proofs.OperandTypeLaws.{then_some, if_some}
+use Rattle.wasm_valid.proofs.OperandTypeLaws.{some_and_then, some_if_true}
 
 -- ---- lists of types
 
@@ -71,14 +71,14 @@ pub below_int : (t : ValType) (unreachable : Bool) (ks rest : List OperandType) 
     → below t unreachable ks ≡ Some rest → AreIntOperands rest
 below_int t true [] rest i h = let e : [] ≡ rest = cc h in subst AreIntOperands e tt
 below_int t false [] rest i h = absurd (cc h)
-below_int t true (k ∷ ks) rest i h = subst AreIntOperands (if_some (agrees k t) ks rest h).1 i.1
-below_int t false (k ∷ ks) rest i h = subst AreIntOperands (if_some (agrees k t) ks rest h).1 i.1
+below_int t true (k ∷ ks) rest i h = subst AreIntOperands (some_if_true (agrees k t) ks rest h).1 i.1
+below_int t false (k ∷ ks) rest i h = subst AreIntOperands (some_if_true (agrees k t) ks rest h).1 i.1
 
 pub all_below_int : (us : List ValType) (unreachable : Bool) (ks rest : List OperandType) → AreIntOperands ks
     → below_all us unreachable ks ≡ Some rest → AreIntOperands rest
 all_below_int [] unreachable ks rest i h = let e : ks ≡ rest = cc h in subst AreIntOperands e i
 all_below_int (u ∷ us) unreachable ks rest i h =
-    let p = then_some (below_all us unreachable) (below u unreachable ks) rest h in
+    let p = some_and_then (below_all us unreachable) (below u unreachable ks) rest h in
     all_below_int us unreachable p.0 rest (below_int u unreachable ks p.0 i p.1) p.2
 
 pub top_int : (unreachable : Bool) (ks : List OperandType) (top : OperandType × List OperandType)
@@ -96,7 +96,8 @@ pub common_int : (j k both : OperandType) → IsIntOperand j → IsIntOperand k 
     → IsIntOperand both
 common_int None k both i l h = let e : k ≡ both = cc h in subst IsIntOperand e l
 common_int (Some u) None both i l h = let e : Some u ≡ both = cc h in subst IsIntOperand e i
-common_int (Some u) (Some v) both i l h = subst IsIntOperand (if_some (same_type u v) (Some u) both h).1 i
+common_int (Some u) (Some v) both i l h =
+    subst IsIntOperand (some_if_true (same_type u v) (Some u) both h).1 i
 
 -- an int type for an operand type
 pub some_type : (k : OperandType) → IsIntOperand k → (t : ValType) × IsInt t × (agrees k t ≡ true)
@@ -200,9 +201,9 @@ stack_type_int c (op.GlobalSet index) n =
     (got_all (λ g. IsInt g.value) (global_types c.within) index n.globals) sets_int
 stack_type_int c o n = row_int (nat_lt 0 (length (memories_of c.within))) (row o)
 
-pub inside : (c : Context) (label : List ValType) → AreInt label → HasNoFloat c
+pub label_has_no_float : (c : Context) (label : List ValType) → AreInt label → HasNoFloat c
     → HasNoFloat (with_label label c)
-inside c label h n = record {
+label_has_no_float c label h n = record {
   locals = n.locals;
   labels = All-cons AreInt label c.labels h n.labels;
   results = n.results;

@@ -19,35 +19,38 @@ use Rattle.w4_defs.specs.RunLaws.{types_of}
 use Rattle.wasm_valid.specs.TypeSoundness.{AnswersByType, HasTypes, NeverStuck, KeepsGlobalTypes}
 use Rattle.wasm_valid.proofs.ProfileLaws.{own_globals}
 use Rattle.wasm_valid.proofs.TypedValues.{are_of_typed}
-use Rattle.wasm_valid.proofs.TypedLists.{Fits}
+use Rattle.wasm_valid.proofs.TypedLists.{OutcomeFits}
 use Rattle.wasm_valid.proofs.TypedCalls.{IsReady, HasSignature, Linked, Matches}
 use Rattle.wasm_valid.proofs.TypedSteps.{eval_fits}
 use Rattle.wasm_valid.proofs.TypedModules.{linked}
 
 -- an end with a meaning, at which the globals have these types
-abbrev Ends : {H : Type 0} → List ValType → Ended H → Type 0
-Ends types (RunDone st rest) = types_of st.globals ≡ types
-Ends types (RunTrap c st) = types_of st.globals ≡ types
-Ends types (RunSpent st) = types_of st.globals ≡ types
-Ends types RunStuck = ⊥
+abbrev EndsWithTypes : {H : Type 0} → List ValType → Ended H → Type 0
+EndsWithTypes types (RunDone st rest) = types_of st.globals ≡ types
+EndsWithTypes types (RunTrap c st) = types_of st.globals ≡ types
+EndsWithTypes types (RunSpent st) = types_of st.globals ≡ types
+EndsWithTypes types RunStuck = ⊥
 
-ends_typed : {H : Type 0} (types : List ValType) (end : Ended H) → Ends types end → HasTypes types end
+ends_typed : {H : Type 0} (types : List ValType) (end : Ended H) → EndsWithTypes types end
+    → HasTypes types end
 ends_typed types (RunDone st rest) h = h
 ends_typed types (RunTrap c st) h = h
 ends_typed types (RunSpent st) h = h
 ends_typed types RunStuck h = absurd h
 
-cond_ends : {H : Type 0} (types : List ValType) (test : Bool) (o p : Ended H) → Ends types o → Ends types p
-    → Ends types (cond test o p)
+cond_ends : {H : Type 0} (types : List ValType) (test : Bool) (o p : Ended H) → EndsWithTypes types o
+    → EndsWithTypes types p
+    → EndsWithTypes types (cond test o p)
 cond_ends types true o p h k = h
 cond_ends types false o p h k = k
 
 -- the end of an entry function
 left_ends : {H : Type 0} (m : WasmModule) (s : Signature) (f : Function) (o : Outcome H)
-    → Fits (body_context m s f) s.results o
-    → Ends (map (λ g. g.value) (global_types m)) (ended (leave s.results [] [] o))
+    → OutcomeFits (body_context m s f) s.results o
+    → EndsWithTypes (map (λ g. g.value) (global_types m)) (ended (leave s.results [] [] o))
 left_ends m s f (Falls vs ls st r) h =
-    subst (λ t. Ends (map (λ g. g.value) (global_types m)) (ended (cond t (Falls (vs ++ []) [] st r) Stuck)))
+    subst (λ t. EndsWithTypes (map (λ g. g.value) (global_types m))
+    (ended (cond t (Falls (vs ++ []) [] st r) Stuck)))
     (sym (are_of_typed (reverse s.results) vs h.0)) h.2
 left_ends m s f (Branch zero vs ls st r) h = h.4
 left_ends m s f (Branch (suc l) vs ls st r) h = absurd (cc h.1)
@@ -63,7 +66,7 @@ import_takes _ h = absurd (cc h)
 enter_ends : {H : Type 0} (m : WasmModule) (prog : Prog H) → Linked m prog
     → (callee : Callee) (st : Store H) (b : ℕ) → IsReady m callee → HasSignature nothing_to_nothing callee
     → types_of st.globals ≡ map (λ g. g.value) (global_types m)
-    → Ends (map (λ g. g.value) (global_types m)) (enter prog (Some callee) st b)
+    → EndsWithTypes (map (λ g. g.value) (global_types m)) (enter prog (Some callee) st b)
 enter_ends {H} m prog l (own_function f) st b ready named k =
     let types : List ValType = map (λ g. g.value) (global_types m) in
     let into : Context = body_context m f.signature f.function in
@@ -72,11 +75,11 @@ enter_ends {H} m prog l (own_function f) st b ready named k =
     eval prog f.function.list (body_env f 1 (reserve_of f)) [] (zeros f.function.runs) st b in
     let locals : types_of (zeros f.function.runs) ≡ f.signature.params ++ local_types f.function.runs =
     ready.1 ∙ ap (λ s. s.params ++ local_types f.function.runs) (sym named) in
-    let fits : Fits into f.signature.results o =
+    let fits : OutcomeFits into f.signature.results o =
     eval_fits m prog l (suc b) into f.function.list (body_env f 1 (reserve_of f)) [] f.signature.results []
     (zeros f.function.runs) st b
     (omega arith) refl same ready.0 refl locals k in
-    subst (λ t. Ends types (cond t (enter_own prog f st b) RunStuck))
+    subst (λ t. EndsWithTypes types (cond t (enter_own prog f st b) RunStuck))
     (ap (λ s. same_signature s nothing_to_nothing) (sym named))
     (cond_ends types (nat_le (reserve_of f) 1048576) (ended (run_own prog f st b)) (RunTrap Stack st)
     (left_ends m f.signature f.function o fits) k)
@@ -96,14 +99,16 @@ own_values m h = ap (map (λ g. g.value)) (own_globals m h) ∙ values_of m.glob
 run_ends : {H : Type 0} (m : WasmModule) (imports : HostFunctions H) → profile_refusal m ≡ None → IsValid m
     → length m.functions ≡ length m.bodies → AnswersByType imports
     → (func : ℕ) (st : Store H) (b : ℕ) → signature_of m func ≡ Some nothing_to_nothing
-    → types_of st.globals ≡ own_global_types m → Ends (own_global_types m) (run_entry m imports func st b)
+    → types_of st.globals ≡ own_global_types m
+    → EndsWithTypes (own_global_types m) (run_entry m imports func st b)
 run_ends m imports profile valid as_many_bodies answers func st b entry globals =
     let prog = program m imports in
     let l = linked m imports profile valid as_many_bodies answers in
     let p = l.functions func nothing_to_nothing entry in
     let same = own_values m profile in
-    subst (λ types. Ends types (run_entry m imports func st b)) same
-    (subst (λ callee. Ends (map (λ g. g.value) (global_types m)) (enter prog callee st b)) (sym p.named.found)
+    subst (λ types. EndsWithTypes types (run_entry m imports func st b)) same
+    (subst (λ callee. EndsWithTypes (map (λ g. g.value) (global_types m)) (enter prog callee st b))
+    (sym p.named.found)
     (enter_ends m prog l p.named.callee st b p.named.ready p.signature (globals ∙ sym same)))
 
 pub never_stuck : {H : Type 0} (m : WasmModule) (imports : HostFunctions H)
@@ -112,15 +117,15 @@ pub never_stuck : {H : Type 0} (m : WasmModule) (imports : HostFunctions H)
     → types_of st.globals ≡ own_global_types m
     → run_entry m imports func st b ≢ RunStuck
 never_stuck m imports profile valid as_many_bodies answers func st b entry globals h =
-    subst (Ends (own_global_types m)) h
+    subst (EndsWithTypes (own_global_types m)) h
     (run_ends m imports profile valid as_many_bodies answers func st b entry globals)
 
-pub globals_keep_types : {H : Type 0} (m : WasmModule) (imports : HostFunctions H)
+pub run_keeps_global_types : {H : Type 0} (m : WasmModule) (imports : HostFunctions H)
     → profile_refusal m ≡ None → IsValid m → length m.functions ≡ length m.bodies → AnswersByType imports
     → (func : ℕ) (st : Store H) (b : ℕ) → signature_of m func ≡ Some nothing_to_nothing
     → types_of st.globals ≡ own_global_types m
     → HasTypes (own_global_types m) (run_entry m imports func st b)
-globals_keep_types m imports profile valid as_many_bodies answers func st b entry globals =
+run_keeps_global_types m imports profile valid as_many_bodies answers func st b entry globals =
     ends_typed (own_global_types m) (run_entry m imports func st b)
     (run_ends m imports profile valid as_many_bodies answers func st b entry globals)
 
@@ -132,4 +137,4 @@ never_stuck_with imports answers m profile valid as_many_bodies =
 pub globals_keep_types_with : {H : Type 0} (imports : HostFunctions H) → AnswersByType imports
     → KeepsGlobalTypes imports
 globals_keep_types_with imports answers m profile valid as_many_bodies =
-    globals_keep_types m imports profile valid as_many_bodies answers
+    run_keeps_global_types m imports profile valid as_many_bodies answers

@@ -6,10 +6,10 @@ use Rattle.w4_defs.specs.declared.value.ValType.TheVariants.{I32, I64, F32, F64}
 use Rattle.w4_defs.specs.ValueTypes.{same_type, same_types}
 use Rattle.w4_defs.specs.AbstractStack.{OperandType, agrees, agree, below, below_all, topmost, common_type}
 
-pub then_some : {A B : Type 0} (f : A → Option B) (o : Option A) (y : B) → option_and_then f o ≡ Some y
+pub some_and_then : {A B : Type 0} (f : A → Option B) (o : Option A) (y : B) → option_and_then f o ≡ Some y
     → (x : A) × (o ≡ Some x) × (f x ≡ Some y)
-then_some f None y h = absurd (cc h)
-then_some f (Some x) y h = (x, refl, h)
+some_and_then f None y h = absurd (cc h)
+some_and_then f (Some x) y h = (x, refl, h)
 
 pub some_then : {A B : Type 0} (f : A → Option B) (o : Option A) (x : A) (y : B) → o ≡ Some x → f x ≡ Some y
     → option_and_then f o ≡ Some y
@@ -23,9 +23,9 @@ map_some f (Some x) y h = (x, refl, cc h)
 pub some_map : {A B : Type 0} (f : A → B) (o : Option A) (x : A) → o ≡ Some x → option_map f o ≡ Some (f x)
 some_map f o x e = ap (option_map f) e
 
-pub if_some : {A : Type 0} (b : Bool) (x y : A) → cond b (Some x) None ≡ Some y → (b ≡ true) × (x ≡ y)
-if_some true x y h = (refl, cc h)
-if_some false x y h = absurd (cc h)
+pub some_if_true : {A : Type 0} (b : Bool) (x y : A) → cond b (Some x) None ≡ Some y → (b ≡ true) × (x ≡ y)
+some_if_true true x y h = (refl, cc h)
+some_if_true false x y h = absurd (cc h)
 
 pub some_if : {A : Type 0} (b : Bool) (o : Option A) → b ≡ true → cond b o None ≡ o
 some_if b o h = ap (λ b. cond b o None) h
@@ -65,10 +65,10 @@ pub below_agrees : (t : ValType) (unreachable : Bool) (ks rest : List OperandTyp
 below_agrees t true [] rest ts h g = refl
 below_agrees t false [] rest ts h g = absurd (cc h)
 below_agrees t true (k ∷ ks) rest ts h g =
-    let p = if_some (agrees k t) ks rest h in
+    let p = some_if_true (agrees k t) ks rest h in
     and_from (agrees k t) (agree ks true ts) p.0 (subst (λ xs. agree xs true ts ≡ true) (sym p.1) g)
 below_agrees t false (k ∷ ks) rest ts h g =
-    let p = if_some (agrees k t) ks rest h in
+    let p = some_if_true (agrees k t) ks rest h in
     and_from (agrees k t) (agree ks false ts) p.0 (subst (λ xs. agree xs false ts ≡ true) (sym p.1) g)
 
 pub agrees_below : (t : ValType) (unreachable : Bool) (ks : List OperandType) (ts : List ValType)
@@ -87,7 +87,7 @@ pub all_below_agree : (us : List ValType) (unreachable : Bool) (ks rest : List O
     → agree ks unreachable (us ++ ts) ≡ true
 all_below_agree [] unreachable ks rest ts h g = subst (λ xs. agree xs unreachable ts ≡ true) (sym (cc h)) g
 all_below_agree (u ∷ us) unreachable ks rest ts h g =
-    let p = then_some (below_all us unreachable) (below u unreachable ks) rest h in
+    let p = some_and_then (below_all us unreachable) (below u unreachable ks) rest h in
     below_agrees u unreachable ks p.0 (us ++ ts) p.1 (all_below_agree us unreachable p.0 rest ts p.2 g)
 
 pub agree_all_below : (us : List ValType) (unreachable : Bool) (ks : List OperandType) (ts : List ValType)
@@ -154,7 +154,7 @@ common_agrees None k both t h a = let e : k ≡ both = cc h in (refl, subst (λ 
 common_agrees (Some u) None both t h a =
     let e : Some u ≡ both = cc h in (subst (λ x. agrees x t ≡ true) (sym e) a, refl)
 common_agrees (Some u) (Some v) both t h a =
-    let p = if_some (same_type u v) (Some u) both h in
+    let p = some_if_true (same_type u v) (Some u) both h in
     let is : same_type u t ≡ true = subst (λ x. agrees x t ≡ true) (sym p.1) a in
     (is, subst (λ x. same_type x t ≡ true) (same_type_is u v p.0) is)
 

@@ -31,11 +31,13 @@ closed_if c p os ms true = refl
 closed_if c p os ms false = refl
 
 -- an `end` asks whether the abstract stack stands
-ended : (c : Context) (n o : OpenBlock) (os : List OpenBlock) (ms : List Mark) (x : Option AbstractStack)
+resumed_at_end : (c : Context) (n o : OpenBlock) (os : List OpenBlock) (ms : List Mark)
+    (x : Option AbstractStack)
     → resumed c n (o ∷ os) (mark op.End ∷ ms) x
     ≡ cond (stands_in x n.result) (blocks_after c ms (with_stack o (given n.result o.stack) ∷ os)) None
-ended c n o os ms None = refl
-ended c n o os ms (Some s) = closed_if c (with_stack o (given n.result o.stack)) os ms (stands s n.result)
+resumed_at_end c n o os ms None = refl
+resumed_at_end c n o os ms (Some s) =
+    closed_if c (with_stack o (given n.result o.stack)) os ms (stands s n.result)
 
 -- an `else` too, and begins anew
 parted : (c : Context) (n : OpenBlock) (os : List OpenBlock) (ms : List Mark) (x : Option AbstractStack)
@@ -73,15 +75,16 @@ nothing_if c o os ms true = refl
 nothing_if c o os ms false = refl
 
 -- a condition is taken, and what stands inside is as it is for each abstract stack below
-chosen_on : (c : Context) (o : OpenBlock) (os : List OpenBlock) (result : List ValType) (body ms : List Mark)
+resumed_if_chosen : (c : Context) (o : OpenBlock) (os : List OpenBlock) (result : List ValType)
+    (body ms : List Mark)
     (b : Bool)
     (f : AbstractStack → Option AbstractStack) (x : Option AbstractStack)
     → ((s : AbstractStack) → blocks_after c body (opened result result ∷ with_stack o s ∷ os)
     ≡ cond b (resumed c o os ms (f s)) None)
     → option_and_then (blocks_after c body) (option_map (λ s. opened result result ∷ with_stack o s ∷ os) x)
     ≡ resumed c o os ms (cond b (option_and_then f x) None)
-chosen_on c o os result body ms b f None h = nothing_if c o os ms b
-chosen_on c o os result body ms b f (Some s) h = h s ∙ resumed_if c o os ms b (f s)
+resumed_if_chosen c o os result body ms b f None h = nothing_if c o os ms b
+resumed_if_chosen c o os result body ms b f (Some s) h = h s ∙ resumed_if c o os ms b (f s)
 
 pub run_list : (c : Context) (close : Op) (at : ℕ) (e : Expr) (ms : List Mark) (o : OpenBlock)
     (os : List OpenBlock)
@@ -103,7 +106,7 @@ run_list c close at (block r inner rest) ms o os h =
     ap (λ l. blocks_after c l (o ∷ os))
     (append_assoc (mark (op.Block r end) ∷ flat_at op.End (at + 1) inner) tail ms)
     ∙ run_list c op.End (at + 1) inner (tail ++ ms) n (o ∷ os) h.0
-    ∙ ended c n o os (tail ++ ms) x
+    ∙ resumed_at_end c n o os (tail ++ ms) x
     ∙ ap (λ y. cond (stands_in x (result_types r)) y None) (run_list c close (end + 1) rest ms next os h.1)
     ∙ resumed_if c o os (mark close ∷ ms) (stands_in x (result_types r))
     (stack_after (context c (o ∷ os)) rest next.stack)
@@ -116,7 +119,7 @@ run_list c close at (loop r inner rest) ms o os h =
     ap (λ l. blocks_after c l (o ∷ os))
     (append_assoc (mark (op.Loop r end) ∷ flat_at op.End (at + 1) inner) tail ms)
     ∙ run_list c op.End (at + 1) inner (tail ++ ms) n (o ∷ os) h.0
-    ∙ ended c n o os (tail ++ ms) x
+    ∙ resumed_at_end c n o os (tail ++ ms) x
     ∙ ap (λ y. cond (stands_in x (result_types r)) y None) (run_list c close (end + 1) rest ms next os h.1)
     ∙ resumed_if c o os (mark close ∷ ms) (stands_in x (result_types r))
     (stack_after (context c (o ∷ os)) rest next.stack)
@@ -127,10 +130,11 @@ run_list c close at (if_then None inner rest) ms o os h =
     let x = stack_after (context c (n ∷ o ∷ os)) inner empty in
     ap (λ l. blocks_after c l (o ∷ os))
     (append_assoc (mark (op.If None None end) ∷ flat_at op.End (at + 1) inner) tail ms)
-    ∙ chosen_on c o os [] (flat_at op.End (at + 1) inner ++ (tail ++ ms)) (mark close ∷ ms) (stands_in x [])
+    ∙ resumed_if_chosen c o os [] (flat_at op.End (at + 1) inner ++ (tail ++ ms)) (mark close ∷ ms)
+    (stands_in x [])
     (stack_after (context c (o ∷ os)) rest) (taken (I32 ∷ []) o.stack)
     (λ s. run_list c op.End (at + 1) inner (tail ++ ms) n (with_stack o s ∷ os) h.0
-    ∙ ended c n (with_stack o s) os (tail ++ ms) x
+    ∙ resumed_at_end c n (with_stack o s) os (tail ++ ms) x
     ∙ ap (λ y. cond (stands_in x []) y None) (run_list c close (end + 1) rest ms (with_stack o s) os h.1))
 run_list c close at (if_then (Some t) inner rest) ms o os h = refl
 run_list c close at (if_else r inner other rest) ms o os h =
@@ -145,14 +149,15 @@ run_list c close at (if_else r inner other rest) ms o os h =
     let y = stack_after (context c (n ∷ o ∷ os)) other empty in
     ap (λ l. blocks_after c l (o ∷ os))
     (append_assoc (first ++ second) tail ms ∙ append_assoc first second (tail ++ ms))
-    ∙ chosen_on c o os result (flat_at op.Else (at + 1) inner ++ (second ++ (tail ++ ms))) (mark close ∷ ms)
+    ∙ resumed_if_chosen c o os result (flat_at op.Else (at + 1) inner ++ (second ++ (tail ++ ms)))
+    (mark close ∷ ms)
     (stands_in x result && stands_in y result) (λ s. stack_after (context c (o ∷ os)) rest (given result s))
     (taken (I32 ∷ []) o.stack)
     (λ s. run_list c op.Else (at + 1) inner (second ++ (tail ++ ms)) n (with_stack o s ∷ os) h.0
     ∙ parted c n (with_stack o s ∷ os) (second ++ (tail ++ ms)) x
     ∙ ap (λ z. cond (stands_in x result) z None)
     (run_list c op.End (middle + 1) other (tail ++ ms) n (with_stack o s ∷ os) h.1
-    ∙ ended c n (with_stack o s) os (tail ++ ms) y
+    ∙ resumed_at_end c n (with_stack o s) os (tail ++ ms) y
     ∙ ap (λ z. cond (stands_in y result) z None)
     (run_list c close (end + 1) rest ms (with_stack o (given result s)) os h.2))
     ∙ both_if (stands_in x result) (stands_in y result)

@@ -139,10 +139,10 @@ there_from m e rest later true eb right some h =
 there_from m e rest later false eb right some h = h some
 
 -- what is found in a list of exports by the name of an entry
-pub entry_found : (m : WasmModule) (es : List Exported) (name : List ℕ) (o : Option ℕ)
+pub entry_point_found : (m : WasmModule) (es : List Exported) (name : List ℕ) (o : Option ℕ)
     → profile_refusal m ≡ None → es ≡ m.exports → is_entry_name name ≡ true → o ≡ exported_function_in es name
     → Found m o
-entry_found m es name o none ee entry e =
+entry_point_found m es name o none ee entry e =
     subst (Found m) (sym (e ∙ ap (λ xs. exported_function_in xs name) ee))
     (found m m.exports name entry (no_cause m none).entries)
 

@@ -26,12 +26,12 @@ pub record Takes (types : List Signature) (kind : ImportKind) (name : Option Imp
   pub named : name ≡ Some import
   pub typed : slice_get types index ≡ Some (import_type import)
 
-abbrev pub IsRight : List Signature → ImportKind → Option Import → Type 0
-IsRight types kind name = ((l : Limits) × (kind ≡ Memory l)) ⊎ Takes types kind name
+abbrev pub IsRightImport : List Signature → ImportKind → Option Import → Type 0
+IsRightImport types kind name = ((l : Limits) × (kind ≡ Memory l)) ⊎ Takes types kind name
 
 right_memory : (types : List Signature) (kind : ImportKind) (name : Option Import)
     → is_right_memory kind ≡ true
-    → IsRight types kind name
+    → IsRightImport types kind name
 right_memory types (Memory l) name h = inl (l, refl)
 right_memory types (Func index) name h = absurd (cc h)
 right_memory types (Table l) name h = absurd (cc h)
@@ -42,7 +42,7 @@ has_type name None h = absurd (cc h)
 has_type name (Some s) h = ap Some (same_signature_is s (import_type name) h)
 
 right_function : (m : WasmModule) (kind : ImportKind) (name : Option Import)
-    → is_right_function m name kind ≡ true → IsRight m.types kind name
+    → is_right_function m name kind ≡ true → IsRightImport m.types kind name
 right_function m (Func index) (Some import) h =
     inr
     (record {
@@ -61,28 +61,29 @@ right_function m (Global g) None h = absurd (cc h)
 right_function m (Global g) (Some import) h = absurd (cc h)
 
 right_kind : (m : WasmModule) (kind : ImportKind) (name : Option Import) (b : Bool)
-    → cond b (is_right_memory kind) (is_right_function m name kind) ≡ true → IsRight m.types kind name
+    → cond b (is_right_memory kind) (is_right_function m name kind) ≡ true → IsRightImport m.types kind name
 right_kind m kind name true h = right_memory m.types kind name h
 right_kind m kind name false h = right_function m kind name h
 
 pub right_import : (m : WasmModule) (i : Imported) → is_right m i ≡ true
-    → IsRight m.types i.kind (import_named i.module_name i.name)
+    → IsRightImport m.types i.kind (import_named i.module_name i.name)
 right_import m i h = right_kind m i.kind (import_named i.module_name i.name) (is_memory i) h
 
 -- ---- no table and no global is imported
 
-no_table : (types : List Signature) (kind : ImportKind) (name : Option Import) → IsRight types kind name
+no_table : (types : List Signature) (kind : ImportKind) (name : Option Import) → IsRightImport types kind name
     → imported_table kind ≡ None
 no_table types kind name (inl p) = ap imported_table p.1
 no_table types kind name (inr t) = ap imported_table t.function
 
-no_global : (types : List Signature) (kind : ImportKind) (name : Option Import) → IsRight types kind name
+no_global : (types : List Signature) (kind : ImportKind) (name : Option Import)
+    → IsRightImport types kind name
     → imported_global kind ≡ None
 no_global types kind name (inl p) = ap imported_global p.1
 no_global types kind name (inr t) = ap imported_global t.function
 
 none_imported : {A : Type 0} (f : ImportKind → Option A) (m : WasmModule) (is : List Imported)
-    → ((kind : ImportKind) (name : Option Import) → IsRight m.types kind name → f kind ≡ None)
+    → ((kind : ImportKind) (name : Option Import) → IsRightImport m.types kind name → f kind ≡ None)
     → list_any (is_wrong m) is ≡ false → filter_map (λ i. f i.kind) is ≡ []
 none_imported f m [] none h = refl
 none_imported f m (i ∷ is) none h =

@@ -12,7 +12,7 @@ use Rattle.w4_defs.specs.OperandTypes.{StackType}
 use Rattle.w4_defs.specs.Typing.{Context, IsInt, AreInt, AreLabels, Leads, only_type}
 use Rattle.w4_defs.specs.AbstractStack.{OperandType, AbstractStack, agrees, agree, anything, stands, with_operands, taken, given, passed, topmost, common_type, dropped, select_with, selected, after_branch, is_label, common_label, step}
 use Rattle.wasm_valid.specs.AbstractStackLaw.{HasNoFloat, AreIntOperands}
-use Rattle.wasm_valid.proofs.OperandTypeLaws.{then_some, some_then, map_some, some_map, if_some, some_if, same_types_are, same_types_self, anything_agrees, top_agrees, agrees_top, common_agrees, agrees_common}
+use Rattle.wasm_valid.proofs.OperandTypeLaws.{some_and_then, some_then, map_some, some_map, some_if_true, some_if, same_types_are, same_types_self, anything_agrees, top_agrees, agrees_top, common_agrees, agrees_common}
 use Rattle.wasm_valid.proofs.IntLaws.{joined_int, left_int, right_int, top_int, common_int, some_type, stack_type_int, stack_type_ints}
 use Rattle.wasm_valid.proofs.NoneLaws.{all_at}
 use Rattle.wasm_valid.proofs.TakenLaws.{taken_stands, stands_taken, given_stands, stands_given, taken_int, given_int, some_ints, uncut}
@@ -47,7 +47,7 @@ plain_begins : (c : Context) (o : Op) (s t : AbstractStack) (outs : List ValType
     → (ins : List ValType) × AreInt ins × (stands s ins ≡ true)
     × ((ts a b : List ValType) × (ins ≡ ts ++ a) × (only_type c o ≡ Some (a, b)) × (outs ≡ ts ++ b))
 plain_begins c o s t outs n j h g =
-    let p = then_some (passed s) (only_type c o) t h in
+    let p = some_and_then (passed s) (only_type c o) t h in
     let i = stack_type_ints (only_type c o) p.0 (stack_type_int c o n) p.1 in
     let q = stack_type_begins s t p.0 outs i.0 j p.2 g in
     (q.0 ++ p.0.0, q.2, q.3, (q.0, p.0.0, p.0.1, refl, p.1, q.1))
@@ -55,7 +55,7 @@ plain_begins c o s t outs n j h g =
 plain_int : (c : Context) (o : Op) (s t : AbstractStack) → HasNoFloat c → AreIntOperands s.operands
     → option_and_then (passed s) (only_type c o) ≡ Some t → AreIntOperands t.operands
 plain_int c o s t n k h =
-    let p = then_some (passed s) (only_type c o) t h in
+    let p = some_and_then (passed s) (only_type c o) t h in
     let i = stack_type_ints (only_type c o) p.0 (stack_type_int c o n) p.1 in
     let q = map_some (given p.0.1) (taken p.0.0 s) t p.2 in
     subst (λ x. AreIntOperands x.operands) q.2 (given_int p.0.1 q.0 i.1 (taken_int p.0.0 s q.0 k q.1))
@@ -131,9 +131,9 @@ common_are : (c : Context) (label : List ValType) (labels : List ℕ) → common
 common_are c label [] h = absurd (cc h)
 common_are c label (l ∷ labels) h =
     let p =
-    then_some (λ label. cond (list_all (λ other. is_label label (slice_get c.labels other)) labels)
+    some_and_then (λ label. cond (list_all (λ other. is_label label (slice_get c.labels other)) labels)
     (Some label) None) (slice_get c.labels l) label h in
-    let q = if_some (list_all (λ other. is_label p.0 (slice_get c.labels other)) labels) p.0 label p.2 in
+    let q = some_if_true (list_all (λ other. is_label p.0 (slice_get c.labels other)) labels) p.0 label p.2 in
     (omega arith, subst (λ x. AreLabels c x (l ∷ labels)) q.1 (p.1, all_are c p.0 labels q.0))
 
 are_common : (c : Context) (label : List ValType) (labels : List ℕ) → 0 < length labels
@@ -199,9 +199,9 @@ record Two (s t : AbstractStack) : Type 0 where
 
 two : (s t : AbstractStack) → selected s ≡ Some t → Two s t
 two s t h =
-    let p = then_some (λ top. select_with s top.0 top.1) (topmost s.unreachable s.operands) t h in
+    let p = some_and_then (λ top. select_with s top.0 top.1) (topmost s.unreachable s.operands) t h in
     let q =
-    then_some (λ top. option_map (λ kind. with_operands s (kind ∷ top.1)) (common_type p.0.0 top.0))
+    some_and_then (λ top. option_map (λ kind. with_operands s (kind ∷ top.1)) (common_type p.0.0 top.0))
     (topmost s.unreachable p.0.1) t p.2 in
     let r = map_some (λ kind. with_operands s (kind ∷ q.0.1)) (common_type p.0.0 q.0.0) t q.2 in
     record { upper = p.0; lower = q.0; both = r.0; there = p.1; under = q.1; common = r.1; made = r.2 }
@@ -286,7 +286,7 @@ step_begins c (op.Br l) labels s t outs n k i h g =
       ([], q.0 ++ p.0, outs, refl, (q.0, p.0, p.2, refl, q.1, i), refl),
     )
 step_begins c op.BrTable labels s t outs n k i h g =
-    let m = then_some (λ below. after_branch below (common_label c labels)) (taken (I32 ∷ []) s) t h in
+    let m = some_and_then (λ below. after_branch below (common_label c labels)) (taken (I32 ∷ []) s) t h in
     let p = ends_anything m.0 t (common_label c labels) m.2 in
     let q = branch_begins m.0 p.1 p.0 (taken_int (I32 ∷ []) s m.0 k m.1) p.3 in
     let r = common_are c p.0 labels p.2 in
@@ -313,7 +313,7 @@ step_begins c op.Drop labels s t outs n k i h g =
       (outs, p.0 ∷ [], [], refl, (p.0, p.1, refl, refl), sym (append-nil outs)),
     )
 step_begins c op.Select labels s t outs n k i h g =
-    let m = then_some selected (taken (I32 ∷ []) s) t h in
+    let m = some_and_then selected (taken (I32 ∷ []) s) t h in
     let p = selected_begins m.0 t outs i m.2 g in
     let ts = p.0 in
     let u = p.1 in (
@@ -333,13 +333,13 @@ step_int c op.Unreachable labels s t n k h =
 step_int c (op.Br l) labels s t n k h =
     subst (λ x. AreIntOperands x.operands) (ends_anything s t (slice_get c.labels l) h).4 tt
 step_int c op.BrTable labels s t n k h =
-    let m = then_some (λ below. after_branch below (common_label c labels)) (taken (I32 ∷ []) s) t h in
+    let m = some_and_then (λ below. after_branch below (common_label c labels)) (taken (I32 ∷ []) s) t h in
     subst (λ x. AreIntOperands x.operands) (ends_anything m.0 t (common_label c labels) m.2).4 tt
 step_int c op.Return labels s t n k h =
     subst (λ x. AreIntOperands x.operands) (ends_anything s t (Some c.results) h).4 tt
 step_int c op.Drop labels s t n k h = dropped_int s t k h
 step_int c op.Select labels s t n k h =
-    let m = then_some selected (taken (I32 ∷ []) s) t h in
+    let m = some_and_then selected (taken (I32 ∷ []) s) t h in
     selected_int m.0 t (taken_int (I32 ∷ []) s m.0 k m.1) m.2
 step_int c o labels s t n k h = plain_int c o s t n k h
 

@@ -83,10 +83,10 @@ element_is_read m i ops functions offset none rules e f n =
     e f n
 
 -- one more function is put
-pub put_more : (table next : List (Option ℕ)) (at from : ℕ) (fs : List ℕ) (i f : ℕ) → i < length fs
+pub put_more_functions : (table next : List (Option ℕ)) (at from : ℕ) (fs : List ℕ) (i f : ℕ) → i < length fs
     → f ≡ get_or fs i f → next ≡ slice_set table at (Some f) → from ≡ at + 1
     → put_functions next from (drop (i + 1) fs) ≡ put_functions table at (drop i fs)
-put_more table next at from fs i f h e en ef =
+put_more_functions table next at from fs i f h e en ef =
     ap (λ t. put_functions t from (drop (i + 1) fs)) en
     ∙ ap (λ n. put_functions (slice_set table at (Some f)) n (drop (i + 1) fs)) ef
     ∙ ap (λ g. put_functions (slice_set table at (Some g)) (at + 1) (drop (i + 1) fs)) e

@@ -21,7 +21,7 @@ use Rattle.w4_defs.specs.RunLaws.{types_of}
 use Rattle.wasm_valid.specs.TypeSoundness.{AnswersByType}
 use Rattle.wasm_valid.proofs.TypeLaws.{same_signature_is}
 use Rattle.wasm_valid.proofs.TypedValues.{types_joined}
-use Rattle.wasm_valid.proofs.TypedLists.{Fits, global_values, on_i32_fits, where_some_fits, cond_fits, with_arguments_fits, leave_fits}
+use Rattle.wasm_valid.proofs.TypedLists.{OutcomeFits, global_values, on_i32_fits, where_some_fits, cond_fits, with_arguments_fits, leave_fits}
 
 -- a callee of a valid module: a typed body, whose locals begin with their types, or an import of its type
 abbrev pub IsReady : WasmModule → Callee → Type 0
@@ -66,7 +66,7 @@ Evaluates {H} m n e =
     (b : ℕ)
     → b < n → c.within ≡ m → Matches c env → HasType c body ins outs
     → types_of ops ≡ reverse ins → types_of ls ≡ c.locals → types_of st.globals ≡ global_values c
-    → Fits c outs (e body env ops ls st b)
+    → OutcomeFits c outs (e body env ops ls st b)
 
 -- an import has no result, or one i32
 import_results : (i : Import) → ((import_type i).results ≡ []) ⊎ ((import_type i).results ≡ I32 ∷ [])
@@ -78,7 +78,7 @@ module _ {H : Type 0} (c : Context) (outs tops : List ValType) where
   answered_fits : (results : List ValType) (n : Option ℕ) (ops ls : List Val) (st : Store H) (b : ℕ)
       → (results ≡ []) ⊎ (results ≡ I32 ∷ []) → IsSome n ↔ (length results ≡ 1)
       → types_of ops ≡ tops → reverse outs ≡ reverse results ++ tops → types_of ls ≡ c.locals
-      → types_of st.globals ≡ global_values c → Fits c outs (with_result results n ops ls st b)
+      → types_of st.globals ≡ global_values c → OutcomeFits c outs (with_result results n ops ls st b)
   answered_fits [] None ops ls st b k a h g l s = (h ∙ sym g, l, s)
   answered_fits [] (Some n) ops ls st b k a h g l s = absurd (let e : 0 ≡ 1 = a.0 refl in cc e)
   answered_fits (I32 ∷ []) (Some n) ops ls st b k a h g l s = (ap (λ ts. I32 ∷ ts) h ∙ sym g, l, s)
@@ -91,7 +91,7 @@ module _ {H : Type 0} (c : Context) (outs tops : List ValType) where
       (b : ℕ) → AnswersByType imports → s ≡ import_type i
       → types_of ops ≡ reverse s.params ++ tops → reverse outs ≡ reverse s.results ++ tops
       → types_of ls ≡ c.locals → types_of st.globals ≡ global_values c
-      → Fits c outs (call_import imports s i ops ls st b)
+      → OutcomeFits c outs (call_import imports s i ops ls st b)
   call_import_fits imports s i ops ls st b answers e h g l k =
       with_arguments_fits c outs s.params tops ops _ h (λ args ops typed below.
       let weight : ℕ = imports.weight st.host i (integers_of args) st.page in
@@ -110,7 +110,7 @@ module _ {H : Type 0} (c : Context) (outs tops : List ValType) where
         → types_of ops ≡ reverse f.signature.params ++ tops
         → reverse outs ≡ reverse f.signature.results ++ tops
         → types_of ls ≡ c.locals → types_of st.globals ≡ global_values c
-        → Fits c outs (call_own e f env ops ls st b)
+        → OutcomeFits c outs (call_own e f env ops ls st b)
     call_own_fits f env ops ls st b less ready h g l k =
         let go : List Val → List Val → Outcome H =
         λ args ops. leave f.signature.results ops ls
@@ -133,7 +133,7 @@ module _ {H : Type 0} (c : Context) (outs tops : List ValType) where
         → b < n → IsReady c.within callee → HasSignature s callee
         → types_of ops ≡ reverse s.params ++ tops → reverse outs ≡ reverse s.results ++ tops
         → types_of ls ≡ c.locals → types_of st.globals ≡ global_values c
-        → Fits c outs (call prog e callee env ops ls st b)
+        → OutcomeFits c outs (call prog e callee env ops ls st b)
     call_fits s (own_function f) env ops ls st b less ready named h g l k =
         call_own_fits f env ops ls st b less ready
         (subst (λ x. types_of ops ≡ reverse x.params ++ tops) (sym named) h)
@@ -149,7 +149,7 @@ module _ {H : Type 0} (c : Context) (outs tops : List ValType) where
         → b < n → IsReady c.within callee
         → types_of ops ≡ reverse s.params ++ tops → reverse outs ≡ reverse s.results ++ tops
         → types_of ls ≡ c.locals → types_of st.globals ≡ global_values c
-        → Fits c outs (call_typed prog e s callee env ops ls st b)
+        → OutcomeFits c outs (call_typed prog e s callee env ops ls st b)
     call_typed_fits s (own_function f) env ops ls st b less ready h g l k =
         cond_fits c outs (same_signature f.signature s) (call_own e f env ops ls st b) (Trap cause.Type_ st)
         (λ t. call_fits s (own_function f) env ops ls st b less ready (same_signature_is f.signature s t) h g
@@ -167,7 +167,7 @@ module _ {H : Type 0} (c : Context) (outs tops : List ValType) where
         (st : Store H) (b : ℕ) → b < n → slice_get prog.table i ≡ Some entry
         → types_of ops ≡ reverse s.params ++ tops → reverse outs ≡ reverse s.results ++ tops
         → types_of ls ≡ c.locals → types_of st.globals ≡ global_values c
-        → Fits c outs (call_table_element prog e s entry env ops ls st b)
+        → OutcomeFits c outs (call_table_element prog e s entry env ops ls st b)
     call_entry_fits s i None env ops ls st b less found h g l k = k
     call_entry_fits s i (Some func) env ops ls st b less found h g l k =
         let p = linked.entries i func found in
@@ -180,7 +180,7 @@ module _ {H : Type 0} (c : Context) (outs tops : List ValType) where
         (st : Store H) (b : ℕ) → b < n → slice_get prog.table i ≡ found
         → types_of ops ≡ reverse s.params ++ tops → reverse outs ≡ reverse s.results ++ tops
         → types_of ls ≡ c.locals → types_of st.globals ≡ global_values c
-        → Fits c outs (where_some (Trap cause.Table st) found
+        → OutcomeFits c outs (where_some (Trap cause.Table st) found
         (λ entry. call_table_element prog e s entry env ops ls st b))
     call_place_fits s i None env ops ls st b less found h g l k = k
     call_place_fits s i (Some entry) env ops ls st b less found h g l k =
@@ -191,7 +191,7 @@ module _ {H : Type 0} (c : Context) (outs tops : List ValType) where
         → table < length (tables_of c.within) → slice_get c.within.types t ≡ Some s
         → types_of ops ≡ I32 ∷ (reverse s.params ++ tops) → reverse outs ≡ reverse s.results ++ tops
         → types_of ls ≡ c.locals → types_of st.globals ≡ global_values c
-        → Fits c outs (call_indirect prog e t table env ops ls st b)
+        → OutcomeFits c outs (call_indirect prog e t table env ops ls st b)
     call_indirect_fits t zero s env ops ls st b less small found h g l k =
         where_some_fits c outs Stuck (slice_get prog.types t) s _
         (ap (λ types. slice_get types t) linked.types ∙ found)

@@ -13,7 +13,7 @@ use Rattle.w4_defs.specs.Imports.{import_type}
 use Rattle.w4_defs.specs.Profile.{is_right}
 use Rattle.w4_defs.specs.Program.{Callee, host_function, imported_callee, with_import, imported_callees}
 use Rattle.wasm_valid.proofs.ProfileFacts.{is_wrong}
-use Rattle.wasm_valid.proofs.ProfileLaws.{Takes, IsRight, right_import}
+use Rattle.wasm_valid.proofs.ProfileLaws.{Takes, IsRightImport, right_import}
 use Rattle.wasm_valid.proofs.TypedCalls.{Named, NamedAs}
 
 abbrev pub type_at : WasmModule → Option ℕ → Option Signature
@@ -53,7 +53,7 @@ function_named m index name functions indices t rest (suc func) s e =
     later m (imported_callee (slice_get m.types index) name) functions func s (rest func s e)
 
 import_named_right : (m : WasmModule) (kind : ImportKind) (name : Option Import)
-    (others owns : List Callee) (indices fs : List ℕ) → IsRight m.types kind name
+    (others owns : List Callee) (indices fs : List ℕ) → IsRightImport m.types kind name
     → AllNamed m (others ++ owns) (indices ++ fs)
     → AllNamed m (with_import m.types kind name others ++ owns)
     (cons_option (imported_function kind) indices ++ fs)

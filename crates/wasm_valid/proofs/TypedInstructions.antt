@@ -19,7 +19,7 @@ use Rattle.w4_defs.specs.Evaluation.{Env, with_globals, branch, branch_if, branc
 use Rattle.w4_defs.specs.InstructionSoundness.{Suits}
 use Rattle.w4_defs.specs.RunLaws.{types_of}
 use Rattle.wasm_valid.proofs.TypedValues.{typed_at, types_set, same_kinds}
-use Rattle.wasm_valid.proofs.TypedLists.{Fits, global_values, on_i32_fits, where_some_fits, cond_fits, holds_fits, with_top_fits}
+use Rattle.wasm_valid.proofs.TypedLists.{OutcomeFits, global_values, on_i32_fits, where_some_fits, cond_fits, holds_fits, with_top_fits}
 use Rattle.wasm_valid.proofs.TypedCalls.{Matches}
 
 -- ---- effects
@@ -140,7 +140,7 @@ module _ {H : Type 0} (c : Context) (outs : List ValType) where
       (b : ℕ)
       → Matches c env → slice_get c.labels l ≡ Some label
       → types_of ops ≡ reverse label ++ below → types_of ls ≡ c.locals → types_of st.globals ≡ global_values c
-      → Fits c outs (branch env l ops ls st b)
+      → OutcomeFits c outs (branch env l ops ls st b)
   branch_fits env l label below ops ls st b m e h k g =
       where_some_fits c outs Stuck (slice_get env.labels l) (length label) _
       (ap (λ ns. slice_get ns l) m.labels ∙ slice_get-map length c.labels l ∙ ap (option_map length) e)
@@ -151,7 +151,7 @@ module _ {H : Type 0} (c : Context) (outs : List ValType) where
       (b : ℕ) → Matches c env → slice_get c.labels l ≡ Some label
       → types_of ops ≡ I32 ∷ (reverse label ++ tops) → reverse outs ≡ reverse label ++ tops
       → types_of ls ≡ c.locals → types_of st.globals ≡ global_values c
-      → Fits c outs (branch_if env l ops ls st b)
+      → OutcomeFits c outs (branch_if env l ops ls st b)
   branch_if_fits env l label tops ops ls st b m e h o k g =
       on_i32_fits c outs (reverse label ++ tops) ops _ h (λ n ops below.
       cond_fits c outs (nat_eq n 0) (Falls ops ls st b) (branch env l ops ls st b)
@@ -162,7 +162,7 @@ module _ {H : Type 0} (c : Context) (outs : List ValType) where
       (st : Store H) (b : ℕ) → Matches c env → 0 < length labels → AreLabels c label labels
       → types_of ops ≡ I32 ∷ (reverse label ++ below) → types_of ls ≡ c.locals
       → types_of st.globals ≡ global_values c
-      → Fits c outs (branch_table env labels ops ls st b)
+      → OutcomeFits c outs (branch_table env labels ops ls st b)
   branch_table_fits env labels label below ops ls st b m some are h k g =
       on_i32_fits c outs (reverse label ++ below) ops _ h (λ i ops rest.
       let place = min i (length labels - 1) in
@@ -173,15 +173,15 @@ module _ {H : Type 0} (c : Context) (outs : List ValType) where
   pub return_fits : (env : Env) (below : List ValType) (ops ls : List Val) (st : Store H) (b : ℕ)
       → Matches c env
       → types_of ops ≡ reverse c.results ++ below → types_of st.globals ≡ global_values c
-      → Fits c outs (return env ops ls st b)
+      → OutcomeFits c outs (return env ops ls st b)
   return_fits env below ops ls st b m h g =
-      subst (λ n. Fits c outs (with_top Stuck n ops (λ vs ops. Returns vs st b))) (sym m.results)
+      subst (λ n. OutcomeFits c outs (with_top Stuck n ops (λ vs ops. Returns vs st b))) (sym m.results)
       (with_top_fits c outs c.results below ops (λ vs ops. Returns vs st b) h (λ vs ops top rest. (top, g)))
 
   pub get_global_fits : (i : ℕ) (g : GlobalType) (tops : List ValType) (ops ls : List Val) (st : Store H)
       (b : ℕ) → slice_get (global_types c.within) i ≡ Some g
       → types_of ops ≡ tops → reverse outs ≡ g.value ∷ tops → types_of ls ≡ c.locals
-      → types_of st.globals ≡ global_values c → Fits c outs (get_global i ops ls st b)
+      → types_of st.globals ≡ global_values c → OutcomeFits c outs (get_global i ops ls st b)
   get_global_fits i g tops ops ls st b e h o k s =
       let p = typed_at st.globals i g.value (global_typed c st i g e s) in
       where_some_fits c outs Stuck (slice_get st.globals i) p.value (λ v. Falls (v ∷ ops) ls st b) p.found
@@ -190,7 +190,7 @@ module _ {H : Type 0} (c : Context) (outs : List ValType) where
   pub set_global_fits : (i : ℕ) (g : GlobalType) (tops : List ValType) (ops ls : List Val) (st : Store H)
       (b : ℕ) → slice_get (global_types c.within) i ≡ Some g
       → types_of ops ≡ g.value ∷ tops → reverse outs ≡ tops → types_of ls ≡ c.locals
-      → types_of st.globals ≡ global_values c → Fits c outs (set_global i ops ls st b)
+      → types_of st.globals ≡ global_values c → OutcomeFits c outs (set_global i ops ls st b)
   set_global_fits i g tops [] ls st b e h o k s = absurd (cc h)
   set_global_fits i g tops (v ∷ ops) ls st b e h o k s =
       let there = global_typed c st i g e s in

@@ -25,22 +25,23 @@ global_values c = map (λ g. g.value) (global_types c.within)
 
 -- a list that leads to outs falls with operands of these types, or leaves with those that its label or its
 -- function's results want; locals and globals keep their types; it never lacks anything
-abbrev pub Fits : {H : Type 0} → Context → List ValType → Outcome H → Type 0
-Fits c outs (Falls ops ls st r) =
+abbrev pub OutcomeFits : {H : Type 0} → Context → List ValType → Outcome H → Type 0
+OutcomeFits c outs (Falls ops ls st r) =
     (types_of ops ≡ reverse outs) × (types_of ls ≡ c.locals) × (types_of st.globals ≡ global_values c)
-Fits c outs (Branch l vs ls st r) =
+OutcomeFits c outs (Branch l vs ls st r) =
     (label : List ValType) × (slice_get c.labels l ≡ Some label) × (types_of vs ≡ reverse label)
     × (types_of ls ≡ c.locals) × (types_of st.globals ≡ global_values c)
-Fits c outs (Returns vs st r) = (types_of vs ≡ reverse c.results) × (types_of st.globals ≡ global_values c)
-Fits c outs (Trap cause st) = types_of st.globals ≡ global_values c
-Fits c outs (Spent st) = types_of st.globals ≡ global_values c
-Fits c outs Stuck = ⊥
+OutcomeFits c outs (Returns vs st r) =
+    (types_of vs ≡ reverse c.results) × (types_of st.globals ≡ global_values c)
+OutcomeFits c outs (Trap cause st) = types_of st.globals ≡ global_values c
+OutcomeFits c outs (Spent st) = types_of st.globals ≡ global_values c
+OutcomeFits c outs Stuck = ⊥
 
 -- what goes on fits, wherever it begins with at most b units and with operands of these types, the top first
-abbrev pub Goes : {H : Type 0} → Context → List ValType → ℕ → List ValType → Next H → Type 0
-Goes {H} c outs b tops go = (ops ls : List Val) (st : Store H) (r : ℕ) → r ≤ b
+abbrev pub NextFits : {H : Type 0} → Context → List ValType → ℕ → List ValType → Next H → Type 0
+NextFits {H} c outs b tops go = (ops ls : List Val) (st : Store H) (r : ℕ) → r ≤ b
     → types_of ops ≡ tops → types_of ls ≡ c.locals → types_of st.globals ≡ global_values c
-    → Fits c outs (go ops ls st r)
+    → OutcomeFits c outs (go ops ls st r)
 
 -- a block's results, closed by number and type
 result_held : (r : Option ValType) (vs : List Val) → types_of vs ≡ reverse (result_types r)
@@ -56,29 +57,31 @@ onto ts tops vs ops h k = types_joined vs ops ∙ ap (λ x. x ++ types_of ops) h
 module _ {H : Type 0} (c : Context) (outs : List ValType) where
   pub on_i32_fits : (tops : List ValType) (ops : List Val) (go : ℕ → List Val → Outcome H)
       → types_of ops ≡ I32 ∷ tops
-      → ((n : ℕ) (ops : List Val) → types_of ops ≡ tops → Fits c outs (go n ops))
-      → Fits c outs (on_i32 Stuck ops go)
+      → ((n : ℕ) (ops : List Val) → types_of ops ≡ tops → OutcomeFits c outs (go n ops))
+      → OutcomeFits c outs (on_i32 Stuck ops go)
   on_i32_fits tops [] go h k = absurd (cc h)
   on_i32_fits tops (val.I32 n ∷ ops) go h k = k n ops (cc h)
   on_i32_fits tops (val.I64 n ∷ ops) go h k = absurd (cc h)
 
   pub where_some_fits : {A : Type 0} (lack : Outcome H) (o : Option A) (x : A) (go : A → Outcome H)
       → o ≡ Some x
-      → Fits c outs (go x) → Fits c outs (where_some lack o go)
-  where_some_fits lack o x go e k = subst (λ o. Fits c outs (where_some lack o go)) (sym e) k
+      → OutcomeFits c outs (go x) → OutcomeFits c outs (where_some lack o go)
+  where_some_fits lack o x go e k = subst (λ o. OutcomeFits c outs (where_some lack o go)) (sym e) k
 
-  pub cond_fits : (test : Bool) (o p : Outcome H) → (test ≡ true → Fits c outs o)
-      → (test ≡ false → Fits c outs p) → Fits c outs (cond test o p)
+  pub cond_fits : (test : Bool) (o p : Outcome H) → (test ≡ true → OutcomeFits c outs o)
+      → (test ≡ false → OutcomeFits c outs p) → OutcomeFits c outs (cond test o p)
   cond_fits true o p h k = h refl
   cond_fits false o p h k = k refl
 
-  pub holds_fits : (test : Bool) (o p : Outcome H) → test ≡ true → Fits c outs o → Fits c outs (cond test o p)
-  holds_fits test o p e h = subst (λ t. Fits c outs (cond t o p)) (sym e) h
+  pub holds_fits : (test : Bool) (o p : Outcome H) → test ≡ true → OutcomeFits c outs o
+      → OutcomeFits c outs (cond test o p)
+  holds_fits test o p e h = subst (λ t. OutcomeFits c outs (cond t o p)) (sym e) h
 
   pub with_top_fits : (ts below : List ValType) (ops : List Val) (go : List Val → List Val → Outcome H)
       → types_of ops ≡ reverse ts ++ below
-      → ((vs ops : List Val) → types_of vs ≡ reverse ts → types_of ops ≡ below → Fits c outs (go vs ops))
-      → Fits c outs (with_top Stuck (length ts) ops go)
+      → ((vs ops : List Val) → types_of vs ≡ reverse ts → types_of ops ≡ below → OutcomeFits c outs
+      (go vs ops))
+      → OutcomeFits c outs (with_top Stuck (length ts) ops go)
   with_top_fits ts below ops go h k =
       let n = length ts in
       let s = split ts below ops h in
@@ -87,8 +90,9 @@ module _ {H : Type 0} (c : Context) (outs : List ValType) where
 
   pub with_arguments_fits : (params below : List ValType) (ops : List Val) (go : List Val → List Val
       → Outcome H) → types_of ops ≡ reverse params ++ below
-      → ((args ops : List Val) → types_of args ≡ params → types_of ops ≡ below → Fits c outs (go args ops))
-      → Fits c outs (with_arguments Stuck params ops go)
+      → ((args ops : List Val) → types_of args ≡ params → types_of ops ≡ below → OutcomeFits c outs
+      (go args ops))
+      → OutcomeFits c outs (with_arguments Stuck params ops go)
   with_arguments_fits params below ops go h k =
       let n = length params in
       let s = split params below ops h in
@@ -98,8 +102,9 @@ module _ {H : Type 0} (c : Context) (outs : List ValType) where
       holds_fits (have_types params args) (go args (drop n ops)) Stuck (are_of_typed params args typed)
       (k args (drop n ops) typed s.rest)
 
-  pub and_then_fits : (mid : List ValType) (b : ℕ) (o : Outcome H) (go : Next H) → AtMost b o → Fits c mid o
-      → Goes c outs b (reverse mid) go → Fits c outs (and_then o go)
+  pub and_then_fits : (mid : List ValType) (b : ℕ) (o : Outcome H) (go : Next H) → AtMost b o
+      → OutcomeFits c mid o
+      → NextFits c outs b (reverse mid) go → OutcomeFits c outs (and_then o go)
   and_then_fits mid b (Falls ops ls st r) go a h k = k ops ls st r a h.0 h.1 h.2
   and_then_fits mid b (Branch l vs ls st r) go a h k = h
   and_then_fits mid b (Returns vs st r) go a h k = h
@@ -109,9 +114,9 @@ module _ {H : Type 0} (c : Context) (outs : List ValType) where
 
   pub close_fits : (result : Option ValType) (tops : List ValType) (b : ℕ) (ops : List Val) (go : Next H)
       (o : Outcome H) → types_of ops ≡ tops → AtMost b o
-      → Fits (with_label (result_types result) c) (result_types result) o
-      → Goes c outs b (reverse (result_types result) ++ tops) go
-      → Fits c outs (close (option_to_list result) ops go o)
+      → OutcomeFits (with_label (result_types result) c) (result_types result) o
+      → NextFits c outs b (reverse (result_types result) ++ tops) go
+      → OutcomeFits c outs (close (option_to_list result) ops go o)
   close_fits result tops b ops go (Falls vs ls st r) e a h k =
       holds_fits (have_types (option_to_list result) vs) (go (vs ++ ops) ls st r) Stuck
       (result_held result vs h.0)
@@ -129,11 +134,11 @@ module _ {H : Type 0} (c : Context) (outs : List ValType) where
   -- a branch to a loop begins its next iteration with less
   pub step_fits : (result : Option ValType) (tops : List ValType) (b : ℕ) (ops : List Val) (go : Next H)
       (again : List Val → Store H → ℕ → Outcome H) (o : Outcome H)
-      → types_of ops ≡ tops → Within b o → Fits (with_label [] c) (result_types result) o
-      → Goes c outs b (reverse (result_types result) ++ tops) go
+      → types_of ops ≡ tops → Within b o → OutcomeFits (with_label [] c) (result_types result) o
+      → NextFits c outs b (reverse (result_types result) ++ tops) go
       → ((ls : List Val) (st : Store H) (r : ℕ) → r < b → types_of ls ≡ c.locals
-      → types_of st.globals ≡ global_values c → Fits c outs (again ls st r))
-      → Fits c outs (close_loop (option_to_list result) ops go again o)
+      → types_of st.globals ≡ global_values c → OutcomeFits c outs (again ls st r))
+      → OutcomeFits c outs (close_loop (option_to_list result) ops go again o)
   step_fits result tops b ops go again (Falls vs ls st r) e a h k t =
       holds_fits (have_types (option_to_list result) vs) (go (vs ++ ops) ls st r) Stuck
       (result_held result vs h.0)
@@ -149,8 +154,8 @@ module _ {H : Type 0} (c : Context) (outs : List ValType) where
   pub leave_fits : (s : Signature) (f : Function) (tops : List ValType) (ops locals : List Val)
       (o : Outcome H)
       → types_of ops ≡ tops → types_of locals ≡ c.locals
-      → reverse outs ≡ reverse s.results ++ tops → Fits (body_context c.within s f) s.results o
-      → Fits c outs (leave s.results ops locals o)
+      → reverse outs ≡ reverse s.results ++ tops → OutcomeFits (body_context c.within s f) s.results o
+      → OutcomeFits c outs (leave s.results ops locals o)
   leave_fits s f tops ops locals (Falls vs ls st r) e l g h =
       holds_fits (have_types (reverse s.results) vs) (Falls (vs ++ ops) locals st r) Stuck
       (are_of_typed (reverse s.results) vs h.0)
@@ -167,14 +172,14 @@ module _ {H : Type 0} (c : Context) (outs : List ValType) where
 
   pub settle_fits : (types locals : List ValType) (f : Effect) (st : Store H) (b : ℕ) → Suits types locals f
       → reverse outs ≡ types → locals ≡ c.locals
-      → types_of st.globals ≡ global_values c → Fits c outs (outcome_of_effect f st b)
+      → types_of st.globals ≡ global_values c → OutcomeFits c outs (outcome_of_effect f st b)
   settle_fits types locals (Does ops ls page) st b h e l g = (h.0 ∙ sym e, h.1 ∙ l, g)
   settle_fits types locals (Traps cause) st b h e l g = g
   settle_fits types locals Lacks st b h e l g = h
 
   pub settle_after_fits : (units : ℕ) (types locals : List ValType) (f : Effect) (st : Store H) (b : ℕ)
       → Suits types locals f → reverse outs ≡ types → locals ≡ c.locals
-      → types_of st.globals ≡ global_values c → Fits c outs (outcome_after_units units f st b)
+      → types_of st.globals ≡ global_values c → OutcomeFits c outs (outcome_after_units units f st b)
   settle_after_fits units types locals (Does ops ls page) st b h e l g =
       cond_fits (nat_lt b units) (Spent st) (Falls ops ls (with_page page st) (b - units)) (λ t. g)
       (λ t. (h.0 ∙ sym e, h.1 ∙ l, g))

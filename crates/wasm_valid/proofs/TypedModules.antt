@@ -16,7 +16,7 @@ use Rattle.w4_defs.specs.Program.{own_function, own_callee, own_callees, callees
 use Rattle.w4_defs.specs.Outcome.{HostFunctions}
 use Rattle.w4_defs.specs.RunLaws.{types_of}
 use Rattle.wasm_valid.specs.TypeSoundness.{AnswersByType}
-use Rattle.wasm_valid.proofs.OperandTypeLaws.{then_some, some_then}
+use Rattle.wasm_valid.proofs.OperandTypeLaws.{some_and_then, some_then}
 use Rattle.wasm_valid.proofs.BodyLaws.{free}
 use Rattle.wasm_valid.proofs.NoneLaws.{none_at}
 use Rattle.wasm_valid.proofs.ProfileFacts.{no_cause}
@@ -62,7 +62,7 @@ body_zeros m k f h g =
 owns_named : (m : WasmModule) → profile_refusal m ≡ None → IsValid m → length m.functions ≡ length m.bodies
     → AllNamed m (own_callees m.types m.functions m.bodies) m.functions
 owns_named m profile valid as_many_bodies k s h =
-    let p = then_some (λ index. slice_get m.types index) (slice_get m.functions k) s h in
+    let p = some_and_then (λ index. slice_get m.types index) (slice_get m.functions k) s h in
     let q = own_found m.types m.functions m.bodies k p.0 s as_many_bodies p.1 p.2 in
     record {
       named = record {

@@ -24,8 +24,8 @@ use Rattle.w4_defs.specs.RunLaws.{types_of}
 use Rattle.w4_defs.proofs.PlainSound.{plain_sound}
 use Rattle.w4_defs.proofs.Budgets.{Keeps, simple_most, body_most, eval_keeps}
 use Rattle.w4_defs.proofs.Unfolding.{eval_unfolds}
-use Rattle.wasm_valid.proofs.OperandTypeLaws.{then_some}
-use Rattle.wasm_valid.proofs.TypedLists.{Fits, global_values, on_i32_fits, where_some_fits, and_then_fits, close_fits, step_fits, settle_fits, settle_after_fits}
+use Rattle.wasm_valid.proofs.OperandTypeLaws.{some_and_then}
+use Rattle.wasm_valid.proofs.TypedLists.{OutcomeFits, global_values, on_i32_fits, where_some_fits, and_then_fits, close_fits, step_fits, settle_fits, settle_after_fits}
 use Rattle.wasm_valid.proofs.TypedCalls.{Linked, Matches, Evaluates, call_fits, call_indirect_fits}
 use Rattle.wasm_valid.proofs.TypedInstructions.{topmost_part, local_get_suits, local_set_suits, local_tee_suits, select_suits, drop_suits, branch_fits, branch_if_fits, branch_table_fits, return_fits, get_global_fits, set_global_fits}
 
@@ -62,7 +62,7 @@ module _ {H : Type 0} (c : Context) (prog : Prog H) (e : Evaluator H) (n : ℕ) 
       → memory_type (nat_lt 0 (length (memories_of c.within))) o ≡ Some (a, given)
       → types_of ops ≡ reverse a ++ tops → reverse outs ≡ reverse given ++ tops → types_of ls ≡ c.locals
       → types_of st.globals ≡ global_values c
-      → Fits c outs (outcome_of_effect (effect o ops ls st.page) st b)
+      → OutcomeFits c outs (outcome_of_effect (effect o ops ls st.page) st b)
   plain_fits o a given tops outs ops ls st b t h g l k =
       settle_fits c outs (reverse given ++ tops) (types_of ls) (effect o ops ls st.page) st b
       ((plain_sound (nat_lt 0 (length (memories_of c.within))) o
@@ -72,7 +72,7 @@ module _ {H : Type 0} (c : Context) (prog : Prog H) (e : Evaluator H) (n : ℕ) 
       (ops ls : List Val) (st : Store H) (b : ℕ) → b < n → Matches c env
       → OperationHasType c o labels a given → types_of ops ≡ reverse a ++ tops
       → reverse outs ≡ reverse given ++ tops → types_of ls ≡ c.locals → types_of st.globals ≡ global_values c
-      → Fits c outs (simple prog e o labels env ops ls st b)
+      → OutcomeFits c outs (simple prog e o labels env ops ls st b)
   simple_fits op.Unreachable labels env a given tops outs ops ls st b less m t h g l k = k
   simple_fits op.Nop labels env a given tops outs ops ls st b less m t h g l k =
       let q = some_pair_parts [] a [] given t in
@@ -83,7 +83,7 @@ module _ {H : Type 0} (c : Context) (prog : Prog H) (e : Evaluator H) (n : ℕ) 
       branch_fits c outs env label ts (reverse below ++ tops) ops ls st b m found
       (retyped (types_of ops) a (below ++ ts) tops h (sym parts) ∙ topmost_part below ts tops) l k
   simple_fits (op.BrIf label) labels env a given tops outs ops ls st b less m t h g l k =
-      let p = then_some branches (slice_get c.labels label) (a, given) t in
+      let p = some_and_then branches (slice_get c.labels label) (a, given) t in
       let q = some_pair_parts (p.0 ++ I32 ∷ []) a p.0 given p.2 in
       branch_if_fits c outs env label p.0 tops ops ls st b m p.1
       (retyped (types_of ops) a (p.0 ++ I32 ∷ []) tops h q.0 ∙ topmost_part p.0 (I32 ∷ []) tops)
@@ -97,7 +97,7 @@ module _ {H : Type 0} (c : Context) (prog : Prog H) (e : Evaluator H) (n : ℕ) 
       return_fits c outs env (reverse below ++ tops) ops ls st b m
       (retyped (types_of ops) a (below ++ c.results) tops h (sym parts) ∙ topmost_part below c.results tops) k
   simple_fits (op.Call func) labels env a given tops outs ops ls st b less m t h g l k =
-      let p = then_some calls (signature_of c.within func) (a, given) t in
+      let p = some_and_then calls (signature_of c.within func) (a, given) t in
       let q = some_pair_parts p.0.params a p.0.results given p.2 in
       let f = linked.functions func p.0 p.1 in
       where_some_fits c outs Stuck (slice_get prog.functions func) f.named.callee
@@ -110,7 +110,7 @@ module _ {H : Type 0} (c : Context) (prog : Prog H) (e : Evaluator H) (n : ℕ) 
       let r =
       where_true (nat_lt table (length (tables_of c.within)))
       (option_and_then calls_indirectly (slice_get c.within.types type)) (a, given) t in
-      let p = then_some calls_indirectly (slice_get c.within.types type) (a, given) r.1 in
+      let p = some_and_then calls_indirectly (slice_get c.within.types type) (a, given) r.1 in
       let q = some_pair_parts (p.0.params ++ I32 ∷ []) a p.0.results given p.2 in
       call_indirect_fits c outs tops prog e n fits linked type table p.0 env ops ls st b less
       (ltb-true table (length (tables_of c.within)) r.0) p.1
@@ -127,31 +127,31 @@ module _ {H : Type 0} (c : Context) (prog : Prog H) (e : Evaluator H) (n : ℕ) 
       (retyped (types_of ops) a (ts ∷ ts ∷ I32 ∷ []) tops h (sym three)) refl)
       (retyped (reverse outs) given (ts ∷ []) tops g (sym one)) l k
   simple_fits (op.LocalGet index) labels env a given tops outs ops ls st b less m t h g l k =
-      let p = then_some gives (slice_get c.locals index) (a, given) t in
+      let p = some_and_then gives (slice_get c.locals index) (a, given) t in
       let q = some_pair_parts [] a (p.0 ∷ []) given p.2 in
       settle_fits c outs (p.0 ∷ tops) (types_of ls) (local_get index ops ls st.page) st b
       (local_get_suits index p.0 tops ops ls st.page (ap (λ ts. slice_get ts index) l ∙ p.1)
       (retyped (types_of ops) a [] tops h q.0)) (retyped (reverse outs) given (p.0 ∷ []) tops g q.1) l k
   simple_fits (op.LocalSet index) labels env a given tops outs ops ls st b less m t h g l k =
-      let p = then_some consumes (slice_get c.locals index) (a, given) t in
+      let p = some_and_then consumes (slice_get c.locals index) (a, given) t in
       let q = some_pair_parts (p.0 ∷ []) a [] given p.2 in
       settle_fits c outs tops (types_of ls) (local_set index ops ls st.page) st b
       (local_set_suits index p.0 tops ops ls st.page (ap (λ ts. slice_get ts index) l ∙ p.1)
       (retyped (types_of ops) a (p.0 ∷ []) tops h q.0)) (retyped (reverse outs) given [] tops g q.1) l k
   simple_fits (op.LocalTee index) labels env a given tops outs ops ls st b less m t h g l k =
-      let p = then_some unary_type (slice_get c.locals index) (a, given) t in
+      let p = some_and_then unary_type (slice_get c.locals index) (a, given) t in
       let q = some_pair_parts (p.0 ∷ []) a (p.0 ∷ []) given p.2 in
       settle_fits c outs (p.0 ∷ tops) (types_of ls) (local_tee index ops ls st.page) st b
       (local_tee_suits index p.0 tops ops ls st.page (ap (λ ts. slice_get ts index) l ∙ p.1)
       (retyped (types_of ops) a (p.0 ∷ []) tops h q.0))
       (retyped (reverse outs) given (p.0 ∷ []) tops g q.1) l k
   simple_fits (op.GlobalGet index) labels env a given tops outs ops ls st b less m t h g l k =
-      let p = then_some (λ x. gives x.value) (slice_get (global_types c.within) index) (a, given) t in
+      let p = some_and_then (λ x. gives x.value) (slice_get (global_types c.within) index) (a, given) t in
       let q = some_pair_parts [] a (p.0.value ∷ []) given p.2 in
       get_global_fits c outs index p.0 tops ops ls st b p.1 (retyped (types_of ops) a [] tops h q.0)
       (retyped (reverse outs) given (p.0.value ∷ []) tops g q.1) l k
   simple_fits (op.GlobalSet index) labels env a given tops outs ops ls st b less m t h g l k =
-      let p = then_some sets (slice_get (global_types c.within) index) (a, given) t in
+      let p = some_and_then sets (slice_get (global_types c.within) index) (a, given) t in
       let q = stack_type_parts p.0.mutable (p.0.value ∷ []) [] a given p.2 in
       set_global_fits c outs index p.0 tops ops ls st b p.1
       (retyped (types_of ops) a (p.0.value ∷ []) tops h q.0) (retyped (reverse outs) given [] tops g q.1) l k
@@ -175,7 +175,7 @@ module _ {H : Type 0} (c : Context) (prog : Prog H) (e : Evaluator H) (n : ℕ) 
         → HasType (with_label (result_types r) c) inner [] (result_types r)
         → HasType c rest (ins ++ result_types r) outs
         → types_of ops ≡ reverse ins → types_of ls ≡ c.locals → types_of st.globals ≡ global_values c
-        → Fits c outs (close (option_to_list r) ops (e rest env)
+        → OutcomeFits c outs (close (option_to_list r) ops (e rest env)
         (e inner (inside (result_arity r) env) [] ls st b))
     closed_fits r inner rest env ins outs ops ls st b less m t u h l k =
         close_fits c outs r (reverse ins) b ops (e rest env)
@@ -189,7 +189,7 @@ module _ {H : Type 0} (c : Context) (prog : Prog H) (e : Evaluator H) (n : ℕ) 
     act_fits : (body : Expr) (env : Env) (ins outs : List ValType) (ops ls : List Val) (st : Store H) (b : ℕ)
         → b < suc n → Matches c env → HasType c body ins outs
         → types_of ops ≡ reverse ins → types_of ls ≡ c.locals → types_of st.globals ≡ global_values c
-        → Fits c outs (act prog e body env ops ls st b)
+        → OutcomeFits c outs (act prog e body env ops ls st b)
     act_fits done env ins outs ops ls st b less m t h l k = (h ∙ ap reverse t, l, k)
     act_fits (plain i rest) env ins outs ops ls st zero less m t h l k = k
     act_fits (plain i rest) env ins outs ops ls st (suc b) less m (mid, led, t) h l k =
@@ -235,7 +235,7 @@ pub eval_fits : {H : Type 0} (m : WasmModule) (prog : Prog H) → Linked m prog 
     → Evaluates m n (eval prog)
 eval_fits m prog linked zero c body env ins outs ops ls st b less within same t h l k = absurd (omega arith)
 eval_fits m prog linked (suc n) c body env ins outs ops ls st b less within same t h l k =
-    subst (Fits c outs) (sym (eval_unfolds prog body env ops ls st b))
+    subst (OutcomeFits c outs) (sym (eval_unfolds prog body env ops ls st b))
     (act_fits c prog (eval prog) n
     (subst (λ x. Evaluates x n (eval prog)) (sym within) (eval_fits m prog linked n))
     (subst (λ x. Linked x prog) (sym within) linked)

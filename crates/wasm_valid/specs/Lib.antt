@@ -8,6 +8,7 @@ pub mod Constants
 pub mod Counting
 pub mod Segments
 pub mod Instructions
+pub mod InstructionTable
 pub mod Ready
 pub mod ControlStack
 pub mod StackTypes

@@ -1,16 +1,49 @@
 //! The table of numeric and memory instructions: the row of each operation (Core Specification, sections
-//! 2.4.1 and 2.4.4), in the order of the standard's codes.
+//! 2.4.1 and 2.4.4), a function for each part of the standard's table: what has no row, the instructions of
+//! memory, and those of numbers, where the operators stand by their type.
 
-ghost use Rattle.std.specs.Prelude.{◌≡◌};
+ghost use Rattle.std.specs.Prelude.{None, Some, ◌≡◌, ◌≢◌};
 ghost use Rattle.w4_defs.specs.InstructionTable.{row};
-ghost use Rattle.w4_defs.specs.declared.instruction_table.Row.TheVariants as stack;
+ghost use Rattle.w4_defs.specs.declared.instruction_table.IntegerType.TheVariants as integer;
+ghost use Rattle.w4_defs.specs.declared.instruction_table.Row.TheVariants as row_of;
+ghost use Rattle.wasm_valid.specs.InstructionTable.{IsNumericRow, type_of_operator};
 
 use w4_defs::IntegerType::{self, I32, I64};
 use w4_defs::Signedness::{self, Signed, Unsigned};
 use w4_defs::{Binary, Compare, Op, Row, Unary};
 
-/// The row of an operation.
+/// The row of an operation. A control, a parametric or a variable instruction has none.
 pub fn row(op: Op) -> Row
+    ensures { result ≡ row op }
+{
+    match op {
+        Op::Unreachable => Row::NoRow,
+        Op::Nop => Row::NoRow,
+        Op::Block { .. } => Row::NoRow,
+        Op::Loop { .. } => Row::NoRow,
+        Op::If { .. } => Row::NoRow,
+        Op::Else => Row::NoRow,
+        Op::End => Row::NoRow,
+        Op::Br { .. } => Row::NoRow,
+        Op::BrIf { .. } => Row::NoRow,
+        Op::BrTable => Row::NoRow,
+        Op::Return => Row::NoRow,
+        Op::Call { .. } => Row::NoRow,
+        Op::CallIndirect { .. } => Row::NoRow,
+        Op::Drop => Row::NoRow,
+        Op::Select => Row::NoRow,
+        Op::LocalGet { .. } => Row::NoRow,
+        Op::LocalSet { .. } => Row::NoRow,
+        Op::LocalTee { .. } => Row::NoRow,
+        Op::GlobalGet { .. } => Row::NoRow,
+        Op::GlobalSet { .. } => Row::NoRow,
+        _ => memory_row(op),
+    }
+}
+
+/// The row of a memory or a numeric instruction.
+fn memory_row(op: Op) -> Row
+    requires { row op ≢ row_of.NoRow }
     ensures { result ≡ row op }
 {
     match op {
@@ -35,8 +68,43 @@ pub fn row(op: Op) -> Row
         Op::I64Store32 { align, offset } => store(I64, 4, align, offset),
         Op::MemorySize => Row::MemorySize,
         Op::MemoryGrow => Row::MemoryGrow,
+        Op::MemoryCopy => Row::MemoryCopy,
+        Op::MemoryFill => Row::MemoryFill,
+        _ => numeric_row(op),
+    }
+}
+
+/// The row of a numeric instruction, or of any of floats.
+fn numeric_row(op: Op) -> Row
+    requires { IsNumericRow (row op) }
+    ensures { result ≡ row op }
+{
+    match op {
         Op::I32Const { value } => Row::Const(I32, u64::from(value)),
         Op::I64Const { value } => Row::Const(I64, value),
+        Op::I32WrapI64 => Row::Wrap,
+        Op::I64ExtendI32S => Row::Extend(Signed),
+        Op::I64ExtendI32U => Row::Extend(Unsigned),
+        Op::I32Extend8S => Row::ExtendWithin(I32, 8),
+        Op::I32Extend16S => Row::ExtendWithin(I32, 16),
+        Op::I64Extend8S => Row::ExtendWithin(I64, 8),
+        Op::I64Extend16S => Row::ExtendWithin(I64, 16),
+        Op::I64Extend32S => Row::ExtendWithin(I64, 32),
+        Op::F32Const { .. } => Row::Float,
+        Op::F64Const { .. } => Row::Float,
+        Op::FloatMemory { .. } => Row::Float,
+        Op::FloatPlain { .. } => Row::Float,
+        Op::FloatCut { .. } => Row::Float,
+        _ => i32_row(op),
+    }
+}
+
+/// The row of a testop, relop, unop or binop.
+fn i32_row(op: Op) -> Row
+    requires { type_of_operator (row op) ≢ None }
+    ensures { result ≡ row op }
+{
+    match op {
         Op::I32Eqz => Row::Test(I32),
         Op::I32Eq => Row::Compare(I32, Compare::Eq),
         Op::I32Ne => Row::Compare(I32, Compare::Ne),
@@ -48,17 +116,6 @@ pub fn row(op: Op) -> Row
         Op::I32LeU => Row::Compare(I32, Compare::LeU),
         Op::I32GeS => Row::Compare(I32, Compare::GeS),
         Op::I32GeU => Row::Compare(I32, Compare::GeU),
-        Op::I64Eqz => Row::Test(I64),
-        Op::I64Eq => Row::Compare(I64, Compare::Eq),
-        Op::I64Ne => Row::Compare(I64, Compare::Ne),
-        Op::I64LtS => Row::Compare(I64, Compare::LtS),
-        Op::I64LtU => Row::Compare(I64, Compare::LtU),
-        Op::I64GtS => Row::Compare(I64, Compare::GtS),
-        Op::I64GtU => Row::Compare(I64, Compare::GtU),
-        Op::I64LeS => Row::Compare(I64, Compare::LeS),
-        Op::I64LeU => Row::Compare(I64, Compare::LeU),
-        Op::I64GeS => Row::Compare(I64, Compare::GeS),
-        Op::I64GeU => Row::Compare(I64, Compare::GeU),
         Op::I32Clz => Row::Unary(I32, Unary::Clz),
         Op::I32Ctz => Row::Unary(I32, Unary::Ctz),
         Op::I32Popcnt => Row::Unary(I32, Unary::Popcnt),
@@ -77,6 +134,27 @@ pub fn row(op: Op) -> Row
         Op::I32ShrU => Row::Binary(I32, Binary::ShrU),
         Op::I32Rotl => Row::Binary(I32, Binary::Rotl),
         Op::I32Rotr => Row::Binary(I32, Binary::Rotr),
+        _ => i64_row(op),
+    }
+}
+
+/// The row of an operator of i64.
+fn i64_row(op: Op) -> Row
+    requires { type_of_operator (row op) ≡ Some integer.I64 }
+    ensures { result ≡ row op }
+{
+    match op {
+        Op::I64Eqz => Row::Test(I64),
+        Op::I64Eq => Row::Compare(I64, Compare::Eq),
+        Op::I64Ne => Row::Compare(I64, Compare::Ne),
+        Op::I64LtS => Row::Compare(I64, Compare::LtS),
+        Op::I64LtU => Row::Compare(I64, Compare::LtU),
+        Op::I64GtS => Row::Compare(I64, Compare::GtS),
+        Op::I64GtU => Row::Compare(I64, Compare::GtU),
+        Op::I64LeS => Row::Compare(I64, Compare::LeS),
+        Op::I64LeU => Row::Compare(I64, Compare::LeU),
+        Op::I64GeS => Row::Compare(I64, Compare::GeS),
+        Op::I64GeU => Row::Compare(I64, Compare::GeU),
         Op::I64Clz => Row::Unary(I64, Unary::Clz),
         Op::I64Ctz => Row::Unary(I64, Unary::Ctz),
         Op::I64Popcnt => Row::Unary(I64, Unary::Popcnt),
@@ -95,47 +173,12 @@ pub fn row(op: Op) -> Row
         Op::I64ShrU => Row::Binary(I64, Binary::ShrU),
         Op::I64Rotl => Row::Binary(I64, Binary::Rotl),
         Op::I64Rotr => Row::Binary(I64, Binary::Rotr),
-        Op::I32WrapI64 => Row::Wrap,
-        Op::I64ExtendI32S => Row::Extend(Signed),
-        Op::I64ExtendI32U => Row::Extend(Unsigned),
-        Op::I32Extend8S => Row::ExtendWithin(I32, 8),
-        Op::I32Extend16S => Row::ExtendWithin(I32, 16),
-        Op::I64Extend8S => Row::ExtendWithin(I64, 8),
-        Op::I64Extend16S => Row::ExtendWithin(I64, 16),
-        Op::I64Extend32S => Row::ExtendWithin(I64, 32),
-        Op::MemoryCopy => Row::MemoryCopy,
-        Op::MemoryFill => Row::MemoryFill,
-        Op::F32Const { .. } => Row::Float,
-        Op::F64Const { .. } => Row::Float,
-        Op::FloatMemory { .. } => Row::Float,
-        Op::FloatPlain { .. } => Row::Float,
-        Op::FloatCut { .. } => Row::Float,
-        // Control, parametric and variable instructions.
-        Op::Unreachable => Row::NoRow,
-        Op::Nop => Row::NoRow,
-        Op::Block { .. } => Row::NoRow,
-        Op::Loop { .. } => Row::NoRow,
-        Op::If { .. } => Row::NoRow,
-        Op::Else => Row::NoRow,
-        Op::End => Row::NoRow,
-        Op::Br { .. } => Row::NoRow,
-        Op::BrIf { .. } => Row::NoRow,
-        Op::BrTable => Row::NoRow,
-        Op::Return => Row::NoRow,
-        Op::Call { .. } => Row::NoRow,
-        Op::CallIndirect { .. } => Row::NoRow,
-        Op::Drop => Row::NoRow,
-        Op::Select => Row::NoRow,
-        Op::LocalGet { .. } => Row::NoRow,
-        Op::LocalSet { .. } => Row::NoRow,
-        Op::LocalTee { .. } => Row::NoRow,
-        Op::GlobalGet { .. } => Row::NoRow,
-        Op::GlobalSet { .. } => Row::NoRow,
+        _ => unreachable!(),
     }
 }
 
 fn load(number: IntegerType, bytes: u32, sign: Signedness, align: u32, offset: u32) -> Row
-    ensures { result ≡ stack.Load number bytes sign align offset }
+    ensures { result ≡ row_of.Load number bytes sign align offset }
 {
     Row::Load {
         number,
@@ -147,7 +190,7 @@ fn load(number: IntegerType, bytes: u32, sign: Signedness, align: u32, offset: u
 }
 
 fn store(number: IntegerType, bytes: u32, align: u32, offset: u32) -> Row
-    ensures { result ≡ stack.Store number bytes align offset }
+    ensures { result ≡ row_of.Store number bytes align offset }
 {
     Row::Store {
         number,

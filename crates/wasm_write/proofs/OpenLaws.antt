@@ -12,28 +12,28 @@ use Rattle.wasm_write.specs.EncodeInstruction.{list_bytes}
 use Rattle.wasm_write.specs.EncodingForms.{head_bytes}
 use Rattle.wasm_write.specs.OpenLists.{open_bytes}
 
-abbrev pub rest_bytes : OpenList → List ℕ
-rest_bytes o = list_bytes o.close (expression_of o.rest.now)
+abbrev pub open_list_bytes : OpenList → List ℕ
+open_list_bytes o = list_bytes o.close (expression_of o.rest.now)
 
 -- the last one is written first
 pub open_bytes-last : (os : List OpenList) (o : OpenList)
     → open_bytes (os ++ o ∷ []) ≡ list_bytes o.close (expression_of o.rest.now) ++ open_bytes os
-open_bytes-last [] o = sym (append-nil (rest_bytes o))
+open_bytes-last [] o = sym (append-nil (open_list_bytes o))
 open_bytes-last (p ∷ os) o =
-    ap (λ bs. bs ++ rest_bytes p) (open_bytes-last os o)
-    ∙ append_assoc (rest_bytes o) (open_bytes os) (rest_bytes p)
+    ap (λ bs. bs ++ open_list_bytes p) (open_bytes-last os o)
+    ∙ append_assoc (open_list_bytes o) (open_bytes os) (open_list_bytes p)
 
 pub one_opened : (os after : List OpenList) (o : OpenList) → after ≡ os ++ o ∷ []
-    → open_bytes after ≡ rest_bytes o ++ open_bytes os
+    → open_bytes after ≡ open_list_bytes o ++ open_bytes os
 one_opened os after o e = ap open_bytes e ∙ open_bytes-last os o
 
 pub two_opened : (os between after : List OpenList) (first second : OpenList) → between ≡ os ++ second ∷ []
     → after ≡ between ++ first ∷ []
-    → open_bytes after ≡ rest_bytes first ++ rest_bytes second ++ open_bytes os
+    → open_bytes after ≡ open_list_bytes first ++ open_list_bytes second ++ open_bytes os
 two_opened os between after first second e f =
     one_opened between after first f
-    ∙ ap (λ bs. rest_bytes first ++ bs) (one_opened os between second e)
-    ∙ sym (append_assoc (rest_bytes first) (rest_bytes second) (open_bytes os))
+    ∙ ap (λ bs. open_list_bytes first ++ bs) (one_opened os between second e)
+    ∙ sym (append_assoc (open_list_bytes first) (open_list_bytes second) (open_bytes os))
 
 nil_by_length : {A : Type 0} (xs : List A) → length xs < 1 → xs ≡ []
 nil_by_length [] h = refl
@@ -68,8 +68,8 @@ opening all others pushed after o left first head inner put e taken close encode
     ∙ ap (λ xs. list_bytes o.close (expression_of xs) ++ open_bytes others) taken
     ∙ ap (λ k. list_bytes k (expression_of (first ∷ left.rest.now)) ++ open_bytes others) close
     ∙ ap (λ bs. bs ++ open_bytes others) (encodes left.close (expression_of left.rest.now))
-    ∙ append_assoc head (inner ++ rest_bytes left) (open_bytes others)
-    ∙ ap (λ bs. head ++ bs) (append_assoc inner (rest_bytes left) (open_bytes others))
+    ∙ append_assoc head (inner ++ open_list_bytes left) (open_bytes others)
+    ∙ ap (λ bs. head ++ bs) (append_assoc inner (open_list_bytes left) (open_bytes others))
     ∙ ap (λ bs. head ++ (inner ++ bs)) (sym (ap open_bytes put ∙ open_bytes-last others left))
     ∙ ap (λ bs. head ++ bs) (sym opened)
 

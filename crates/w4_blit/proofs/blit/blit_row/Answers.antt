@@ -2,7 +2,7 @@ use Rattle.std.proofs.Common.{◌∙◌, w32}
 use Rattle.std.proofs.lemmas.Int.{to_z-of_z}
 use Rattle.w4_defs.proofs.PaintLaws.{paint_ext}
 use Rattle.w4_blit.specs.Snapshot.{with_snapshot}
-use Rattle.w4_blit.proofs.SnapshotLaws.{length-with_kept}
+use Rattle.w4_blit.proofs.SnapshotLaws.{length-with_copied_bytes}
 use Rattle.w4_blit.proofs.WalkLaws.{walked_cells}
 use Rattle.w4_blit.proofs.blit.blit_row.Goals as goal
 
@@ -16,5 +16,5 @@ returns c =
     let below = simp (same_y) at c.distance.ensures.value in
     put ∙ paint_ext a.page.now _ _ c.told-page
     (λ u w hu hw. walked_cells page a.picture.now c.walk_of-walk.result a.x a.y a.left a.right a.v
-    c.distance.result u w (length-with_kept a.page.now 160 a.snapshot.now ∙ c.told-page) below
+    c.distance.result u w (length-with_copied_bytes a.page.now 160 a.snapshot.now ∙ c.told-page) below
     c.walk_of-walk.ensures.place)

@@ -7,7 +7,7 @@ use Rattle.w4_pixels.proofs.ClippingLaws.{boxed_no_row, row_more, boxed_down, bo
 use Rattle.w4_pixels.specs.Clipping.{clipped}
 use Rattle.w4_blit.specs.Snapshot.{with_snapshot}
 use Rattle.w4_blit.specs.Unclipped.{cells_painter}
-use Rattle.w4_blit.proofs.SnapshotLaws.{with_kept-paint}
+use Rattle.w4_blit.proofs.SnapshotLaws.{with_copied_bytes-paint}
 use Rattle.w4_blit.proofs.blit.blit_rows.Goals as goal
 
 pub loop-v-init : goal.loop-v-init
@@ -29,7 +29,7 @@ loop-v-preserved c =
     (to_z w32 (of_z w32 c.args.y)) in
     let same : with_snapshot c.loop-v.page snapshot ≡ with_snapshot page snapshot =
     rw c.loop-v.invariant.0
-    (with_kept-paint page 160 snapshot
+    (with_copied_bytes-paint page 160 snapshot
     (clipped f c.screen_part-left.result.0 c.screen_part-left.result.1 c.screen_part-top.result.0
     c.loop-v.v)) in (
       rw (c.blit_row.ensures, same, c.loop-v.invariant.0)

@@ -4,7 +4,7 @@ use Rattle.w4_pixels.specs.Clipping.{clipped}
 use Rattle.w4_pixels.proofs.ClippingLaws.{boxed_none, byte_more, bytes_done}
 use Rattle.w4_blit.specs.Snapshot.{with_snapshot}
 use Rattle.w4_blit.specs.Walks.{walk_painter}
-use Rattle.w4_blit.proofs.SnapshotLaws.{with_kept-paint}
+use Rattle.w4_blit.proofs.SnapshotLaws.{with_copied_bytes-paint}
 use Rattle.w4_blit.proofs.blit.put_row.Goals as goal
 
 pub loop-q-init : goal.loop-q-init
@@ -24,7 +24,7 @@ loop-q-preserved c =
     let f = walk_painter (with_snapshot page snapshot) c.args.picture.now row.walk row.x in
     let same : with_snapshot c.loop-q.page snapshot ≡ with_snapshot page snapshot =
     rw c.loop-q.invariant
-    (with_kept-paint page 160 snapshot
+    (with_copied_bytes-paint page 160 snapshot
     (clipped f row.left (min row.right (4 * c.loop-q.q)) row.v (row.v + 1))) in
     rw (c.put_byte.ensures, same, c.loop-q.invariant)
     (paint_step page _ _ _ c.told-page

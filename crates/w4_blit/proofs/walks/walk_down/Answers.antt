@@ -1,7 +1,7 @@
 use Rattle.std.proofs.Common.{◌+◌, ◌*◌, sym}
 use Rattle.w4_defs.specs.Blit.{source_column}
 use Rattle.w4_blit.specs.Walks.{as_good_as}
-use Rattle.w4_blit.proofs.WalkLaws.{down}
+use Rattle.w4_blit.proofs.WalkLaws.{good_down}
 use Rattle.w4_blit.proofs.walks.walk_down.Goals as goal
 
 pub returns-clause-place : goal.returns-clause-place
@@ -11,4 +11,5 @@ returns-clause-place c = λ n. rw c.from-4.ensures (
     (picture.src_y * picture.stride + source_column picture c.args.below) =
     rw (sym c.column_of.ensures.value, sym c.from.ensures, sym c.from-2.ensures, sym c.from-3.ensures)
     c.near.ensures.place in
-    down picture c.near.result n c.args.below c.has_flag.result c.requires.turned c.has_flag.ensures start)
+    good_down picture c.near.result n c.args.below c.has_flag.result c.requires.turned c.has_flag.ensures
+    start)

@@ -7,7 +7,7 @@ use Rattle.w4_defs.specs.RunLaws.{types_of}
 use Rattle.w4_defs.specs.State.{Board, State, LoggedState}
 use Rattle.w4_console.specs.ConsoleCalls.{so_far}
 use Rattle.w4_console.proofs.CallLaws.{called, still_runs}
-use Rattle.w4_console.proofs.GlobalLaws.{as_long}
+use Rattle.w4_console.proofs.GlobalLaws.{values_as_long}
 use Rattle.w4_console.proofs.calls.call.Goals as goal
 
 -- the globals that are handed to the machine, and those that it leaves
@@ -24,7 +24,7 @@ kept : (c : goal.After-rest_after)
     → (with_items c.state.inside.globals c.invoke-ending.new.globals).items ≡ c.invoke-ending.new.globals
 kept c =
     with_items_is c.state.inside.globals c.invoke-ending.new.globals
-    (as_long c.invoke-ending.new.globals c.deref_mut.result.now
+    (values_as_long c.invoke-ending.new.globals c.deref_mut.result.now
     (own_global_types c.args.cart.now) c.invoke-ending.ensures.globals
     (first_types c)
     ∙ c.deref_mut.ensures.len)

@@ -1,7 +1,7 @@
 use Rattle.std.proofs.Common.{◌+◌, Some, arith}
 use Rattle.w4_inspect.specs.Watching.{value_at}
 use Rattle.w4_inspect.proofs.PageLaws.{moved_on, moved_value}
-use Rattle.w4_inspect.proofs.WatchLaws.{one_more}
+use Rattle.w4_inspect.proofs.WatchLaws.{one_more_value}
 use Rattle.w4_inspect.proofs.watching.add_values.Goals as goal
 
 pub loop-p-preserved : goal.loop-p-preserved
@@ -11,7 +11,7 @@ loop-p-preserved g c =
     let p = c.loop-p.p in
     let next = c.next_value-value in
     let so_far = c.loop-p.invariant in (
-      one_more (value_at e what.address what.width) c.args.values.now.items c.loop-p.values.items
+      one_more_value (value_at e what.address what.width) c.args.values.now.items c.loop-p.values.items
           c.push.new.self.items next.result c.args.a p c.loop-p.auto.p so_far.0 c.in_ok-push.ensures.items
           (moved_value e c.loop-p.editor (Some p) next.result what.address what.width (p + 1) so_far.1
           next.ensures.value),

@@ -1,7 +1,7 @@
 use Rattle.std.proofs.Common.{◌+◌, ◌-◌, List, ℕ, length, sym, ap, ◌∙◌, arith}
 use Rattle.w4_defs.specs.Session.{Session, all_kept, with_list}
 use Rattle.w4_program.specs.Editors.{all_to_keep, place_session, with_multiple}
-use Rattle.w4_program.proofs.KeepEveryLaws.{multiples_from, multiple_kept, all_are_kept, room_for_one}
+use Rattle.w4_program.proofs.KeepEveryLaws.{multiples_from, multiple_kept, all_are_kept, room_for_multiple}
 use Rattle.w4_program.proofs.SessionLaws.{rest_then}
 use Rattle.w4_program.proofs.keep_every.keep_all.Goals as goal
 
@@ -14,7 +14,7 @@ pub keep_wanted-requires-clause-room : goal.keep_wanted-requires-clause-room
 keep_wanted-requires-clause-room g c =
     let first = place_session c.args.editor.now in
     let now = place_session c.loop-place.editor in
-    room_for_one c.args.every c.loop-place.place (length first.current.inputs + 1) now.current.kept
+    room_for_multiple c.args.every c.loop-place.place (length first.current.inputs + 1) now.current.kept
     (all_to_keep c.args.every first) (omega (arith, c.loop-place-test.true, c.last_place-last.ensures.last))
     c.loop-place.invariant.0 c.requires.room
 

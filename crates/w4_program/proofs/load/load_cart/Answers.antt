@@ -2,7 +2,7 @@ use Rattle.std.proofs.Common.{refl}
 use Rattle.std.proofs.lemmas.Result.{err_from_is_err_and}
 use Rattle.w4_program.specs.Endings.{manner_of}
 use Rattle.w4_program.specs.Views.{cart_view}
-use Rattle.w4_program.proofs.CartLaws.{cart_unread, cart_given, cart_refused}
+use Rattle.w4_program.proofs.CartLaws.{cart_unread, cart_given, cart_file_refused}
 use Rattle.w4_program.proofs.load.load_cart.Goals as goal
 
 pub returns-in_err-bytes-clause-gives : goal.returns-in_err-bytes-clause-gives
@@ -21,7 +21,7 @@ returns-in-Ok-clause-gives g c =
 
 pub returns-in-Err-Kind-clause-gives : goal.returns-in-Err-Kind-clause-gives
 returns-in-Err-Kind-clause-gives g c =
-    cart_refused (g.H.House.world c.args.house.now) c.args.name.now c.in_ok-bytes.bytes.items
+    cart_file_refused (g.H.House.world c.args.house.now) c.args.name.now c.in_ok-bytes.bytes.items
     c.in-Err-Kind.kind c.in_ok-bytes.ensures.gives
     (rw (← c.as_slice.ensures.value)
     (c.in-Err-Kind.ensures.refused c.in-Err-Kind.kind (rw c.in-Err-Kind.field-0-is refl)))

@@ -6,7 +6,7 @@ use Rattle.w4_house.proofs.WorldLaws.{reading_then}
 use Rattle.w4_program.specs.Causes.{ResultsIn, Stops}
 use Rattle.w4_program.specs.Endings.{manner_of}
 use Rattle.w4_program.specs.Output.{reading}
-use Rattle.w4_program.proofs.ListedLaws.{owes_fewer, owes_no_file, owes_stops, named_item, past_all, within_all}
+use Rattle.w4_program.proofs.ListedLaws.{owes_fewer, owes_no_file, owes_stops, named_item, past_all_names, within_all}
 use Rattle.w4_program.proofs.load_tools.load_listed.Goals as goal
 
 pub loop-name-preserved : goal.loop-name-preserved
@@ -64,5 +64,5 @@ returns-clause-gives g c =
     let all = map string_bytes c.args.names.now in
     owes_no_file (g.H.House.world c.args.house.now) (map (λ bytes. bytes.items)
     c.loop-name.recordings.items) all
-    c.loop-name.name-index (past_all c.args.names.now c.loop-name.name-index c.loop-name-test.false)
+    c.loop-name.name-index (past_all_names c.args.names.now c.loop-name.name-index c.loop-name-test.false)
     c.loop-name.invariant.0

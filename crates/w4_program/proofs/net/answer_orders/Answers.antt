@@ -8,7 +8,7 @@ use Rattle.w4_program.specs.NetSessions.{NetSession, net_answer, net_answers}
 use Rattle.w4_program.specs.Replicas.{net_session}
 use Rattle.w4_program.proofs.AnswerLaws.{answers-out-step, answers-stop, answers-end}
 use Rattle.w4_program.proofs.OwesLaws.{owes_nothing}
-use Rattle.w4_program.proofs.RollingLaws.{heard_at_first, stopped_at_first, past_log}
+use Rattle.w4_program.proofs.RollingLaws.{heard_at_first, net_stopped_at_first, past_log}
 use Rattle.w4_program.proofs.SessionLaws.{rest_then}
 use Rattle.w4_program.proofs.net.answer_orders.Goals as goal
 
@@ -61,6 +61,6 @@ returns-in_err-answer_order-clause-out g c =
     c.args.orders.now c.loop-order.order-index past_log
     (net_answers setup (net_session first) c.args.orders.now).out c.loop-order-test.true
     c.loop-order.invariant.2.later
-    (stopped_at_first before after why first now order c.loop-order.invariant.1
+    (net_stopped_at_first before after why first now order c.loop-order.invariant.1
     c.in_err-answer_order.ensures.heard)
     c.loop-order.invariant.0)

@@ -9,14 +9,15 @@ use Rattle.w4_program.specs.Replicas.{net_session}
 use Rattle.w4_program.specs.ToolOutputs.{net_text}
 use Rattle.w4_program.specs.Views.{net_loaded_view}
 use Rattle.w4_program.proofs.RamLaws.{printed_as}
-use Rattle.w4_program.proofs.RollingLaws.{begins, blank_as}
+use Rattle.w4_program.proofs.RollingLaws.{netplay_begins, blank_as}
 use Rattle.w4_program.proofs.net.try_answer_log.Goals as goal
 
 pub returns-clause-out : goal.returns-clause-out
 returns-clause-out g c =
     let r = c.in_ok-replica.replica in
     let first =
-    begins c.args.file.cart c.args.loaded.font c.args.file.digest c.args.budget.units c.new-recording.result
+    netplay_begins c.args.file.cart c.args.loaded.font c.args.file.digest c.args.budget.units
+    c.new-recording.result
     (state_at r.editor.session.current.kept 0) r
     (blank_as c.new-recording.result c.args.file.digest c.args.budget.units c.new.result.items
     c.new-2.result.items c.new-recording.ensures c.new.ensures.items c.new-2.ensures.items)

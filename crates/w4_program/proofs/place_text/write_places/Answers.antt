@@ -7,7 +7,7 @@ use Rattle.w4_house.proofs.WorldLaws.{printing_then}
 use Rattle.w4_program.specs.Endings.{manner_of}
 use Rattle.w4_program.specs.Scenes.{scene_setup, stage_moment}
 use Rattle.w4_program.specs.Texts.{place_text, moment_text, place_texts}
-use Rattle.w4_program.proofs.PlaceTextLaws.{texts-begins, texts-goes_on, texts-ends, texts-stop, texts-stop_first}
+use Rattle.w4_program.proofs.PlaceTextLaws.{texts-begins, texts-goes_on, texts-ends, next_texts-stop, texts-stop_first}
 use Rattle.w4_program.proofs.place_text.write_places.Goals as goal
 
 pub loop-place-init : goal.loop-place-init
@@ -76,7 +76,7 @@ returns-in_err-write_place-2-clause-out g c =
     place_text c.args.wanted place
     (run (scene_setup c.args.scene.now) c.args.scene.now.disk.now c.args.inputs.now place) in
     rw (p.1, p.2)
-    (texts-stop (g.H.House.world c.args.house.now) (g.H.House.world c.loop-place.house)
+    (next_texts-stop (g.H.House.world c.args.house.now) (g.H.House.world c.loop-place.house)
     (g.H.House.world c.write_place-in-loop-place.new.house) (manner_of c.in_err-write_place-2.field-0.0) text
     (moment_text c.args.wanted (c.loop-place.place + 1) (stage_moment c.step.new.stage))
     (place_texts text c.args.from (c.args.to + 1 - c.args.from)) c.loop-place.place c.args.to

@@ -8,7 +8,7 @@ use Rattle.w4_program.specs.Queries.{editor_pages}
 use Rattle.w4_program.specs.RamAnswers.{ram_answer, ram_answers}
 use Rattle.w4_program.proofs.AnswerLaws.{answers-out-step, answers-stop, answers-end}
 use Rattle.w4_program.proofs.OwesLaws.{owes_nothing}
-use Rattle.w4_program.proofs.RamLaws.{told_at_first, stopped_at_first, past_query}
+use Rattle.w4_program.proofs.RamLaws.{told_at_first, ram_stopped_at_first, past_query}
 use Rattle.w4_program.proofs.SessionLaws.{shows_then}
 use Rattle.w4_program.proofs.ram.answer_lines.Goals as goal
 
@@ -56,6 +56,6 @@ returns-in_err-answer_line-clause-out g c =
     (answers-stop (g.H.House.world c.args.house.now) before after why (ram_answer pages) c.loop-line.search
     c.args.lines.now c.loop-line.line-index past_query (ram_answers pages None c.args.lines.now).out
     c.loop-line-test.true c.loop-line.invariant.2.later
-    (stopped_at_first before after why first c.loop-line.editor c.loop-line.search line
+    (ram_stopped_at_first before after why first c.loop-line.editor c.loop-line.search line
     c.loop-line.invariant.1 c.in_err-answer_line.ensures.told)
     c.loop-line.invariant.0)

@@ -3,7 +3,7 @@ use Rattle.w4_netplay.specs.Replicas.{predicted_draft}
 use Rattle.w4_program.specs.Answering.{refused_line}
 use Rattle.w4_program.specs.NetSessions.{answer_keep, net_words}
 use Rattle.w4_program.specs.Replicas.{net_session}
-use Rattle.w4_program.proofs.RollingLaws.{heard_alone, refused_on_text, keep_refused, place_kept, rest_kept, same_netplay}
+use Rattle.w4_program.proofs.RollingLaws.{heard_alone, net_refused_on_text, keep_refused, place_kept, rest_kept, same_netplay}
 use Rattle.w4_program.proofs.rolling.keep.Goals as goal
 
 pub returns-in-Ok-clause-heard : goal.returns-in-Ok-clause-heard
@@ -21,7 +21,8 @@ returns-in-Err-clause-heard g c =
     let old = c.args.replica.now in
     let new = c.keep.new.self in
     let found = keep_refusal places_alone c.args.p (predicted_draft old) in
-    refused_on_text c.refuse.result (g.H.House.world c.args.house.now) (g.H.House.world c.refuse.new.house)
+    net_refused_on_text c.refuse.result (g.H.House.world c.args.house.now)
+    (g.H.House.world c.refuse.new.house)
     old new
     (refused_line (net_words c.in-Err.refusal)) (answer_keep (net_session old) c.args.p found)
     c.refuse.ensures.cause

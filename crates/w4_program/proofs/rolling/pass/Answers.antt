@@ -1,7 +1,7 @@
 use Rattle.w4_program.specs.Answering.{refused_line}
 use Rattle.w4_program.specs.NetSessions.{answer_next, net_words}
 use Rattle.w4_program.specs.Replicas.{net_session}
-use Rattle.w4_program.proofs.RollingLaws.{frame_passed, frame_refused, heard_alone, heard_on_text, same_netplay, same_rest, same_editor}
+use Rattle.w4_program.proofs.RollingLaws.{frame_passed, full_recording_refused, heard_alone, heard_on_text, same_netplay, same_rest, same_editor}
 use Rattle.w4_program.proofs.rolling.pass.Goals as goal
 
 pub returns-in-Ok-clause-heard : goal.returns-in-Ok-clause-heard
@@ -19,5 +19,5 @@ returns-in-Err-clause-heard g c =
     heard_on_text c.refuse.result (g.H.House.world c.args.house.now) (g.H.House.world c.refuse.new.house)
     old new
     (refused_line (net_words c.in-Err.refusal)) (answer_next (net_session old))
-    (frame_refused old c.in-Err.refusal c.in-Err.ensures.refused.0 c.in-Err.ensures.refused.1)
+    (full_recording_refused old c.in-Err.refusal c.in-Err.ensures.refused.0 c.in-Err.ensures.refused.1)
     c.refuse.ensures.out (same_netplay old new c.in-Err.ensures.unchanged)

@@ -5,7 +5,7 @@ use Rattle.w4_program.specs.Answering.{refused_line}
 use Rattle.w4_program.specs.Answers.{answer_text}
 use Rattle.w4_program.specs.NetSessions.{if_passed, net_words, predicted_image}
 use Rattle.w4_program.specs.Replicas.{net_session}
-use Rattle.w4_program.proofs.RollingLaws.{heard_on_text, refused_on_text, image_told, not_passed, passed_text, same_netplay}
+use Rattle.w4_program.proofs.RollingLaws.{heard_on_text, net_refused_on_text, image_told, not_passed, passed_text, same_netplay}
 use Rattle.w4_program.proofs.rolling.show.Goals as goal
 
 pub returns-in-Ok-clause-heard : goal.returns-in-Ok-clause-heard
@@ -27,7 +27,7 @@ returns-in-Err-clause-heard g c =
     let old = c.args.replica.now in
     let s = net_session old in
     let text = predicted_image (editing_setup old.editor) s c.args.p in
-    refused_on_text c.refuse.result (g.H.House.world c.args.house.now)
+    net_refused_on_text c.refuse.result (g.H.House.world c.args.house.now)
     (g.H.House.world c.refuse.new.house) old
     c.show.follows.lender-at-none (refused_line (net_words c.in-Err.refusal))
     (answer_text s (if_passed s c.args.p text))

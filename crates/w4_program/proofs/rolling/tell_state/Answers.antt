@@ -8,7 +8,7 @@ use Rattle.w4_program.specs.Answers.{answer_text}
 use Rattle.w4_program.specs.Editors.{place_session}
 use Rattle.w4_program.specs.NetSessions.{if_passed, net_words, predicted_state}
 use Rattle.w4_program.specs.Replicas.{net_session}
-use Rattle.w4_program.proofs.RollingLaws.{heard_on_text, refused_on_text, not_passed, passed_text, same_netplay, state_told}
+use Rattle.w4_program.proofs.RollingLaws.{heard_on_text, net_refused_on_text, not_passed, passed_text, same_netplay, state_told}
 use Rattle.w4_program.proofs.rolling.tell_state.Goals as goal
 
 pub returns-in_ok-line-in-Ok-clause-heard : goal.returns-in_ok-line-in-Ok-clause-heard
@@ -36,7 +36,7 @@ returns-in-Err-clause-heard g c =
     let old = c.args.replica.now in
     let s = net_session old in
     let text = predicted_state (editing_setup old.editor) s c.args.p in
-    refused_on_text c.refuse.result (g.H.House.world c.args.house.now)
+    net_refused_on_text c.refuse.result (g.H.House.world c.args.house.now)
     (g.H.House.world c.refuse.new.house) old
     c.facts.new.replica (refused_line (net_words c.in-Err.refusal))
     (answer_text s (if_passed s c.args.p text))

@@ -6,7 +6,7 @@ use Rattle.w4_defs.specs.declared.batch.BatchRow.TheVariants.{Bad}
 use Rattle.w4_house.proofs.WorldLaws.{printing_then}
 use Rattle.w4_program.specs.Endings.{manner_of}
 use Rattle.w4_program.specs.RowTexts.{row_text, rows_text}
-use Rattle.w4_program.proofs.ListedLaws.{named_item, past_all, within_all}
+use Rattle.w4_program.proofs.ListedLaws.{named_item, past_all_names, within_all}
 use Rattle.w4_program.proofs.OwesLaws.{owes_begun}
 use Rattle.w4_program.proofs.RowLaws.{rows-more, rows-all, rows-stop}
 use Rattle.w4_program.proofs.rows.print_rows.Goals as goal
@@ -39,7 +39,8 @@ returns-clause-out g c =
     let names = map string_bytes c.args.names.now in
     let rows = map (λ row. Some row) c.args.rows.now in
     rows-all (g.H.House.world c.args.house.now) (g.H.House.world c.loop-i.house) names rows c.loop-i.i
-    (rows_text names rows) (past_all c.args.names.now c.loop-i.i c.loop-i-test.false) c.loop-i.invariant.0
+    (rows_text names rows)
+    (past_all_names c.args.names.now c.loop-i.i c.loop-i-test.false) c.loop-i.invariant.0
 
 pub returns-in_err-line-clause-out : goal.returns-in_err-line-clause-out
 returns-in_err-line-clause-out g c =

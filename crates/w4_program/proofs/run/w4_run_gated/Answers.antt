@@ -27,7 +27,7 @@ returns g c =
     c.report.ensures.status c.obey-status.ensures.ends in
     record {
       done =
-          laws.done old new result step (λ files. CartRunsHaveMeaning words files) ends
+          laws.appends_when_done old new result step (λ files. CartRunsHaveMeaning words files) ends
           (λ files. cart_runs c.accepted_runs_have_meaning.ensures c.made_modules_are_carts.ensures
           words files);
       done_err = λ e. c.report.ensures.done e ∙ c.obey-status.ensures.err.0;
@@ -53,8 +53,8 @@ returns g c =
           let cut = c.report.ensures.cut e in
           cut_short old mid new c.obey-status.result (form_of words ≡ None) step c.report.ensures.rest
           c.obey-status.ensures.err cut.0 c.obey-status.ensures.usage c.obey-status.ensures.ends cut.1;
-      refused_out = λ r. (laws.refused old new result step ends r).0;
-      refused_files = λ r. (laws.refused old new result step ends r).1;
+      refused_out = λ r. (laws.refused_leaves_outputs old new result step ends r).0;
+      refused_files = λ r. (laws.refused_leaves_outputs old new result step ends r).1;
       line =
           λ r.
           laws.line_reported old mid new (status_line result) c.obey-status.ensures.err

@@ -1,7 +1,7 @@
 use Rattle.std.proofs.Common.{◌∙◌, sym, ap, Err}
 use Rattle.w4_defs.specs.Recording.{Recording}
 use Rattle.sha2.specs.Sha256.{sha256}
-use Rattle.w4_segments.proofs.BatchLaws.{bad_row, wrong_row, right_row, differs, agrees}
+use Rattle.w4_segments.proofs.BatchLaws.{bad_row, wrong_row, right_row, bytes_differ, bytes_agree}
 use Rattle.w4_segments.proofs.batching.row.Goals as goal
 
 pub returns-in-Err-BadRecording : goal.returns-in-Err-BadRecording
@@ -15,7 +15,7 @@ pub returns-then-ne : goal.returns-then-ne
 returns-then-ne g c = record {
   row = wrong_row sha256 c.args.cart.now c.args.font.now c.args.digest.now c.args.bytes.now
       c.in-Ok.recording c.in-Ok.ensures.read
-      (λ same. differs c.recording.inside.digest c.args.digest.now (sym c.if-ne.true ∙ c.ne.ensures)
+      (λ same. bytes_differ c.recording.inside.digest c.args.digest.now (sym c.if-ne.true ∙ c.ne.ensures)
       (ap (λ (r : Recording). r.digest) c.recording.view_is ∙ same));
   types = c.requires.types;
 }
@@ -25,5 +25,5 @@ returns-clause-row g c =
     right_row sha256 c.args.cart.now c.args.font.now c.args.digest.now c.args.bytes.now c.in-Ok.recording
     c.in-Ok.ensures.read
     (sym (ap (λ (r : Recording). r.digest) c.recording.view_is)
-    ∙ agrees c.recording.inside.digest c.args.digest.now (sym c.if-ne.false ∙ c.ne.ensures))
+    ∙ bytes_agree c.recording.inside.digest c.args.digest.now (sym c.if-ne.false ∙ c.ne.ensures))
     ∙ c.run.ensures.row

@@ -3,7 +3,7 @@ use Rattle.std.proofs.lemmas.List.{length-append}
 use Rattle.sha2.specs.Sha256.{sha256}
 use Rattle.w4_defs.specs.Batch.{file_row}
 use Rattle.w4_segments.specs.Batching.{item_row}
-use Rattle.w4_segments.proofs.BatchLaws.{item_bytes, next_at, rows_more}
+use Rattle.w4_segments.proofs.BatchLaws.{item_bytes, next_at, one_more_row}
 use Rattle.w4_segments.proofs.batching.rows_of.Goals as goal
 
 pub loop-at-preserved : goal.loop-at-preserved
@@ -19,6 +19,6 @@ loop-at-preserved g c =
       c.row.ensures.types,
       next_at args.first args.stride c.loop-at.at (length now) here
           ∙ ap (λ n. args.first + n * args.stride) (sym (length-append now (c.in_ok-row.row ∷ []))),
-      rows_more wanted args.first args.stride c.loop-at.at now c.in_ok-row.row here c.loop-at.invariant.2
+      one_more_row wanted args.first args.stride c.loop-at.at now c.in_ok-row.row here c.loop-at.invariant.2
           (ap row (bytes ∙ sym c.as_slice-bytes.ensures.value) ∙ c.in_ok-row.ensures.row),
     )

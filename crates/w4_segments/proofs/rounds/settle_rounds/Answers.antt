@@ -2,14 +2,14 @@ use Rattle.std.proofs.Common.{refl, ◌∙◌, subst, arith}
 use Rattle.std.specs.List.{All}
 use Rattle.w4_editor.specs.Editing.{Editing}
 use Rattle.w4_segments.specs.Working.{HasCartTypes}
-use Rattle.w4_segments.proofs.RoundLaws.{all_before, keeps_same, keeps_both}
+use Rattle.w4_segments.proofs.RoundLaws.{all_before, shown_keeps_same, keeps_both}
 use Rattle.w4_segments.proofs.rounds.settle_rounds.Goals as goal
 
 pub loop-init : goal.loop-init
 loop-init g c = (
   all_before c.args.editor.now.session.current.kept 0 c.is_consistent.ensures.kept.first_linked
       (λ i lt. absurd (omega (arith, lt))),
-  keeps_same c.args.editor.now,
+  shown_keeps_same c.args.editor.now,
   refl,
   c.requires.types,
 )

@@ -1,7 +1,7 @@
 use Rattle.std.proofs.Common.{false, arith}
 use Rattle.wasm_valid.specs.declared.call.Call.{Call}
 use Rattle.wasm_valid.specs.declared.call.Call.TheVariants as call
-use Rattle.wasm_machine.proofs.DirectLaws.{op_within, direct_within, direct_calling, direct_goes}
+use Rattle.wasm_machine.proofs.DirectLaws.{next_place_fits, direct_within, direct_calling, direct_goes}
 use Rattle.wasm_machine.proofs.call.call_direct.Goals as goal
 
 -- what stands where there is no call
@@ -16,7 +16,8 @@ bounds-calls-func g c =
     c.requires.going.0 a.func a.slots.now c.requires.op c.requires.going.1
 
 pub overflow_add-place : goal.overflow_add-place
-overflow_add-place g c = let h = op_within _ c.args.place _ c.requires.op c.requires.bound in omega arith
+overflow_add-place g c =
+    let h = next_place_fits _ c.args.place _ c.requires.op c.requires.bound in omega arith
 
 pub call-requires-clause-calling : goal.call-requires-clause-calling
 call-requires-clause-calling g c =
@@ -26,7 +27,7 @@ call-requires-clause-calling g c =
     c.requires.going.0 a.func a.slots.now c.requires.op c.requires.going.1
 
 pub call-requires-clause-back : goal.call-requires-clause-back
-call-requires-clause-back g c = op_within _ c.args.place _ c.requires.op c.requires.bound
+call-requires-clause-back g c = next_place_fits _ c.args.place _ c.requires.op c.requires.bound
 
 pub returns-clause-goes : goal.returns-clause-goes
 returns-clause-goes g c = λ globals.

@@ -1,7 +1,7 @@
 use Rattle.std.proofs.Common.{false, None, sym, ◌∙◌, arith}
 use Rattle.wasm_valid.specs.declared.call.Call.{Call}
 use Rattle.wasm_valid.specs.declared.call.Call.TheVariants as call
-use Rattle.wasm_machine.proofs.DirectLaws.{op_within, indirect_top, indirect_type, indirect_within, table_trap, empty_trap, type_trap, indirect_calling, indirect_goes}
+use Rattle.wasm_machine.proofs.DirectLaws.{next_place_fits, indirect_top, indirect_type, indirect_within, table_trap, empty_trap, type_trap, indirect_calling, indirect_goes}
 use Rattle.wasm_machine.proofs.call.call_indirect.Goals as goal
 
 -- what stands where there is no call
@@ -16,10 +16,11 @@ pop-index-requires g c =
     a.type_index a.table_index a.slots.now c.requires.op c.requires.going.1
 
 pub overflow_add-place : goal.overflow_add-place
-overflow_add-place g c = let h = op_within _ c.args.place _ c.requires.op c.requires.bound in omega arith
+overflow_add-place g c =
+    let h = next_place_fits _ c.args.place _ c.requires.op c.requires.bound in omega arith
 
 pub call-requires-clause-back : goal.call-requires-clause-back
-call-requires-clause-back g c = op_within _ c.args.place _ c.requires.op c.requires.bound
+call-requires-clause-back g c = next_place_fits _ c.args.place _ c.requires.op c.requires.bound
 
 pub returns-then-index-table-clause-goes : goal.returns-then-index-table-clause-goes
 returns-then-index-table-clause-goes g c = λ globals.

@@ -5,7 +5,7 @@ use Rattle.w4_defs.specs.Validity.{IsTypedAt}
 use Rattle.wasm_valid.specs.AbstractStackLaw.{body_stands}
 use Rattle.wasm_valid.proofs.ProfileFacts.{no_cause}
 use Rattle.std.proofs.lemmas.Result.{IfOk-weaker}
-use Rattle.wasm_valid.proofs.BodyEntryLaws.{typed, untyped}
+use Rattle.wasm_valid.proofs.BodyEntryLaws.{body_is_typed, untyped}
 use Rattle.wasm_valid.proofs.body.body_has_type.Goals as goal
 
 pub returns-in-Some : goal.returns-in-Some
@@ -20,7 +20,7 @@ returns-in-Some c =
     IfOk-weaker c.has_type.result
     (λ (r : Bool). option_map (body_stands m c.in-Some.signature.now) (slice_get m.bodies func) ≡ Some r)
     (λ r. IsTrue r ↔ IsTypedAt m func)
-    (λ r h. typed m func _ c.in-Some.signature.now r (no_cause m c.requires.profile).floats index
+    (λ r h. body_is_typed m func _ c.in-Some.signature.now r (no_cause m c.requires.profile).floats index
     (sym c.type_at.ensures ∙ ap (option_map (λ s. s.now)) c.in-Some.is) h)
     c.has_type.ensures
 

@@ -1,7 +1,7 @@
 use Rattle.std.proofs.Common.{◌∙◌, ◌+◌, sym, arith, drop, refl}
 use Rattle.std.specs.Prelude.{slice_get}
 use Rattle.wasm_valid.specs.BodyEntries.{body_entries}
-use Rattle.wasm_valid.proofs.BodyEntryLaws.{as_many, entry_next, entry_stop, entry_on, stopped, ended, past_all}
+use Rattle.wasm_valid.proofs.BodyEntryLaws.{as_many, entry_next, entry_stop, entry_on, stopped, ended_with_none_open, past_all}
 use Rattle.wasm_valid.proofs.body.goes_through.Goals as goal
 
 pub labels-requires : goal.labels-requires
@@ -45,7 +45,7 @@ loop-place-preserved c =
 pub returns-clause-value : goal.returns-clause-value
 returns-clause-value c =
     let m = c.args.code.now in
-    ended c.loop-place.control c.is_open.result _
+    ended_with_none_open c.loop-place.control c.is_open.result _
     (sym c.loop-place.invariant
     ∙ past_all c.args.scope.now (slice_get m.bodies c.args.func) c.body-operations.result.now
     c.loop-place.place c.loop-place.control

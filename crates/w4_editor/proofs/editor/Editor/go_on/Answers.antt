@@ -4,13 +4,13 @@ use Rattle.w4_devices.specs.Records.{record_of}
 use Rattle.w4_editor.specs.Playing.{setup_of}
 use Rattle.w4_editor.specs.Editing.{Editing}
 use Rattle.w4_editor.specs.Showing.{IsAtEnd, IsStepped}
-use Rattle.w4_editor.proofs.EditorLaws.{stays, place_shown, at_end, run_here, within_here, view, is_stepped}
+use Rattle.w4_editor.proofs.EditorLaws.{stays, place_shown, nowhere_or_at_end, run_here, within_here, view, is_stepped}
 use Rattle.w4_editor.proofs.editor.Editor.go_on.Goals as goal
 
 pub returns-in_default-clause-refused : goal.returns-in_default-clause-refused
 returns-in_default-clause-refused g c = (
   refl,
-  subst IsAtEnd c.self.view_is (at_end c.self.inside.at _
+  subst IsAtEnd c.self.view_is (nowhere_or_at_end c.self.inside.at _
       (within_here _ _ _ _ _ _ _ c.self.invariant) c.in_default.ensures.none),
 )
 

@@ -3,7 +3,7 @@ use Rattle.std.proofs.lemmas.Result.{err_from_is_err_and}
 use Rattle.w4_defs.specs.Session.{keep_refusal, places_alone}
 use Rattle.w4_netplay.specs.Replicas.{Netplay, predicted_draft}
 use Rattle.w4_netplay.specs.Rolling.{IsRolled}
-use Rattle.w4_netplay.proofs.ReplicaLaws.{view, still_keeps, keeps_place, same_keep_refusal, memory_alone, memory_refused}
+use Rattle.w4_netplay.proofs.ReplicaLaws.{netplay_view, still_keeps, keeps_place, same_keep_refusal, memory_alone, memory_refused}
 use Rattle.w4_netplay.proofs.replica.Replica.keep.Goals.{in-Ok, in-Err}
 use Rattle.w4_netplay.proofs.replica.Replica.keep.Goals as goal
 
@@ -17,7 +17,7 @@ returns-in_err-roll_back-clause-refused g c =
 pub only_memory-requires : goal.only_memory-requires
 only_memory-requires g c =
     let p = c.args.p in
-    let mid = view c.self.inside.pads c.self.inside.frames c.self.inside.editor in
+    let mid = netplay_view c.self.inside.pads c.self.inside.frames c.self.inside.editor in
     let free : keep_refusal places_alone p (predicted_draft c.args.self.now) ≡ None =
     c.in_default.ensures.none refl in
     let rolled = subst (λ (r : Netplay). IsRolled c.args.self.now r) (sym c.self.view_is)
@@ -27,7 +27,7 @@ only_memory-requires g c =
 
 pub returns-clause-ok : goal.returns-clause-ok
 returns-clause-ok g c =
-    let mid = view c.self.inside.pads c.self.inside.frames c.self.inside.editor in
+    let mid = netplay_view c.self.inside.pads c.self.inside.frames c.self.inside.editor in
     let rolled = subst (λ (r : Netplay). IsRolled c.args.self.now r) (sym c.self.view_is)
     c.in_ok-roll_back.ensures.ok in
     elim c.match-keep.branch [
@@ -38,7 +38,7 @@ returns-clause-ok g c =
 
 pub returns-clause-err : goal.returns-clause-err
 returns-clause-err g c =
-    let mid = view c.self.inside.pads c.self.inside.frames c.self.inside.editor in
+    let mid = netplay_view c.self.inside.pads c.self.inside.frames c.self.inside.editor in
     let rolled = subst (λ (r : Netplay). IsRolled c.args.self.now r) (sym c.self.view_is)
     c.in_ok-roll_back.ensures.ok in
     elim c.match-keep.branch [

@@ -6,14 +6,14 @@ use Rattle.w4_editor.specs.Showing.{IsShown, KeepsRecording}
 use Rattle.w4_netplay.specs.declared.refusal.NetRefusal.TheVariants.{NoFrame}
 use Rattle.w4_netplay.specs.Replicas.{Netplay, IsNetRefusal, predicted_draft}
 use Rattle.w4_netplay.specs.Rolling.{IsRolled}
-use Rattle.w4_netplay.proofs.ReplicaLaws.{view, keeps_same, still_keeps, shows_place, same_state, same_place_refusal, no_place, some_place, refused_for, memory_alone, memory_refused}
+use Rattle.w4_netplay.proofs.ReplicaLaws.{netplay_view, keeps_same, still_keeps, shows_place, predicted_run_state, same_place_refusal, no_place, some_place, refused_for, memory_alone, memory_refused}
 use Rattle.w4_netplay.proofs.replica.Replica.show.Goals.{in-Ok, in-Err}
 use Rattle.w4_netplay.proofs.replica.Replica.show.Goals as goal
 
 pub returns-then-p-self : goal.returns-then-p-self
 returns-then-p-self g c =
     let p = c.args.p in
-    let r = view c.self.inside.pads c.self.inside.frames c.self.inside.editor in (
+    let r = netplay_view c.self.inside.pads c.self.inside.frames c.self.inside.editor in (
       (refl, λ _. tt, (tt, keeps_same c.args.self.now, λ _. refl)),
       record {
         after = tt;
@@ -27,7 +27,7 @@ returns-then-p-self g c =
 
 pub returns-in_err-roll_back : goal.returns-in_err-roll_back
 returns-in_err-roll_back g c =
-    let first = view c.self.inside.pads c.self.inside.frames c.self.inside.editor in
+    let first = netplay_view c.self.inside.pads c.self.inside.frames c.self.inside.editor in
     let free : place_refusal c.args.p (predicted_draft c.args.self.now) ≡ None =
     subst (λ (r : Netplay). place_refusal c.args.p (predicted_draft r) ≡ None) c.self.view_is
     (some_place first c.args.p c.if-p-self.false) in
@@ -40,8 +40,8 @@ returns-in_err-roll_back g c =
 pub only_memory-requires : goal.only_memory-requires
 only_memory-requires g c =
     let p = c.args.p in
-    let first = view c.self.inside.pads c.self.inside.frames c.self.inside.editor in
-    let mid = view c.self-2.inside.pads c.self-2.inside.frames c.self-2.inside.editor in
+    let first = netplay_view c.self.inside.pads c.self.inside.frames c.self.inside.editor in
+    let mid = netplay_view c.self-2.inside.pads c.self-2.inside.frames c.self-2.inside.editor in
     let free : place_refusal p (predicted_draft c.args.self.now) ≡ None =
     subst (λ (r : Netplay). place_refusal p (predicted_draft r) ≡ None) c.self.view_is
     (some_place first p c.if-p-self.false) in
@@ -53,8 +53,8 @@ only_memory-requires g c =
 pub returns : goal.returns
 returns g c =
     let p = c.args.p in
-    let first = view c.self.inside.pads c.self.inside.frames c.self.inside.editor in
-    let mid = view c.self-2.inside.pads c.self-2.inside.frames c.self-2.inside.editor in
+    let first = netplay_view c.self.inside.pads c.self.inside.frames c.self.inside.editor in
+    let mid = netplay_view c.self-2.inside.pads c.self-2.inside.frames c.self-2.inside.editor in
     let free : place_refusal p (predicted_draft c.args.self.now) ≡ None =
     subst (λ (r : Netplay). place_refusal p (predicted_draft r) ≡ None) c.self.view_is
     (some_place first p c.if-p-self.false) in
@@ -78,7 +78,8 @@ returns g c =
             ),
             record {
               after = tt;
-              state = same_state c.args.self.now mid p w.in-Ok.state.now rolled w.in-Ok.ensures.state;
+              state = predicted_run_state c.args.self.now mid p w.in-Ok.state.now rolled
+                  w.in-Ok.ensures.state;
               refused = tt;
               accepted = free;
             },

@@ -6,7 +6,7 @@ use Rattle.std.proofs.lemmas.List.{flat_map_more, length_push}
 use Rattle.std.proofs.lemmas.List.Elements.{All-nil, All-push, All-same}
 use Rattle.w4_snap.specs.Chunks.{is_copied}
 use Rattle.w4_snap.proofs.ChunkLaws.{first_more}
-use Rattle.w4_snap.proofs.CountLaws.{bound_more, copied_more, copied_none, number_of, ticks_more}
+use Rattle.w4_snap.proofs.CountLaws.{bound_more, copied_more, copied_none, bool_byte_is, ticks_more}
 use Rattle.w4_snap.proofs.shared_page.SharedPage.new.Goals as goal
 
 pub loop-k-init : goal.loop-k-init
@@ -28,7 +28,7 @@ loop-k-preserved g c =
     let long : length (rc_slice_items chunk) ≡ 1024 = ap length c.in_ok-chunk.ensures.bytes
     ∙ c.chunk_bytes.ensures.long in
     let new : c.from-copied.result ≡ (if c.in_ok-chunk.is_new then 1 else 0) = c.from-copied.ensures
-    ∙ number_of c.in_ok-chunk.is_new in
+    ∙ bool_byte_is c.in_ok-chunk.is_new in
     record {
       many = ap length pushed ∙ (length_push chunks chunk ∙ ap (λ n. n + 1) c.loop-k.invariant.many);
       long = All-same (λ chunk. length (rc_slice_items chunk) ≡ 1024) c.push.new.self.items

@@ -1,12 +1,12 @@
 use Rattle.std.proofs.Common.{refl, ap, ◌∙◌, rules}
 use Rattle.w4_defs.specs.Sound.{Wave, after_ticks, on_left, on_right}
-use Rattle.w4_wave.proofs.FrameSteps.{starts, more}
+use Rattle.w4_wave.proofs.FrameSteps.{samples_start, samples_more}
 use Rattle.w4_wave.proofs.PartLaws.{after_parts}
 use Rattle.w4_wave.proofs.MixLaws.{FourFit, mixed, bytes_are}
 use Rattle.w4_wave.proofs.wave.Wave.sound.Goals as goal
 
 pub loop-tick-init : goal.loop-tick-init
-loop-tick-init c = record { whole = c.told-out; so_far = starts c.args.self.now c.args.out.now }
+loop-tick-init c = record { whole = c.told-out; so_far = samples_start c.args.self.now c.args.out.now }
 
 pub sample-requires-clause-left : goal.sample-requires-clause-left
 sample-requires-clause-left c =
@@ -54,7 +54,7 @@ loop-tick-preserved c =
     c.sum-right.ensures).1 in
     record {
       whole = c.put.array_long;
-      so_far = more wave (after_ticks wave tick) c.loop-tick.out c.put.new.out c.sample.result tick
+      so_far = samples_more wave (after_ticks wave tick) c.loop-tick.out c.put.new.out c.sample.result tick
           c.loop-tick-test.true c.loop-tick.invariant.whole refl (c.sample.ensures ∙ bytes) c.put.ensures
           c.loop-tick.invariant.so_far;
     }

@@ -1,5 +1,5 @@
 use Rattle.std.proofs.Common.{arith, ◌∙◌}
-use Rattle.wasm_machine.proofs.ValueStackLaws.{height, length-from_top, popped}
+use Rattle.wasm_machine.proofs.ValueStackLaws.{height, length-from_top, slot_popped}
 use Rattle.wasm_machine.proofs.value_stack.ValueStack.pop.Goals as goal
 
 pub take_last-requires : goal.take_last-requires
@@ -12,7 +12,7 @@ invariant_of-self c = (
 )
 
 pub returns-clause-taken : goal.returns-clause-taken
-returns-clause-taken c = popped c.self.inside.cells.items _ _ _ _ _ c.self.view_is
+returns-clause-taken c = slot_popped c.self.inside.cells.items _ _ _ _ _ c.self.view_is
     c.take_last.new.self.ok.0 c.take_last.ensures.items c.take_last.ensures.len
 
 pub returns-clause-room : goal.returns-clause-room

@@ -1,5 +1,5 @@
 use Rattle.std.proofs.Common.{arith, ◌∙◌}
-use Rattle.wasm_machine.proofs.ValueStackLaws.{height, pushed}
+use Rattle.wasm_machine.proofs.ValueStackLaws.{height, slot_pushed}
 use Rattle.wasm_machine.proofs.value_stack.ValueStack.push.Goals as goal
 
 pub push_reserved-requires : goal.push_reserved-requires
@@ -12,5 +12,5 @@ invariant_of-self c = (
 )
 
 pub returns : goal.returns
-returns c = pushed c.self.inside.cells.items _ _ _ c.args.slot _ c.self.view_is c.self.inside.cells.ok.0
+returns c = slot_pushed c.self.inside.cells.items _ _ _ c.args.slot _ c.self.view_is c.self.inside.cells.ok.0
     c.push_reserved.ensures.items c.push_reserved.ensures.len

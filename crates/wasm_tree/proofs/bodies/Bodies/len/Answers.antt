@@ -1,5 +1,5 @@
 use Rattle.std.proofs.Common.{arith, ap, length}
-use Rattle.wasm_tree.proofs.LayoutLaws.{shown, placed_length}
+use Rattle.wasm_tree.proofs.LayoutLaws.{layout_shown, placed_length}
 use Rattle.wasm_tree.proofs.bodies.Bodies.len.Goals as goal
 
 pub returns : goal.returns
@@ -9,6 +9,6 @@ returns c =
       arith,
       c.len.ensures,
       c.self.inside.places.ok,
-      ap length (shown _ _ fs c.self.invariant c.self.view_is).2,
+      ap length (layout_shown _ _ fs c.self.invariant c.self.view_is).2,
       placed_length 0 fs,
     )

@@ -2,15 +2,16 @@ use Rattle.std.proofs.Common.{◌++◌, ◌∷◌, [], ◌∙◌, ap, length, ma
 use Rattle.w4_defs.specs.Tree.{flat}
 use Rattle.w4_defs.specs.Flattening.{IsProper}
 use Rattle.wasm_tree.specs.Shifting.{shifted_entry}
-use Rattle.wasm_tree.proofs.LayoutLaws.{shown, lays, more}
+use Rattle.wasm_tree.proofs.LayoutLaws.{layout_shown, lays, one_more_laid}
 use Rattle.wasm_tree.proofs.bodies.Bodies.with.Goals as goal
 
 pub invariant_of-result : goal.invariant_of-result
 invariant_of-result c =
     let ms = c.self.inside.marks in
     let entries = c.marks-entries.ensures.entries ∙ ap (λ f. flat f.list) c.body.view_is in
-    let h = more ms c.in_ok-marks.marks _ c.push.new.self.items c.args.self c.args.body c.len-start.result
-    c.len-count.result (shown _ _ c.args.self c.self.invariant c.self.view_is)
+    let h =
+    one_more_laid ms c.in_ok-marks.marks _ c.push.new.self.items c.args.self c.args.body c.len-start.result
+    c.len-count.result (layout_shown _ _ c.args.self c.self.invariant c.self.view_is)
     (subst IsProper (ap (λ f. f.list) c.body.view_is) c.marks-entries.ensures.proper)
     c.len-start.ensures (c.len-count.ensures ∙ ap length entries)
     (c.in_ok-marks.ensures ∙ ap (λ xs. ms ++ map (shifted_entry (length ms)) xs) entries)
@@ -24,8 +25,9 @@ pub returns : goal.returns
 returns c =
     let ms = c.self.inside.marks in
     let entries = c.marks-entries.ensures.entries ∙ ap (λ f. flat f.list) c.body.view_is in
-    let h = more ms c.in_ok-marks.marks _ c.push.new.self.items c.args.self c.args.body c.len-start.result
-    c.len-count.result (shown _ _ c.args.self c.self.invariant c.self.view_is)
+    let h =
+    one_more_laid ms c.in_ok-marks.marks _ c.push.new.self.items c.args.self c.args.body c.len-start.result
+    c.len-count.result (layout_shown _ _ c.args.self c.self.invariant c.self.view_is)
     (subst IsProper (ap (λ f. f.list) c.body.view_is) c.marks-entries.ensures.proper)
     c.len-start.ensures (c.len-count.ensures ∙ ap length entries)
     (c.in_ok-marks.ensures ∙ ap (λ xs. ms ++ map (shifted_entry (length ms)) xs) entries)

@@ -1,33 +1,33 @@
 use Rattle.std.proofs.Common.{◌+◌, get_or, arith, ap, sym, ◌∙◌}
 use Rattle.std.specs.Prelude.{slice_range, Some}
-use Rattle.wasm_tree.proofs.PoolLaws.{shown, length_begins, stretch}
+use Rattle.wasm_tree.proofs.PoolLaws.{pool_shown, length_begins, stretch}
 use Rattle.wasm_tree.specs.Pool.{pool_of}
 use Rattle.wasm_tree.proofs.marks.Marks.labels.Goals as goal
 
 pub stretch-requires-clause-next : goal.stretch-requires-clause-next
 stretch-requires-clause-next c =
     let ms = c.args.self.now in
-    let begins = c.deref-2.ensures.value ∙ (shown _ _ _ ms c.self.invariant c.self.view_is).1 in
+    let begins = c.deref-2.ensures.value ∙ (pool_shown _ _ _ ms c.self.invariant c.self.view_is).1 in
     omega (arith, c.requires, length_begins _ ms begins)
 
 pub stretch-requires-clause-rises : goal.stretch-requires-clause-rises
 stretch-requires-clause-rises c =
     let ms = c.args.self.now in
-    let begins = c.deref-2.ensures.value ∙ (shown _ _ _ ms c.self.invariant c.self.view_is).1 in
+    let begins = c.deref-2.ensures.value ∙ (pool_shown _ _ _ ms c.self.invariant c.self.view_is).1 in
     rw begins (stretch ms c.args.place 0 0 c.requires).rises
 
 pub stretch-requires-clause-within : goal.stretch-requires-clause-within
 stretch-requires-clause-within c =
     let ms = c.args.self.now in
-    let begins = c.deref-2.ensures.value ∙ (shown _ _ _ ms c.self.invariant c.self.view_is).1 in
-    let pool = c.deref.ensures.value ∙ (shown _ _ _ ms c.self.invariant c.self.view_is).2 in
+    let begins = c.deref-2.ensures.value ∙ (pool_shown _ _ _ ms c.self.invariant c.self.view_is).1 in
+    let pool = c.deref.ensures.value ∙ (pool_shown _ _ _ ms c.self.invariant c.self.view_is).2 in
     rw (begins, pool) (stretch ms c.args.place 0 0 c.requires).within
 
 pub returns : goal.returns
 returns c =
     let ms = c.args.self.now in
-    let begins = c.deref-2.ensures.value ∙ (shown _ _ _ ms c.self.invariant c.self.view_is).1 in
-    let pool = c.deref.ensures.value ∙ (shown _ _ _ ms c.self.invariant c.self.view_is).2 in
+    let begins = c.deref-2.ensures.value ∙ (pool_shown _ _ _ ms c.self.invariant c.self.view_is).1 in
+    let pool = c.deref.ensures.value ∙ (pool_shown _ _ _ ms c.self.invariant c.self.view_is).2 in
     let place = c.args.place in
     (stretch ms place 0 0 c.requires).labels
     ∙ ap Some

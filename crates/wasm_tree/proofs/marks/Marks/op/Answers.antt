@@ -1,5 +1,5 @@
 use Rattle.std.proofs.Common.{arith, ap, ◌∙◌, get_or}
-use Rattle.wasm_tree.proofs.PoolLaws.{shown, length_shown, operation_at}
+use Rattle.wasm_tree.proofs.PoolLaws.{pool_shown, length_shown, operation_of_mark}
 use Rattle.wasm_tree.proofs.marks.Marks.op.Goals as goal
 
 pub index-requires : goal.index-requires
@@ -9,12 +9,12 @@ index-requires c =
       arith,
       c.requires,
       c.self.inside.ops.ok,
-      length_shown _ ms (shown _ _ _ ms c.self.invariant c.self.view_is).0,
+      length_shown _ ms (pool_shown _ _ _ ms c.self.invariant c.self.view_is).0,
     )
 
 pub returns : goal.returns
 returns c =
     let ms = c.args.self.now in
-    operation_at ms c.args.place c.index.result.now c.requires
+    operation_of_mark ms c.args.place c.index.result.now c.requires
     (c.index.ensures ∙ ap (λ xs. get_or xs c.args.place c.index.result.now)
-    (shown _ _ _ ms c.self.invariant c.self.view_is).0)
+    (pool_shown _ _ _ ms c.self.invariant c.self.view_is).0)
