@@ -98,3 +98,8 @@ pub film_of_none : (setup : Setup) (disk : List ℕ) (s : Session ℕ) (a b : �
 film_of_none setup disk s a b fall there =
     let none : b + 1 - a ≡ 0 = omega arith in
     if_place-within s b (film_text setup disk s a b) there ∙ rw none refl
+
+-- what is left of a film, by the bytes of its next piece
+pub left_by_bytes : (piece bytes rest left : List ℕ) → left ≡ piece ++ rest → bytes ≡ piece
+    → left ≡ bytes ++ rest
+left_by_bytes piece bytes rest left is same = is ∙ ap (λ images. images ++ rest) (sym same)

@@ -1,6 +1,6 @@
--- A session of rollback that a log answer_text of (project rule), without a network: which packets came,
--- how many frames have passed, and which places are kept. Each answer answer_text of a run from reset of
--- the inputs that are predicted at that moment. A refused line writes one line and changes nothing.
+-- A session of rollback that a log tells of (project rule), without a network: which packets came, how many
+-- frames have passed, and which places are kept. Each answer tells of a run from reset of the inputs that
+-- are predicted at that moment. A refused line writes one line and changes nothing.
 use Rattle.std.specs.Prelude.{◌≡◌, ℕ, ◌+◌, List, [], ◌∷◌, ◌++◌, nat_lt, nat_le, codes, Option, Some, None, if◌then◌else◌, refl}
 use Rattle.std.specs.Fmt.{digits}
 use Rattle.w4_defs.specs.declared.editing.EditRefusal.{EditRefusal}

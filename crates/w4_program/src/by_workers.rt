@@ -5,7 +5,9 @@ ghost use Rattle.w4_editor.specs.Editing.{editing_setup};
 ghost use Rattle.w4_house.specs.World.{LeavesPrinting};
 ghost use Rattle.w4_program.specs.Answering.{film_text, if_place};
 ghost use Rattle.w4_program.specs.Answers.{answer_text};
+ghost use Rattle.w4_program.specs.Causes.{Printed};
 ghost use Rattle.w4_program.specs.Editors.{GivesAnswer, OnlyShows, place_session};
+ghost use Rattle.w4_segments.specs.FilmPieces.{IsFilming, images_left};
 
 use crate::desk::last_place;
 use crate::printing::print;
@@ -16,7 +18,7 @@ use std::thread::Threads;
 use w4_defs::{EditRefusal, OutOfMemory};
 use w4_editor::Editor;
 use w4_house::House;
-use w4_segments::{FilmRefusal, Gate, film, settle_wide};
+use w4_segments::{FilmPieces, FilmRefusal, Gate, settle_wide};
 
 /// A number of workers, within the range that scripts have for it.
 fn hands(workers: u32) -> usize
@@ -51,12 +53,31 @@ pub fn tell_film<R: Threads + Sync, H: House, G: Gate + Sync>(
     if from > to {
         return Ok(());
     }
-    match film(rt, alloc, editor, from, to, hands(workers), gate) {
-        Ok(images) => print(alloc, house, images.as_slice()),
+    match FilmPieces::begin(rt, alloc, editor, from, to, hands(workers)) {
+        Ok(mut film) => print_film(rt, alloc, house, &mut film, editor, gate),
         Err(FilmRefusal::NoFrame) => refuse(alloc, house, EditRefusal::NoFrame),
         Err(FilmRefusal::FilmTooLong) => print(alloc, house, b"refused too long\n"),
         Err(FilmRefusal::OutOfMemory) => Err(Status::OutOfMemory),
     }
+}
+
+/// Writes a film a piece at a time, so that no more of it is held than its workers make at once.
+fn print_film<R: Threads + Sync, H: House, G: Gate + Sync>(
+    rt: &R,
+    alloc: Global,
+    house: &mut H,
+    film: &mut FilmPieces,
+    editor: &Editor,
+    gate: &G,
+) -> Result<(), Status>
+    requires { IsFilming film.old editor.now }
+    ensures out { Printed (H.world house.old) (H.world house.new) result (images_left film.old editor.now) }
+    ensures rest { LeavesPrinting (H.world house.old) (H.world house.new) }
+{
+    while film.next_piece(rt, editor, gate)? {
+        print(alloc, house, film.images())?;
+    }
+    Ok(())
 }
 
 /// Brings all kept places up to date.

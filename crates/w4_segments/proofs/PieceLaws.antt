@@ -1,10 +1,9 @@
--- Images of a run in parts, how they are put in a film, its cuts, and what a team adds to it.
-use Rattle.std.proofs.Common.{◌≡◌, ℕ, zero, suc, ◌+◌, ◌-◌, ◌*◌, ◌<◌, ◌≤◌, cond, min, max, List, [], ◌∷◌, ◌++◌, length, get_or, take, drop, Option, Some, None, inl, inr, refl, sym, ap, ◌∙◌, subst, arith}
+-- Images of a run in parts, how they are put in a film, its cuts, and what the workers of a round make.
+use Rattle.std.proofs.Common.{◌≡◌, ℕ, zero, suc, ◌+◌, ◌-◌, ◌*◌, ◌<◌, ◌≤◌, cond, min, max, List, [], ◌++◌, length, get_or, take, drop, Option, Some, None, inl, inr, refl, sym, ap, ◌∙◌, subst, arith}
 use Rattle.std.specs.List.{All}
+use Rattle.std.specs.Prelude.{vec_capacity}
 use Rattle.std.proofs.lemmas.Bool.{cases_lt, lt-ltb, le-ltb}
 use Rattle.std.proofs.lemmas.List.{append_assoc, append-nil, length-append, length-drop, length-take-le, take_at}
-use Rattle.std.proofs.lemmas.List.Elements.{All-drop}
-use Rattle.std.proofs.lemmas.List.Sums.{sum_by-append, sum_by-cons}
 use Rattle.std.specs.Option.{unwrap_or}
 use Rattle.w4_defs.specs.declared.console.Input.{Input}
 use Rattle.w4_defs.specs.Bytes.{replaced}
@@ -20,9 +19,10 @@ use Rattle.w4_editor.specs.Settling.{AreLinked}
 use Rattle.w4_segments.specs.declared.worker.Task.{Task}
 use Rattle.w4_segments.specs.declared.worker.Worker.{Worker}
 use Rattle.w4_segments.specs.Filming.{state_image, run_images}
-use Rattle.w4_segments.specs.Pieces.{images_of, piece_begin, AreOfRunBelow, IsPiece, ArePieces, task_count, team_count, task_images, team_images, CanFilmAll}
+use Rattle.w4_segments.specs.FilmPieces.{images_between}
+use Rattle.w4_segments.specs.Pieces.{images_of, piece_begin, AreOfRunBelow, IsPiece, ArePieces}
 use Rattle.w4_segments.specs.Rounds.{entries_of}
-use Rattle.w4_segments.specs.Working.{HasCartTypes, CanFilm}
+use Rattle.w4_segments.specs.Working.{HasCartTypes, CanFilm, EachDid, HasFilmed, task_images}
 
 -- ---- images of a run
 
@@ -139,32 +139,6 @@ module _ (setup : Setup) (disk : List ℕ) (inputs : List Input) (film after : L
       ∙ ap (λ xs. xs ++ image state.page) made
       ∙ images_more setup disk inputs first place state le is
 
--- ---- parts of a team
-
--- the second half of a team, whose part of the film is after that of the first
-pub back_half : (setup : Setup) (disk : List ℕ) (inputs : List Input) (team front back : List Worker)
-    (film rest : List ℕ) (mid count : ℕ)
-    → team ≡ front ++ back
-    → back ≡ drop mid team
-    → count ≡ team_count front
-    → length rest + count * 76815 ≡ length film
-    → CanFilmAll setup disk inputs team film
-    → CanFilmAll setup disk inputs back rest
-back_half setup disk inputs team front back film rest mid count both from front_is parts can =
-    let all : team_count team ≡ team_count front + team_count back =
-    ap team_count both ∙ sum_by-append (λ worker. task_count worker.task) front back in
-    let long = can.1 in (
-      subst (All (CanFilm setup disk inputs)) (sym from)
-          (All-drop (CanFilm setup disk inputs) mid team can.0),
-      omega (arith, all, front_is, parts, long),
-    )
-
-pub count_one : (team : List Worker) (d : Worker) → 0 < length team → length team < 2
-    → team_count team ≡ task_count (get_or team 0 d).task
-count_one [] d some few = absurd (omega (arith, some))
-count_one (w ∷ []) d some few = sum_by-cons (λ worker. task_count worker.task) w [] ∙ omega arith
-count_one (w ∷ v ∷ team) d some few = absurd (omega (arith, few))
-
 task_of : (s t : Task) → Some s ≡ Some t → s ≡ t
 task_of s t e = ap (λ o. unwrap_or o s) e
 
@@ -217,22 +191,19 @@ module _ (kept : List Entry) (first end : ℕ) where
         omega (arith, next, le)
   ]
 
--- ---- what a team adds to a film
+-- ---- what the workers of a round make
 
 module _ (e : Editing) (first end : ℕ) where
   abbrev cut_of : ℕ → ℕ
   cut_of i = piece_begin (entries_of e) first end i
 
-  abbrev span : ℕ → ℕ → List ℕ
-  span from to = images_of e from (to - from)
-
-  span_none : (from to : ℕ) → to ≡ from → [] ≡ span from to
+  pub span_none : (from to : ℕ) → to ≡ from → [] ≡ images_between e from to
   span_none from to same =
       let none : 0 ≡ to - from = omega (arith, same) in
       sym (images_none (editing_setup e) e.disk e.session.current.inputs from) ∙ ap (images_of e from) none
 
   pub span_both : (from middle to : ℕ) → from ≤ middle → middle ≤ to
-      → span from middle ++ span middle to ≡ span from to
+      → images_between e from middle ++ images_between e middle to ≡ images_between e from to
   span_both from middle to one two =
       sym (images_in_parts (editing_setup e) e.disk e.session.current.inputs (middle - from) (to - middle)
       (to - from) from middle (omega (arith, one, two)) (omega (arith, one)))
@@ -240,105 +211,34 @@ module _ (e : Editing) (first end : ℕ) where
   abbrev images_in : Option Task → List ℕ
   images_in task = task_images (editing_setup e) e.disk e.session.current.inputs task
 
-  abbrev team_in : List Worker → List ℕ
-  team_in team = team_images (editing_setup e) e.disk e.session.current.inputs team
-
-  -- the images from one cut to another, and how many these are
-  abbrev Adds : List ℕ → ℕ → ℕ → ℕ → Type 0
-  Adds images count from to = (images ≡ span from to) × (count ≡ to - from)
-
-  task_adds : (i : ℕ) (task : Option Task) → ((t : Task) → task ≡ Some t → t.first ≡ cut_of i)
+  -- the images of a task are those from its entry's cut to the next
+  task_makes : (i : ℕ) (task : Option Task) → ((t : Task) → task ≡ Some t → t.first ≡ cut_of i)
       → ((t : Task) → task ≡ Some t → t.end ≡ cut_of (i + 1))
       → (task ≡ None → cut_of (i + 1) ≡ cut_of i)
-      → Adds (images_in task) (task_count task) (cut_of i) (cut_of (i + 1))
-  task_adds i None begins ends none =
-      let same = none refl in (span_none (cut_of i) (cut_of (i + 1)) same, omega (arith, same))
-  task_adds i (Some t) begins ends none =
+      → images_in task ≡ images_between e (cut_of i) (cut_of (i + 1))
+  task_makes i None begins ends none = span_none (cut_of i) (cut_of (i + 1)) (none refl)
+  task_makes i (Some t) begins ends none =
       let from = begins t refl in
-      let to = ends t refl in ((λ k. images_of e (from k) (to k - from k)), omega (arith, from, to))
+      let to = ends t refl in
+      (λ k. images_of e (from k) (to k - from k))
 
-  rises_far : ((j : ℕ) → cut_of j ≤ cut_of (j + 1)) → (n i j : ℕ) → j ≡ i + n → cut_of i ≤ cut_of j
-  rises_far rises zero i j at =
-      let same = ap cut_of at in
-      let here : i + zero ≡ i = omega arith in
-      let there = ap cut_of here in
-      omega (arith, same, there)
-  rises_far rises (suc n) i j at =
-      let before = rises_far rises n i (i + n) refl in
-      let step = rises (i + n) in
-      let next : i + n + 1 ≡ j = omega (arith, at) in
-      let there = ap cut_of next in
-      omega (arith, before, step, there)
+  -- and so are those of each worker of a round
+  pub pieces_made : (next : ℕ) (old dealt made : List Worker) → ArePieces e first end next old dealt
+      → EachDid (HasFilmed (editing_setup e) e.disk e.session.current.inputs) dealt made
+      → (k : ℕ) (d : Worker) → k < length made
+      → (get_or made k d).images.items ≡ images_between e (cut_of (next + k)) (cut_of (next + k + 1))
+  pieces_made next old dealt made pieces did k d lt =
+      let many = did.many in
+      let below : k < length dealt = omega (arith, many, lt) in
+      let piece = pieces.each k d below in
+      (did.each k d below).images
+      ∙ task_makes (next + k) (get_or dealt k d).task piece.begins piece.ends piece.none
 
-  pub rises_over : ((j : ℕ) → cut_of j ≤ cut_of (j + 1)) → (i n : ℕ) → cut_of i ≤ cut_of (i + n)
-  rises_over rises i n = rises_far rises n i (i + n) refl
-
-  team_adds : ((j : ℕ) → cut_of j ≤ cut_of (j + 1)) → (team : List Worker) (i j : ℕ) → j ≡ i + length team
-      → ((k : ℕ) (d : Worker) → k < length team → IsPiece e first end (i + k) (get_or team k d))
-      → Adds (team_in team) (team_count team) (cut_of i) (cut_of j)
-  team_adds rises [] i j at each =
-      let same : j ≡ i = omega (arith, at) in
-      let cuts = ap cut_of same in (span_none (cut_of i) (cut_of j) cuts, omega (arith, cuts))
-  team_adds rises (w ∷ team) i j at each =
-      let here : i + 0 ≡ i = omega arith in
-      let rest : j ≡ i + 1 + length team = omega (arith, at) in
-      let piece : IsPiece e first end i w =
-      subst (λ n. IsPiece e first end n w) here (each 0 w (omega arith)) in
-      let one = task_adds i w.task piece.begins piece.ends piece.none in
-      let others = team_adds rises team (i + 1) j rest
-      (λ k d lt.
-      let shift : i + suc k ≡ i + 1 + k = omega arith in
-      subst (λ n. IsPiece e first end n (get_or team k d)) shift (each (suc k) d (omega (arith, lt)))) in
-      let up = rises i in
-      let on = rises_far rises (length team) (i + 1) j rest in
-      let all = sum_by-cons (λ worker. task_count worker.task) w team in
-      let count_one = one.1 in
-      let count_others = others.1 in (
-        (λ n. one.0 n ++ others.0 n) ∙ span_both (cut_of i) (cut_of (i + 1)) (cut_of j) up on,
-        omega (arith, all, count_one, count_others, up, on),
-      )
-
-  -- a team that has its pieces adds the images from its first piece to after its last
-  pub pieces_add : ((j : ℕ) → cut_of j ≤ cut_of (j + 1)) → (next : ℕ) (old dealt : List Worker)
-      → ArePieces e first end next old dealt
-      → Adds (team_in dealt) (team_count dealt) (cut_of next) (cut_of (next + length dealt))
-  pieces_add rises next old dealt pieces =
-      team_adds rises dealt next (next + length dealt) refl pieces.each
-
-  -- a film of the places before the first of these pieces, with a round of images more
-  module _ (rises : (j : ℕ) → cut_of j ≤ cut_of (j + 1)) (some : first ≤ end) (next : ℕ)
-      (old dealt team : List Worker) (pieces : ArePieces e first end next old dealt)
-      (many : length team ≡ length dealt) where
-    abbrev last : ℕ
-    last = next + length dealt
-
-    last_is : cut_of last ≡ cut_of (next + length team)
-    last_is = ap (λ n. cut_of (next + n)) (sym many)
-
-    pub round_adds : (before after : List ℕ) → before ≡ span first (cut_of next)
-        → after ≡ before ++ team_in dealt
-        → after ≡ span first (cut_of (next + length team))
-    round_adds before after so_far more =
-        let added = (pieces_add rises next old dealt pieces).0 in
-        let from = cut_from_first (entries_of e) first end next some in
-        more
-        ∙ (λ k. so_far k ++ added k)
-        ∙ span_both first (cut_of next) (cut_of last) from (rises_over rises next (length dealt))
-        ∙ ap (span first) last_is
-
-    -- how many bytes it has, and that these are within those of the whole film
-    pub round_lengthens : (before after : ℕ) → before ≡ (cut_of next - first) * 76815
-        → after ≡ before + team_count dealt * 76815
-        → (after ≡ (cut_of (next + length team) - first) * 76815) × (after ≤ (end - first) * 76815)
-    round_lengthens before after so_far more =
-        let added = (pieces_add rises next old dealt pieces).1 in
-        let from = cut_from_first (entries_of e) first end next some in
-        let up = rises_over rises next (length dealt) in
-        let within = cut_to_end (entries_of e) first end last in
-        let is = last_is in (
-          omega (arith, so_far, more, added, from, up, is),
-          omega (arith, so_far, more, added, from, up, within),
-        )
+  pub types_made : (next : ℕ) (old dealt made : List Worker) → ArePieces e first end next old dealt
+      → EachDid (HasFilmed (editing_setup e) e.disk e.session.current.inputs) dealt made
+      → All (HasCartTypes e.cart) made
+  types_made next old dealt made pieces did k d lt =
+      let many = did.many in (did.each k d (omega (arith, many, lt))).types
 
 -- where all entries up to the last below a place are linked, their states are those of the run
 pub states_below : (e : Editing) (last end : ℕ) → IsDraft (editing_setup e) e.disk e.session.current
@@ -380,6 +280,7 @@ module _ (e : Editing) (disk : List ℕ) (first end i : ℕ) (w : Worker)
           some = λ t some. absurd (no_task t some);
           within = λ t some. absurd (no_task t some);
           state = λ t some. absurd (no_task t some);
+          room = λ t some. absurd (no_task t some);
         };
         begins = λ t some. absurd (no_task t some);
         ends = λ t some. absurd (no_task t some);
@@ -389,12 +290,13 @@ module _ (e : Editing) (disk : List ℕ) (first end i : ℕ) (w : Worker)
   -- the entry's, from its state on
   pub busy_piece : begin < after → end ≤ length e.session.current.inputs + 1 → AreOfRunBelow end e
       → w.console ≡ state_at (entries_of e) i
+      → (after - begin) * 76815 ≤ vec_capacity w.images
       → (task : Task) → w.task ≡ Some task
       → task.place ≡ place_at (entries_of e) i
       → task.first ≡ begin
       → task.end ≡ after
       → IsPiece e first end i w
-  busy_piece some within states console task is place from to =
+  busy_piece some within states console room task is place from to =
       let to_end = cut_to_end (entries_of e) first end (i + 1) in
       let inside = cut_inside (entries_of e) first end i (omega (arith, some, to_end)) in
       let there = inside.0 in
@@ -416,6 +318,8 @@ module _ (e : Editing) (disk : List ℕ) (first end i : ℕ) (w : Worker)
               (ap (run_state (editing_setup e) e.disk e.session.current.inputs) place
               ∙ states i there inside.2
               ∙ ap Some (sym console));
+          room = λ t one. subst (λ (x : Task). (x.end - x.first) * 76815 ≤ vec_capacity w.images) (task_is t
+              one) (rw (from, to) room);
         };
         begins = λ t one. subst (λ (x : Task). x.first ≡ begin) (task_is t one) from;
         ends = λ t one. subst (λ (x : Task). x.end ≡ after) (task_is t one) to;

@@ -1,15 +1,13 @@
 -- The pieces of a film. They are cut at the kept places, and each has the images from its cut to the next.
-use Rattle.std.specs.Prelude.{◌≡◌, ℕ, ◌+◌, ◌-◌, ◌*◌, ◌<◌, List, [], All, flat_map, length, sum_by, slice_index_or, Option, Some, None, min, max, nat_lt, if◌then◌else◌}
-use Rattle.w4_defs.specs.declared.console.Input.{Input}
+use Rattle.std.specs.Prelude.{◌≡◌, ℕ, ◌+◌, ◌<◌, List, length, slice_index_or, Some, None, min, max, nat_lt, if◌then◌else◌}
 use Rattle.w4_defs.specs.KeptList.{Entry, place_at, state_at}
-use Rattle.w4_defs.specs.Reset.{Setup}
 use Rattle.w4_defs.specs.Run.{run_state}
 use Rattle.w4_editor.specs.Editing.{Editing, editing_setup}
 use Rattle.w4_segments.specs.declared.worker.Task.{Task}
 use Rattle.w4_segments.specs.declared.worker.Worker.{Worker}
 use Rattle.w4_segments.specs.Filming.{run_images}
 use Rattle.w4_segments.specs.Rounds.{entries_of}
-use Rattle.w4_segments.specs.Working.{HasCartTypes, CanFilm}
+use Rattle.w4_segments.specs.Working.{CanFilm}
 
 -- the images of so many places of an editor's run, from this place on
 abbrev pub images_of : Editing → ℕ → ℕ → List ℕ
@@ -37,32 +35,3 @@ pub record IsPiece (e : Editing) (first end i : ℕ) (worker : Worker) : Type 0 
 pub record ArePieces (e : Editing) (first end i : ℕ) (old new : List Worker) : Type 0 where
   pub many : length new ≡ length old
   pub each : (k : ℕ) (d : Worker) → k < length new → IsPiece e first end (i + k) (slice_index_or new k d)
-
--- how many images a task has, and how many a team's tasks have
-abbrev pub task_count : Option Task → ℕ
-task_count None = 0
-task_count (Some task) = task.end - task.first
-
-abbrev pub team_count : List Worker → ℕ
-team_count team = sum_by (λ worker. task_count worker.task) team
-
--- the images of a task, and those of a team's tasks in order
-abbrev pub task_images : Setup → List ℕ → List Input → Option Task → List ℕ
-task_images setup disk inputs None = []
-task_images setup disk inputs (Some task) =
-    run_images setup disk inputs task.first (task.end - task.first)
-
-abbrev pub team_images : Setup → List ℕ → List Input → List Worker → List ℕ
-team_images setup disk inputs team = flat_map (λ worker. task_images setup disk inputs worker.task) team
-
--- a team that can make its images, and a film with room for just these
-abbrev pub CanFilmAll : Setup → List ℕ → List Input → List Worker → List ℕ → Type 0
-CanFilmAll setup disk inputs team film =
-    All (CanFilm setup disk inputs) team × (length film ≡ team_count team * 76815)
-
--- the team afterwards, and the film with the images in it
-abbrev pub HasFilmedAll : Setup → List ℕ → List Input → List Worker → List Worker → List ℕ → Type 0
-HasFilmedAll setup disk inputs old new film =
-    (length new ≡ length old)
-    × All (HasCartTypes setup.cart) new
-    × (film ≡ team_images setup disk inputs old)

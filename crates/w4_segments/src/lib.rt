@@ -4,6 +4,7 @@
 #![tactic(auto)]
 
 pub mod batching;
+pub mod film_pieces;
 pub mod filming;
 pub mod gate;
 mod pieces;
@@ -16,6 +17,7 @@ mod tests;
 mod worker;
 
 pub use batching::batch;
+pub use film_pieces::FilmPieces;
 pub use filming::film;
 pub use gate::{Gate, OpenGate};
 pub use refusal::FilmRefusal;

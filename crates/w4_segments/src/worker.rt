@@ -1,7 +1,6 @@
 //! Workers: each has a console of its own. None has a snapshot or an editor.
 
 ghost use Rattle.std.specs.Prelude.{◌≡◌, All, IfOk, vec_len};
-ghost use Rattle.w4_segments.specs.Pieces.{task_count};
 ghost use Rattle.w4_segments.specs.Working.{HasCartTypes};
 
 use std::alloc::Global;
@@ -20,11 +19,12 @@ pub struct Task {
     pub end: usize,
 }
 
-/// A worker with its task, if it has one.
+/// A worker with its task, if it has one, and with room for the images of a piece of a film.
 #[derive(Drop)]
 pub struct Worker {
     pub console: Console,
     pub task: Option<Task>,
+    pub images: Vec<u8>,
 }
 
 impl Worker {
@@ -35,17 +35,8 @@ impl Worker {
         Ok(Worker {
             console: Console::new(alloc, cart)?,
             task: None,
+            images: Vec::new(alloc),
         })
-    }
-
-    /// How many images its piece of a film has.
-    pub(crate) fn image_count(&self) -> usize
-        ensures { result ≡ task_count self.now.task }
-    {
-        match self.task {
-            Some(task) => task.end.saturating_sub(task.first),
-            None => 0,
-        }
     }
 }
 

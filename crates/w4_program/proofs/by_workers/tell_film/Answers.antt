@@ -1,5 +1,6 @@
 use Rattle.std.proofs.Common.{sym, ◌∙◌}
 use Rattle.w4_editor.specs.Editing.{editing_setup}
+use Rattle.w4_segments.specs.FilmPieces.{images_left}
 use Rattle.w4_program.specs.Answering.{film_text, if_place, no_frame, too_long}
 use Rattle.w4_program.specs.Editors.{place_session}
 use Rattle.w4_program.proofs.AnswerLaws.{on_ok}
@@ -32,20 +33,20 @@ returns-then-from-to-clause-answered g c =
 pub returns-in-Ok-clause-answered : goal.returns-in-Ok-clause-answered
 returns-in-Ok-clause-answered g c =
     let old = c.args.editor.now in
-    let new = c.film.new.editor in
+    let new = c.begin.new.editor in
     let s = place_session old in
     let text = film_text (editing_setup old) old.disk s c.args.a c.args.b in
-    told_on c.print.result (g.H.House.world c.args.house.now) (g.H.House.world c.print.new.house) old new
-    c.as_slice.result.now (if_place s c.args.b text)
+    told_on c.print_film.result (g.H.House.world c.args.house.now) (g.H.House.world c.print_film.new.house)
+    old new (images_left c.in-Ok.film new) (if_place s c.args.b text)
     (film_told (editing_setup old) old.disk s c.args.a c.args.b c.in-Ok.ensures.accepted
     (rw (← c.last_place.ensures.last) c.if-to-last_place.false)
-    ∙ sym c.in-Ok.ensures.images ∙ sym c.as_slice.ensures.value)
-    (on_ok c.print.result (only_shows old new c.in-Ok.ensures.keeps.recording)) c.print.ensures.out
+    ∙ sym c.in-Ok.ensures.images)
+    (on_ok c.print_film.result (only_shows old new c.in-Ok.ensures.keeps.recording)) c.print_film.ensures.out
 
 pub returns-in-Err-NoFrame-clause-answered : goal.returns-in-Err-NoFrame-clause-answered
 returns-in-Err-NoFrame-clause-answered g c =
     let old = c.args.editor.now in
-    let new = c.film.new.editor in
+    let new = c.begin.new.editor in
     let s = place_session old in
     told_on c.refuse-in-Err-NoFrame.result (g.H.House.world c.args.house.now)
     (g.H.House.world c.refuse-in-Err-NoFrame.new.house) old new no_frame
@@ -58,14 +59,14 @@ returns-in-Err-NoFrame-clause-answered g c =
 pub returns-in-Err-FilmTooLong-clause-answered : goal.returns-in-Err-FilmTooLong-clause-answered
 returns-in-Err-FilmTooLong-clause-answered g c =
     let old = c.args.editor.now in
-    let new = c.film.new.editor in
+    let new = c.begin.new.editor in
     let s = place_session old in
-    told_on c.print-in-Err-FilmTooLong.result (g.H.House.world c.args.house.now)
-    (g.H.House.world c.print-in-Err-FilmTooLong.new.house) old new too_long
+    told_on c.print.result (g.H.House.world c.args.house.now)
+    (g.H.House.world c.print.new.house) old new too_long
     (if_place s c.args.b (film_text (editing_setup old) old.disk s c.args.a c.args.b))
     (film_long (editing_setup old) old.disk s c.args.a c.args.b
     c.in-Err-FilmTooLong.field-0 c.in-Err-FilmTooLong.field-0-is c.in-Err-FilmTooLong.ensures.refused
     (rw (← c.last_place.ensures.last) c.if-to-last_place.false))
-    (on_ok c.print-in-Err-FilmTooLong.result
+    (on_ok c.print.result
     (only_shows old new c.in-Err-FilmTooLong.ensures.keeps.recording))
-    c.print-in-Err-FilmTooLong.ensures.out
+    c.print.ensures.out

@@ -2,7 +2,7 @@ use Rattle.std.proofs.Common.{◌+◌, ◌<◌, length, ◌∙◌, length-set, a
 use Rattle.w4_segments.specs.Pieces.{IsPiece}
 use Rattle.w4_segments.specs.Working.{HasCartTypes}
 use Rattle.w4_segments.proofs.TeamLaws.{all_changed, up_to_here}
-use Rattle.w4_segments.proofs.filming.deal.Goals as goal
+use Rattle.w4_segments.proofs.film_pieces.deal.Goals as goal
 
 pub loop-hand-preserved : goal.loop-hand-preserved
 loop-hand-preserved c =
@@ -15,7 +15,7 @@ loop-hand-preserved c =
     let below : hand < length team = omega (arith, many, test) in (
       length-set team hand w ∙ many,
       all_changed team hand w below (HasCartTypes e.cart) c.loop-hand.invariant.1
-          c.deal_one.ensures.ready.types,
+          c.in_ok-deal_one.ensures.ready.types,
       up_to_here team hand w below (λ k x. IsPiece e c.args.first c.args.end (c.args.next + k) x)
-          c.loop-hand.invariant.2 c.deal_one.ensures,
+          c.loop-hand.invariant.2 c.in_ok-deal_one.ensures,
     )

@@ -1,6 +1,6 @@
 use Rattle.std.proofs.Common.{ℕ, ◌<◌, ◌≤◌, length}
 use Rattle.w4_defs.specs.KeptList.{place_at}
-use Rattle.w4_segments.proofs.filming.last_up_to.Given as goal
+use Rattle.w4_segments.proofs.film_pieces.last_up_to.Given as goal
 
 abbrev pub invariant-loop-entry : goal.invariant-loop-entry
 invariant-loop-entry l =

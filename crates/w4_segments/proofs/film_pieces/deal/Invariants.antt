@@ -3,7 +3,7 @@ use Rattle.std.specs.List.{All}
 use Rattle.w4_segments.specs.declared.worker.Worker.{Worker}
 use Rattle.w4_segments.specs.Pieces.{IsPiece}
 use Rattle.w4_segments.specs.Working.{HasCartTypes}
-use Rattle.w4_segments.proofs.filming.deal.Given as goal
+use Rattle.w4_segments.proofs.film_pieces.deal.Given as goal
 
 abbrev pub invariant-loop-hand : goal.invariant-loop-hand
 invariant-loop-hand l =

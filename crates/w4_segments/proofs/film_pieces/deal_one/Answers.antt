@@ -2,7 +2,7 @@ use Rattle.std.proofs.Common.{length, refl, ap, ◌∙◌, arith}
 use Rattle.w4_defs.specs.State.{State}
 use Rattle.w4_editor.proofs.EditorLaws.{globals_as_many}
 use Rattle.w4_segments.proofs.PieceLaws.{idle_piece, busy_piece}
-use Rattle.w4_segments.proofs.filming.deal_one.Goals as goal
+use Rattle.w4_segments.proofs.film_pieces.deal_one.Goals as goal
 
 pub kept_restore-requires-clause-globals : goal.kept_restore-requires-clause-globals
 kept_restore-requires-clause-globals c =
@@ -25,6 +25,8 @@ returns c =
     let from = c.cut-from.ensures in
     let to = c.cut-to.ensures in
     let some = c.if-from-to.false in
+    let room = c.in_ok-reserve.ensures.ok in
     busy_piece e e.disk c.args.first c.args.end c.args.entry _ c.is_consistent.ensures c.requires.order
     (omega (arith, from, to, some))
-    c.requires.within c.requires.states c.kept_restore.ensures _ refl c.kept_place.ensures from to
+    c.requires.within c.requires.states c.kept_restore.ensures (omega (arith, room, from, to)) _ refl
+    c.kept_place.ensures from to

@@ -1,0 +1,145 @@
+-- A film that is handed out a piece at a time: a round more, a piece less, and what is left.
+use Rattle.std.proofs.Common.{◌≡◌, ℕ, ◌+◌, ◌-◌, ◌<◌, ◌≤◌, List, [], ◌++◌, length, get_or, Option, inl, inr, sym, ap, ◌∙◌, arith}
+use Rattle.std.specs.List.{All, slice_get}
+use Rattle.std.proofs.lemmas.Option.{slice_get_cases}
+use Rattle.w4_defs.specs.KeptList.{place_at}
+use Rattle.w4_editor.specs.Editing.{Editing, editing_setup}
+use Rattle.w4_editor.specs.Showing.{KeepsRecording}
+use Rattle.w4_segments.specs.declared.worker.Worker.{Worker}
+use Rattle.w4_segments.specs.FilmPieces.{CanGoOn, images_between, worker_images}
+use Rattle.w4_segments.specs.Pieces.{AreOfRunBelow, ArePieces, piece_begin}
+use Rattle.w4_segments.specs.Rounds.{entries_of}
+use Rattle.w4_segments.specs.Working.{EachDid, HasCartTypes, HasFilmed}
+use Rattle.w4_segments.proofs.PieceLaws.{cut_inside, cut_rises, cut_to_end, pieces_made, span_both, span_none, types_made}
+
+module _ (e : Editing) (team : List Worker) (first end entry next made : ℕ)
+    (is : CanGoOn team first end entry next made e) where
+  abbrev cut : ℕ → ℕ
+  cut i = piece_begin (entries_of e) first end i
+
+  -- all pieces that were made are handed out, and each worker has made one more
+  pub round_more : (dealt new : List Worker) → made ≡ next → cut next < end → length (entries_of e) ≤ 1024
+      → ArePieces e first end made team dealt
+      → EachDid (HasFilmed (editing_setup e) e.disk e.session.current.inputs) dealt new
+      → CanGoOn new first end entry next (made + length new) e × (next < made + length new)
+  round_more dealt new same before most pieces did =
+      let as_dealt = did.many in
+      let as_team = pieces.many in
+      let some = is.some in
+      let few = is.few in
+      let there = (cut_inside (entries_of e) first end next before).0 in (
+        record {
+          some = omega (arith, as_dealt, as_team, some);
+          few = omega (arith, as_dealt, as_team, few);
+          order = is.order;
+          within = is.within;
+          states = is.states;
+          types = types_made e first end made team dealt new pieces did;
+          begun = is.begun;
+          passed = omega (arith, same);
+          hands = omega (arith, same);
+          bound = omega (arith, same, there, most, as_dealt, as_team, few);
+          pieces = λ k d lt.
+              let low : k < length new = omega (arith, lt, same) in
+              let at : length new - (made + length new - next) + k ≡ k = omega (arith, same) in
+              let on : made + k ≡ next + k = omega (arith, same) in
+              ap (λ i. (get_or new i d).images.items) at
+              ∙ pieces_made e first end made team dealt new pieces did k d low
+              ∙ ap (λ i. images_between e (cut i) (cut (i + 1))) on;
+        },
+        omega (arith, same, as_dealt, as_team, some),
+      )
+
+  -- the next piece, where there is one
+  pub piece_next : next < made → (d : Worker)
+      → (get_or team (length team - (made - next)) d).images.items
+      ≡ images_between e (cut next) (cut (next + 1))
+  piece_next some d =
+      let at : length team - (made - next) ≡ length team - (made - next) + 0 = omega arith in
+      let on : next + 0 ≡ next = omega arith in
+      ap (λ i. (get_or team i d).images.items) at
+      ∙ is.pieces 0 d (omega (arith, some))
+      ∙ ap (λ i. images_between e (cut i) (cut (i + 1))) on
+
+  pub piece_handed_out : next < made → (hand : ℕ) → hand ≡ length team - (made - next)
+      → worker_images (slice_get team hand) ≡ images_between e (cut next) (cut (next + 1))
+  piece_handed_out some hand is_hand =
+      let few = is.some in
+      elim (slice_get_cases team hand).1 [
+        | inl (x, _, there, same) ↦
+            ap (λ (w : Option Worker). worker_images w) there
+            ∙ ap (λ (w : Worker). w.images.items) (sym same)
+            ∙ ap (λ i. (get_or team i x).images.items) is_hand
+            ∙ piece_next some x
+        | inr (past, _) ↦ absurd (omega (arith, past, is_hand, some, few))
+      ]
+
+  -- the film without it
+  pub piece_less : next < made → CanGoOn team first end entry (next + 1) made e
+  piece_less some =
+      let begun = is.begun in
+      let hands = is.hands in
+      record {
+        some = is.some;
+        few = is.few;
+        order = is.order;
+        within = is.within;
+        states = is.states;
+        types = is.types;
+        begun = omega (arith, begun);
+        passed = omega (arith, some);
+        hands = omega (arith, hands);
+        bound = is.bound;
+        pieces = λ k d lt.
+            let at : length team - (made - (next + 1)) + k ≡ length team - (made - next) + (k + 1) =
+            omega (arith, lt, some, hands) in
+            let on : next + (k + 1) ≡ next + 1 + k = omega arith in
+            ap (λ i. (get_or team i d).images.items) at
+            ∙ is.pieces (k + 1) d (omega (arith, lt))
+            ∙ ap (λ i. images_between e (cut i) (cut (i + 1))) on;
+      }
+
+-- what is left begins with the next piece
+module _ (e : Editing) (first end : ℕ)
+    (rising : (i : ℕ) → i + 1 < length (entries_of e)
+    → place_at (entries_of e) i < place_at (entries_of e) (i + 1)) where
+  abbrev cut_at : ℕ → ℕ
+  cut_at i = piece_begin (entries_of e) first end i
+
+  pub left_begins : (next : ℕ) → images_between e (cut_at next) end
+      ≡ images_between e (cut_at next) (cut_at (next + 1)) ++ images_between e (cut_at (next + 1)) end
+  left_begins next =
+      sym (span_both e first end (cut_at next) (cut_at (next + 1)) end
+      (cut_rises (entries_of e) first end rising next)
+      (cut_to_end (entries_of e) first end (next + 1)))
+
+  pub nothing_left : (next : ℕ) → end ≤ cut_at next → images_between e (cut_at next) end ≡ []
+  nothing_left next past =
+      let most = cut_to_end (entries_of e) first end next in
+      sym (span_none e first end (cut_at next) end (omega (arith, past, most)))
+
+-- a film that begins: nothing is made
+pub film_begun : (e : Editing) (team : List Worker) (first end entry : ℕ) → 0 < length team → length team ≤ 16
+    → first ≤ end → end ≤ length e.session.current.inputs + 1 → AreOfRunBelow end e
+    → All (HasCartTypes e.cart) team → entry ≤ 1024 → CanGoOn team first end entry entry entry e
+film_begun e team first end entry some few order within states types low = record {
+  some = some;
+  few = few;
+  order = order;
+  within = within;
+  states = states;
+  types = types;
+  begun = omega arith;
+  passed = omega arith;
+  hands = omega arith;
+  bound = omega (arith, low);
+  pieces = λ k d lt. absurd (omega (arith, lt));
+}
+
+-- what a showing keeps
+pub keeps_cart : (old new : Editing) → KeepsRecording old new → new.cart ≡ old.cart
+keeps_cart old new keeps = ap (λ (e : Editing). e.cart) keeps.same
+
+pub keeps_count : (old new : Editing) → KeepsRecording old new
+    → length new.session.current.inputs ≡ length old.session.current.inputs
+keeps_count old new keeps = ap (λ inputs. length inputs) keeps.inputs

@@ -1,0 +1,45 @@
+use Rattle.std.proofs.Common.{◌≡◌, ◌+◌, ◌++◌, List, length, take, drop, refl, sym, ◌∙◌, subst, arith}
+use Rattle.std.proofs.lemmas.List.{take_at}
+use Rattle.w4_defs.specs.Board.{console_setup}
+use Rattle.w4_defs.specs.Module.{WasmModule}
+use Rattle.w4_defs.specs.Recording.{Recording}
+use Rattle.w4_editor.specs.Editing.{editing_setup}
+use Rattle.w4_segments.specs.declared.worker.Worker.{Worker}
+use Rattle.w4_segments.specs.FilmPieces.{CanGoOn}
+use Rattle.w4_segments.specs.Pieces.{ArePieces}
+use Rattle.w4_segments.specs.Working.{EachDid, HasFilmed}
+use Rattle.w4_segments.proofs.FilmPieceLaws.{round_more}
+use Rattle.w4_segments.proofs.film_pieces.FilmPieces.make_next.Goals as goal
+
+pub returns : goal.returns
+returns g c =
+    let e = c.args.editor.now in
+    let film = c.args.self.now in
+    let dealt = c.deal.new.team in
+    let new = c.film_all.new.team in
+    let passed = c.requires.filming.passed in
+    let none = c.if-self.false in
+    let same : film.made ≡ film.next = omega (arith, passed, none) in
+    let pieces : ArePieces e film.first film.end film.made film.team.items dealt =
+    subst (λ (team : List Worker). ArePieces e film.first film.end film.made team dealt)
+    c.as_mut_slice-team.ensures.value c.in_ok-deal.ensures in
+    let did : EachDid (HasFilmed (editing_setup e) e.disk e.session.current.inputs) dealt new =
+    subst (λ (m : WasmModule). EachDid (HasFilmed (console_setup m e.font e.budget) e.disk
+    e.session.current.inputs) dealt new) c.cart.ensures
+    (subst (λ font. EachDid (HasFilmed (console_setup c.cart.result.now font e.budget) e.disk
+    e.session.current.inputs) dealt new) c.font.ensures
+    (subst (λ (r : Recording). EachDid (HasFilmed (console_setup c.cart.result.now c.font.result.now
+    r.budget) r.disk r.frames) dealt new) c.recording.ensures c.film_all.ensures)) in
+    let more = round_more e film.team.items film.first film.end film.entry film.next film.made
+    c.requires.filming dealt new same c.requires.more c.is_consistent.ensures.kept.few pieces did in
+    let back : take film.team.len (new ++ drop (length new) film.team.items) ≡ new =
+    take_at new (drop (length new) film.team.items) film.team.len
+    (did.many ∙ c.in_ok-deal.ensures.many ∙ c.as_mut_slice-team.ensures.len) in
+    record {
+      filming = subst (λ (team : List Worker). CanGoOn team film.first film.end film.entry film.next
+          (film.made + length new) e) (sym back) more.0;
+      first = refl;
+      end = refl;
+      next = refl;
+      some = more.1;
+    }

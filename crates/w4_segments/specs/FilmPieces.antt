@@ -1,0 +1,65 @@
+-- A film that is handed out a piece at a time (project rule): what is left of it, and when it can be gone on
+-- with.
+use Rattle.std.specs.Prelude.{◌≡◌, ℕ, ◌+◌, ◌-◌, ◌<◌, ◌≤◌, List, [], All, length, slice_get, slice_index_or, Option, Some, None}
+use Rattle.w4_editor.specs.Editing.{Editing}
+use Rattle.w4_segments.specs.declared.film_pieces.FilmPieces.{FilmPieces}
+use Rattle.w4_segments.specs.declared.worker.Worker.{Worker}
+use Rattle.w4_segments.specs.Pieces.{AreOfRunBelow, images_of, piece_begin}
+use Rattle.w4_segments.specs.Rounds.{entries_of}
+use Rattle.w4_segments.specs.Working.{HasCartTypes}
+
+-- where the piece of entry I begins
+abbrev pub film_cut : FilmPieces → Editing → ℕ → ℕ
+film_cut film e i = piece_begin (entries_of e) film.first film.end i
+
+-- the images from one place up to another
+abbrev pub images_between : Editing → ℕ → ℕ → List ℕ
+images_between e from to = images_of e from (to - from)
+
+-- the images that are still to be handed out, and the most pieces that these are
+abbrev pub images_left : FilmPieces → Editing → List ℕ
+images_left film e = images_between e (film_cut film e film.next) film.end
+
+abbrev pub pieces_left : FilmPieces → Editing → ℕ
+pieces_left film e = length (entries_of e) - film.next
+
+-- the images of a worker, and of the one whose piece was handed out last
+abbrev pub worker_images : Option Worker → List ℕ
+worker_images None = []
+worker_images (Some worker) = worker.images.items
+
+abbrev pub piece_of : FilmPieces → List ℕ
+piece_of film = worker_images (slice_get film.team.items film.hand)
+
+-- the worker of the piece of entry NEXT + K, of those that are made and not handed out
+abbrev pub worker_at : List Worker → ℕ → ℕ → ℕ → Worker → Worker
+worker_at team next made k d = slice_index_or team (length team - (made - next) + k) d
+
+-- a film can be gone on with over this editor: the kept states that it goes on from are those of the run, and
+-- the pieces that are made have their images
+pub record CanGoOn (team : List Worker) (first end entry next made : ℕ) (e : Editing) : Type 0 where
+  pub some : 0 < length team
+  pub few : length team ≤ 16
+  pub order : first ≤ end
+  pub within : end ≤ length e.session.current.inputs + 1
+  pub states : AreOfRunBelow end e
+  pub types : All (HasCartTypes e.cart) team
+  pub begun : entry ≤ next
+  pub passed : next ≤ made
+  pub hands : made ≤ next + length team
+  pub bound : made ≤ 2048
+  pub pieces : (k : ℕ) (d : Worker) → k < made - next
+      → (worker_at team next made k d).images.items
+      ≡ images_between e (piece_begin (entries_of e) first end (next + k))
+      (piece_begin (entries_of e) first end (next + k + 1))
+
+abbrev pub IsFilming : FilmPieces → Editing → Type 0
+IsFilming film e = CanGoOn film.team.items film.first film.end film.entry film.next film.made e
+
+-- the next piece is made, and nothing was handed out
+pub record HasNext (e : Editing) (old new : FilmPieces) : Type 0 where
+  pub filming : IsFilming new e
+  pub first : new.first ≡ old.first
+  pub end : new.end ≡ old.end
+  pub next : new.next ≡ old.next
+  pub some : new.next < new.made
