@@ -1,7 +1,6 @@
 -- The words of the machine's clauses, one file a subject.
 pub mod ValueStack
 pub mod Plain
-pub mod PlainRows
 pub mod LabelStack
 pub mod Standing
 pub mod Stack

@@ -5,7 +5,6 @@ ghost use Rattle.w4_defs.specs.Effects.{truth};
 ghost use Rattle.w4_defs.specs.ValueTypes.{result_arity};
 ghost use Rattle.wasm_machine.specs.Moves.{if_target};
 
-use crate::flow::Flow;
 use crate::label::Label;
 use crate::label_stack::LabelStack;
 use crate::value_stack::ValueStack;
@@ -22,20 +21,12 @@ pub(crate) fn answers(result_type: Option<ValType>) -> bool
     }
 }
 
-/// A block or an if begins, whose list goes on at `start` and ends at `end`.
+/// A block or an if begins, which ends at this place.
 #[inline(always)]
-pub(crate) fn begin_list(
-    answers: bool,
-    end: usize,
-    start: usize,
-    rest: u32,
-    labels: &mut LabelStack,
-    slots: &ValueStack,
-) -> Flow
+pub(crate) fn begin_list(answers: bool, end: usize, labels: &mut LabelStack, slots: &ValueStack)
     requires end { end < 4294967296 }
     requires room { length labels.old < 1048576 }
-    ensures goes { result ≡ Flow.Go start rest }
-    ensures labels { labels.new ≡ Label.List answers end (length slots.now) ∷ labels.old }
+    ensures { labels.new ≡ Label.List answers end (length slots.now) ∷ labels.old }
 {
     let height = slots.len() as u32;
     labels.push(Label::List {
@@ -43,28 +34,20 @@ pub(crate) fn begin_list(
         end: end as u32,
         height,
     });
-    Flow::Go { place: start, rest }
 }
 
 /// An iteration of a loop begins at this place.
 #[inline(always)]
-pub(crate) fn begin_loop(
-    start: usize,
-    rest: u32,
-    labels: &mut LabelStack,
-    slots: &ValueStack,
-) -> Flow
+pub(crate) fn begin_loop(start: usize, labels: &mut LabelStack, slots: &ValueStack)
     requires start { start < 4294967296 }
     requires room { length labels.old < 1048576 }
-    ensures goes { result ≡ Flow.Go start rest }
-    ensures labels { labels.new ≡ Label.Loop start (length slots.now) ∷ labels.old }
+    ensures { labels.new ≡ Label.Loop start (length slots.now) ∷ labels.old }
 {
     let height = slots.len() as u32;
     labels.push(Label::Loop {
         start: start as u32,
         height,
     });
-    Flow::Go { place: start, rest }
 }
 
 /// Where an if at this place goes on, whose else stands at `other`; None where it goes on after its end.

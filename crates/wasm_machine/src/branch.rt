@@ -40,7 +40,7 @@ fn leave(
 
 /// A branch to the innermost label.
 #[inline(always)]
-fn land(
+pub(crate) fn land(
     rest: u32,
     activation: &mut Activation,
     labels: &mut LabelStack,
@@ -60,7 +60,10 @@ fn land(
         ) => {
             labels.leave(1);
             slots.cut(height as usize, count(answers));
-            Flow::after(end as usize, rest)
+            Flow::Go {
+                place: end as usize + 1,
+                rest,
+            }
         }
         Some(Label::Loop { start, height }) => {
             slots.cut(height as usize, 0);
@@ -119,28 +122,12 @@ fn in_list(labels: &LabelStack) -> bool
 }
 
 /// Leaves all lists that are open in the active function.
-fn leave_lists(labels: &mut LabelStack)
+pub(crate) fn leave_lists(labels: &mut LabelStack)
     ensures left { labels.new ≡ drop (lists_of labels.old) labels.old }
 {
     while in_list(labels) {
         labels.leave(1);
     }
-}
-
-/// A branch to the label of the active function: a return.
-#[inline(always)]
-pub(crate) fn branch_to_caller(
-    rest: u32,
-    activation: &mut Activation,
-    labels: &mut LabelStack,
-    slots: &mut ValueStack,
-) -> Flow
-    requires { CanLand (drop (lists_of labels.old) labels.old) slots.old activation.old }
-    ensures { Lands (drop (lists_of labels.old) labels.old) slots.old activation.old rest result labels.new
-        slots.new activation.new }
-{
-    leave_lists(labels);
-    land(rest, activation, labels, slots)
 }
 
 /// The end of the innermost list, at this place; that of an if may be its else.
@@ -161,11 +148,17 @@ pub(crate) fn close(
         None => Flow::Done { rest },
         Some(Label::List { end, .. }) => {
             labels.leave(1);
-            Flow::after(end as usize, rest)
+            Flow::Go {
+                place: end as usize + 1,
+                rest,
+            }
         }
         Some(Label::Loop { .. }) => {
             labels.leave(1);
-            Flow::after(place, rest)
+            Flow::Go {
+                place: place + 1,
+                rest,
+            }
         }
         Some(
             Label::Call {

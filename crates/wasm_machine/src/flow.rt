@@ -1,7 +1,5 @@
 //! How a run goes on after a step.
 
-ghost use Rattle.std.specs.Prelude.{◌≡◌, ◌+◌, ◌<◌};
-
 use w4_defs::Cause;
 
 /// The result of one step.
@@ -15,18 +13,4 @@ pub(crate) enum Flow {
     Trap(Cause),
     /// The budget doesn't last for the instruction, which had no effect.
     Spent,
-}
-
-impl Flow {
-    /// On at the place after this one.
-    #[inline(always)]
-    pub(crate) fn after(place: usize, rest: u32) -> Flow
-        requires { place < 4294967296 }
-        ensures { result ≡ Flow.Go (place + 1) rest }
-    {
-        Flow::Go {
-            place: place + 1,
-            rest,
-        }
-    }
 }

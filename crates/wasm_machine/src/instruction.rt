@@ -9,7 +9,7 @@ ghost use Rattle.wasm_tree.specs.Pool.{operations_of};
 use crate::activation::Activation;
 use crate::begin::{answers, begin_list, begin_loop, choose};
 use crate::br_table::table_label;
-use crate::branch::{branch, branch_to_caller};
+use crate::branch::{branch, land, leave_lists};
 use crate::bulk::move_bytes;
 use crate::call::{call_direct, call_indirect};
 use crate::flow::Flow;
@@ -49,23 +49,41 @@ pub(crate) fn execute<H: Host>(
     ensures grows { length labels.new ≤ length labels.old + 1 }
 {
     let next = place + 1;
+    let base = activation.base;
     match *op {
-        Op::Block { result, end } => begin_list(answers(result), end, next, rest, labels, slots),
-        Op::Loop { .. } => begin_loop(next, rest, labels, slots),
-        Op::If { result, other, end } => match choose(slots.pop(), place, other) {
-            Some(first) => begin_list(answers(result), end, first, rest, labels, slots),
-            None => Flow::after(end, rest),
-        },
+        Op::Block { result, end } => {
+            begin_list(answers(result), end, labels, slots);
+            Flow::Go { place: next, rest }
+        }
+        Op::Loop { .. } => {
+            begin_loop(next, labels, slots);
+            Flow::Go { place: next, rest }
+        }
+        Op::If { result, other, end } => {
+            let Some(first) = choose(slots.pop(), place, other) else {
+                return Flow::Go {
+                    place: end + 1,
+                    rest,
+                };
+            };
+            begin_list(answers(result), end, labels, slots);
+            Flow::Go { place: first, rest }
+        }
         Op::Br { label } => branch(label as usize, rest, activation, labels, slots),
-        Op::BrIf { label } => match slots.pop() {
-            0 => Flow::Go { place: next, rest },
-            _ => branch(label as usize, rest, activation, labels, slots),
-        },
+        Op::BrIf { label } => {
+            if slots.pop() == 0 {
+                return Flow::Go { place: next, rest };
+            }
+            branch(label as usize, rest, activation, labels, slots)
+        }
         Op::BrTable => {
             let label = table_label(cart.code(), place, slots.pop());
             branch(label as usize, rest, activation, labels, slots)
         }
-        Op::Return => branch_to_caller(rest, activation, labels, slots),
+        Op::Return => {
+            leave_lists(labels);
+            land(rest, activation, labels, slots)
+        }
         Op::Call { func } => call_direct(
             cart, func, place, rest, activation, labels, slots, page, host,
         ),
@@ -80,9 +98,9 @@ pub(crate) fn execute<H: Host>(
         Op::GlobalSet { index } => set_global(
             cart, index, place, rest, activation, labels, slots, page, globals, host,
         ),
-        Op::MemoryCopy => move_bytes(true, next, rest, activation.base, slots, page),
-        Op::MemoryFill => move_bytes(false, next, rest, activation.base, slots, page),
-        _ => match plain(op, activation.base, slots, page) {
+        Op::MemoryCopy => move_bytes(true, next, rest, base, slots, page),
+        Op::MemoryFill => move_bytes(false, next, rest, base, slots, page),
+        _ => match plain(op, base, slots, page) {
             None => Flow::Go { place: next, rest },
             Some(cause) => Flow::Trap(cause),
         },

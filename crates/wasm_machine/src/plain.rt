@@ -3,9 +3,7 @@
 
 ghost use Rattle.std.specs.Prelude.{◌≡◌, ◌+◌, ◌<◌, ◌≤◌, length};
 ghost use Rattle.w4_defs.specs.Effects.{effect, push_value};
-ghost use Rattle.w4_defs.specs.InstructionTable.{row};
 ghost use Rattle.wasm_machine.specs.Plain.{HasDone, Ready};
-ghost use Rattle.wasm_machine.specs.PlainRows.{IsLeftBy32, IsLeftBy64, IsLeftByMemory, IsLeftByPlain};
 ghost use Rattle.w4_defs.specs.declared.value.Val.TheVariants as val;
 ghost use Rattle.w4_defs.specs.declared.operation.Op.TheVariants as op_of;
 
@@ -22,8 +20,8 @@ use wasm_page::Page;
 /// Does one plain instruction, and gives the cause where it traps; then the page is unchanged. `base` slots
 /// lie below the function's locals. Condition: operands and locals are there, each of the instruction's type.
 ///
-/// The parts of the table stand in the order of how much carts use them, since an instruction costs a
-/// comparison for each part before its own.
+/// All rows stand in one table, since a jump finds the row: tables that go on to one another would cost an
+/// instruction a jump for each table before its own.
 #[inline(always)]
 pub(crate) fn plain(op: &Op, base: usize, slots: &mut ValueStack, page: &mut Page) -> Option<Cause>
     requires ready { Ready (effect op.now) base slots.old page.old }
@@ -39,36 +37,31 @@ pub(crate) fn plain(op: &Op, base: usize, slots: &mut ValueStack, page: &mut Pag
         Op::LocalGet { index } => local_get(index, base, slots, page),
         Op::LocalSet { index } => local_set(index, base, slots, page),
         Op::LocalTee { index } => local_tee(index, base, slots, page),
+        Op::I32Load { offset, .. } => load_32(offset, 4, base, slots, page),
+        Op::I64Load { offset, .. } => load_64(offset, 8, base, slots, page),
+        Op::I32Load8S { offset, .. } => load_signed_32(offset, 1, base, slots, page),
+        Op::I32Load8U { offset, .. } => load_32(offset, 1, base, slots, page),
+        Op::I32Load16S { offset, .. } => load_signed_32(offset, 2, base, slots, page),
+        Op::I32Load16U { offset, .. } => load_32(offset, 2, base, slots, page),
+        Op::I64Load8S { offset, .. } => load_signed_64(offset, 1, base, slots, page),
+        Op::I64Load8U { offset, .. } => load_64(offset, 1, base, slots, page),
+        Op::I64Load16S { offset, .. } => load_signed_64(offset, 2, base, slots, page),
+        Op::I64Load16U { offset, .. } => load_64(offset, 2, base, slots, page),
+        Op::I64Load32S { offset, .. } => load_signed_64(offset, 4, base, slots, page),
+        Op::I64Load32U { offset, .. } => load_64(offset, 4, base, slots, page),
+        Op::I32Store { offset, .. } => store(ValType::I32, offset, 4, base, slots, page),
+        Op::I64Store { offset, .. } => store(ValType::I64, offset, 8, base, slots, page),
+        Op::I32Store8 { offset, .. } => store(ValType::I32, offset, 1, base, slots, page),
+        Op::I32Store16 { offset, .. } => store(ValType::I32, offset, 2, base, slots, page),
+        Op::I64Store8 { offset, .. } => store(ValType::I64, offset, 1, base, slots, page),
+        Op::I64Store16 { offset, .. } => store(ValType::I64, offset, 2, base, slots, page),
+        Op::I64Store32 { offset, .. } => store(ValType::I64, offset, 4, base, slots, page),
+        Op::MemorySize => push_32(1, base, slots, page),
+        Op::MemoryGrow => memory_grow(base, slots, page),
+        Op::MemoryCopy => memory_copy(base, slots, page),
+        Op::MemoryFill => memory_fill(base, slots, page),
         Op::I32Const { value } => push_32(value, base, slots, page),
         Op::I64Const { value } => push_64(value, base, slots, page),
-        // These are no plain instructions.
-        Op::Block { .. } => None,
-        Op::Loop { .. } => None,
-        Op::If { .. } => None,
-        Op::Else => None,
-        Op::End => None,
-        Op::Br { .. } => None,
-        Op::BrIf { .. } => None,
-        Op::BrTable => None,
-        Op::Return => None,
-        Op::Call { .. } => None,
-        Op::CallIndirect { .. } => None,
-        Op::GlobalGet { .. } => None,
-        Op::GlobalSet { .. } => None,
-        _ => plain_32(op, base, slots, page),
-    }
-}
-
-/// A testop, relop, unop or binop of i32, or what stands below.
-#[inline(always)]
-fn plain_32(op: &Op, base: usize, slots: &mut ValueStack, page: &mut Page) -> Option<Cause>
-    requires row { IsLeftByPlain (row op.now) }
-    requires ready { Ready (effect op.now) base slots.old page.old }
-    requires room { length slots.old < 1048576 }
-    ensures did { HasDone (effect op.now) base slots.old page.old result slots.new page.new }
-    ensures grows { length slots.new ≤ length slots.old + 1 }
-{
-    match *op {
         Op::I32Eqz => eqz(ValType::I32, base, slots, page),
         Op::I32Eq => compare_32(Compare::Eq, base, slots, page),
         Op::I32Ne => compare_32(Compare::Ne, base, slots, page),
@@ -98,56 +91,6 @@ fn plain_32(op: &Op, base: usize, slots: &mut ValueStack, page: &mut Page) -> Op
         Op::I32ShrU => binary_32(Binary::ShrU, base, slots, page),
         Op::I32Rotl => binary_32(Binary::Rotl, base, slots, page),
         Op::I32Rotr => binary_32(Binary::Rotr, base, slots, page),
-        _ => plain_memory(op, base, slots, page),
-    }
-}
-
-/// A memory instruction, or what stands below.
-#[inline(always)]
-fn plain_memory(op: &Op, base: usize, slots: &mut ValueStack, page: &mut Page) -> Option<Cause>
-    requires row { IsLeftBy32 (row op.now) }
-    requires ready { Ready (effect op.now) base slots.old page.old }
-    requires room { length slots.old < 1048576 }
-    ensures did { HasDone (effect op.now) base slots.old page.old result slots.new page.new }
-    ensures grows { length slots.new ≤ length slots.old + 1 }
-{
-    match *op {
-        Op::I32Load { offset, .. } => load_32(offset, 4, base, slots, page),
-        Op::I64Load { offset, .. } => load_64(offset, 8, base, slots, page),
-        Op::I32Load8S { offset, .. } => load_signed_32(offset, 1, base, slots, page),
-        Op::I32Load8U { offset, .. } => load_32(offset, 1, base, slots, page),
-        Op::I32Load16S { offset, .. } => load_signed_32(offset, 2, base, slots, page),
-        Op::I32Load16U { offset, .. } => load_32(offset, 2, base, slots, page),
-        Op::I64Load8S { offset, .. } => load_signed_64(offset, 1, base, slots, page),
-        Op::I64Load8U { offset, .. } => load_64(offset, 1, base, slots, page),
-        Op::I64Load16S { offset, .. } => load_signed_64(offset, 2, base, slots, page),
-        Op::I64Load16U { offset, .. } => load_64(offset, 2, base, slots, page),
-        Op::I64Load32S { offset, .. } => load_signed_64(offset, 4, base, slots, page),
-        Op::I64Load32U { offset, .. } => load_64(offset, 4, base, slots, page),
-        Op::I32Store { offset, .. } => store(ValType::I32, offset, 4, base, slots, page),
-        Op::I64Store { offset, .. } => store(ValType::I64, offset, 8, base, slots, page),
-        Op::I32Store8 { offset, .. } => store(ValType::I32, offset, 1, base, slots, page),
-        Op::I32Store16 { offset, .. } => store(ValType::I32, offset, 2, base, slots, page),
-        Op::I64Store8 { offset, .. } => store(ValType::I64, offset, 1, base, slots, page),
-        Op::I64Store16 { offset, .. } => store(ValType::I64, offset, 2, base, slots, page),
-        Op::I64Store32 { offset, .. } => store(ValType::I64, offset, 4, base, slots, page),
-        Op::MemorySize => push_32(1, base, slots, page),
-        Op::MemoryGrow => memory_grow(base, slots, page),
-        Op::MemoryCopy => memory_copy(base, slots, page),
-        Op::MemoryFill => memory_fill(base, slots, page),
-        _ => plain_64(op, base, slots, page),
-    }
-}
-
-/// A testop, relop, unop or binop of i64, or what stands below.
-#[inline(always)]
-fn plain_64(op: &Op, base: usize, slots: &mut ValueStack, page: &mut Page) -> Option<Cause>
-    requires row { IsLeftByMemory (row op.now) }
-    requires ready { Ready (effect op.now) base slots.old page.old }
-    ensures did { HasDone (effect op.now) base slots.old page.old result slots.new page.new }
-    ensures grows { length slots.new ≤ length slots.old + 1 }
-{
-    match *op {
         Op::I64Eqz => eqz(ValType::I64, base, slots, page),
         Op::I64Eq => compare_64(Compare::Eq, base, slots, page),
         Op::I64Ne => compare_64(Compare::Ne, base, slots, page),
@@ -177,19 +120,6 @@ fn plain_64(op: &Op, base: usize, slots: &mut ValueStack, page: &mut Page) -> Op
         Op::I64ShrU => binary_64(Binary::ShrU, base, slots, page),
         Op::I64Rotl => binary_64(Binary::Rotl, base, slots, page),
         Op::I64Rotr => binary_64(Binary::Rotr, base, slots, page),
-        _ => plain_conversion(op, base, slots, page),
-    }
-}
-
-/// A conversion. Those of floats are no plain instructions.
-#[inline(always)]
-fn plain_conversion(op: &Op, base: usize, slots: &mut ValueStack, page: &mut Page) -> Option<Cause>
-    requires row { IsLeftBy64 (row op.now) }
-    requires ready { Ready (effect op.now) base slots.old page.old }
-    ensures did { HasDone (effect op.now) base slots.old page.old result slots.new page.new }
-    ensures grows { length slots.new ≤ length slots.old + 1 }
-{
-    match *op {
         Op::I32WrapI64 => wrap(base, slots, page),
         Op::I64ExtendI32S => widen_signed(base, slots, page),
         Op::I64ExtendI32U => widen(base, slots, page),
@@ -198,12 +128,25 @@ fn plain_conversion(op: &Op, base: usize, slots: &mut ValueStack, page: &mut Pag
         Op::I64Extend8S => sign_64(1, base, slots, page),
         Op::I64Extend16S => sign_64(2, base, slots, page),
         Op::I64Extend32S => sign_64(4, base, slots, page),
+        // The others are no plain instructions.
+        Op::Block { .. } => None,
+        Op::Loop { .. } => None,
+        Op::If { .. } => None,
+        Op::Else => None,
+        Op::End => None,
+        Op::Br { .. } => None,
+        Op::BrIf { .. } => None,
+        Op::BrTable => None,
+        Op::Return => None,
+        Op::Call { .. } => None,
+        Op::CallIndirect { .. } => None,
+        Op::GlobalGet { .. } => None,
+        Op::GlobalSet { .. } => None,
         Op::F32Const { .. } => None,
         Op::F64Const { .. } => None,
         Op::FloatMemory { .. } => None,
         Op::FloatPlain { .. } => None,
         Op::FloatCut { .. } => None,
-        _ => unreachable!(),
     }
 }
 

@@ -1,9 +1,10 @@
-use Rattle.std.proofs.Common.{◌<◌, ◌∙◌, length, slice_get, true, false, arith, sym, subst}
+use Rattle.std.proofs.Common.{◌<◌, ◌∙◌, List, length, slice_get, true, false, arith, sym, subst}
 use Rattle.w4_defs.specs.Module.{WasmModule}
 use Rattle.wasm_tree.specs.Layout.{entries}
-use Rattle.wasm_machine.specs.Moves.{entry_labels, lists_of}
+use Rattle.wasm_machine.specs.declared.label.Label.{Label}
+use Rattle.wasm_machine.specs.Moves.{CanLand, entry_labels, lists_of}
 use Rattle.wasm_machine.proofs.PlainLaws.{is_plain}
-use Rattle.wasm_machine.proofs.StepLaws.{known, place_within, other_small, block_needs, block_stepped, loop_needs, loop_stepped, if_needs, if_passed, if_stepped, leads_needs, leads_stepped, br_leads, br_if_needs, br_if_stays, br_if_leads, table_needs, table_leads, label_is, return_leads, plain_needs, plain_goes, plain_traps, branch_few}
+use Rattle.wasm_machine.proofs.StepLaws.{known, place_within, other_small, none_of, block_needs, block_stepped, loop_needs, loop_stepped, if_needs, if_passed, if_stepped, leads_needs, leads_stepped, br_leads, br_if_needs, br_if_stays, br_if_leads, table_needs, table_leads, label_is, return_leads, lands_left, plain_needs, plain_goes, plain_traps, branch_few}
 use Rattle.wasm_machine.proofs.BulkSteps.{bulk_needs, bulk_stepped}
 use Rattle.wasm_machine.proofs.instruction.execute.Goals as goal
 
@@ -21,9 +22,9 @@ begin_list-requires-clause-room g c = (block_needs _ _ _ _ _ _ _ _ _ _
     c.answers.ensures).1
 
 pub returns-in-Block-clause-goes : goal.returns-in-Block-clause-goes
-returns-in-Block-clause-goes g c = block_stepped _ _ _ _ _ _ _ _ _ _ _ _ _
+returns-in-Block-clause-goes g c = block_stepped _ _ _ _ _ _ _ _ _ _ _ _
     (known (entries c.args.cart.now) c.args.place _ _ c.requires.op c.in-Block.is) c.answers.ensures
-    c.begin_list.ensures.goes c.begin_list.ensures.labels
+    c.begin_list.ensures
 
 pub begin_loop-requires-clause-start : goal.begin_loop-requires-clause-start
 begin_loop-requires-clause-start g c = omega (
@@ -38,9 +39,8 @@ begin_loop-requires-clause-room g c = (loop_needs _ _ _ _ _ _ _ _ _ _
     (known (entries c.args.cart.now) c.args.place _ _ c.requires.op c.in-Loop.is) c.requires.going).1
 
 pub returns-in-Loop-clause-goes : goal.returns-in-Loop-clause-goes
-returns-in-Loop-clause-goes g c = loop_stepped _ _ _ _ _ _ _ _ _ _ _ _
-    (known (entries c.args.cart.now) c.args.place _ _ c.requires.op c.in-Loop.is) c.begin_loop.ensures.goes
-    c.begin_loop.ensures.labels
+returns-in-Loop-clause-goes g c = loop_stepped _ _ _ _ _ _ _ _ _ _ _
+    (known (entries c.args.cart.now) c.args.place _ _ c.requires.op c.in-Loop.is) c.begin_loop.ensures
 
 pub pop-requires : goal.pop-requires
 pop-requires g c = (if_needs _ _ _ _ _ _ _ _ _ _ _
@@ -59,36 +59,35 @@ choose-requires-clause-other g c = other_small c.in-If.other (length (entries c.
     c.requires.bound (if_needs _ _ _ _ _ _ _ _ _ _ _
     (known (entries c.args.cart.now) c.args.place _ _ c.requires.op c.in-If.is) c.requires.going).2
 
-pub after-requires : goal.after-requires
-after-requires g c = omega (
+pub overflow_add-result : goal.overflow_add-result
+overflow_add-result g c = omega (
   arith,
   (if_needs _ _ _ _ _ _ _ _ _ _ _
       (known (entries c.args.cart.now) c.args.place _ _ c.requires.op c.in-If.is) c.requires.going).1,
   c.requires.bound,
 )
 
-pub returns-in-None-clause-goes : goal.returns-in-None-clause-goes
-returns-in-None-clause-goes g c = if_passed _ _ _ _ _ _ _ _ _ _ _ _ _ _
+pub returns-in_default-choose-clause-goes : goal.returns-in_default-choose-clause-goes
+returns-in_default-choose-clause-goes g c = if_passed _ _ _ _ _ _ _ _ _ _ _ _ _
     (known (entries c.args.cart.now) c.args.place _ _ c.requires.op c.in-If.is) c.pop.ensures.taken
-    (sym c.choose.ensures ∙ c.in-None.is) c.after.ensures
+    (sym c.choose.ensures ∙ none_of c.choose.result c.in_default-choose.not-Some)
 
-pub begin_list-requires-in-Some-clause-end : goal.begin_list-requires-in-Some-clause-end
-begin_list-requires-in-Some-clause-end g c = omega (
+pub begin_list-requires-in-If-clause-end : goal.begin_list-requires-in-If-clause-end
+begin_list-requires-in-If-clause-end g c = omega (
   arith,
   (if_needs _ _ _ _ _ _ _ _ _ _ _ (known (entries c.args.cart.now) c.args.place _ _ c.requires.op
       c.in-If.is) c.requires.going).1,
   c.requires.bound,
 )
 
-pub begin_list-requires-in-Some-clause-room : goal.begin_list-requires-in-Some-clause-room
-begin_list-requires-in-Some-clause-room g c = (if_needs _ _ _ _ _ _ _ _ _ _ _
+pub begin_list-requires-in-If-clause-room : goal.begin_list-requires-in-If-clause-room
+begin_list-requires-in-If-clause-room g c = (if_needs _ _ _ _ _ _ _ _ _ _ _
     (known (entries c.args.cart.now) c.args.place _ _ c.requires.op c.in-If.is) c.requires.going).3
 
 pub returns-in-Some-clause-goes : goal.returns-in-Some-clause-goes
-returns-in-Some-clause-goes g c = if_stepped _ _ _ _ _ _ _ _ _ _ _ _ _ _ _ _ _
+returns-in-Some-clause-goes g c = if_stepped _ _ _ _ _ _ _ _ _ _ _ _ _ _ _ _
     (known (entries c.args.cart.now) c.args.place _ _ c.requires.op c.in-If.is) c.pop.ensures.taken
-    (sym c.choose.ensures ∙ c.in-Some.is) c.answers-in-Some.ensures c.begin_list-in-Some.ensures.goes
-    c.begin_list-in-Some.ensures.labels
+    (sym c.choose.ensures ∙ c.in-Some.is) c.answers-in-If.ensures c.begin_list-in-If.ensures
 
 pub branch-label-requires-clause-label : goal.branch-label-requires-clause-label
 branch-label-requires-clause-label g c = (leads_needs _ _ _ _ _ _ _ _ _ _
@@ -115,33 +114,32 @@ pub pop-requires-in-BrIf : goal.pop-requires-in-BrIf
 pop-requires-in-BrIf g c = br_if_needs _ _ _ _ _ _ _ _ _
     (known (entries c.args.cart.now) c.args.place _ _ c.requires.op c.in-BrIf.is) c.requires.going
 
-pub returns-in-0-clause-goes : goal.returns-in-0-clause-goes
-returns-in-0-clause-goes g c = br_if_stays _ _ _ _ _ _ _ _ _ _ _
+pub returns-then-pop-eq0-clause-goes : goal.returns-then-pop-eq0-clause-goes
+returns-then-pop-eq0-clause-goes g c = br_if_stays _ _ _ _ _ _ _ _ _ _ _
     (known (entries c.args.cart.now) c.args.place _ _ c.requires.op c.in-BrIf.is) c.pop-in-BrIf.ensures.taken
-    c.in-0.is
+    c.if-pop-eq0.true
 
-pub branch-label-requires-in_default-pop-clause-label : goal.branch-label-requires-in_default-pop-clause-label
-branch-label-requires-in_default-pop-clause-label g c =
+pub branch-label-requires-in-BrIf-clause-label : goal.branch-label-requires-in-BrIf-clause-label
+branch-label-requires-in-BrIf-clause-label g c =
     (leads_needs _ _ _ _ _ _ _ _ _ _ (br_if_leads _ _ _ _ _ _ _ _ _ _ _
     (known (entries c.args.cart.now) c.args.place _ _ c.requires.op c.in-BrIf.is) c.pop-in-BrIf.ensures.taken
-    (omega arith)) c.requires.going).0
+    c.if-pop-eq0.false) c.requires.going).0
 
-pub branch-label-requires-in_default-pop-clause-lands : goal.branch-label-requires-in_default-pop-clause-lands
-branch-label-requires-in_default-pop-clause-lands g c =
+pub branch-label-requires-in-BrIf-clause-lands : goal.branch-label-requires-in-BrIf-clause-lands
+branch-label-requires-in-BrIf-clause-lands g c =
     (leads_needs _ _ _ _ _ _ _ _ _ _ (br_if_leads _ _ _ _ _ _ _ _ _ _ _
     (known (entries c.args.cart.now) c.args.place _ _ c.requires.op c.in-BrIf.is) c.pop-in-BrIf.ensures.taken
-    (omega arith)) c.requires.going).1
+    c.if-pop-eq0.false) c.requires.going).1
 
-pub returns-in_default-pop-clause-goes : goal.returns-in_default-pop-clause-goes
-returns-in_default-pop-clause-goes g c = leads_stepped _ _ _ _ _ _ _ _ _ _ _ _ _ _
+pub returns-else-pop-eq0-clause-goes : goal.returns-else-pop-eq0-clause-goes
+returns-else-pop-eq0-clause-goes g c = leads_stepped _ _ _ _ _ _ _ _ _ _ _ _ _ _
     (br_if_leads _ _ _ _ _ _ _ _ _ _ _ (known (entries c.args.cart.now) c.args.place _ _ c.requires.op
-    c.in-BrIf.is) c.pop-in-BrIf.ensures.taken (omega arith)) c.branch-label-in_default-pop.ensures
+    c.in-BrIf.is) c.pop-in-BrIf.ensures.taken c.if-pop-eq0.false) c.branch-label-in-BrIf.ensures
 
-pub returns-in_default-pop-clause-grows : goal.returns-in_default-pop-clause-grows
-returns-in_default-pop-clause-grows g c = branch_few c.in-BrIf.label c.args.labels.now c.pop-in-BrIf.new.self
-    c.args.activation.now c.args.rest c.branch-label-in_default-pop.result
-    c.branch-label-in_default-pop.new.labels c.branch-label-in_default-pop.new.slots
-    c.branch-label-in_default-pop.new.activation c.branch-label-in_default-pop.ensures
+pub returns-else-pop-eq0-clause-grows : goal.returns-else-pop-eq0-clause-grows
+returns-else-pop-eq0-clause-grows g c = branch_few c.in-BrIf.label c.args.labels.now c.pop-in-BrIf.new.self
+    c.args.activation.now c.args.rest c.branch-label-in-BrIf.result c.branch-label-in-BrIf.new.labels
+    c.branch-label-in-BrIf.new.slots c.branch-label-in-BrIf.new.activation c.branch-label-in-BrIf.ensures
 
 pub pop-requires-in-BrTable : goal.pop-requires-in-BrTable
 pop-requires-in-BrTable g c = (table_needs _ _ _ _ _ _ _ _
@@ -188,21 +186,25 @@ returns-in-BrTable-clause-grows g c = branch_few c.table_label-label.result c.ar
     c.branch-label-in-BrTable.new.labels c.branch-label-in-BrTable.new.slots
     c.branch-label-in-BrTable.new.activation c.branch-label-in-BrTable.ensures
 
-pub branch_to_caller-requires : goal.branch_to_caller-requires
-branch_to_caller-requires g c = (leads_needs _ _ _ _ _ _ _ _ _ _
+pub land-requires : goal.land-requires
+land-requires g c = subst (λ (ls : List Label). CanLand ls c.args.slots.now c.args.activation.now)
+    (sym c.leave_lists.ensures.left) (leads_needs _ _ _ _ _ _ _ _ _ _
     (return_leads _ _ _ _ _ _ _ _ (known (entries c.args.cart.now) c.args.place _ _ c.requires.op
     c.in-Return.is)) c.requires.going).1
 
 pub returns-in-Return-clause-goes : goal.returns-in-Return-clause-goes
 returns-in-Return-clause-goes g c = leads_stepped _ _ _ _ _ _ _ _ _ _ _ _ _ _
     (return_leads _ _ _ _ _ _ _ _ (known (entries c.args.cart.now) c.args.place _ _ c.requires.op
-    c.in-Return.is)) c.branch_to_caller.ensures
+    c.in-Return.is)) (lands_left (lists_of c.args.labels.now) c.args.labels.now c.leave_lists.new.labels
+    c.args.slots.now c.args.activation.now c.args.rest c.land.result c.land.new.labels c.land.new.slots
+    c.land.new.activation c.leave_lists.ensures.left c.land.ensures)
 
 pub returns-in-Return-clause-grows : goal.returns-in-Return-clause-grows
 returns-in-Return-clause-grows g c = branch_few (lists_of c.args.labels.now) c.args.labels.now
-    c.args.slots.now c.args.activation.now c.args.rest c.branch_to_caller.result
-    c.branch_to_caller.new.labels c.branch_to_caller.new.slots c.branch_to_caller.new.activation
-    c.branch_to_caller.ensures
+    c.args.slots.now c.args.activation.now c.args.rest c.land.result c.land.new.labels c.land.new.slots
+    c.land.new.activation (lands_left (lists_of c.args.labels.now) c.args.labels.now c.leave_lists.new.labels
+    c.args.slots.now c.args.activation.now c.args.rest c.land.result c.land.new.labels c.land.new.slots
+    c.land.new.activation c.leave_lists.ensures.left c.land.ensures)
 
 pub plain-requires : goal.plain-requires
 plain-requires g c = let k = plain_needs _ _ _ _ _ _ _ _ _
@@ -212,14 +214,14 @@ plain-requires g c = let k = plain_needs _ _ _ _ _ _ _ _ _
     c.in_default.not-GlobalSet c.in_default.not-MemoryCopy c.in_default.not-MemoryFill) c.requires.op
     c.requires.going in record { ready = k.0; room = k.1 }
 
-pub returns-in-None-plain : goal.returns-in-None-plain
-returns-in-None-plain g c = record {
+pub returns-in-None : goal.returns-in-None
+returns-in-None g c = record {
   goes = plain_goes _ _ _ _ _ _ _ _ _ _ _
       (is_plain _ c.in_default.not-Block c.in_default.not-Loop c.in_default.not-If c.requires.end.1
       c.requires.end.0 c.in_default.not-Br c.in_default.not-BrIf c.in_default.not-BrTable
       c.in_default.not-Return c.in_default.not-Call c.in_default.not-CallIndirect c.in_default.not-GlobalGet
       c.in_default.not-GlobalSet c.in_default.not-MemoryCopy c.in_default.not-MemoryFill) c.requires.op
-      c.in-None-plain.ensures.did c.in-None-plain.ensures.grows;
+      c.in-None.ensures.did c.in-None.ensures.grows;
   grows = omega arith;
 }
 
