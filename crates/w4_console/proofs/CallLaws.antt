@@ -80,16 +80,16 @@ module _ (cart : WasmModule) (font : List ℕ) (whole : ℕ) where
   stops function named functions now next budget e is =
       subst (λ (f : Option ℕ). Calls (f ∷ functions) now budget next) e (is functions whole)
 
-  pub goes_on : (function named : Option ℕ) (functions : List (Option ℕ)) (now mid next : LoggedState)
+  pub calls_go_on : (function named : Option ℕ) (functions : List (Option ℕ)) (now mid next : LoggedState)
       (budget rest : ℕ)
       → function ≡ named
       → IsCalledFirst cart font function now budget (Some rest) mid → Calls functions mid rest next
       → Calls (named ∷ functions) now budget next
-  goes_on function named functions now mid next budget rest e is others =
+  calls_go_on function named functions now mid next budget rest e is others =
       subst (λ (f : Option ℕ). Calls (f ∷ functions) now budget next) e (is functions whole ∙ others)
 
-  pub ends : (function named : Option ℕ) (now next : LoggedState) (budget : ℕ) (found : Option ℕ)
+  pub calls_end : (function named : Option ℕ) (now next : LoggedState) (budget : ℕ) (found : Option ℕ)
       → function ≡ named
       → IsCalledFirst cart font function now budget found next → Calls (named ∷ []) now budget next
-  ends function named now next budget found e is =
+  calls_end function named now next budget found e is =
       subst (λ (f : Option ℕ). Calls (f ∷ []) now budget next) e (is [] whole ∙ at_end found next)

@@ -1,32 +1,13 @@
 -- How a frame and a reset are put together of their parts.
-use Rattle.std.proofs.Common.{◌≡◌, ℕ, List, Option, Some, refl, sym, ◌∙◌, ap}
+use Rattle.std.proofs.Common.{◌≡◌, ℕ, List, Some, sym, ◌∙◌, ap}
 use Rattle.std.specs.Option.{option_and_then, option_map}
-use Rattle.w4_defs.specs.declared.console.Halt.{Halt}
-use Rattle.w4_defs.specs.declared.console.Halt.TheVariants.{Running, Trapped, Spent}
 use Rattle.w4_defs.specs.declared.console.Input.{Input}
-use Rattle.w4_defs.specs.Board.{console_setup}
-use Rattle.w4_defs.specs.Frame.{before_update, call_update, frame, update, update_from}
-use Rattle.w4_defs.specs.Module.{WasmModule}
+use Rattle.w4_defs.specs.Frame.{before_update, frame, update}
 use Rattle.w4_defs.specs.Reset.{recorded, reset, Setup, start, with_empty_logs}
 use Rattle.w4_defs.specs.State.{empty_record, FrameRecord, Moment, State, LoggedState}
 use Rattle.w4_devices.specs.declared.frame_record.FrameRecord.{FrameRecord as Made}
 use Rattle.w4_devices.specs.Records.{record_of}
-use Rattle.w4_console.specs.ConsoleCalls.{IsCalled, so_far}
-use Rattle.w4_console.proofs.CallLaws.{at_end}
-
--- a halted cart is left as it is
-pub halted : (setup : Setup) (input : Input) (now : LoggedState) (halt : Halt) → (halt ≡ Running → ⊥)
-    → update_from setup input now halt ≡ Some now
-halted setup input now Running out = absurd (out refl)
-halted setup input now (Trapped cause) out = refl
-halted setup input now Spent out = refl
-
--- `update` is the last call of a frame
-pub updated : (cart : WasmModule) (font : List ℕ) (function budget : ℕ) (now next : LoggedState)
-    (rest : Option ℕ)
-    → IsCalled cart font function now budget rest next
-    → call_update (console_setup cart font budget) (Some function) now ≡ Some next
-updated cart font function budget now next rest is = is (λ now rest. Some now) ∙ at_end rest next
+use Rattle.w4_console.specs.ConsoleCalls.{so_far}
 
 pub framed : (setup : Setup) (state : State) (input : Input) (first next : LoggedState) (moment : Moment)
     → before_update setup state input ≡ Some first → update setup input first ≡ Some next

@@ -1,21 +1,20 @@
 -- A run of an accepted cart has a meaning at every place.
-use Rattle.std.proofs.Common.{◌≡◌, ◌≢◌, ℕ, Bool, true, false, List, [], ◌∷◌, take, Option, Some, None, refl, sym, ap, subst, ◌∙◌}
-use Rattle.std.specs.Prelude.{IsSome, IfSome, All, length, codes}
+use Rattle.std.proofs.Common.{◌≡◌, ◌≢◌, ℕ, Bool, true, false, List, [], ◌∷◌, take, Option, Some, None, refl, ap}
+use Rattle.std.specs.Prelude.{IsSome, IfSome, length, codes}
 use Rattle.std.specs.Option.{option_and_then, option_map}
 use Rattle.w4_defs.specs.declared.console.Halt.{Halt}
 use Rattle.w4_defs.specs.declared.console.Halt.TheVariants.{Running, Trapped, Spent}
 use Rattle.w4_defs.specs.declared.console.Input.{Input}
 use Rattle.w4_defs.specs.Board.{console, console_setup}
-use Rattle.w4_defs.specs.Cart.{IsCart}
 use Rattle.w4_defs.specs.EntryPoints.{start_functions, exported_function, update_entry}
 use Rattle.w4_defs.specs.Evaluation.{run_entry}
-use Rattle.w4_defs.specs.Frame.{before_update, call_update, frame, page_after_input, update, update_from, state_with_page}
+use Rattle.w4_defs.specs.Frame.{before_update, call_update, frame, update, update_from}
 use Rattle.w4_defs.specs.Lookup.{signature_of, own_global_types}
 use Rattle.w4_defs.specs.Module.{WasmModule, nothing_to_nothing}
 use Rattle.w4_defs.specs.Outcome.{Ended, RunDone, RunTrap, RunSpent, RunStuck}
 use Rattle.w4_defs.specs.Profile.{profile_refusal}
-use Rattle.w4_defs.specs.Reset.{call_all, fresh, logged_state_after, recorded, reset, Setup, start, store_of, then_on, with_empty_logs}
-use Rattle.w4_defs.specs.Run.{played_on, run}
+use Rattle.w4_defs.specs.Reset.{call_all, fresh, logged_state_after, recorded, reset, start, store_of, then_on, with_empty_logs}
+use Rattle.w4_defs.specs.Run.{played_on}
 use Rattle.w4_defs.specs.State.{Board, Moment, State, LoggedState, HasGlobals}
 use Rattle.w4_defs.specs.Validity.{IsStart, IsValid}
 use Rattle.w4_host.specs.Answers.{answers_by_type}

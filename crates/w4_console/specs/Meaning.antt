@@ -1,6 +1,6 @@
 -- A run of an accepted cart has a meaning at every place: no reset and no frame of it is ever stuck, whatever
 -- the font, the budget, the disk and the inputs.
-use Rattle.std.specs.Prelude.{◌≡◌, ℕ, List, IsSome}
+use Rattle.std.specs.Prelude.{ℕ, List, IsSome}
 use Rattle.w4_defs.specs.declared.console.Input.{Input}
 use Rattle.w4_defs.specs.Module.{WasmModule}
 use Rattle.w4_defs.specs.Cart.{IsCart}

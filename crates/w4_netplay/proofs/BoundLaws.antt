@@ -1,16 +1,14 @@
 -- A showing after a roll back runs no more frames than its bound says.
-use Rattle.std.proofs.Common.{◌≡◌, ℕ, zero, suc, ◌+◌, ◌-◌, ◌<◌, ◌≤◌, Bool, true, false, cond, ◌&&◌, List, [], ◌∷◌, map, length, take, drop, refl, sym, ap, ◌∙◌, subst, inl, inr, arith}
-use lib.Pointwise.{pointwise, pointwise_decides}
-use Rattle.std.specs.Bool.{Decides, beq}
+use Rattle.std.proofs.Common.{◌≡◌, ℕ, zero, suc, ◌+◌, ◌-◌, ◌<◌, ◌≤◌, Bool, true, false, cond, ◌&&◌, List, [], ◌∷◌, length, take, drop, refl, sym, ap, ◌∙◌, subst, arith}
+use lib.Pointwise.{pointwise_decides}
+use Rattle.std.specs.Bool.{Decides}
 use Rattle.std.specs.Cmp.{booleans_Decides}
 use Rattle.std.specs.List.{slice_get, slice_range}
-use Rattle.std.specs.Ordering.{int_eq}
-use Rattle.std.specs.Str.{bytes_eq}
-use Rattle.std.proofs.lemmas.Bool.{and_parts, and_from, cases_Bool}
+use Rattle.std.proofs.lemmas.Bool.{and_parts, and_from}
 use Rattle.std.proofs.lemmas.Bool.Decides.{Decides-eqb, Decides-int_eq, Decides-and, Decides-like}
 use Rattle.std.proofs.lemmas.Slice.Eq.{bytes_eq-Decides}
 use Rattle.w4_defs.specs.declared.console.Input.{Input}
-use Rattle.w4_defs.specs.KeptList.{Entry, SamePlaces, place_at, state_at, linked_at, first_above, is_sure, doubtful, show_frames}
+use Rattle.w4_defs.specs.KeptList.{Entry, place_at, state_at, linked_at, first_above, is_sure, doubtful, show_frames}
 use Rattle.w4_defs.specs.SameState.{same_state}
 use Rattle.w4_editor.proofs.EditorLaws.{first_same}
 use Rattle.w4_netplay.specs.Bound.{same_input, same_between, rolled_from, rolled_back, rollback_frames}

@@ -1,12 +1,12 @@
 -- What is known after a packet is learned, and the pads that are predicted from it.
 use Rattle.std.proofs.Common.{◌≡◌, ◌≢◌, ℕ, zero, suc, ◌<◌, Bool, true, false, cond, ◌&&◌, eqb, ltb, List, [], ◌∷◌, length, set, get_or, replicate, Option, Some, None, pos, ◌+◌, add-one, refl, sym, ap, ◌∙◌, subst, inl, inr, arith}
-use Rattle.std.specs.Option.{option_and_then, unwrap_or, is_none}
+use Rattle.std.specs.Option.{option_and_then, is_none}
 use Rattle.std.specs.Array.{AllZipBelow}
 use Rattle.std.specs.List.{AllZip, slice_get}
 use Rattle.std.proofs.lemmas.Bool.{cases_eq, eq-eqb, ne_eqb, and_parts, ltb-true}
 use Rattle.std.proofs.lemmas.Option.{slice_get-get_or}
 use Rattle.w4_defs.specs.declared.netplay.Packet.{Packet}
-use Rattle.w4_defs.specs.Rollback.{Known, nothing_known, is_of, conflict, is_accepted, learned, net_input, predicted}
+use Rattle.w4_defs.specs.Rollback.{Known, nothing_known, is_of, conflict, is_accepted, learned, net_input}
 use Rattle.w4_netplay.specs.Pads.{known_in, pads_before}
 
 -- ---- nothing is known
@@ -138,19 +138,6 @@ module _ (frames : List (List (Option ℕ))) (packet : Packet) (pads : List (Opt
   learns = λ i player frame. at_each player frame i
 
 -- ---- the prediction of a frame
-
-pub predicts : (known : Known) (player frame : ℕ) → player < 4
-    → unwrap_or (known player frame) (get_or (pads_before known frame) player 0)
-    ≡ predicted known player frame
-predicts known zero zero lt = refl
-predicts known (suc zero) zero lt = refl
-predicts known (suc (suc zero)) zero lt = refl
-predicts known (suc (suc (suc zero))) zero lt = refl
-predicts known zero (suc frame) lt = refl
-predicts known (suc zero) (suc frame) lt = refl
-predicts known (suc (suc zero)) (suc frame) lt = refl
-predicts known (suc (suc (suc zero))) (suc frame) lt = refl
-predicts known (suc (suc (suc (suc player)))) frame lt = absurd (omega (arith, lt))
 
 -- the input of predicted pads
 pub net_input_of : (known : Known) (frame : ℕ) (pads : List ℕ) → pads ≡ (net_input known frame).pads

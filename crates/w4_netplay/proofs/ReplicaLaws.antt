@@ -1,5 +1,5 @@
 -- What the editor's calls leave of a replica whose editor was rolled back.
-use Rattle.std.proofs.Common.{◌≡◌, ◌≢◌, ◌⊎◌, ℕ, zero, suc, ◌+◌, ◌-◌, ◌<◌, ◌≤◌, Bool, true, false, cond, ltb, eqb, leb, ◌||◌, List, [], ◌∷◌, ◌++◌, map, length, Option, Some, None, Result, Ok, Err, refl, sym, ap, ◌∙◌, subst, inl, inr, arith}
+use Rattle.std.proofs.Common.{◌≡◌, ◌≢◌, ℕ, zero, suc, ◌<◌, ◌≤◌, Bool, true, false, cond, ltb, eqb, leb, ◌||◌, List, [], ◌∷◌, length, Option, Some, None, Result, Ok, Err, refl, sym, ap, ◌∙◌, inl, inr, arith}
 use Rattle.std.proofs.lemmas.Bool.{eq-eqb, ne_eqb, lt-ltb, le-ltb, lt-leb, le-leb}
 use Rattle.std.proofs.lemmas.List.{length-map}
 use Rattle.std.specs.Prelude.{OnOk, OnErr}
@@ -12,7 +12,7 @@ use Rattle.w4_defs.specs.declared.editing.EditRefusal.TheVariants.{NoFrame, Kept
 use Rattle.w4_defs.specs.KeptList.{Entry, kept_entries, places_of, place_at, show_frames}
 use Rattle.w4_defs.specs.Rollback.{Known, net_input, net_inputs}
 use Rattle.w4_defs.specs.Run.{run_state}
-use Rattle.w4_defs.specs.Session.{Session, Draft, places_alone, is_kept, with_kept, with_list, keep, keep_refusal, place_refusal, unless}
+use Rattle.w4_defs.specs.Session.{Session, places_alone, is_kept, with_kept, with_list, keep_refusal, place_refusal, unless}
 use Rattle.w4_defs.specs.State.{State}
 use Rattle.w4_editor.specs.Editing.{Editing, editing_setup, with_session}
 use Rattle.w4_editor.specs.Settling.{linked_entry}
@@ -23,7 +23,7 @@ use Rattle.w4_netplay.specs.declared.refusal.NetRefusal.TheVariants as net
 use Rattle.w4_netplay.specs.Pads.{known_in}
 use Rattle.w4_netplay.specs.Refusals.{edit_refusal}
 use Rattle.w4_netplay.specs.Replicas.{Netplay, IsReplica, IsNetRefusal, KeepsNetplay, ShowsPlace, KeepsPlace, known_of, places_kept, prediction, predicted_draft}
-use Rattle.w4_netplay.specs.Rolling.{IsRight, IsRolledTo, IsPartlyRolled, IsRolled, KeepsLinks}
+use Rattle.w4_netplay.specs.Rolling.{IsRight, IsRolledTo, IsPartlyRolled, IsRolled}
 use Rattle.w4_netplay.proofs.BoundLaws.{shown_within}
 use Rattle.w4_netplay.proofs.LinkLaws.{same_places}
 use Rattle.w4_netplay.proofs.RollLaws.{rolled_all, rolled_length, net_length}
@@ -100,12 +100,6 @@ module _ (old mid : Netplay) (rolled : IsRolled old mid) (after_it : Editing) wh
   abbrev shown : Netplay
   shown = netplay_view mid.pads mid.frames after_it
 
-  net_long : length (prediction old) ≡ old.frames
-  net_long = net_length (known_of old) old.frames
-
-  mid_long : length mid.editor.session.current.inputs ≡ old.frames
-  mid_long = ap length rolled.inputs ∙ net_long
-
   -- what an editor leaves that keeps its recording
   pub still_keeps : KeepsRecording mid.editor after_it → KeepsNetplay old shown
   still_keeps is = record {
@@ -115,12 +109,6 @@ module _ (old mid : Netplay) (rolled : IsRolled old mid) (after_it : Editing) wh
         ∙ rolled.netplay.kept;
     rest = is.same ∙ ap (λ (e : Editing). with_session e after_it.session after_it.at) rolled.netplay.rest;
   }
-
-  pub still_within : IsReplica mid.frames mid.editor
-      → length after_it.session.current.inputs ≡ length mid.editor.session.current.inputs
-      → IsReplica mid.frames after_it
-  still_within limits same =
-      let was = limits.inputs in record { few = limits.few; inputs = omega (arith, same, was) }
 
   within_bound : (p : ℕ) → show_frames p mid.editor.session.current.kept after_it.session.current.kept
       ≤ rollback_frames p old.editor.session.current.inputs (prediction old)
@@ -221,8 +209,8 @@ module _ (r : Netplay) (p : ℕ) where
       let many = length-map kept kept_entries.place in
       λ i. keep_cause p (long i) (sym is i) (many i)
 
-  pub no_frame : r.frames < p → wanted ≡ Some NoFrame
-  no_frame past = cause (is_kept places_alone p (places_kept r)) refl
+  pub frame_beyond : r.frames < p → wanted ≡ Some NoFrame
+  frame_beyond past = cause (is_kept places_alone p (places_kept r)) refl
       ∙ ap (λ t. cond t (Some NoFrame) (cond (is_kept places_alone p (places_kept r)) (Some Kept)
       (cond (ltb (length kept) 1024) None (Some FullSnapshots)))) (lt-ltb r.frames p past)
 
@@ -300,10 +288,6 @@ put_session : (p : ℕ) (old new : Editing) → (put : IsPut p old new)
     (with_kept kept_entries (linked_entry p put.state) old.session.current.kept)
 put_session p old new put =
     kept_session (keep_refusal kept_entries p old.session.current) _ new.session put.kept
-
-pub put_inputs : (p : ℕ) (old new : Editing) → IsPut p old new
-    → new.session.current.inputs ≡ old.session.current.inputs
-put_inputs p old new put = ap (λ (s : Session Entry). s.current.inputs) (put_session p old new put)
 
 pub keeps_place : (old mid : Netplay) (p before after : ℕ) (new : Editing) → IsRolled old mid
     → IsKeptAt p before after mid.editor new

@@ -1,9 +1,9 @@
 -- Rolling back an editor, one input after another.
-use Rattle.std.proofs.Common.{◌≡◌, ◌≢◌, ◌⊎◌, ℕ, zero, suc, ◌+◌, ◌-◌, ◌<◌, ◌≤◌, Bool, true, false, cond, ltb, List, [], ◌∷◌, ◌++◌, length, take, drop, set, get_or, Option, Some, None, Result, Ok, Err, refl, sym, ap, ◌∙◌, subst, inl, inr, arith, append_assoc, append-nil, length-append, length-drop, add-one}
+use Rattle.std.proofs.Common.{◌≡◌, ◌≢◌, ℕ, zero, suc, ◌+◌, ◌-◌, ◌<◌, ◌≤◌, Bool, false, cond, ltb, List, [], ◌∷◌, ◌++◌, length, take, drop, set, get_or, Option, Some, None, Ok, refl, sym, ap, ◌∙◌, subst, inl, inr, arith, append_assoc, append-nil, length-append, length-drop, add-one}
 use Rattle.std.specs.Bool.{Decides}
-use Rattle.std.specs.List.{insert, slice_get, range_with_len}
-use Rattle.std.proofs.lemmas.Bool.{cases_lt, lt-ltb, le-ltb}
-use Rattle.std.proofs.lemmas.List.{set_split, take-append-drop, take-append-le, drop_all}
+use Rattle.std.specs.List.{slice_get}
+use Rattle.std.proofs.lemmas.Bool.{lt-ltb, le-ltb}
+use Rattle.std.proofs.lemmas.List.{set_split, take-append-le, drop_all}
 use Rattle.std.proofs.lemmas.List.FromFn.{length-map-range_with_len}
 use Rattle.std.proofs.lemmas.Option.{same_Some, slice_get-get_or, slice_get_past}
 use Rattle.std.proofs.lemmas.Slice.{drop-append-drop}
@@ -11,10 +11,10 @@ use Rattle.std.proofs.Math.Seq.{take-length}
 use Rattle.w4_defs.specs.declared.console.Input.{Input}
 use Rattle.w4_defs.specs.declared.editing.EditRefusal.{EditRefusal}
 use Rattle.w4_defs.specs.declared.editing.EditRefusal.TheVariants.{NoFrame, FullRecording}
-use Rattle.w4_defs.specs.KeptList.{Entry, IsConsistent, kept_entries, place_at}
+use Rattle.w4_defs.specs.KeptList.{Entry, IsConsistent, kept_entries}
 use Rattle.w4_defs.specs.Reset.{Setup}
 use Rattle.w4_defs.specs.Rollback.{Known, net_input, net_inputs}
-use Rattle.w4_defs.specs.Session.{Session, Draft, edited, unless, unlink_above, set_draft, insert_draft, set_input, insert_input, set_refusal, insert_refusal}
+use Rattle.w4_defs.specs.Session.{Session, edited, unless, set_draft, insert_draft, set_input, insert_input, set_refusal, insert_refusal}
 use Rattle.w4_defs.proofs.RollbackLaws.{inputs_grow}
 use Rattle.w4_editor.specs.Editing.{Editing, with_session}
 use Rattle.w4_netplay.specs.Rolling.{IsPutAt, IsRight, IsRolledTo, KeepsLinks}

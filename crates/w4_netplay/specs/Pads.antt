@@ -1,5 +1,5 @@
 -- What is known, as it is held: for each frame the four pads, each of which has a byte or none.
-use Rattle.std.specs.Prelude.{ℕ, zero, suc, List, [], ◌∷◌, Option, option_and_then, replicate, None}
+use Rattle.std.specs.Prelude.{ℕ, zero, suc, List, [], ◌∷◌, Option, option_and_then}
 use Rattle.std.specs.List.{slice_get}
 use Rattle.w4_defs.specs.Rollback.{Known, net_input}
 

@@ -119,16 +119,6 @@ pub accepted_is : (refusal : Option EditRefusal) (after made : Session ℕ)
 accepted_is None after made e = cc
 accepted_is (Some refusal) after made e = cc
 
--- settling changes nothing of the session of places
-pub changed_by_settle : {X : Type 0} (result : Result X EditRefusal) (before after : ℕ) (old new : Editing)
-    → OnOk result (IsAllSettled before after old new)
-    → IfErr result (λ refusal. refusal ≡ OutOfMemory)
-    → IsChanged result old new (Ok (place_session old))
-changed_by_settle (Ok x) before after old new ok refused =
-    let shows = only_shows old new ok.recording in
-    (ap (λ (s : Session ℕ). Ok s) (sym shows.session), shows.rest)
-changed_by_settle (Err refusal) before after old new ok refused = λ other. absurd (other refused)
-
 -- ---- answers
 
 -- the answer of an order that tells nothing

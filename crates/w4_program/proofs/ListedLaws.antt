@@ -21,13 +21,6 @@ abbrev pub StillOwes : World → List (List ℕ) → List (List ℕ) → List (L
 StillOwes old before left all =
     ForSome old.files (λ files. listed_files all files ≡ after_files before (listed_files left files))
 
-all_of : (found : Result (List (List ℕ)) Status) → found ≡ after_files [] found
-all_of (Ok more) = refl
-all_of (Err status) = refl
-
-pub still_owes_all : (old : World) (all : List (List ℕ)) → StillOwes old [] all all
-still_owes_all old all = λ files told. all_of (listed_files all files)
-
 regroup_files : (before : List (List ℕ)) (bytes : List ℕ) (more : Result (List (List ℕ)) Status)
     → after_files before (more >>= λ others. Ok (bytes ∷ others)) ≡ after_files (before ++ bytes ∷ []) more
 regroup_files before bytes (Ok more) = ap (λ files. Ok files) (sym (append_assoc before (bytes ∷ []) more))

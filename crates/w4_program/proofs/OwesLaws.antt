@@ -11,10 +11,6 @@ abbrev pub Owes : World → World → List ℕ → List ℕ → Type 0
 Owes first now owed whole =
     (written : List ℕ) × Appends first.out now.out written × (written ++ owed ≡ whole)
 
-pub owes_all : (world : World) (owed whole : List ℕ) → owed ≡ whole → Owes world world owed whole
-owes_all world owed whole e =
-    ([], (λ before texts. texts ∙ ap (λ (bytes : List ℕ). Some bytes) (sym (append-nil before))), e)
-
 pub owes_less : (first now next : World) (some owed whole : List ℕ) → Appends now.out next.out some
     → Owes first now (some ++ owed) whole → Owes first next owed whole
 owes_less first now next some owed whole more (written, so_far, e) = (

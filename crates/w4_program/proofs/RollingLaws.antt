@@ -297,10 +297,3 @@ netplay_begins cart font digest budget recording state r blank known frames edit
   same_session_as (known_of r) nothing_known r.frames 0 (places_kept r) (0 ∷ []) known frames
       (ap (λ (e : Editing). places_of e.session.current.kept) editor),
 )
-
-pub begins_without_disk : (cart : WasmModule) (font digest : List ℕ) (budget : ℕ) (recording : Recording)
-    (state : State) (e : Editing)
-    → recording ≡ record { digest = digest; budget = budget; disk = []; frames = [] }
-    → e ≡ new_editing cart font recording state → e.disk ≡ []
-begins_without_disk cart font digest budget recording state e blank editor =
-    ap (λ (x : Editing). x.disk) editor ∙ ap (λ (x : Recording). x.disk) blank

@@ -38,15 +38,6 @@ stops_later first second third MemoryRefused step x next leaves given h = tt
 stops_later first second third (Refused refusal) step x next leaves given h =
     λ files texts. rw (given files texts) (h files (leaves.files ∙ texts))
 
--- two steps that were done
-pub gives_then : {A B : Type 0} (first second : World) (step : Files → Result A Status) (x : A)
-    (next : Files → A → Result B Status) (y : B)
-    → LeavesReading first second → ForSome first.files (λ files. step files ≡ Ok x)
-    → ForSome second.files (λ files. next files x ≡ Ok y)
-    → ForSome first.files (λ files. (step files >>= next files) ≡ Ok y)
-gives_then first second step x next y leaves one other =
-    λ files texts. rw (one files texts) (other files (leaves.files ∙ texts))
-
 -- a file that was read and then found wrong
 pub unread_stops : {Y : Type 0} (old new : World) (why : Manner) (judge : List ℕ → Result Y Status)
     (limit : ℕ)

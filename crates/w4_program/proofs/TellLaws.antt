@@ -38,53 +38,16 @@ made_of m = option_map (λ (moment : Moment). moment.made) m
 some_state : (a b : State) → Some a ≡ Some b → a ≡ b
 some_state a b e = cc
 
-some_made : (a b : FrameRecord) → Some a ≡ Some b → a ≡ b
-some_made a b e = cc
-
 pub image_of_state : (p : ℕ) (m : Option Moment) (s : State) → state_of m ≡ Some s
     → place_text Image p m ≡ image s.page
 image_of_state p (Some moment) s e = ap (λ (x : State). image x.page) (some_state moment.state s e)
 image_of_state p None s e = cc
-
-pub disk_of_state : (p : ℕ) (m : Option Moment) (s : State) → state_of m ≡ Some s
-    → place_text DiskBytes p m ≡ s.disk
-disk_of_state p (Some moment) s e = ap (λ (x : State). x.disk) (some_state moment.state s e)
-disk_of_state p None s e = cc
 
 pub line_of_state : (p count : ℕ) (kept : List ℕ) (m : Option Moment) (s : State) → state_of m ≡ Some s
     → state_text p count m kept ≡ state_line p count s kept
 line_of_state p count kept (Some moment) s e =
     ap (λ (x : State). state_line p count x kept) (some_state moment.state s e)
 line_of_state p count kept None s e = cc
-
-pub schedule_of_record : (p : ℕ) (m : Option Moment) (r : FrameRecord) → made_of m ≡ Some r
-    → place_text Schedule p m ≡ schedule_text p r
-schedule_of_record p (Some moment) r e =
-    ap (λ (x : FrameRecord). schedule_text p x) (some_made moment.made r e)
-schedule_of_record p None r e = cc
-
-pub traces_of_record : (p : ℕ) (m : Option Moment) (r : FrameRecord) → made_of m ≡ Some r
-    → place_text Traces p m ≡ trace_text p r
-traces_of_record p (Some moment) r e =
-    ap (λ (x : FrameRecord). trace_text p x) (some_made moment.made r e)
-traces_of_record p None r e = cc
-
-no_inputs : (setup : Setup) (m : Option Moment)
-    → option_and_then (λ moment. played_on setup moment []) m ≡ m
-no_inputs setup (Some moment) = refl
-no_inputs setup None = refl
-
--- place 0 of a run is the reset
-pub reset_is_first : (setup : Setup) (disk : List ℕ) (inputs : List Input)
-    → run setup disk inputs 0 ≡ reset setup disk
-reset_is_first setup disk inputs = no_inputs setup (reset setup disk)
-
-pub record_of_reset : (setup : Setup) (disk : List ℕ) (inputs : List Input) (p : ℕ) (r : FrameRecord)
-    → p ≡ 0 → made_of (reset setup disk) ≡ Some r → made_of (run setup disk inputs p) ≡ Some r
-record_of_reset setup disk inputs p r first e =
-    ap (λ (n : ℕ). made_of (run setup disk inputs n)) first
-    ∙ ap (λ (m : Option Moment). made_of m) (reset_is_first setup disk inputs)
-    ∙ e
 
 -- ---- places one after another
 

@@ -166,7 +166,7 @@ module _ {H : Type 0} (imports : HostFunctions H) (m : WasmModule) (place b : �
   }
 
   -- a full entry names a function, which is called where its type is the one named
-  pub record Typed (globals : List Val) (whole : Outcome H) (t f : ℕ) (slots' : List ℕ) : Type 0 where
+  pub record TypedEntry (globals : List Val) (whole : Outcome H) (t f : ℕ) (slots' : List ℕ) : Type 0 where
     pub signature : Signature
     pub callee : Callee
     pub typed : slice_get m.types t ≡ Some signature
@@ -185,7 +185,7 @@ module _ {H : Type 0} (imports : HostFunctions H) (m : WasmModule) (place b : �
       → (whole : Outcome H) → whole ≢ Stuck
       → Ties whole (program m imports) (entries m) place activation labels slots
       (store_with page globals host) (b + 1)
-      → Typed globals whole t f slots'
+      → TypedEntry globals whole t f slots'
   typed_entry globals t table index f slots slots' at top functions is within z full whole meant h =
       let st : Store H = store_with page globals host in
       let r = indirect whole (program m imports) (entries m) activation labels st meant place t table slots b

@@ -2,7 +2,7 @@ use Rattle.std.proofs.Common.{ℕ, List, [], ◌∷◌, Option, codes}
 use Rattle.w4_defs.specs.EntryPoints.{exported_function}
 use Rattle.w4_defs.specs.Module.{WasmModule}
 use Rattle.w4_console.specs.ConsoleCalls.{so_far}
-use Rattle.w4_console.proofs.CallLaws.{ends, goes_on, stops}
+use Rattle.w4_console.proofs.CallLaws.{calls_end, calls_go_on, stops}
 use Rattle.w4_console.proofs.start.call_all.Goals as goal
 
 -- what is called after the start function, after `_start` and after `_initialize`
@@ -24,7 +24,7 @@ returns-in_err-rest-clause-called c =
 
 pub returns-in_err-rest-2-clause-called : goal.returns-in_err-rest-2-clause-called
 returns-in_err-rest-2-clause-called c =
-    goes_on c.args.cart.now c.args.font.now c.args.budget c.start.result c.args.cart.now.start
+    calls_go_on c.args.cart.now c.args.font.now c.args.budget c.start.result c.args.cart.now.start
     (after_first c.args.cart.now) (so_far c.args.state.now c.args.made.now)
     (so_far c.call_if_there.new.state c.call_if_there.new.made)
     (so_far c.call_if_there-2.new.state c.call_if_there-2.new.made) c.args.budget c.in_ok-rest.rest
@@ -37,12 +37,12 @@ returns-in_err-rest-2-clause-called c =
 
 pub returns-in_err-rest-3-clause-called : goal.returns-in_err-rest-3-clause-called
 returns-in_err-rest-3-clause-called c =
-    goes_on c.args.cart.now c.args.font.now c.args.budget c.start.result c.args.cart.now.start
+    calls_go_on c.args.cart.now c.args.font.now c.args.budget c.start.result c.args.cart.now.start
     (after_first c.args.cart.now) (so_far c.args.state.now c.args.made.now)
     (so_far c.call_if_there.new.state c.call_if_there.new.made)
     (so_far c.call_if_there-3.new.state c.call_if_there-3.new.made) c.args.budget c.in_ok-rest.rest
     c.start.ensures.value c.in_ok-rest.ensures.called
-    (goes_on c.args.cart.now c.args.font.now c.args.budget c.entry-crt_start.result
+    (calls_go_on c.args.cart.now c.args.font.now c.args.budget c.entry-crt_start.result
     (exported_function c.args.cart.now (codes "_start")) (after_second c.args.cart.now)
     (so_far c.call_if_there.new.state c.call_if_there.new.made)
     (so_far c.call_if_there-2.new.state c.call_if_there-2.new.made)
@@ -56,24 +56,24 @@ returns-in_err-rest-3-clause-called c =
 
 pub returns-clause-called : goal.returns-clause-called
 returns-clause-called c =
-    goes_on c.args.cart.now c.args.font.now c.args.budget c.start.result c.args.cart.now.start
+    calls_go_on c.args.cart.now c.args.font.now c.args.budget c.start.result c.args.cart.now.start
     (after_first c.args.cart.now) (so_far c.args.state.now c.args.made.now)
     (so_far c.call_if_there.new.state c.call_if_there.new.made)
     (so_far c.call_if_there-4.new.state c.call_if_there-4.new.made) c.args.budget c.in_ok-rest.rest
     c.start.ensures.value c.in_ok-rest.ensures.called
-    (goes_on c.args.cart.now c.args.font.now c.args.budget c.entry-crt_start.result
+    (calls_go_on c.args.cart.now c.args.font.now c.args.budget c.entry-crt_start.result
     (exported_function c.args.cart.now (codes "_start")) (after_second c.args.cart.now)
     (so_far c.call_if_there.new.state c.call_if_there.new.made)
     (so_far c.call_if_there-2.new.state c.call_if_there-2.new.made)
     (so_far c.call_if_there-4.new.state c.call_if_there-4.new.made) c.in_ok-rest.rest
     c.in_ok-rest-2.rest c.entry-crt_start.ensures.value c.in_ok-rest-2.ensures.called
-    (goes_on c.args.cart.now c.args.font.now c.args.budget c.entry-initialize.result
+    (calls_go_on c.args.cart.now c.args.font.now c.args.budget c.entry-initialize.result
     (exported_function c.args.cart.now (codes "_initialize")) (after_third c.args.cart.now)
     (so_far c.call_if_there-2.new.state c.call_if_there-2.new.made)
     (so_far c.call_if_there-3.new.state c.call_if_there-3.new.made)
     (so_far c.call_if_there-4.new.state c.call_if_there-4.new.made) c.in_ok-rest-2.rest
     c.in_ok-rest-3.rest c.entry-initialize.ensures.value c.in_ok-rest-3.ensures.called
-    (ends c.args.cart.now c.args.font.now c.args.budget c.entry.result
+    (calls_end c.args.cart.now c.args.font.now c.args.budget c.entry.result
     (exported_function c.args.cart.now (codes "start"))
     (so_far c.call_if_there-3.new.state c.call_if_there-3.new.made)
     (so_far c.call_if_there-4.new.state c.call_if_there-4.new.made) c.in_ok-rest-3.rest

@@ -4,7 +4,7 @@ use Rattle.wasm_tree.specs.Layout.{entries}
 use Rattle.wasm_machine.specs.declared.label.Label.{Label}
 use Rattle.wasm_machine.specs.Moves.{CanLand, entry_labels, lists_of}
 use Rattle.wasm_machine.proofs.PlainLaws.{is_plain}
-use Rattle.wasm_machine.proofs.StepLaws.{known, place_within, other_small, none_of, block_needs, block_stepped, loop_needs, loop_stepped, if_needs, if_passed, if_stepped, leads_needs, leads_stepped, br_leads, br_if_needs, br_if_stays, br_if_leads, table_needs, table_leads, label_is, return_leads, lands_left, plain_needs, plain_goes, plain_traps, branch_few}
+use Rattle.wasm_machine.proofs.StepLaws.{known, place_within, other_small, none_of, block_needs, block_stepped, loop_needs, loop_stepped, if_needs, if_skipped, if_stepped, leads_needs, leads_stepped, br_leads, br_if_needs, br_if_stays, br_if_leads, table_needs, table_leads, label_is, return_leads, lands_left, plain_needs, plain_goes, plain_traps, branch_few}
 use Rattle.wasm_machine.proofs.BulkSteps.{bulk_needs, bulk_stepped}
 use Rattle.wasm_machine.proofs.instruction.execute.Goals as goal
 
@@ -68,7 +68,7 @@ overflow_add-result g c = omega (
 )
 
 pub returns-in_default-choose-clause-goes : goal.returns-in_default-choose-clause-goes
-returns-in_default-choose-clause-goes g c = if_passed _ _ _ _ _ _ _ _ _ _ _ _ _
+returns-in_default-choose-clause-goes g c = if_skipped _ _ _ _ _ _ _ _ _ _ _ _ _
     (known (entries c.args.cart.now) c.args.place _ _ c.requires.op c.in-If.is) c.pop.ensures.taken
     (sym c.choose.ensures ∙ none_of c.choose.result c.in_default-choose.not-Some)
 

@@ -1,7 +1,7 @@
 use Rattle.std.proofs.Common.{refl, arith}
 use Rattle.w4_defs.specs.declared.operation.Op.TheVariants.{Unreachable}
 use Rattle.wasm_tree.specs.Layout.{entries}
-use Rattle.wasm_machine.proofs.RunLaws.{starts, place_found, read_at, as_long, operations_are, goes_on, ends}
+use Rattle.wasm_machine.proofs.RunLaws.{starts, place_found, read_at, as_long, operations_are, steps_go_on, steps_end}
 use Rattle.wasm_machine.proofs.run.run.Goals as goal
 
 pub steps-init : goal.steps-init
@@ -32,19 +32,19 @@ step-requires g c = record {
 }
 
 pub steps-preserved : goal.steps-preserved
-steps-preserved g c = goes_on _ _ _ _ _ _ _ _ _ _ _ _ _ _ _ _ _ _ _ _ c.steps.invariant c.in-Go.ensures.goes
+steps-preserved g c = steps_go_on _ _ _ _ _ _ _ _ _ _ _ _ _ _ _ _ _ _ _ _ c.steps.invariant c.in-Go.ensures.goes
 
 pub steps-smaller : goal.steps-smaller
 steps-smaller g c = omega (arith, c.in-Go.ensures.progress)
 
 pub returns-in-Done : goal.returns-in-Done
-returns-in-Done g c = ends _ _ _ _ _ _ _ _ _ _ _ _ _ _ _ _ _ _ _ _ refl c.steps.invariant
+returns-in-Done g c = steps_end _ _ _ _ _ _ _ _ _ _ _ _ _ _ _ _ _ _ _ _ refl c.steps.invariant
     c.in-Done.ensures.goes
 
 pub returns-in-Trap : goal.returns-in-Trap
-returns-in-Trap g c = ends _ _ _ _ _ _ _ _ _ _ _ _ _ _ _ _ _ _ _ _ refl c.steps.invariant
+returns-in-Trap g c = steps_end _ _ _ _ _ _ _ _ _ _ _ _ _ _ _ _ _ _ _ _ refl c.steps.invariant
     c.in-Trap.ensures.goes
 
 pub returns-in-Spent : goal.returns-in-Spent
-returns-in-Spent g c = ends _ _ _ _ _ _ _ _ _ _ _ _ _ _ _ _ _ _ _ _ refl c.steps.invariant
+returns-in-Spent g c = steps_end _ _ _ _ _ _ _ _ _ _ _ _ _ _ _ _ _ _ _ _ refl c.steps.invariant
     c.in-Spent.ensures.goes

@@ -3,7 +3,7 @@ use Rattle.w4_defs.specs.declared.editing.EditRefusal.TheVariants as edit
 use Rattle.w4_defs.specs.Session.{keep_refusal, places_alone}
 use Rattle.w4_netplay.specs.declared.refusal.NetRefusal.TheVariants.{NoFrame, Kept, FullSnapshots}
 use Rattle.w4_netplay.specs.Replicas.{Netplay, IsNetRefusal, predicted_draft}
-use Rattle.w4_netplay.proofs.ReplicaLaws.{no_frame, already, too_many, may_be_kept, refused_for, netplay_view}
+use Rattle.w4_netplay.proofs.ReplicaLaws.{frame_beyond, already, too_many, may_be_kept, refused_for, netplay_view}
 use Rattle.w4_netplay.proofs.replica.Replica.keep_refusal.Goals as goal
 
 pub returns-then-p-self-clause-some : goal.returns-then-p-self-clause-some
@@ -12,7 +12,7 @@ returns-then-p-self-clause-some c =
     let r = netplay_view c.self.inside.pads c.self.inside.frames c.self.inside.editor in
     subst (λ (r : Netplay). IsNetRefusal (keep_refusal places_alone p (predicted_draft r)) NoFrame)
     c.self.view_is
-    (refused_for _ NoFrame edit.NoFrame refl (no_frame r p c.if-p-self.true))
+    (refused_for _ NoFrame edit.NoFrame refl (frame_beyond r p c.if-p-self.true))
 
 pub returns-then-is_kept-clause-some : goal.returns-then-is_kept-clause-some
 returns-then-is_kept-clause-some c =
