@@ -1,6 +1,6 @@
 -- The steps of writing an image: what is written so far and the colours that are left are the image.
-use Rattle.std.proofs.Common.{◌≡◌, ℕ, suc, ◌+◌, ◌-◌, ◌*◌, ◌/◌, ◌%◌, ◌^◌, ◌<◌, ◌≤◌, List, ◌++◌, length, take, drop, get_or, refl, sym, ◌∙◌, ap, append_assoc, arith}
-use Rattle.std.proofs.lemmas.List.{take_all, append-nil}
+use Rattle.std.proofs.Common.{◌≡◌, ℕ, zero, suc, ◌+◌, ◌-◌, ◌*◌, ◌/◌, ◌%◌, ◌^◌, ◌<◌, ◌≤◌, List, [], ◌∷◌, ◌++◌, length, take, drop, get_or, refl, sym, ◌∙◌, ap, append_assoc, arith}
+use Rattle.std.proofs.lemmas.List.{take_all, append-nil, get_or-take}
 use Rattle.std.proofs.lemmas.Grind.{common_steps}
 use Rattle.w4_defs.specs.Bytes.{replaced}
 use Rattle.w4_defs.specs.Framebuffer.{pixel}
@@ -117,3 +117,36 @@ image_done page out q e len so_far =
     sym (ap (λ m. take (15 + 12 * q) out ++ pixel_colours page (4 * q) m) none
     ∙ append-nil (take (15 + 12 * q) out)
     ∙ whole) ∙ so_far
+
+-- ---- the screen of a page has its image
+
+module _ (page : List ℕ) where
+  abbrev screen : List ℕ
+  screen = take 6560 page
+
+  screen_palette : (index : ℕ) → index < 4 → palette screen index ≡ palette page index
+  screen_palette index h =
+      let at = 4 + 4 * index in
+      (λ k. get_or-take 6560 page (at + 2) 0 (omega arith) k ∷ get_or-take 6560 page (at + 1) 0 (omega arith) k
+      ∷ get_or-take 6560 page at 0 (omega arith) k ∷ [])
+
+  screen_pixel : (n : ℕ) → n < 25600 → pixel screen (n % 160) (n / 160) ≡ pixel page (n % 160) (n / 160)
+  screen_pixel n h =
+      ap (λ byte. byte / 4 ^ (n % 160 % 4) % 4)
+      (get_or-take 6560 page (160 + (160 * (n / 160) + n % 160) / 4) 0 (omega (arith, h)))
+
+  screen_colour : (n : ℕ) → n < 25600 → pixel_colour screen n ≡ pixel_colour page n
+  screen_colour n h =
+      ap (palette screen) (screen_pixel n h)
+      ∙ screen_palette (pixel page (n % 160) (n / 160)) (omega arith)
+
+  screen_colours : (count n : ℕ) → n + count ≤ 25600
+      → pixel_colours screen n count ≡ pixel_colours page n count
+  unfolding pixel_colours
+  screen_colours zero n h = refl
+  screen_colours (suc count) n h =
+      (λ k. screen_colour n (omega (arith, h)) k ++ screen_colours count (n + 1) (omega (arith, h)) k)
+
+  pub screen_image : image screen ≡ image page
+  unfolding image
+  screen_image = ap (λ colours. image_header ++ colours) (screen_colours 25600 0 (omega arith))

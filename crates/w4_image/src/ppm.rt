@@ -1,5 +1,6 @@
-//! The writer of images. A byte of the framebuffer has four pixels, and so twelve bytes of the image. Those
-//! of each of the 256 bytes are made first, so that a byte of the framebuffer costs one copy.
+//! The writer of images. An image shows the screen of a page: its registers and its framebuffer. A byte of
+//! the framebuffer has four pixels, and so twelve bytes of the image. Those of each of the 256 bytes are made
+//! first, so that a byte of the framebuffer costs one copy.
 
 ghost use Rattle.std.specs.Prelude.{◌+◌, ◌++◌, ◌<◌, ◌≡◌, ◌≤◌, ℕ, [], drop, slice_index_or};
 ghost use Rattle.w4_defs.specs.Bytes.{replaced};
@@ -8,6 +9,12 @@ ghost use Rattle.w4_defs.specs.MemoryMap.{palette};
 ghost use Rattle.w4_image.specs.Quads.{quad_colours};
 
 use w4_defs::PageBytes;
+
+/// The bytes of a page that its image shows: the first 6,560, the registers and the framebuffer.
+pub const SCREEN_LEN: usize = 6560;
+
+/// The registers and the framebuffer of a page.
+pub type Screen = [u8; SCREEN_LEN];
 
 /// The bytes of an image: 15 of its head, then three for each of 25,600 pixels.
 pub const IMAGE_LEN: usize = 76815;
@@ -22,11 +29,30 @@ type Quad = [u8; 12];
 pub fn image_into(page: &PageBytes, out: &mut [u8; IMAGE_LEN])
     ensures { out.new ≡ image page.now }
 {
+    if let Some(screen) = page.first_chunk::<SCREEN_LEN>() {
+        screen_into(screen, out);
+    }
+}
+
+/// The screen of a page.
+pub(crate) fn page_screen(page: &PageBytes) -> Screen
+    ensures { image result ≡ image page.now }
+{
+    match page.first_chunk::<SCREEN_LEN>() {
+        Some(screen) => *screen,
+        None => [0; SCREEN_LEN],
+    }
+}
+
+/// Writes the image of a page with this screen.
+pub fn screen_into(screen: &Screen, out: &mut [u8; IMAGE_LEN])
+    ensures { out.new ≡ image screen.now }
+{
     put_header(out);
     let mut quads = [[0; 12]; 256];
-    fill_quads(&mut quads, &palette_colors(page));
+    fill_quads(&mut quads, &palette_colors(screen));
     for q in 0..6400 {
-        put_quad(out, 15 + 12 * q, quads[page[160 + q] as usize]);
+        put_quad(out, 15 + 12 * q, quads[screen[160 + q] as usize]);
     }
 }
 
@@ -37,13 +63,14 @@ fn put_header(out: &mut [u8; IMAGE_LEN])
     out[0..15].copy_from_slice(b"P6\n160 160\n255\n");
 }
 
-/// The page has blue first, then green and red.
-fn palette_colors(page: &PageBytes) -> Colors
-    ensures { result ≡ palette page.now 0 ++ palette page.now 1 ++ palette page.now 2 ++ palette page.now 3 }
+/// The registers have blue first, then green and red.
+fn palette_colors(screen: &Screen) -> Colors
+    ensures { result ≡ palette screen.now 0 ++ palette screen.now 1 ++ palette screen.now 2
+        ++ palette screen.now 3 }
 {
     [
-        page[6], page[5], page[4], page[10], page[9], page[8], page[14], page[13], page[12],
-        page[18], page[17], page[16],
+        screen[6], screen[5], screen[4], screen[10], screen[9], screen[8], screen[14], screen[13],
+        screen[12], screen[18], screen[17], screen[16],
     ]
 }
 

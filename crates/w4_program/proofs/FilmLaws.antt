@@ -1,8 +1,11 @@
 -- Films: the images that workers make are the texts of the places, and why a film is refused.
-use Rattle.std.proofs.Common.{◌≡◌, ℕ, zero, suc, ◌+◌, ◌-◌, ◌<◌, ◌≤◌, inl, inr, true, false, Bool, List, [], ◌++◌, length, Option, Some, None, refl, sym, ap, ◌∙◌, arith, subst}
+use Rattle.std.proofs.Common.{◌≡◌, ℕ, zero, suc, ◌+◌, ◌-◌, ◌<◌, ◌≤◌, inl, inr, true, false, Bool, List, [], ◌++◌, drop, flat_map, get_or, length, Option, Some, None, refl, sym, ap, ◌∙◌, arith, subst}
 use Rattle.std.specs.Prelude.{nat_lt, if◌then◌else◌}
+use Rattle.std.proofs.Math.Seq.{drop-cons}
 use Rattle.std.proofs.lemmas.Bool.{le-ltb, ltb-true}
+use Rattle.std.proofs.lemmas.List.{drop_all}
 use Rattle.w4_defs.specs.declared.console.Input.{Input}
+use Rattle.w4_defs.specs.Image.{image}
 use Rattle.w4_defs.specs.Reset.{Setup}
 use Rattle.w4_defs.specs.Run.{run}
 use Rattle.w4_defs.specs.State.{Moment}
@@ -99,7 +102,20 @@ film_of_none setup disk s a b fall there =
     let none : b + 1 - a ≡ 0 = omega arith in
     if_place-within s b (film_text setup disk s a b) there ∙ rw none refl
 
--- what is left of a film, by the bytes of its next piece
-pub left_by_bytes : (piece bytes rest left : List ℕ) → left ≡ piece ++ rest → bytes ≡ piece
+-- what is left of a film, by the images of its next piece
+pub left_by_images : (piece bytes rest left : List ℕ) → left ≡ piece ++ rest → bytes ≡ piece
     → left ≡ bytes ++ rest
-left_by_bytes piece bytes rest left is same = is ∙ ap (λ images. images ++ rest) (sym same)
+left_by_images piece bytes rest left is same = is ∙ ap (λ images. images ++ rest) (sym same)
+
+-- the images of the screens that are left
+pub next_image : (screens : List (List ℕ)) (i : ℕ) (screen bytes : List ℕ) → i < length screens
+    → screen ≡ get_or screens i [] → bytes ≡ image screen
+    → flat_map image (drop i screens) ≡ bytes ++ flat_map image (drop (i + 1) screens)
+next_image screens i screen bytes lt is same =
+    let first : image (get_or screens i []) ≡ bytes = ap image (sym is) ∙ sym same in
+    let next : suc i ≡ i + 1 = omega arith in
+    ap (flat_map image) (drop-cons screens i [] lt)
+    ∙ (λ k. first k ++ flat_map image (drop (next k) screens))
+
+pub no_image : (screens : List (List ℕ)) (i : ℕ) → length screens ≤ i → flat_map image (drop i screens) ≡ []
+no_image screens i past = ap (flat_map image) (drop_all i screens past)

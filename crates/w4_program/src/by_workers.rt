@@ -1,6 +1,7 @@
 //! Orders that are carried out by many workers: `film` and `settle`.
 
-ghost use Rattle.std.specs.Prelude.{◌≡◌, ◌≤◌, OnOk};
+ghost use Rattle.std.specs.Prelude.{◌≡◌, ◌≤◌, OnOk, flat_map};
+ghost use Rattle.w4_defs.specs.Image.{image};
 ghost use Rattle.w4_editor.specs.Editing.{editing_setup};
 ghost use Rattle.w4_house.specs.World.{LeavesPrinting};
 ghost use Rattle.w4_program.specs.Answering.{film_text, if_place};
@@ -18,6 +19,7 @@ use std::thread::Threads;
 use w4_defs::{EditRefusal, OutOfMemory};
 use w4_editor::Editor;
 use w4_house::House;
+use w4_image::{IMAGE_LEN, Screen, screen_into};
 use w4_segments::{FilmPieces, FilmRefusal, Gate, settle_wide};
 
 /// A number of workers, within the range that scripts have for it.
@@ -61,7 +63,8 @@ pub fn tell_film<R: Threads + Sync, H: House, G: Gate + Sync>(
     }
 }
 
-/// Writes a film a piece at a time, so that no more of it is held than its workers make at once.
+/// Writes a film a piece at a time, so that no more of it is held than its workers make at once, and of images
+/// one.
 fn print_film<R: Threads + Sync, H: House, G: Gate + Sync>(
     rt: &R,
     alloc: Global,
@@ -74,8 +77,26 @@ fn print_film<R: Threads + Sync, H: House, G: Gate + Sync>(
     ensures out { Printed (H.world house.old) (H.world house.new) result (images_left film.old editor.now) }
     ensures rest { LeavesPrinting (H.world house.old) (H.world house.new) }
 {
+    let mut picture = Box::new(alloc, [0; IMAGE_LEN])?;
     while film.next_piece(rt, editor, gate)? {
-        print(alloc, house, film.images())?;
+        print_images(alloc, house, film.screens(), &mut picture)?;
+    }
+    Ok(())
+}
+
+/// Writes the images of screens, one after another, each made in the same room.
+fn print_images<H: House>(
+    alloc: Global,
+    house: &mut H,
+    screens: &[Screen],
+    picture: &mut [u8; IMAGE_LEN],
+) -> Result<(), Status>
+    ensures out { Printed (H.world house.old) (H.world house.new) result (flat_map image screens.now) }
+    ensures rest { LeavesPrinting (H.world house.old) (H.world house.new) }
+{
+    for screen in screens {
+        screen_into(screen, picture);
+        print(alloc, house, picture)?;
     }
     Ok(())
 }

@@ -6,10 +6,10 @@ use Rattle.w4_defs.specs.KeptList.{place_at}
 use Rattle.w4_editor.specs.Editing.{Editing, editing_setup}
 use Rattle.w4_editor.specs.Showing.{KeepsRecording}
 use Rattle.w4_segments.specs.declared.worker.Worker.{Worker}
-use Rattle.w4_segments.specs.FilmPieces.{CanGoOn, images_between, worker_images}
+use Rattle.w4_segments.specs.FilmPieces.{CanGoOn, images_between, images_by}
 use Rattle.w4_segments.specs.Pieces.{AreOfRunBelow, ArePieces, piece_begin}
 use Rattle.w4_segments.specs.Rounds.{entries_of}
-use Rattle.w4_segments.specs.Working.{EachDid, HasCartTypes, HasFilmed}
+use Rattle.w4_segments.specs.Working.{EachDid, HasCartTypes, HasFilmed, worker_images}
 use Rattle.w4_segments.proofs.PieceLaws.{cut_inside, cut_rises, cut_to_end, pieces_made, span_both, span_none, types_made}
 
 module _ (e : Editing) (team : List Worker) (first end entry next made : ℕ)
@@ -43,7 +43,7 @@ module _ (e : Editing) (team : List Worker) (first end entry next made : ℕ)
               let low : k < length new = omega (arith, lt, same) in
               let at : length new - (made + length new - next) + k ≡ k = omega (arith, same) in
               let on : made + k ≡ next + k = omega (arith, same) in
-              ap (λ i. (get_or new i d).images.items) at
+              ap (λ i. worker_images (get_or new i d)) at
               ∙ pieces_made e first end made team dealt new pieces did k d low
               ∙ ap (λ i. images_between e (cut i) (cut (i + 1))) on;
         },
@@ -52,24 +52,24 @@ module _ (e : Editing) (team : List Worker) (first end entry next made : ℕ)
 
   -- the next piece, where there is one
   pub piece_next : next < made → (d : Worker)
-      → (get_or team (length team - (made - next)) d).images.items
+      → worker_images (get_or team (length team - (made - next)) d)
       ≡ images_between e (cut next) (cut (next + 1))
   piece_next some d =
       let at : length team - (made - next) ≡ length team - (made - next) + 0 = omega arith in
       let on : next + 0 ≡ next = omega arith in
-      ap (λ i. (get_or team i d).images.items) at
+      ap (λ i. worker_images (get_or team i d)) at
       ∙ is.pieces 0 d (omega (arith, some))
       ∙ ap (λ i. images_between e (cut i) (cut (i + 1))) on
 
   pub piece_handed_out : next < made → (hand : ℕ) → hand ≡ length team - (made - next)
-      → worker_images (slice_get team hand) ≡ images_between e (cut next) (cut (next + 1))
+      → images_by (slice_get team hand) ≡ images_between e (cut next) (cut (next + 1))
   piece_handed_out some hand is_hand =
       let few = is.some in
       elim (slice_get_cases team hand).1 [
         | inl (x, _, there, same) ↦
-            ap (λ (w : Option Worker). worker_images w) there
-            ∙ ap (λ (w : Worker). w.images.items) (sym same)
-            ∙ ap (λ i. (get_or team i x).images.items) is_hand
+            ap (λ (w : Option Worker). images_by w) there
+            ∙ ap (λ (w : Worker). worker_images w) (sym same)
+            ∙ ap (λ i. worker_images (get_or team i x)) is_hand
             ∙ piece_next some x
         | inr (past, _) ↦ absurd (omega (arith, past, is_hand, some, few))
       ]
@@ -94,7 +94,7 @@ module _ (e : Editing) (team : List Worker) (first end entry next made : ℕ)
             let at : length team - (made - (next + 1)) + k ≡ length team - (made - next) + (k + 1) =
             omega (arith, lt, some, hands) in
             let on : next + (k + 1) ≡ next + 1 + k = omega arith in
-            ap (λ i. (get_or team i d).images.items) at
+            ap (λ i. worker_images (get_or team i d)) at
             ∙ is.pieces (k + 1) d (omega (arith, lt))
             ∙ ap (λ i. images_between e (cut i) (cut (i + 1))) on;
       }

@@ -1,12 +1,13 @@
--- Images of a run in parts, how they are put in a film, its cuts, and what the workers of a round make.
-use Rattle.std.proofs.Common.{◌≡◌, ℕ, zero, suc, ◌+◌, ◌-◌, ◌*◌, ◌<◌, ◌≤◌, cond, min, max, List, [], ◌++◌, length, get_or, take, drop, Option, Some, None, inl, inr, refl, sym, ap, ◌∙◌, subst, arith}
+-- Images of a run in parts, the screens that they are made from, the cuts of a film, and what the workers of a
+-- round make.
+use Rattle.std.proofs.Common.{◌≡◌, ℕ, zero, suc, ◌+◌, ◌-◌, ◌<◌, ◌≤◌, cond, min, max, List, [], ◌∷◌, ◌++◌, flat_map, length, get_or, Option, Some, None, inl, inr, refl, sym, ap, ◌∙◌, subst, arith}
 use Rattle.std.specs.List.{All}
 use Rattle.std.specs.Prelude.{vec_capacity}
 use Rattle.std.proofs.lemmas.Bool.{cases_lt, lt-ltb, le-ltb}
-use Rattle.std.proofs.lemmas.List.{append_assoc, append-nil, length-append, length-drop, length-take-le, take_at}
+use Rattle.std.proofs.lemmas.Grind.{flat_map-append}
+use Rattle.std.proofs.lemmas.List.{append_assoc, append-nil}
 use Rattle.std.specs.Option.{unwrap_or}
 use Rattle.w4_defs.specs.declared.console.Input.{Input}
-use Rattle.w4_defs.specs.Bytes.{replaced}
 use Rattle.w4_defs.specs.Image.{image}
 use Rattle.w4_defs.specs.KeptList.{Entry, place_at, state_at, IsDraft}
 use Rattle.w4_defs.specs.Reset.{Setup}
@@ -14,7 +15,6 @@ use Rattle.w4_defs.specs.Run.{run_state}
 use Rattle.w4_defs.specs.State.{State, HasGlobals}
 use Rattle.w4_editor.specs.Editing.{Editing, editing_setup}
 use Rattle.w4_defs.proofs.KeptListLaws.{linked_is_run}
-use Rattle.w4_defs.proofs.RegisterLaws.{length-image}
 use Rattle.w4_editor.specs.Settling.{AreLinked}
 use Rattle.w4_segments.specs.declared.worker.Task.{Task}
 use Rattle.w4_segments.specs.declared.worker.Worker.{Worker}
@@ -22,7 +22,7 @@ use Rattle.w4_segments.specs.Filming.{state_image, run_images}
 use Rattle.w4_segments.specs.FilmPieces.{images_between}
 use Rattle.w4_segments.specs.Pieces.{images_of, piece_begin, AreOfRunBelow, IsPiece, ArePieces}
 use Rattle.w4_segments.specs.Rounds.{entries_of}
-use Rattle.w4_segments.specs.Working.{HasCartTypes, CanFilm, EachDid, HasFilmed, task_images}
+use Rattle.w4_segments.specs.Working.{HasCartTypes, CanFilm, EachDid, HasFilmed, task_images, worker_images}
 
 -- ---- images of a run
 
@@ -64,80 +64,24 @@ module _ (setup : Setup) (disk : List ℕ) (inputs : List Input) where
       ∙ ap (λ xs. image state.page ++ xs) (images_none (place + 1))
       ∙ append-nil (image state.page)
 
-  -- one image more
-  pub images_more : (first place : ℕ) (state : State) → first ≤ place
-      → run_state setup disk inputs (place + 1) ≡ Some state
-      → images first (place + 1 - first) ++ image state.page ≡ images first (place + 1 + 1 - first)
-  images_more first place state le is =
-      ap (λ xs. images first (place + 1 - first) ++ xs) (sym (one_image (place + 1) state is))
-      ∙ sym (images_in_parts (place + 1 - first) 1 (place + 1 + 1 - first) first (place + 1) (omega
-      (arith, le))
-      (omega (arith, le)))
-
-  -- the image at the beginning
-  pub first_image : (first : ℕ) (state : State) → run_state setup disk inputs first ≡ Some state
-      → image state.page ≡ images first (first + 1 - first)
-  first_image first state is =
+  -- the first screen of a piece, and one more
+  pub first_screen : (screen : List ℕ) (first : ℕ) (state : State)
+      → run_state setup disk inputs first ≡ Some state → image screen ≡ image state.page
+      → flat_map image (screen ∷ []) ≡ images first (first + 1 - first)
+  first_screen screen first state is same =
       let one : 1 ≡ first + 1 - first = omega arith in
-      sym (one_image first state is) ∙ ap (images first) one
+      append-nil (image screen) ∙ same ∙ sym (one_image first state is) ∙ ap (images first) one
 
--- ---- images in a film
-
--- an image is put after N others
-module _ (film picture after : List ℕ) (n m : ℕ) (long : length picture ≡ 76815) (next : m ≡ n + 1)
-    (room : m * 76815 ≤ length film) (put : after ≡ replaced film (n * 76815) 76815 picture) where
-  abbrev front : List ℕ
-  front = take (n * 76815) film
-
-  length-front : length (front ++ picture) ≡ m * 76815
-  length-front =
-      let before = length-take-le (n * 76815) film (omega (arith, room, next)) in
-      length-append front picture ∙ omega (arith, before, long, next)
-
-  length-put : length after ≡ length film
-  length-put =
-      let back = length-drop (n * 76815 + 76815) film in
-      ap length put
-      ∙ length-append (front ++ picture) (drop (n * 76815 + 76815) film)
-      ∙ omega (arith, length-front, back, next, room)
-
-  front-put : take (m * 76815) after ≡ front ++ picture
-  front-put =
-      ap (take (m * 76815)) put
-      ∙ take_at (front ++ picture) (drop (n * 76815 + 76815) film) (m * 76815) length-front
-
-module _ (setup : Setup) (disk : List ℕ) (inputs : List Input) (film after : List ℕ) (first : ℕ)
-    (state : State) where
-  abbrev shown : ℕ → List ℕ
-  shown count = run_images setup disk inputs first count
-
-  pub image_put : (n : ℕ) → n * 76815 + 76815 ≤ length film
-      → after ≡ replaced film (n * 76815) 76815 (image state.page)
-      → length after ≡ length film
-  image_put n room put =
-      length-put film (image state.page) after n (n + 1) (length-image state.page) refl (omega (arith, room))
-      put
-
-  -- the first image of a film, and one more
-  pub first_put : run_state setup disk inputs first ≡ Some state → 76815 ≤ length film
-      → after ≡ replaced film (0 * 76815) 76815 (image state.page)
-      → take ((first + 1 - first) * 76815) after ≡ shown (first + 1 - first)
-  first_put is room put =
-      let one : first + 1 - first ≡ 0 + 1 = omega arith in
-      front-put film (image state.page) after 0 (first + 1 - first) (length-image state.page) one
-      (omega (arith, one, room)) put
-      ∙ first_image setup disk inputs first state is
-
-  pub more_put : (place : ℕ) → first ≤ place → run_state setup disk inputs (place + 1) ≡ Some state
-      → (place + 1 + 1 - first) * 76815 ≤ length film
-      → take ((place + 1 - first) * 76815) film ≡ shown (place + 1 - first)
-      → after ≡ replaced film ((place + 1 - first) * 76815) 76815 (image state.page)
-      → take ((place + 1 + 1 - first) * 76815) after ≡ shown (place + 1 + 1 - first)
-  more_put place le is room made put =
-      front-put film (image state.page) after (place + 1 - first) (place + 1 + 1 - first)
-      (length-image state.page) (omega (arith, le)) room put
-      ∙ ap (λ xs. xs ++ image state.page) made
-      ∙ images_more setup disk inputs first place state le is
+  pub more_screens : (screens : List (List ℕ)) (screen : List ℕ) (first place : ℕ) (state : State)
+      → first ≤ place → run_state setup disk inputs (place + 1) ≡ Some state → image screen ≡ image state.page
+      → flat_map image screens ≡ images first (place + 1 - first)
+      → flat_map image (screens ++ screen ∷ []) ≡ images first (place + 1 + 1 - first)
+  more_screens screens screen first place state le is same made =
+      flat_map-append image screens (screen ∷ [])
+      ∙ (λ k. made k ++ append-nil (image screen) k)
+      ∙ ap (λ xs. images first (place + 1 - first) ++ xs) (same ∙ sym (one_image (place + 1) state is))
+      ∙ sym (images_in_parts (place + 1 - first) 1 (place + 1 + 1 - first) first (place + 1)
+      (omega (arith, le)) (omega (arith, le)))
 
 task_of : (s t : Task) → Some s ≡ Some t → s ≡ t
 task_of s t e = ap (λ o. unwrap_or o s) e
@@ -159,15 +103,6 @@ module _ (kept : List Entry) (first end : ℕ) where
     | inl lt ↦ let e = cut_there i lt in omega (arith, e)
     | inr past ↦ let e = cut_past i past in omega (arith, e)
   ]
-
-  pub cut_from_first : (i : ℕ) → first ≤ end → first ≤ cut i
-  cut_from_first i le = elim (cases_lt i (length kept)) [
-    | inl lt ↦ let e = cut_there i lt in omega (arith, e, le)
-    | inr past ↦ let e = cut_past i past in omega (arith, e, le)
-  ]
-
-  pub cut_begins : (i : ℕ) → i < length kept → place_at kept i ≤ first → first ≤ end → cut i ≡ first
-  cut_begins i lt low le = let e = cut_there i lt in omega (arith, e, low, le)
 
   -- a cut before the end stands at an entry, at or after its place
   pub cut_inside : (i : ℕ) → cut i < end → i < length kept × (place_at kept i ≤ cut i) × (place_at kept i <
@@ -226,7 +161,7 @@ module _ (e : Editing) (first end : ℕ) where
   pub pieces_made : (next : ℕ) (old dealt made : List Worker) → ArePieces e first end next old dealt
       → EachDid (HasFilmed (editing_setup e) e.disk e.session.current.inputs) dealt made
       → (k : ℕ) (d : Worker) → k < length made
-      → (get_or made k d).images.items ≡ images_between e (cut_of (next + k)) (cut_of (next + k + 1))
+      → worker_images (get_or made k d) ≡ images_between e (cut_of (next + k)) (cut_of (next + k + 1))
   pieces_made next old dealt made pieces did k d lt =
       let many = did.many in
       let below : k < length dealt = omega (arith, many, lt) in
@@ -253,12 +188,6 @@ states_below e last end draft linked above i lt below =
     linked_is_run (editing_setup e) e.disk e.session.current.inputs (entries_of e) i draft.kept lt
     (λ j le. linked j (omega (arith, le, up)))
 
--- what the pieces of a team ask for
-pub pieces_can_film : (e : Editing) (first end next : ℕ) (old dealt : List Worker)
-    → ArePieces e first end next old dealt
-    → All (CanFilm (editing_setup e) e.disk e.session.current.inputs) dealt
-pieces_can_film e first end next old dealt pieces k d lt = (pieces.each k d lt).ready
-
 -- the piece that a worker is dealt
 module _ (e : Editing) (disk : List ℕ) (first end i : ℕ) (w : Worker)
     (draft : IsDraft (editing_setup e) disk e.session.current) (le : first ≤ end) where
@@ -269,8 +198,9 @@ module _ (e : Editing) (disk : List ℕ) (first end i : ℕ) (w : Worker)
   after = piece_begin (entries_of e) first end (i + 1)
 
   -- none, where the piece is empty
-  pub idle_piece : HasCartTypes e.cart w → after ≤ begin → w.task ≡ None → IsPiece e first end i w
-  idle_piece types empty none =
+  pub idle_piece : HasCartTypes e.cart w → w.screens.items ≡ [] → after ≤ begin → w.task ≡ None
+      → IsPiece e first end i w
+  idle_piece types clear past none =
       let rises = cut_rises (entries_of e) first end draft.kept.true_links.rising i in
       let no_task : (t : Task) → w.task ≡ Some t → ⊥ = λ t some. let e : None ≡ Some t = sym none ∙ some in
       cc in record {
@@ -280,23 +210,25 @@ module _ (e : Editing) (disk : List ℕ) (first end i : ℕ) (w : Worker)
           some = λ t some. absurd (no_task t some);
           within = λ t some. absurd (no_task t some);
           state = λ t some. absurd (no_task t some);
+          empty = clear;
           room = λ t some. absurd (no_task t some);
         };
         begins = λ t some. absurd (no_task t some);
         ends = λ t some. absurd (no_task t some);
-        none = λ _. omega (arith, rises, empty);
+        none = λ _. omega (arith, rises, past);
       }
 
   -- the entry's, from its state on
   pub busy_piece : begin < after → end ≤ length e.session.current.inputs + 1 → AreOfRunBelow end e
       → w.console ≡ state_at (entries_of e) i
-      → (after - begin) * 76815 ≤ vec_capacity w.images
+      → w.screens.items ≡ []
+      → after - begin ≤ vec_capacity w.screens
       → (task : Task) → w.task ≡ Some task
       → task.place ≡ place_at (entries_of e) i
       → task.first ≡ begin
       → task.end ≡ after
       → IsPiece e first end i w
-  busy_piece some within states console room task is place from to =
+  busy_piece some within states console clear room task is place from to =
       let to_end = cut_to_end (entries_of e) first end (i + 1) in
       let inside = cut_inside (entries_of e) first end i (omega (arith, some, to_end)) in
       let there = inside.0 in
@@ -318,8 +250,9 @@ module _ (e : Editing) (disk : List ℕ) (first end i : ℕ) (w : Worker)
               (ap (run_state (editing_setup e) e.disk e.session.current.inputs) place
               ∙ states i there inside.2
               ∙ ap Some (sym console));
-          room = λ t one. subst (λ (x : Task). (x.end - x.first) * 76815 ≤ vec_capacity w.images) (task_is t
-              one) (rw (from, to) room);
+          empty = clear;
+          room = λ t one. subst (λ (x : Task). x.end - x.first ≤ vec_capacity w.screens) (task_is t one)
+              (rw (from, to) room);
         };
         begins = λ t one. subst (λ (x : Task). x.first ≡ begin) (task_is t one) from;
         ends = λ t one. subst (λ (x : Task). x.end ≡ after) (task_is t one) to;

@@ -246,9 +246,6 @@ module _ (disk : List ℕ) (e new : Editing) (entry : ℕ) (found : State)
     link_computed = relinked_computed (editing_setup e) e.session.current.inputs entry (entries_of e) lt
         (is ∙ ap Some (sym same)) (draft.kept.true_links.globals (entry + 1) lt)
 
-    pub link_keeps : KeepsShown e new
-    link_keeps = list_keeps e new (relinked_at (entry + 1) (entries_of e)) link_computed.places linked
-
     pub link_put : (replaced : Option ℕ) → LinksNext entry replaced replaced e new
     link_put replaced = subst (LinksNext entry replaced replaced e) (sym linked) (record {
       computed = link_computed;
@@ -299,39 +296,9 @@ pub record Taking (e : Editing) (team : List Worker) (hand : ℕ) (replaced : Op
   pub next : (d : Worker) (task : Task) → 0 < hand → 0 < length team → (get_or team 0 d).task ≡ Some task
       → linked_at (entries_of now) (task.entry + 1) ≡ true
 
-pub taking_none : (e : Editing) (team : List Worker) → Taking e team 0 None e
-taking_none e team = record {
-  keeps = shown_keeps_same e;
-  start = λ _. refl;
-  stands = λ i d task le lt some other. refl;
-  low = λ i d task entry le lt some none. absurd cc;
-  front = λ d task lt some j le. refl;
-  next = λ d task none. absurd (omega (arith, none));
-}
-
 module _ (e : Editing) (team : List Worker) (hand : ℕ) (replaced : Option ℕ) (now : Editing)
     (p : Taking e team hand replaced now)
     (lt : hand < length team) (w : Worker) (read : (d : Worker) → get_or team hand d ≡ w) where
-  -- what this worker played may be taken over
-  pub can_take : (last : ℕ) → AreComputed e last team → last < length (entries_of e) → CanTake now replaced w
-  can_take last a there =
-      let many = p.keeps.recording.places.many in
-      let places = p.keeps.recording.places.places in
-      let task_is : (task : Task) → w.task ≡ Some task → (get_or team hand w).task ≡ Some task
-      = λ task some. ap (λ (x : Worker). x.task) (read w) ∙ some in record {
-        types = subst (λ (x : Editing). HasCartTypes x.cart w) (sym p.keeps.recording.same)
-            (subst (HasCartTypes e.cart) (read w) (a.types hand w lt));
-        there = λ task some.
-            let below = a.there hand w task lt (task_is task some) in
-            omega (arith, many, there, below);
-        found = λ task some other.
-            (λ k. fold (editing_setup (p.keeps.recording.same k))
-            (p.stands hand w task (omega arith) lt (task_is task some) other k)
-            (slice_range (p.keeps.recording.inputs k) (places task.entry k) (places (task.entry + 1) k)))
-            ∙ a.state hand w task lt (task_is task some)
-            ∙ ap (λ (x : Worker). Some x.console) (read w);
-      }
-
   -- it was thrown away, or had nothing
   pub taking_skip : ((task : Task) → w.task ≡ Some task → replaced ≡ Some task.entry)
       → Taking e team (hand + 1) replaced now
@@ -467,17 +434,6 @@ module _ (e : Editing) (team : List Worker) (hand : ℕ) (replaced : Option ℕ)
       (subst (λ (x : Editing). Taking e team (hand + 1) replaced x) (sym stays) (taking_skip thrown))
   taking_more rising last new keeps (inr (task, some, other, put)) =
       taking_put task some rising last new keeps put
-
-pub taking_done : (e : Editing) (team : List Worker) (hand : ℕ) (replaced : Option ℕ) (now : Editing)
-    → Taking e team hand replaced now
-    → hand ≡ length team
-    → LengthensFront team e now
-taking_done e team hand replaced now p all d task some is linked i le = elim (cases_lt task.entry i) [
-  | inl last ↦
-      let at : i ≡ task.entry + 1 = omega (arith, le, last) in
-      ap (linked_at (entries_of now)) at ∙ p.next d task (omega (arith, some, all)) some is
-  | inr low ↦ p.front d task some is i low ∙ linked i low
-]
 
 -- ---- one round
 

@@ -6,7 +6,7 @@ use Rattle.w4_segments.specs.declared.film_pieces.FilmPieces.{FilmPieces}
 use Rattle.w4_segments.specs.declared.worker.Worker.{Worker}
 use Rattle.w4_segments.specs.Pieces.{AreOfRunBelow, images_of, piece_begin}
 use Rattle.w4_segments.specs.Rounds.{entries_of}
-use Rattle.w4_segments.specs.Working.{HasCartTypes}
+use Rattle.w4_segments.specs.Working.{HasCartTypes, worker_images}
 
 -- where the piece of entry I begins
 abbrev pub film_cut : FilmPieces → Editing → ℕ → ℕ
@@ -23,20 +23,20 @@ images_left film e = images_between e (film_cut film e film.next) film.end
 abbrev pub pieces_left : FilmPieces → Editing → ℕ
 pieces_left film e = length (entries_of e) - film.next
 
--- the images of a worker, and of the one whose piece was handed out last
-abbrev pub worker_images : Option Worker → List ℕ
-worker_images None = []
-worker_images (Some worker) = worker.images.items
+-- the images of the piece that was handed out last: those of its worker
+abbrev pub images_by : Option Worker → List ℕ
+images_by None = []
+images_by (Some worker) = worker_images worker
 
 abbrev pub piece_of : FilmPieces → List ℕ
-piece_of film = worker_images (slice_get film.team.items film.hand)
+piece_of film = images_by (slice_get film.team.items film.hand)
 
 -- the worker of the piece of entry NEXT + K, of those that are made and not handed out
 abbrev pub worker_at : List Worker → ℕ → ℕ → ℕ → Worker → Worker
 worker_at team next made k d = slice_index_or team (length team - (made - next) + k) d
 
 -- a film can be gone on with over this editor: the kept states that it goes on from are those of the run, and
--- the pieces that are made have their images
+-- the pieces that are made have the screens of their images
 pub record CanGoOn (team : List Worker) (first end entry next made : ℕ) (e : Editing) : Type 0 where
   pub some : 0 < length team
   pub few : length team ≤ 16
@@ -49,7 +49,7 @@ pub record CanGoOn (team : List Worker) (first end entry next made : ℕ) (e : E
   pub hands : made ≤ next + length team
   pub bound : made ≤ 2048
   pub pieces : (k : ℕ) (d : Worker) → k < made - next
-      → (worker_at team next made k d).images.items
+      → worker_images (worker_at team next made k d)
       ≡ images_between e (piece_begin (entries_of e) first end (next + k))
       (piece_begin (entries_of e) first end (next + k + 1))
 

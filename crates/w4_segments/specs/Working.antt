@@ -1,6 +1,7 @@
 -- What a worker is given, and what it does with it.
-use Rattle.std.specs.Prelude.{◌≡◌, ℕ, ◌+◌, ◌-◌, ◌*◌, ◌≤◌, ◌<◌, List, [], length, slice_range, slice_index_or, Option, Some, None, vec_capacity}
+use Rattle.std.specs.Prelude.{◌≡◌, ℕ, ◌+◌, ◌-◌, ◌≤◌, ◌<◌, List, [], flat_map, length, slice_range, slice_index_or, Option, Some, None, vec_capacity}
 use Rattle.w4_defs.specs.declared.console.Input.{Input}
+use Rattle.w4_defs.specs.Image.{image}
 use Rattle.w4_defs.specs.Module.{WasmModule}
 use Rattle.w4_defs.specs.Reset.{Setup}
 use Rattle.w4_defs.specs.Run.{fold, run_state}
@@ -26,7 +27,8 @@ pub record HasPlayed (setup : Setup) (inputs : List Input) (old new : Worker) : 
   pub state : (task : Task) → old.task ≡ Some task
       → fold setup old.console (slice_range inputs task.place task.end) ≡ Some new.console
 
--- a worker whose state is that of a run, and that has room for the images from its first to its end
+-- a worker whose state is that of a run, and that has room for the screens from its first to its end, and
+-- nothing in it
 pub record CanFilm (setup : Setup) (disk : List ℕ) (inputs : List Input) (worker : Worker) : Type 0 where
   pub types : HasCartTypes setup.cart worker
   pub order : (task : Task) → worker.task ≡ Some task → task.place ≤ task.first
@@ -34,8 +36,8 @@ pub record CanFilm (setup : Setup) (disk : List ℕ) (inputs : List Input) (work
   pub within : (task : Task) → worker.task ≡ Some task → task.end ≤ length inputs + 1
   pub state : (task : Task) → worker.task ≡ Some task
       → run_state setup disk inputs task.place ≡ Some worker.console
-  pub room : (task : Task) → worker.task ≡ Some task
-      → (task.end - task.first) * 76815 ≤ vec_capacity worker.images
+  pub empty : worker.screens.items ≡ []
+  pub room : (task : Task) → worker.task ≡ Some task → task.end - task.first ≤ vec_capacity worker.screens
 
 -- the images of a task
 abbrev pub task_images : Setup → List ℕ → List Input → Option Task → List ℕ
@@ -43,10 +45,14 @@ task_images setup disk inputs None = []
 task_images setup disk inputs (Some task) =
     run_images setup disk inputs task.first (task.end - task.first)
 
--- it has made them
+-- the images of the screens that a worker has
+abbrev pub worker_images : Worker → List ℕ
+worker_images worker = flat_map image worker.screens.items
+
+-- it has made the screens of them
 pub record HasFilmed (setup : Setup) (disk : List ℕ) (inputs : List Input) (old new : Worker) : Type 0 where
   pub types : HasCartTypes setup.cart new
-  pub images : new.images.items ≡ task_images setup disk inputs old.task
+  pub images : worker_images new ≡ task_images setup disk inputs old.task
 
 -- each worker of a team did so
 pub record EachDid (Did : Worker → Worker → Type 0) (old new : List Worker) : Type 0 where

@@ -1,6 +1,7 @@
 //! Films that are handed out a piece at a time, and the workers that make the pieces.
 
-ghost use Rattle.std.specs.Prelude.{◌≡◌, ◌≢◌, ℕ, ◌+◌, ◌-◌, ◌<◌, ◌≤◌, ◌++◌, [], All, IfErr, IfOk, IsFalse, IsTrue, None, OnOk, length};
+ghost use Rattle.std.specs.Prelude.{◌≡◌, ◌≢◌, ℕ, ◌+◌, ◌-◌, ◌<◌, ◌≤◌, ◌++◌, [], All, IfErr, IfOk, IsFalse, IsTrue, None, OnOk, flat_map, length};
+ghost use Rattle.w4_defs.specs.Image.{image};
 ghost use Rattle.w4_defs.specs.KeptList.{place_at};
 ghost use Rattle.w4_segments.specs.FilmPieces.{IsFilming, HasNext, film_cut, images_left, piece_of, pieces_left};
 ghost use Rattle.w4_segments.specs.Filming.{IsFilmRefusal, KeepsShown, film_images, film_refusal};
@@ -17,13 +18,14 @@ use std::alloc::Global;
 use std::thread::Threads;
 use w4_defs::OutOfMemory;
 use w4_editor::Editor;
-use w4_image::IMAGE_LEN;
+use w4_image::Screen;
 
 /// How many images a film may have.
 const MOST_IMAGES: usize = 600;
 
 /// A film that is handed out a piece at a time, so that nobody holds the whole. Pieces are made in rounds,
-/// one for each worker. Until it is over the editor has to stay as it is.
+/// one for each worker, and held as screens, from which the images are made as they are written. Until it is
+/// over the editor has to stay as it is.
 #[derive(Drop)]
 pub struct FilmPieces {
     team: Vec<Worker>,
@@ -96,12 +98,12 @@ impl FilmPieces {
         Ok(true)
     }
 
-    /// The images of the piece that it went to, one after another.
-    pub fn images(&self) -> &[u8]
-        ensures { result.now ≡ piece_of self.now }
+    /// The screens of the places of the piece that it went to, in order. Their images are the piece.
+    pub fn screens(&self) -> &[Screen]
+        ensures { flat_map image result.now ≡ piece_of self.now }
     {
         match self.team.as_slice().get(self.hand) {
-            Some(worker) => worker.images.as_slice(),
+            Some(worker) => worker.screens.as_slice(),
             None => &[],
         }
     }
@@ -245,7 +247,7 @@ fn deal(
     Ok(())
 }
 
-/// Gives a worker the piece of an entry, if it isn't empty, and room for its images.
+/// Gives a worker the piece of an entry, if it isn't empty, and room for its screens.
 fn deal_one(
     editor: &Editor,
     number: usize,
@@ -262,6 +264,7 @@ fn deal_one(
     ensures { OnOk result (IsPiece editor.now first end entry worker.new) }
 {
     is_consistent(editor);
+    worker.screens.clear();
     let (from, to) = (
         cut(editor, first, end, entry),
         cut(editor, first, end, entry + 1),
@@ -270,10 +273,7 @@ fn deal_one(
         worker.task = None;
         return Ok(());
     }
-    let size = (to - from) * IMAGE_LEN;
-    worker
-        .images
-        .reserve(size.saturating_sub(worker.images.len()))?;
+    worker.screens.reserve(to - from)?;
     editor.kept_restore(entry, worker.console.state_mut());
     worker.task = Some(Task {
         number,

@@ -1,6 +1,7 @@
 //! Films: the images of a stretch of a run, made by many workers.
 
-ghost use Rattle.std.specs.Prelude.{◌≡◌, ◌≢◌, ◌≤◌, IfErr, IfOk, None, OnOk};
+ghost use Rattle.std.specs.Prelude.{◌≡◌, ◌≢◌, ◌≤◌, ◌++◌, IfErr, IfOk, None, OnOk, flat_map};
+ghost use Rattle.w4_defs.specs.Image.{image};
 ghost use Rattle.w4_segments.specs.FilmPieces.{IsFilming, images_left};
 ghost use Rattle.w4_segments.specs.Filming.{IsFilmRefusal, KeepsShown, film_images, film_refusal};
 ghost use Rattle.w4_segments.specs.declared.refusal.FilmRefusal.TheVariants.{OutOfMemory as NoMemory};
@@ -12,6 +13,7 @@ use std::alloc::Global;
 use std::thread::Threads;
 use w4_defs::OutOfMemory;
 use w4_editor::Editor;
+use w4_image::{IMAGE_LEN, Screen, screen_into};
 
 /// The images of places `a` to `b` of the recording as it is, one after another, by 1 to 16 workers:
 /// `FilmPieces` in one list. Errors, in this order: NoFrame where there is no place `b`; FilmTooLong where
@@ -50,9 +52,25 @@ fn gathered<R: Threads + Sync, G: Gate + Sync>(
     requires { IsFilming film.old editor.now }
     ensures { IfOk result (λ all. all.items ≡ images_left film.old editor.now) }
 {
+    let mut picture = Box::new(alloc, [0; IMAGE_LEN])?;
     let mut all = Vec::new(alloc);
     while film.next_piece(rt, editor, gate)? {
-        all.extend_from_slice(film.images())?;
+        append_images(film.screens(), &mut picture, &mut all)?;
     }
     Ok(all)
+}
+
+/// Appends the images of screens, each made in the same room.
+fn append_images(
+    screens: &[Screen],
+    picture: &mut [u8; IMAGE_LEN],
+    all: &mut Vec<u8>,
+) -> Result<(), OutOfMemory>
+    ensures { OnOk result (all.new.items ≡ all.old.items ++ flat_map image screens.now) }
+{
+    for screen in screens {
+        screen_into(screen, picture);
+        all.extend_from_slice(picture)?;
+    }
+    Ok(())
 }

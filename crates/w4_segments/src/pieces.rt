@@ -1,9 +1,8 @@
-//! Pieces of a film. A worker goes on from a kept state and writes the images of its places into room of its
-//! own.
+//! Pieces of a film. A worker goes on from a kept state and keeps the screens of its places, a twelfth of the
+//! bytes of their images.
 
-ghost use Rattle.std.specs.Prelude.{◌≡◌, ◌+◌, ◌-◌, ◌*◌, ◌<◌, ◌≤◌, All, Some, length};
+ghost use Rattle.std.specs.Prelude.{◌≡◌, ◌+◌, ◌-◌, ◌<◌, ◌≤◌, [], All, Some, flat_map, length, vec_capacity};
 ghost use Rattle.w4_defs.specs.Board.{console_setup};
-ghost use Rattle.w4_defs.specs.Bytes.{replaced};
 ghost use Rattle.w4_defs.specs.Image.{image};
 ghost use Rattle.w4_defs.specs.Run.{run_state};
 ghost use Rattle.w4_defs.specs.State.{HasGlobals};
@@ -17,12 +16,11 @@ use std::thread;
 use std::thread::Threads;
 use w4_blit::Font;
 use w4_console::Console;
-use w4_image::{IMAGE_LEN, ppm_into};
-use w4_map::State;
+use w4_image::{Screen, screen_of};
 use w4_record::Recording;
 use wasm_valid::Cart;
 
-/// All workers write the images of their pieces, side by side, each into its own room.
+/// All workers film their pieces, side by side, each into its own room.
 pub(crate) fn film_all<R: Threads + Sync, G: Gate + Sync>(
     rt: &R,
     gate: &G,
@@ -45,8 +43,8 @@ pub(crate) fn film_all<R: Threads + Sync, G: Gate + Sync>(
     );
 }
 
-/// A worker writes the images of its piece, if it has one. A worker asks for no memory: the room was made
-/// when it was given the piece, and is first touched here.
+/// A worker films its piece, if it has one. A worker asks for no memory: the room was made when it was given
+/// the piece, and is first touched here.
 fn film_one<G: Gate>(gate: &G, cart: &Cart, font: &Font, recording: &Recording, worker: &mut Worker)
     requires { CanFilm (console_setup cart.now font.now recording.now.budget) recording.now.disk
         recording.now.frames worker.old }
@@ -54,25 +52,27 @@ fn film_one<G: Gate>(gate: &G, cart: &Cart, font: &Font, recording: &Recording, 
         recording.now.frames worker.old worker.new }
 {
     let Some(task) = worker.task else {
-        worker.images.clear();
         return;
     };
     gate.pass(task.number);
-    let size = (task.end - task.first) * IMAGE_LEN;
-    if worker.images.resize(size, 0).is_ok() {
-        let film = worker.images.as_mut_slice();
-        images(cart, font, recording, task, &mut worker.console, film);
-    }
+    film_task(
+        cart,
+        font,
+        recording,
+        task,
+        &mut worker.console,
+        &mut worker.screens,
+    );
 }
 
-/// Writes the images of the places of a task.
-fn images(
+/// Keeps the screens of the places of a task.
+fn film_task(
     cart: &Cart,
     font: &Font,
     recording: &Recording,
     task: Task,
     console: &mut Console,
-    film: &mut [u8],
+    screens: &mut Vec<Screen>,
 )
     requires types { HasGlobals cart.now console.old }
     requires order { task.place ≤ task.first }
@@ -80,26 +80,17 @@ fn images(
     requires within { task.end ≤ length recording.now.frames + 1 }
     requires state { run_state (console_setup cart.now font.now recording.now.budget) recording.now.disk
         recording.now.frames task.place ≡ Some console.old }
-    requires room { length film.old ≡ (task.end - task.first) * 76815 }
-    ensures images { film.new ≡ run_images (console_setup cart.now font.now recording.now.budget)
-        recording.now.disk recording.now.frames task.first (task.end - task.first) }
+    requires empty { screens.old.items ≡ [] }
+    requires room { task.end - task.first ≤ vec_capacity screens.old }
+    ensures images { flat_map image screens.new.items ≡ run_images
+        (console_setup cart.now font.now recording.now.budget) recording.now.disk recording.now.frames
+        task.first (task.end - task.first) }
     ensures types { HasGlobals cart.now console.new }
 {
     play(console, cart, font, recording, task.place, task.first);
-    put_image(console.state(), 0, film);
+    screens.push_reserved(screen_of(console.state()));
     for place in task.first..task.end - 1 {
         play(console, cart, font, recording, place, place + 1);
-        put_image(console.state(), place + 1 - task.first, film);
-    }
-}
-
-/// Writes the image of a state, which stands after `index` others.
-fn put_image(state: &State, index: usize, film: &mut [u8])
-    requires { index * 76815 + 76815 ≤ length film.old }
-    ensures { film.new ≡ replaced film.old (index * 76815) 76815 (image state.now.page) }
-{
-    let (_, rest) = film.split_at_mut(index * IMAGE_LEN);
-    if let Some(picture) = rest.first_chunk_mut::<IMAGE_LEN>() {
-        ppm_into(state, picture);
+        screens.push_reserved(screen_of(console.state()));
     }
 }

@@ -6,10 +6,11 @@ ghost use Rattle.w4_segments.specs.Working.{HasCartTypes};
 use std::alloc::Global;
 use w4_console::Console;
 use w4_defs::OutOfMemory;
+use w4_image::Screen;
 use wasm_valid::Cart;
 
 /// A stretch of a recording. The piece `number` goes from `place`, where the console stands with the state of
-/// entry `entry`, to `end`; in a film it has the images of `first` up to `end`.
+/// entry `entry`, to `end`; in a film it has the places from `first` up to `end`.
 #[derive(Clone, Copy)]
 pub struct Task {
     pub number: usize,
@@ -19,12 +20,12 @@ pub struct Task {
     pub end: usize,
 }
 
-/// A worker with its task, if it has one, and with room for the images of a piece of a film.
+/// A worker with its task, if it has one, and the screens of a piece of a film, one a place.
 #[derive(Drop)]
 pub struct Worker {
     pub console: Console,
     pub task: Option<Task>,
-    pub images: Vec<u8>,
+    pub screens: Vec<Screen>,
 }
 
 impl Worker {
@@ -35,7 +36,7 @@ impl Worker {
         Ok(Worker {
             console: Console::new(alloc, cart)?,
             task: None,
-            images: Vec::new(alloc),
+            screens: Vec::new(alloc),
         })
     }
 }

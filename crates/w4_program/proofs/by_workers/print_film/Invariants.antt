@@ -4,12 +4,12 @@ use Rattle.w4_program.proofs.OwesLaws.{Owes}
 use Rattle.w4_program.proofs.by_workers.print_film.Given as goal
 
 -- what was written so far and what is left of the film make the whole
-abbrev pub invariant-loop-house : goal.invariant-loop-house
-invariant-loop-house g l =
+abbrev pub invariant-loop-picture : goal.invariant-loop-picture
+invariant-loop-picture g l =
     Owes (g.H.House.world l.fn.house) (g.H.House.world l.house) (images_left l.film l.editor)
     (images_left l.fn.film l.editor)
     × IsFilming l.film l.editor
     × LeavesPrinting (g.H.House.world l.fn.house) (g.H.House.world l.house)
 
-abbrev pub decreases-loop-house : goal.decreases-loop-house
-decreases-loop-house g l = pieces_left l.film l.editor
+abbrev pub decreases-loop-picture : goal.decreases-loop-picture
+decreases-loop-picture g l = pieces_left l.film l.editor

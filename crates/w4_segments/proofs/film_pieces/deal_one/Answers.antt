@@ -16,7 +16,7 @@ returns-then-from-to c =
     let to = c.cut-to.ensures in
     let empty = c.if-from-to.true in
     idle_piece e e.disk c.args.first c.args.end c.args.entry _ c.is_consistent.ensures c.requires.order
-    c.requires.types
+    c.requires.types c.clear.ensures.items
     (omega (arith, from, to, empty)) refl
 
 pub returns : goal.returns
@@ -28,5 +28,6 @@ returns c =
     let room = c.in_ok-reserve.ensures.ok in
     busy_piece e e.disk c.args.first c.args.end c.args.entry _ c.is_consistent.ensures c.requires.order
     (omega (arith, from, to, some))
-    c.requires.within c.requires.states c.kept_restore.ensures (omega (arith, room, from, to)) _ refl
+    c.requires.within c.requires.states c.kept_restore.ensures (c.in_ok-reserve.ensures.items ∙ c.clear.ensures.items)
+    (omega (arith, room, from, to)) _ refl
     c.kept_place.ensures from to

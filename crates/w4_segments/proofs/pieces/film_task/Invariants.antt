@@ -1,17 +1,20 @@
-use Rattle.std.proofs.Common.{◌≡◌, ◌+◌, ◌-◌, ◌*◌, ◌≤◌, length, take, Some}
+use Rattle.std.proofs.Common.{◌≡◌, ◌+◌, ◌-◌, ◌≤◌, flat_map, length, Some}
+use Rattle.std.specs.Prelude.{vec_capacity}
 use Rattle.w4_defs.specs.Board.{console_setup}
+use Rattle.w4_defs.specs.Image.{image}
 use Rattle.w4_defs.specs.Run.{run_state}
 use Rattle.w4_defs.specs.State.{HasGlobals}
 use Rattle.w4_segments.specs.Filming.{run_images}
-use Rattle.w4_segments.proofs.pieces.images.Given as goal
+use Rattle.w4_segments.proofs.pieces.film_task.Given as goal
 
 abbrev pub invariant-loop-place : goal.invariant-loop-place
 invariant-loop-place l =
     (run_state (console_setup l.cart l.font l.recording.budget) l.recording.disk l.recording.frames l.place
     ≡ Some l.console)
     × HasGlobals l.cart l.console
-    × (length l.film ≡ length l.fn.film)
-    × (take ((l.place + 1 - l.fn.task.first) * 76815) l.film
+    × (length l.screens.items ≡ l.place + 1 - l.fn.task.first)
+    × (l.fn.task.end - l.fn.task.first ≤ vec_capacity l.screens)
+    × (flat_map image l.screens.items
     ≡ run_images (console_setup l.cart l.font l.recording.budget) l.recording.disk l.recording.frames
     l.fn.task.first
     (l.place + 1 - l.fn.task.first))
