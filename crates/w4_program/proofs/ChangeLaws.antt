@@ -12,7 +12,7 @@ use Rattle.w4_defs.specs.Session.{Session, PlacesDecide, places_alone, session_o
 use Rattle.w4_defs.specs.State.{blank_state}
 use Rattle.w4_editor.specs.Editing.{Editing, IsErrorOrMemory, with_session}
 use Rattle.w4_editor.specs.Settling.{linked_entry}
-use Rattle.w4_editor.specs.Showing.{IsKeptAt, IsAllSettled, IsCauseOrMemory}
+use Rattle.w4_editor.specs.Showing.{IsKeptAt, IsCauseOrMemory}
 use Rattle.w4_house.specs.World.{World, Appends}
 use Rattle.w4_program.specs.Answering.{answer, answer_change, refused_line, refusal_words}
 use Rattle.w4_program.specs.Causes.{Printed, WritesNothing}

@@ -1,5 +1,5 @@
 -- Bytes that are written piece after piece, and what has been written where one of them stopped.
-use Rattle.std.proofs.Common.{◌≡◌, ◌≤◌, ℕ, List, [], ◌++◌, Some, refl, sym, ap, subst, ◌∙◌, append_assoc}
+use Rattle.std.proofs.Common.{◌≡◌, ◌≤◌, ℕ, List, [], ◌++◌, refl, sym, ap, subst, ◌∙◌, append_assoc}
 use Rattle.std.proofs.lemmas.List.{append-nil}
 use Rattle.w4_house.specs.World.{World, Appends, AppendsFront}
 use Rattle.w4_house.proofs.WorldLaws.{appends_then, appends_then_front, front_none, front_of_more, rises_later}

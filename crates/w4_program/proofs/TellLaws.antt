@@ -1,22 +1,19 @@
 -- What is told of places: by the state or the record of a run, and by the number of the last place.
-use Rattle.std.proofs.Common.{◌≡◌, ℕ, zero, suc, ◌+◌, ◌-◌, ◌<◌, ◌≤◌, true, false, List, [], ◌++◌, map, length, drop, Option, Some, None, option_map, refl, sym, ap, ◌∙◌, arith, subst, append_assoc, append-nil}
+use Rattle.std.proofs.Common.{◌≡◌, ℕ, zero, suc, ◌+◌, ◌-◌, ◌<◌, ◌≤◌, true, false, List, ◌++◌, map, length, drop, Option, Some, None, option_map, refl, sym, ap, ◌∙◌, arith, subst, append_assoc, append-nil}
 use Rattle.std.specs.Prelude.{Result, flat_map, nat_lt}
-use Rattle.std.specs.Option.{option_and_then}
 use Rattle.std.proofs.Math.ListN.{drop_of_length-le}
 use Rattle.std.proofs.lemmas.List.{length-map}
 use Rattle.std.proofs.lemmas.Bool.{lt-leb, le-leb}
-use Rattle.w4_defs.specs.FrameTexts.{schedule_text, trace_text, spaced, state_line}
+use Rattle.w4_defs.specs.FrameTexts.{spaced, state_line}
 use Rattle.w4_defs.specs.Image.{image}
 use Rattle.w4_defs.specs.KeptList.{Entry, kept_entries, place_at}
-use Rattle.w4_defs.specs.Run.{run, played_on}
-use Rattle.w4_defs.specs.Reset.{Setup, reset}
+use Rattle.w4_defs.specs.Reset.{Setup}
 use Rattle.w4_defs.specs.State.{State, Moment, FrameRecord}
 use Rattle.w4_defs.specs.Session.{Session}
-use Rattle.w4_defs.specs.declared.console.Input.{Input}
 use Rattle.w4_editor.specs.Editing.{Editing, editing_setup}
 use Rattle.w4_house.specs.World.{World, Appends}
 use Rattle.w4_program.specs.declared.place_text.PlaceText.{PlaceText}
-use Rattle.w4_program.specs.declared.place_text.PlaceText.TheVariants.{Image, Schedule, Traces, DiskBytes}
+use Rattle.w4_program.specs.declared.place_text.PlaceText.TheVariants.{Image}
 use Rattle.w4_program.specs.Texts.{place_text, place_texts, state_text}
 use Rattle.w4_program.specs.Answering.{if_place, film_text, range_text, too_long, no_frame}
 use Rattle.w4_program.specs.Answers.{answer_text}

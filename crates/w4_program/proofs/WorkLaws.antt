@@ -1,37 +1,33 @@
 -- From the editor that an edit opens to the recording that it leaves.
 use Rattle.std.proofs.Common.{◌≡◌, ℕ, List, inl, inr, ap, ◌∙◌, subst}
 use Rattle.std.specs.Prelude.{Result, Ok, Err}
+use Rattle.w4_defs.specs.declared.order.Order.{Order}
 use Rattle.w4_defs.specs.Module.{WasmModule}
+use Rattle.w4_defs.specs.Recording.{encoding}
 use Rattle.w4_defs.specs.Session.{Session}
 use Rattle.w4_defs.specs.State.{State}
-use Rattle.w4_editor.specs.Editing.{Editing, editing_setup, new_editing, current_recording, with_session}
+use Rattle.w4_editor.specs.Editing.{Editing, new_editing, current_recording}
 use Rattle.w4_house.specs.World.{World, Appends, LeavesPrinting, LeavesSaving, OpensOnly, Puts}
 use Rattle.w4_house.proofs.WorldLaws.{front_whole, rises_later}
 use Rattle.w4_program.specs.declared.status.Status.{Status}
-use Rattle.w4_program.specs.Answering.{answers}
-use Rattle.w4_program.specs.Answers.{Answered}
 use Rattle.w4_program.specs.Causes.{Carried, Carries, Saved, StopsSaving, StopsWriting}
-use Rattle.w4_program.specs.Editors.{IsAnswered, place_session}
+use Rattle.w4_program.specs.Editors.{IsAnswered, answers_by, recording_by}
 use Rattle.w4_program.specs.Endings.{Manner, AllWritten, NoCommand, ReadFailed, WriteFailed, MemoryRefused, Refused, manner_of}
 use Rattle.w4_program.specs.Output.{Loaded, edit_answers, edited_recording}
 
-opened_answers : (cart : WasmModule) (l : Loaded) (e : Editing) (state : State)
+-- what was carried out at the editor that a file opens was carried out for the file
+pub opened_carried : {X : Type 0} (before after : World) (result : Result X Status) (cart : WasmModule)
+    (l : Loaded) (e : Editing) (state : State) (name : List ℕ)
     → e ≡ new_editing cart l.run.font l.run.recording state
-    → answers (editing_setup e) e.disk (place_session e) l.orders ≡ edit_answers cart l
-opened_answers cart l e state is =
-    ap (λ (x : Editing). answers (editing_setup x) x.disk (place_session x) l.orders) is
-
-pub answers_left : (before mid : World) (cart : WasmModule) (l : Loaded) (old new : Editing) (state : State)
-    → old ≡ new_editing cart l.run.font l.run.recording state
-    → IsAnswered before mid old new (answers (editing_setup old) old.disk (place_session old) l.orders)
-    → Appends before.out mid.out (edit_answers cart l).out
-answers_left before mid cart l old new state is answered =
-    subst (λ (a : Answered (Session ℕ)). Appends before.out mid.out a.out)
-    (opened_answers cart l old state is)
-    answered.out
+    → Carried before after result (answers_by e l.orders).out name (encoding 2 (recording_by e l.orders))
+    → Carried before after result (edit_answers cart l).out name (encoding 2 (edited_recording cart l))
+opened_carried before after result cart l e state name is h =
+    subst (λ (x : Editing).
+    Carried before after result (answers_by x l.orders).out name (encoding 2 (recording_by x l.orders)))
+    is h
 
 -- the answers stopped, so that no file was begun
-carries_stopped : (old new : World) (why : Manner) (out name bytes : List ℕ) → new.files ≡ old.files
+pub carries_stopped : (old new : World) (why : Manner) (out name bytes : List ℕ) → new.files ≡ old.files
     → StopsWriting old new why out → Carries old new why out name bytes
 carries_stopped old new AllWritten out name bytes same h = absurd h
 carries_stopped old new NoCommand out name bytes same h = h
@@ -40,27 +36,11 @@ carries_stopped old new WriteFailed out name bytes same h = (h.0, inl (h.1, same
 carries_stopped old new MemoryRefused out name bytes same h = (h, same)
 carries_stopped old new (Refused refusal) out name bytes same h = h
 
-pub answers_stopped : (before after : World) (why : Manner) (cart : WasmModule) (l : Loaded) (old : Editing)
-    (state : State) (name bytes : List ℕ)
-    → old ≡ new_editing cart l.run.font l.run.recording state → after.files ≡ before.files
-    → StopsWriting before after why (answers (editing_setup old) old.disk (place_session old) l.orders).out
-    → Carries before after why (edit_answers cart l).out name bytes
-answers_stopped before after why cart l old state name bytes is same h =
-    carries_stopped before after why (edit_answers cart l).out name bytes same
-    (subst (λ (a : Answered (Session ℕ)). StopsWriting before after why a.out)
-    (opened_answers cart l old state is) h)
-
-pub recording_left : (before mid : World) (cart : WasmModule) (l : Loaded) (old new : Editing) (state : State)
-    → old ≡ new_editing cart l.run.font l.run.recording state
-    → IsAnswered before mid old new (answers (editing_setup old) old.disk (place_session old) l.orders)
-    → current_recording new ≡ edited_recording cart l
-recording_left before mid cart l old new state is answered =
-    let all : new ≡ with_session (new_editing cart l.run.font l.run.recording state) new.session new.at =
-    answered.rest ∙ ap (λ (x : Editing). with_session x new.session new.at) is in
-    let session : place_session new ≡ (edit_answers cart l).session =
-    answered.session ∙ ap (λ (a : Answered (Session ℕ)). a.session) (opened_answers cart l old state is) in
-    ap (λ (x : Editing). current_recording x) all
-    ∙ ap (λ (s : Session ℕ). record l.run.recording { frames = s.current.inputs }) session
+pub recording_left : (before mid : World) (old new : Editing) (orders : List Order)
+    → IsAnswered before mid old new (answers_by old orders) → current_recording new ≡ recording_by old orders
+recording_left before mid old new orders answered =
+    ap (λ (x : Editing). current_recording x) answered.rest
+    ∙ ap (λ (s : Session ℕ). record (current_recording old) { frames = s.current.inputs }) answered.session
 
 -- all answers are written, and memory ran out before the file was begun
 pub carries_answers : (before mid : World) (out name bytes : List ℕ) → Appends before.out mid.out out

@@ -6,12 +6,13 @@ use Rattle.w4_defs.specs.declared.editing.EditRefusal.TheVariants.{OutOfMemory}
 use Rattle.w4_defs.specs.declared.order.Order.{Order}
 use Rattle.w4_defs.specs.declared.order.Order.TheVariants as order
 use Rattle.w4_defs.specs.KeptList.{kept_entries}
+use Rattle.w4_defs.specs.Recording.{Recording}
 use Rattle.w4_defs.specs.Session.{Session, places_alone, session_of_places, set_input, insert_input, delete_input, undo, redo, keep, keep_every, drop_kept, multiples, all_kept, is_kept, with_kept}
-use Rattle.w4_editor.specs.Editing.{Editing, editing_setup, with_session}
+use Rattle.w4_editor.specs.Editing.{Editing, current_recording, editing_setup, with_session}
 use Rattle.w4_house.specs.World.{World, Appends}
 use Rattle.w4_program.specs.declared.place_text.PlaceText.{PlaceText}
 use Rattle.w4_program.specs.declared.status.Status.{Status}
-use Rattle.w4_program.specs.Answering.{answer, one_text}
+use Rattle.w4_program.specs.Answering.{answer, answers, one_text}
 use Rattle.w4_program.specs.Answers.{Answered}
 use Rattle.w4_program.specs.Causes.{StopsWriting}
 use Rattle.w4_program.specs.Endings.{manner_of}
@@ -35,6 +36,13 @@ answer_by e order = answer (editing_setup e) e.disk (place_session e) order
 
 abbrev pub text_by : Editing → PlaceText → ℕ → List ℕ
 text_by e wanted p = one_text (editing_setup e) e.disk (place_session e) wanted p
+
+-- the answers of a script's orders, one after another, and the recording that they leave
+abbrev pub answers_by : Editing → List Order → Answered (Session ℕ)
+answers_by e orders = answers (editing_setup e) e.disk (place_session e) orders
+
+abbrev pub recording_by : Editing → List Order → Recording
+recording_by e orders = record (current_recording e) { frames = (answers_by e orders).session.current.inputs }
 
 -- an order was answered so: standard output has got the answer, and the session is the one that is left
 pub record IsAnswered (before after : World) (old new : Editing) (wanted : Answered (Session ℕ)) : Type 0

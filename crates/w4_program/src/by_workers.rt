@@ -1,6 +1,6 @@
 //! Orders that are carried out by many workers: `film` and `settle`.
 
-ghost use Rattle.std.specs.Prelude.{◌≡◌, ◌≤◌, OnOk, flat_map};
+ghost use Rattle.std.specs.Prelude.{◌≡◌, ◌≤◌, OnOk, flat_map, max, min};
 ghost use Rattle.w4_defs.specs.Image.{image};
 ghost use Rattle.w4_editor.specs.Editing.{editing_setup};
 ghost use Rattle.w4_house.specs.World.{LeavesPrinting};
@@ -24,6 +24,7 @@ use w4_segments::{FilmPieces, FilmRefusal, Gate, settle_wide};
 
 /// A number of workers, within the range that scripts have for it.
 fn hands(workers: u32) -> usize
+    ensures number { result ≡ min (max workers 1) 16 }
     ensures some { 1 ≤ result }
     ensures few { result ≤ 16 }
 {

@@ -2,12 +2,13 @@
 
 ghost use Rattle.w4_defs.specs.Recording.{encoding};
 ghost use Rattle.w4_house.specs.World.{LeavesSaving};
+ghost use Rattle.w4_program.specs.Editors.{answers_by, recording_by};
 ghost use Rattle.w4_program.specs.Endings.{manner_of};
 ghost use Rattle.w4_program.specs.Output.{edit_answers, edited_recording};
 ghost use Rattle.w4_program.specs.Causes.{Carried, Carries, LeavesErr, Saved};
 ghost use Rattle.w4_program.specs.Views.{loaded_view};
 
-use crate::desk::new_desk;
+use crate::desk::{Desk, new_desk};
 use crate::load::{Loaded, Played};
 use crate::orders::answer_script;
 use crate::status::Status;
@@ -15,6 +16,7 @@ use std::alloc::Global;
 use std::marker::Brand;
 use std::sync::ledger::Blank;
 use std::thread::Threads;
+use w4_defs::Order;
 use w4_house::{House, WriteRefusal};
 use w4_record::write_recording;
 use w4_segments::Gate;
@@ -32,7 +34,28 @@ fn save<H: House>(alloc: Global, house: &mut H, name: &str, bytes: &[u8]) -> Res
     }
 }
 
-/// Answers all orders, and saves the recording left once the last of them is answered.
+/// Answers orders at a desk, and saves the recording left once the last of them is answered.
+fn answer_and_save<R: Threads + Sync, H: House, G: Gate + Sync>(
+    rt: &R,
+    alloc: Global,
+    house: &mut H,
+    desk: &mut Desk,
+    orders: &[Order],
+    name: &str,
+    gate: &G,
+) -> Result<(), Status>
+    ensures carried { Carried (H.world house.old) (H.world house.new) result
+        (answers_by desk.old.editor orders.now).out name.now
+        (encoding 2 (recording_by desk.old.editor orders.now)) }
+    ensures err { LeavesErr (H.world house.old) (H.world house.new) }
+{
+    let blank = Blank::new(1);
+    answer_script::<Brand, R, H, G>(rt, alloc, house, desk, orders, gate, blank)?;
+    let bytes = write_recording(alloc, desk.editor.recording())?;
+    save(alloc, house, name, bytes.as_slice())
+}
+
+/// Opens the recording, answers all orders, and saves the recording left.
 fn work<R: Threads + Sync, H: House, G: Gate + Sync>(
     rt: &R,
     alloc: Global,
@@ -50,11 +73,7 @@ fn work<R: Threads + Sync, H: House, G: Gate + Sync>(
     let Loaded { run, orders } = loaded;
     let Played { recording, font } = run;
     let mut desk = new_desk(alloc, cart, font, recording)?;
-    let blank = Blank::new(1);
-    let lines = orders.as_slice();
-    answer_script::<Brand, R, H, G>(rt, alloc, house, &mut desk, lines, gate, blank)?;
-    let bytes = write_recording(alloc, desk.editor.recording())?;
-    save(alloc, house, name, bytes.as_slice())
+    answer_and_save(rt, alloc, house, &mut desk, orders.as_slice(), name, gate)
 }
 
 /// The work of an edit whose files are right.

@@ -170,7 +170,7 @@ fn frames<H: House>(
 {
     let (from, to) = (places.from as usize, places.to as usize);
     match load_run_to(alloc, house, &file.digest, names, places.to) {
-        Ok(run) => write_run(alloc, house, &file.cart, run, PlaceText::Image, from, to),
+        Ok(run) => write_run(alloc, house, &file.cart, &run, PlaceText::Image, from, to),
         Err(status) => status,
     }
 }
@@ -192,7 +192,7 @@ fn texts<H: House>(
     match load_run(alloc, house, &file.digest, names) {
         Ok(run) => {
             let n = frame_count(&run);
-            write_run(alloc, house, &file.cart, run, wanted, 0, n)
+            write_run(alloc, house, &file.cart, &run, wanted, 0, n)
         }
         Err(status) => status,
     }
@@ -214,7 +214,7 @@ fn disk<H: House>(
 {
     let at = place as usize;
     match load_run_to(alloc, house, &file.digest, names, place) {
-        Ok(run) => write_run(alloc, house, &file.cart, run, PlaceText::DiskBytes, at, at),
+        Ok(run) => write_run(alloc, house, &file.cart, &run, PlaceText::DiskBytes, at, at),
         Err(status) => status,
     }
 }
@@ -245,15 +245,15 @@ fn write_run<H: House>(
     alloc: Global,
     house: &mut H,
     cart: &Cart,
-    run: Played,
+    run: &Played,
     wanted: PlaceText,
     from: usize,
     to: usize,
 ) -> Status
     requires order { from ≤ to }
-    requires place { to ≤ length run.recording.frames }
+    requires place { to ≤ length run.now.recording.frames }
     ensures prints { Prints (H.world house.old) (H.world house.new) (manner_of result)
-        (place_texts_from wanted cart.now (played_view run) from (to + 1 - from)) }
+        (place_texts_from wanted cart.now (played_view run.now) from (to + 1 - from)) }
     ensures rest { LeavesPrinting (H.world house.old) (H.world house.new) }
 {
     match try_write_run(alloc, house, cart, run, wanted, from, to) {
@@ -267,31 +267,25 @@ fn try_write_run<H: House>(
     alloc: Global,
     house: &mut H,
     cart: &Cart,
-    run: Played,
+    run: &Played,
     wanted: PlaceText,
     from: usize,
     to: usize,
 ) -> Result<(), Status>
     requires order { from ≤ to }
-    requires place { to ≤ length run.recording.frames }
+    requires place { to ≤ length run.now.recording.frames }
     ensures out { Printed (H.world house.old) (H.world house.new) result
-        (place_texts_from wanted cart.now (played_view run) from (to + 1 - from)) }
+        (place_texts_from wanted cart.now (played_view run.now) from (to + 1 - from)) }
     ensures rest { LeavesPrinting (H.world house.old) (H.world house.new) }
 {
     let mut stage = new_stage(alloc, cart)?;
-    let Played { recording, font } = run;
-    let Recording {
-        digest: _,
-        budget,
-        disk,
-        frames,
-    } = recording;
+    let recording = &run.recording;
     let scene = Scene {
         cart,
-        font: &font,
-        disk: disk.as_slice(),
-        budget,
+        font: &run.font,
+        disk: recording.disk.as_slice(),
+        budget: recording.budget,
     };
-    let inputs = frames.as_slice();
+    let inputs = recording.frames.as_slice();
     write_places(alloc, house, &mut stage, &scene, inputs, wanted, from, to)
 }

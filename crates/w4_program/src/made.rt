@@ -3,12 +3,13 @@
 ghost use Rattle.std.specs.Prelude.{◌≡◌, Ok, IfOk, replicate};
 ghost use Rattle.sha2.specs.Sha256.{sha256};
 ghost use Rattle.w4_defs.specs.Cart.{IsCart};
-ghost use Rattle.w4_defs.specs.Generator.{made_module};
+ghost use Rattle.w4_defs.specs.Generator.{made_budget, made_inputs, made_module};
 ghost use Rattle.w4_defs.specs.MadeSummary.{summary_text};
 ghost use Rattle.w4_house.specs.World.{LeavesPrinting};
 ghost use Rattle.w4_program.specs.Causes.{Ends, LeavesErr, Printed, ResultsIn};
 ghost use Rattle.w4_program.specs.Endings.{manner_of};
 ghost use Rattle.w4_program.specs.Output.{made_text, make_output};
+ghost use Rattle.wasm_write.specs.EncodeModule.{module_bytes};
 
 use crate::cart::{CartRefusal, accept};
 use crate::printing::print;
@@ -75,27 +76,35 @@ fn zero_font() -> Font
     }
 }
 
-/// The five lines of a made cart.
+/// The five lines of the cart that a number makes.
 fn made_lines(alloc: Global, number: u32) -> Result<Vec<u8>, OutOfMemory>
     ensures { IfOk result (λ text. text.items ≡ made_text number) }
 {
+    let made = Maker::make(alloc, number)?;
+    lines_of(alloc, number, &made)
+}
+
+/// The five lines of a made cart.
+fn lines_of(alloc: Global, number: u32, made: &Made) -> Result<Vec<u8>, OutOfMemory>
+    requires accepted { IsCart made.now.cart.items (made_module number) }
+    requires shortest { made.now.cart.items ≡ module_bytes (made_module number) }
+    requires budget { made.now.budget ≡ made_budget }
+    requires inputs { made.now.inputs.items ≡ made_inputs number }
+    ensures { IfOk result (λ text. text.items ≡ made_text number) }
+{
     generator_laws();
-    let Made {
-        cart: bytes,
-        budget,
-        inputs,
-    } = Maker::make(alloc, number)?;
-    let cart = accept_made(alloc, bytes.as_slice(), number)?;
+    let bytes = made.cart.as_slice();
+    let cart = accept_made(alloc, bytes, number)?;
     let font = zero_font();
     let mut stage = new_stage(alloc, &cart)?;
     let scene = Scene {
         cart: &cart,
         font: &font,
         disk: &[],
-        budget,
+        budget: made.budget,
     };
-    run_to(&mut stage, &scene, inputs.as_slice(), FRAMES);
-    summary_of(alloc, &mut stage, bytes.as_slice().len())
+    run_to(&mut stage, &scene, made.inputs.as_slice(), FRAMES);
+    summary_of(alloc, &mut stage, bytes.len())
 }
 
 /// The lines of the state that the stage has come to.

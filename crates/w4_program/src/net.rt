@@ -73,10 +73,8 @@ fn try_answer_log<H: House>(
     let NetLoaded { font, orders } = loaded;
     let CartFile { cart, digest } = file;
     let recording = Recording::new(digest, budget.units, Vec::new(alloc), Vec::new(alloc));
-    let mut image = Box::new(alloc, [0; IMAGE_LEN])?;
     let mut replica = Replica::new(alloc, cart, font, recording)?;
-    let lines = orders.as_slice();
-    answer_orders::<Brand, H>(alloc, house, &mut replica, &mut image, lines, Blank::new(1))
+    answer_orders::<Brand, H>(alloc, house, &mut replica, orders.as_slice(), Blank::new(1))
 }
 
 /// Answers all lines. The frames that are run for them have a count of their own.
@@ -84,7 +82,6 @@ fn answer_orders<L: Ledger, H: House>(
     alloc: Global,
     house: &mut H,
     replica: &mut Replica,
-    image: &mut [u8; IMAGE_LEN],
     orders: &[NetOrder],
     blank: Blank,
 ) -> Result<(), Status>
@@ -96,9 +93,10 @@ fn answer_orders<L: Ledger, H: House>(
         (net_answers (editing_setup replica.old.editor) (net_session replica.old) orders.now).out }
     ensures rest { LeavesPrinting (H.world house.old) (H.world house.new) }
 {
+    let mut image = Box::new(alloc, [0; IMAGE_LEN])?;
     let mut steps: Steps<L> = Steps::new(blank);
     for order in orders {
-        answer_order(alloc, house, replica, image, order, &mut steps)?;
+        answer_order(alloc, house, replica, &mut image, order, &mut steps)?;
     }
     Ok(())
 }

@@ -22,7 +22,6 @@ use crate::words::RunNames;
 use std::alloc::Global;
 use w4_defs::Input;
 use w4_house::House;
-use w4_record::Recording;
 use w4_wave::{FRAME_LEN, Wave, wav_header};
 
 /// `wave CART REC FONT`.
@@ -34,15 +33,15 @@ pub fn wave<H: House>(alloc: Global, house: &mut H, file: &CartFile, names: RunN
     ensures err { LeavesErr (H.world house.old) (H.world house.new) }
 {
     match load_run(alloc, house, &file.digest, names) {
-        Ok(run) => write_wave(alloc, house, file, run),
+        Ok(run) => write_wave(alloc, house, file, &run),
         Err(status) => status,
     }
 }
 
 /// The header and the samples of all places of a run.
-fn write_wave<H: House>(alloc: Global, house: &mut H, file: &CartFile, run: Played) -> Status
+fn write_wave<H: House>(alloc: Global, house: &mut H, file: &CartFile, run: &Played) -> Status
     ensures prints { Prints (H.world house.old) (H.world house.new) (manner_of result)
-        (wave_text file.now.cart (played_view run)) }
+        (wave_text file.now.cart (played_view run.now)) }
     ensures rest { LeavesPrinting (H.world house.old) (H.world house.new) }
 {
     match try_write_wave(alloc, house, file, run) {
@@ -56,27 +55,21 @@ fn try_write_wave<H: House>(
     alloc: Global,
     house: &mut H,
     file: &CartFile,
-    run: Played,
+    run: &Played,
 ) -> Result<(), Status>
     ensures out { Printed (H.world house.old) (H.world house.new) result
-        (wave_text file.now.cart (played_view run)) }
+        (wave_text file.now.cart (played_view run.now)) }
     ensures rest { LeavesPrinting (H.world house.old) (H.world house.new) }
 {
     let mut stage = new_stage(alloc, &file.cart)?;
-    let Played { recording, font } = run;
-    let Recording {
-        digest: _,
-        budget,
-        disk,
-        frames,
-    } = recording;
+    let recording = &run.recording;
     let scene = Scene {
         cart: &file.cart,
-        font: &font,
-        disk: disk.as_slice(),
-        budget,
+        font: &run.font,
+        disk: recording.disk.as_slice(),
+        budget: recording.budget,
     };
-    let inputs = frames.as_slice();
+    let inputs = recording.frames.as_slice();
     write_header(alloc, house, inputs.len() + 1)?;
     write_samples(alloc, house, &mut stage, &scene, inputs)
 }

@@ -1,7 +1,7 @@
-use Rattle.std.proofs.Common.{ap, drop, get_or}
+use Rattle.std.proofs.Common.{ap, drop, get_or, refl}
 use Rattle.std.proofs.lemmas.Result.{err_from_is_err_and}
 use Rattle.w4_editor.specs.Editing.{editing_setup}
-use Rattle.w4_house.proofs.WorldLaws.{printing_then}
+use Rattle.w4_house.proofs.WorldLaws.{front_none, printing_then}
 use Rattle.w4_program.specs.Answers.{Answered}
 use Rattle.w4_program.specs.Endings.{manner_of}
 use Rattle.w4_program.specs.NetSessions.{NetSession, net_answer, net_answers}
@@ -46,9 +46,20 @@ returns-clause-out g c =
     c.loop-order-test.false))
     c.loop-order.invariant.0
 
+pub returns-in_err-image-clause-out : goal.returns-in_err-image-clause-out
+returns-in_err-image-clause-out g c =
+    let p = err_from_is_err_and c.from_residual.result c.from_residual.ensures.1 in
+    let world = g.H.House.world c.args.house.now in
+    let first = c.args.replica.now in
+    rw (p.1, p.2)
+    (front_none world.out world.out
+    (net_answers (editing_setup first.editor) (net_session first) c.args.orders.now).out refl)
+
 pub returns-in_err-answer_order-clause-out : goal.returns-in_err-answer_order-clause-out
 returns-in_err-answer_order-clause-out g c =
-    let p = err_from_is_err_and c.from_residual.result c.from_residual.ensures.1 in
+    let p =
+    err_from_is_err_and c.from_residual-in_err-answer_order.result
+    c.from_residual-in_err-answer_order.ensures.1 in
     let first = c.args.replica.now in
     let now = c.loop-order.replica in
     let setup = editing_setup first.editor in

@@ -1,9 +1,7 @@
-use Rattle.std.proofs.Common.{List, ap, refl, sym, ◌∙◌}
-use Rattle.std.proofs.lemmas.Result.{err_from_is_err_and}
+use Rattle.std.proofs.Common.{List, ap, sym, ◌∙◌}
 use Rattle.w4_defs.specs.declared.netplay.NetOrder.{NetOrder}
 use Rattle.w4_defs.specs.KeptList.{state_at}
 use Rattle.w4_editor.specs.Editing.{editing_setup}
-use Rattle.w4_house.proofs.WorldLaws.{front_none}
 use Rattle.w4_program.specs.NetSessions.{net_answers}
 use Rattle.w4_program.specs.Replicas.{net_session}
 use Rattle.w4_program.specs.ToolOutputs.{net_text}
@@ -25,17 +23,9 @@ returns-clause-out g c =
     c.in_ok-replica.ensures.frames c.in_ok-replica.ensures.editor in
     printed_as c.answer_orders.result (g.H.House.world c.args.house.now)
     (g.H.House.world c.answer_orders.new.house)
-    (net_answers (editing_setup r.editor) (net_session r) c.as_slice-lines.result.now).out
+    (net_answers (editing_setup r.editor) (net_session r) c.as_slice.result.now).out
     (net_text c.args.file.cart c.args.budget.units (net_loaded_view c.args.loaded))
     ((λ i. (net_answers (sym first.0 i) (sym first.1 i) c.args.loaded.orders.items).out)
     ∙ ap (λ (orders : List NetOrder). (net_answers (editing_setup r.editor) (net_session r) orders).out)
-    (sym c.as_slice-lines.ensures.value))
+    (sym c.as_slice.ensures.value))
     c.answer_orders.ensures.out
-
-pub returns-in_err-image-clause-out : goal.returns-in_err-image-clause-out
-returns-in_err-image-clause-out g c =
-    let p = err_from_is_err_and c.from_residual.result c.from_residual.ensures.1 in
-    let world = g.H.House.world c.args.house.now in
-    rw (p.1, p.2)
-    (front_none world.out world.out
-    (net_text c.args.file.cart c.args.budget.units (net_loaded_view c.args.loaded)) refl)

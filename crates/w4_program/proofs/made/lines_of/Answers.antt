@@ -2,13 +2,13 @@ use Rattle.std.proofs.Common.{ℕ, List, length, ◌∙◌, ap, arith}
 use Rattle.w4_program.specs.Scenes.{stage_moment}
 use Rattle.w4_program.proofs.AnswerLaws.{if_ok_map}
 use Rattle.w4_program.proofs.SummaryLaws.{summary_is}
-use Rattle.w4_program.proofs.made.made_lines.Goals as goal
+use Rattle.w4_program.proofs.made.lines_of.Goals as goal
 
 pub run_to-requires-clause-place : goal.run_to-requires-clause-place
 run_to-requires-clause-place c =
     rw (
-      c.as_slice-2.ensures.value,
-      c.in_ok-bytes.ensures.inputs,
+      c.as_slice.ensures.value,
+      c.requires.inputs,
       c.generator_laws.ensures.inputs c.args.number,
     )
     (omega arith)
@@ -16,10 +16,10 @@ run_to-requires-clause-place c =
 pub returns : goal.returns
 returns c =
     let moment = stage_moment c.run_to.new.stage in
-    let told = summary_is c.args.number c.in_ok-cart.cart c.zero_font-font.result c.in_ok-bytes.field-0.budget
-    c.as_slice-2.result.now c.in_ok-bytes.field-0.cart.items (length c.as_slice-3.result.now) moment
+    let told = summary_is c.args.number c.in_ok-cart.cart c.zero_font-font.result c.args.made.now.budget
+    c.as_slice.result.now c.args.made.now.cart.items (length c.as_slice-bytes.result.now) moment
     c.in_ok-cart.ensures
-    c.zero_font-font.ensures c.in_ok-bytes.ensures.budget
-    (c.as_slice-2.ensures.value ∙ c.in_ok-bytes.ensures.inputs) c.in_ok-bytes.ensures.shortest
-    (ap (λ (items : List ℕ). length items) c.as_slice-3.ensures.value) c.run_to.ensures.0 in
+    c.zero_font-font.ensures c.requires.budget
+    (c.as_slice.ensures.value ∙ c.requires.inputs) c.requires.shortest
+    (ap (λ (items : List ℕ). length items) c.as_slice-bytes.ensures.value) c.run_to.ensures.0 in
     if_ok_map c.summary_of.result (λ text h. h ∙ told) c.summary_of.ensures

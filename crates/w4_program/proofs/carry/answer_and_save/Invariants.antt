@@ -1,4 +1,4 @@
-use Rattle.w4_program.proofs.carry.work.Given as goal
+use Rattle.w4_program.proofs.carry.answer_and_save.Given as goal
 
 -- a ledger of its own, since nothing counts these frames
 abbrev pub ghosts-answer_script : goal.ghosts-answer_script
