@@ -18,6 +18,3 @@ mod windows;
 pub use blit::blit_sub;
 pub use font::{Font, FontLength};
 pub use texts::text;
-
-#[cfg(test)]
-mod tests;

@@ -7,6 +7,3 @@ pub mod state;
 
 pub use registers::{draw_colors, palette, put_input, system_flags};
 pub use state::State;
-
-#[cfg(test)]
-mod tests;

@@ -11,6 +11,3 @@ mod steps;
 pub use boxes::{hline, rect, vline};
 pub use lines::line;
 pub use ovals::oval;
-
-#[cfg(test)]
-mod tests;

@@ -10,6 +10,3 @@ mod voice;
 
 pub use channels::Channels;
 pub use decoding::decode;
-
-#[cfg(test)]
-mod tests;

@@ -2,8 +2,8 @@
 
 ghost use Rattle.std.specs.Prelude.{◌<◌};
 
-use crate::{Font, FontLength, blit_sub, text};
 use std::boxed::Box;
+use w4_blit::{Font, FontLength, blit_sub, text};
 use w4_defs::{PageBytes, TextSource};
 
 /// Writes bytes into the page.

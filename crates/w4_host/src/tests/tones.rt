@@ -2,9 +2,9 @@
 
 ghost use Rattle.std.specs.Prelude.{◌<◌};
 
-use crate::{Channels, decode};
 use std::process::Abort;
 use w4_defs::{Sound, Tone};
+use w4_tone::{Channels, decode};
 
 /// What a channel sounds at a tick, some frames after a tone began.
 fn heard(tone: [u32; 4], frames: u32, tick: u32) -> Option<Sound> {

@@ -1,10 +1,10 @@
 //! What no clause says: that the clauses mean the bytes of the memory map.
 
-use crate::{State, draw_colors, palette, put_input, system_flags};
+use std::boxed::Box;
 use std::test::Fail;
 use w4_defs::{Halt, Input, Val};
+use w4_map::{State, draw_colors, palette, put_input, system_flags};
 use w4_tone::Channels;
-use wasm_page::Page;
 
 const INPUT: Input = Input {
     pads: [1, 2, 16, 128],
@@ -16,9 +16,7 @@ const INPUT: Input = Input {
 
 #[test]
 fn registers_stand_in_their_bytes(rt: HostRuntime) -> Result<(), Fail> {
-    let mut page = Page::new(rt.alloc())?;
-    let page = page.bytes_mut();
-    page.fill(0xaa);
+    let page = &mut Box::new(rt.alloc(), [0xaa; 65536])?;
     put_input(page, &INPUT);
     let want = [0xaa, 1, 2, 16, 128, 0xff, 0xff, 0x00, 0x80, 5, 0xaa];
     assert_eq!(rt; page[0x15..0x20], want[..]);

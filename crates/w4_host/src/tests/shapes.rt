@@ -1,9 +1,9 @@
 //! What no clause says: that the clauses mean the worked pictures, and that a line has the points of the
 //! WASM-4 runtime's loop.
 
-use crate::{hline, line, oval, rect, vline};
 use std::boxed::Box;
 use w4_defs::PageBytes;
+use w4_shapes::{hline, line, oval, rect, vline};
 
 /// Rows of the screen from the first up to the end: their first two bytes, and each of the other 38.
 type Rows = (usize, usize, [u8; 3]);
