@@ -13,8 +13,6 @@ pub mod player;
 pub mod playing;
 pub mod settling;
 pub mod showing;
-#[cfg(test)]
-mod tests;
 
 pub use editor::Editor;
 pub use w4_defs::EditRefusal;

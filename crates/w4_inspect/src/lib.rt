@@ -9,8 +9,6 @@ pub mod query;
 pub mod refusal;
 pub mod search;
 pub mod searching;
-#[cfg(test)]
-mod tests;
 mod values;
 pub mod watching;
 

@@ -9,8 +9,6 @@ mod pads;
 pub mod refusal;
 pub mod replica;
 mod rollback;
-#[cfg(test)]
-mod tests;
 
 pub use net_order::read_log;
 pub use refusal::NetRefusal;

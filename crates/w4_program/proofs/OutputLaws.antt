@@ -6,16 +6,17 @@ use Rattle.w4_defs.specs.declared.refusal.CartKind.TheVariants.{TooLarge, Malfor
 use Rattle.w4_defs.specs.declared.refusal.ProfileRefusal.{ProfileRefusal}
 use Rattle.w4_defs.specs.Module.{WasmModule}
 use Rattle.w4_defs.specs.Profile.{profile_refusal}
-use Rattle.w4_defs.specs.Validity.{IsFirstUntyped, IsValid}
-use Rattle.w4_defs.specs.Cart.{IsInvalid, IsCart, IsRefused}
+use Rattle.w4_defs.specs.Validity.{IsFirstUntyped}
+use Rattle.w4_defs.specs.Cart.{IsInvalid, IsRefused}
 use Rattle.wasm_read.specs.Unique.{AtMostOneModule}
 use Rattle.w4_house.specs.World.{Files}
-use Rattle.w4_program.specs.declared.status.Status.{Status}
-use Rattle.w4_program.specs.declared.status.Status.TheVariants.{Done, Usage, ReadFault, WriteFault, OutOfMemory, CartRefused, RecordingRefused, FontRefused, ScriptRefused, FrameRefused, ListRefused}
-use Rattle.w4_program.specs.Forms.{Form, Check, Blank, Frames, Tones, Trace, Disk, Edit, Make, Net, Ram, Wave, Batch, form_of}
-use Rattle.w4_program.specs.Output.{CartFile, Output, ◌>>=◌, JudgedCart}
-use Rattle.w4_program.specs.Outputs.{OutputsAlone, OverFile, OutputsForm, cart_word, output_of}
+use Rattle.w4_commands.specs.declared.status.Status.{Status}
+use Rattle.w4_commands.specs.declared.status.Status.TheVariants.{Done, Usage, ReadFault, WriteFault, OutOfMemory, CartRefused, RecordingRefused, FontRefused, ScriptRefused, FrameRefused, ListRefused}
+use Rattle.w4_commands.specs.Forms.{Form, Check, Blank, Frames, Tones, Trace, Disk, Edit, Make, Net, Ram, Wave, Batch, form_of}
+use Rattle.w4_commands.specs.Output.{CartFile, Output, ◌>>=◌, JudgedCart}
+use Rattle.w4_commands.specs.Outputs.{OutputsAlone, OverFile, OutputsForm, cart_word, output_of}
 use Rattle.w4_program.specs.OneOutput.{AtMostOneOutput}
+use Rattle.w4_commands.proofs.CartLaws.{never_both, no_profile}
 
 -- the first function without a typing is one
 first_ordered : (m : WasmModule) (f g : ℕ) → IsFirstUntyped m f → IsFirstUntyped m g
@@ -31,27 +32,9 @@ invalid_once m (Some f) None one other = absurd (other one.0)
 invalid_once m (Some f) (Some g) one other =
     ap (λ (k : ℕ). Some k) (first_ordered m f g one.1 other.1 (cases_order f g))
 
-no_invalid : (m : WasmModule) (f : Option ℕ) → IsValid m → IsInvalid m f → ⊥
-no_invalid m None valid invalid = invalid valid.0
-no_invalid m (Some f) valid invalid = invalid.1.2 (valid.1 f invalid.1.0)
-
 profile_once : (found : Option ProfileRefusal) (r s : ProfileRefusal) → found ≡ Some r → found ≡ Some s
     → r ≡ s
 profile_once found r s one other = cc
-
-no_profile : (found : Option ProfileRefusal) (r : ProfileRefusal) → found ≡ None → found ≡ Some r → ⊥
-no_profile found r none some = cc
-
--- no bytes are both
-pub never_both : AtMostOneModule → (bytes : List ℕ) (m : WasmModule) (kind : CartKind) → IsCart bytes m
-    → IsRefused bytes kind → ⊥
-never_both unique bytes m TooLarge cart refused = let short = cart.0 in omega arith
-never_both unique bytes m Malformed cart refused = refused.1 m cart.1
-never_both unique bytes m (Profile r) cart (short, n, spelled, some) =
-    no_profile (profile_refusal n) r
-    (subst (λ x. profile_refusal x ≡ None) (unique bytes m n cart.1 spelled) cart.2) some
-never_both unique bytes m (Invalid f) cart (short, n, spelled, none, invalid) =
-    no_invalid n f (subst (λ x. IsValid x) (unique bytes m n cart.1 spelled) cart.3) invalid
 
 refused_once : AtMostOneModule → (bytes : List ℕ) (k l : CartKind) → IsRefused bytes k → IsRefused bytes l
     → k ≡ l

@@ -3,14 +3,14 @@ use Rattle.std.proofs.Common.{◌≡◌, ℕ, ◌⊎◌, inl, inr, List, Some, O
 use Rattle.std.specs.Option.{ForSome}
 use Rattle.w4_defs.specs.declared.refusal.CartKind.{CartKind}
 use Rattle.w4_house.specs.World.{Files, World, Rises, Appends}
-use Rattle.w4_program.specs.declared.status.RecordingKind.{RecordingKind}
-use Rattle.w4_program.specs.declared.status.ScriptKind.{ScriptKind}
-use Rattle.w4_program.specs.declared.status.Status.{Status}
-use Rattle.w4_program.specs.declared.status.Status.TheVariants as status
-use Rattle.w4_program.specs.Endings.{manner_of}
-use Rattle.w4_program.specs.Output.{Output}
-use Rattle.w4_program.specs.Causes.{ReadFails, StepRefuses, LeavesOutputs, WritesPart, IsExact, ChangesNothing, Reports, LeavesErr}
-use Rattle.w4_program.proofs.EndLaws.{EndsBut}
+use Rattle.w4_commands.specs.declared.status.RecordingKind.{RecordingKind}
+use Rattle.w4_commands.specs.declared.status.ScriptKind.{ScriptKind}
+use Rattle.w4_commands.specs.declared.status.Status.{Status}
+use Rattle.w4_commands.specs.declared.status.Status.TheVariants as status
+use Rattle.w4_commands.specs.Endings.{manner_of}
+use Rattle.w4_commands.specs.Output.{Output}
+use Rattle.w4_commands.specs.Causes.{ReadFails, StepRefuses, LeavesOutputs, WritesPart, IsExact, ChangesNothing, Reports, LeavesErr}
+use Rattle.w4_program.proofs.ReportLaws.{EndsBut}
 
 pub appends_when_done : (old new : World) (result : Status) (step : Files → Result Output Status → Type 0)
     (Means : Files → Type 0)

@@ -5,9 +5,9 @@ use Rattle.w4_defs.specs.Generator.{made_module}
 use Rattle.w4_defs.specs.Reading.{◌>>=◌}
 use Rattle.w4_console.specs.Meaning.{RunsHaveMeaning}
 use Rattle.w4_house.specs.World.{Files}
-use Rattle.w4_program.specs.Forms.{Form, Make, form_of}
-use Rattle.w4_program.specs.Output.{CartFile, CartIn}
-use Rattle.w4_program.specs.Outputs.{cart_word}
+use Rattle.w4_commands.specs.Forms.{Form, Make, form_of}
+use Rattle.w4_commands.specs.Output.{CartFile, CartIn}
+use Rattle.w4_commands.specs.Outputs.{cart_word}
 
 -- the number that a cart is made of, where the form is `make`
 abbrev pub made_number : Form → Option ℕ

@@ -2,9 +2,9 @@
 -- refused for one cause, and never both.
 use Rattle.std.specs.Prelude.{◌≡◌, ℕ, List, Result}
 use Rattle.w4_house.specs.World.{Files}
-use Rattle.w4_program.specs.declared.status.Status.{Status}
-use Rattle.w4_program.specs.Output.{Output}
-use Rattle.w4_program.specs.Outputs.{Outputs}
+use Rattle.w4_commands.specs.declared.status.Status.{Status}
+use Rattle.w4_commands.specs.Output.{Output}
+use Rattle.w4_commands.specs.Outputs.{Outputs}
 
 abbrev pub AtMostOneOutput : Type 0
 AtMostOneOutput = (words : List (List ℕ)) (files : Files) (made other : Result Output Status)

@@ -1,52 +1,19 @@
 //! `w4`: the WASM-4 console without a window, run on recordings that a script edits.
 //!
 //! `w4_run` does all that the program does, over a house that stands for files and streams; `main` hands it
-//! the system's. What it makes of words and files is said by the definitions of `specs/`.
+//! the system's. What it makes of words and files is said by the definitions of `w4_commands`.
 #![tactic(auto)]
 
-mod asking;
-mod budget;
-mod by_workers;
-mod carry;
-mod cart;
-mod change;
-mod commands;
-mod desk;
-mod keep_every;
-mod line;
-mod load;
-mod load_tools;
-mod made;
-mod net;
-mod orders;
-mod place_text;
-mod places;
-mod printing;
-mod ram;
-mod refusal;
-mod rolling;
-mod rows;
 mod run;
-mod scene;
-mod sound;
-mod stage;
-mod state_answer;
-mod state_line;
-mod status;
-mod summary;
-mod telling;
 #[cfg(test)]
 mod tests;
-mod text;
-mod words;
-mod workers;
 
 use crate::run::{report, w4_run};
-use crate::status::{Status, number};
 use std::io::ErrorKind;
 use std::process::ExitCode;
 use std::rt::Env;
 use std::{env, io};
+use w4_commands::{Status, number};
 use w4_house::RealHouse;
 
 /// The arguments after the program's name.

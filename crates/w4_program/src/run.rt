@@ -14,16 +14,16 @@ ghost use Rattle.std.specs.Prelude.{
 ghost use Rattle.std.specs.Option.{ForSome};
 ghost use Rattle.w4_defs.specs.declared.refusal.CartKind.{CartKind};
 ghost use Rattle.w4_house.specs.World.{Rises, Appends, AppendsFront, LeavesReporting};
-ghost use Rattle.w4_program.specs.Lines.{status_line};
-ghost use Rattle.w4_program.specs.Forms.{form_of};
-ghost use Rattle.w4_program.specs.declared.status.RecordingKind.{RecordingKind};
-ghost use Rattle.w4_program.specs.declared.status.ScriptKind.{ScriptKind};
-ghost use Rattle.w4_program.specs.Endings.{manner_of};
-ghost use Rattle.w4_program.specs.Output.{Output};
-ghost use Rattle.w4_program.specs.Outputs.{Outputs};
+ghost use Rattle.w4_commands.specs.Lines.{status_line};
+ghost use Rattle.w4_commands.specs.Forms.{form_of};
+ghost use Rattle.w4_commands.specs.declared.status.RecordingKind.{RecordingKind};
+ghost use Rattle.w4_commands.specs.declared.status.ScriptKind.{ScriptKind};
+ghost use Rattle.w4_commands.specs.Endings.{manner_of};
+ghost use Rattle.w4_commands.specs.Output.{Output};
+ghost use Rattle.w4_commands.specs.Outputs.{Outputs};
 ghost use Rattle.w4_program.specs.OneOutput.{AtMostOneOutput};
 ghost use Rattle.w4_program.specs.CartRuns.{CartRunsHaveMeaning};
-ghost use Rattle.w4_program.specs.Causes.{
+ghost use Rattle.w4_commands.specs.Causes.{
   ReadFails,
   Ends,
   IsCutShort,
@@ -35,12 +35,10 @@ ghost use Rattle.w4_program.specs.Causes.{
   LeavesErr,
 };
 
-use crate::commands::run_form;
-use crate::line::line;
-use crate::status::Status;
-use crate::words::form_of_words;
 use std::alloc::Global;
 use std::thread::Threads;
+use w4_commands::line::line;
+use w4_commands::{Status, form_of_words, run_form};
 use w4_console::laws::accepted_runs_have_meaning;
 use w4_house::{House, WriteRefusal};
 use w4_segments::{Gate, OpenGate};

@@ -12,8 +12,6 @@ mod playing;
 pub mod refusal;
 mod rounds;
 pub mod settling;
-#[cfg(test)]
-mod tests;
 mod worker;
 
 pub use batching::batch;

@@ -3,7 +3,7 @@
 ghost use Rattle.std.specs.Prelude.{◌≡◌, ◌<◌, IfOk};
 ghost use Rattle.w4_defs.specs.State.{HasGlobals};
 
-use crate::cart::accept;
+use super::carts::{cart, font};
 use std::alloc::Global;
 use std::marker::Brand;
 use std::sync::ledger::{Blank, Ledger};
@@ -30,11 +30,6 @@ const LOADING: [u8; 67] = [
     0x12, 0x01, 0x10, 0x00, 0x41, 0xff, 0xff, 0x03, 0x41, 0x16, 0x2d, 0x00, 0x00, 0x6a, 0x2d, 0x00,
     0x00, 0x1a, 0x0b,
 ];
-
-fn cart(alloc: Global, bytes: &[u8]) -> Result<Cart, Fail> {
-    let cart = accept(alloc, bytes).map_err(|_| "no cart")?;
-    Ok(cart)
-}
 
 /// A console after the reset of a cart, with a byte on its disk.
 fn started(alloc: Global, cart: &Cart, font: &Font) -> Result<Console, Fail>
@@ -97,7 +92,7 @@ fn ends(console: &Console) -> PageEnds {
 /// pad 1 is 1, 2 and 3.
 fn ends_of_a_trap(alloc: Global) -> Result<[PageEnds; 4], Fail> {
     let cart = cart(alloc, &STORING)?;
-    let font = Font::new(&[0; 1792]).map_err(|_| "no font")?;
+    let font = font()?;
     let mut console = started(alloc, &cart, &font)?;
     let start = ends(&console);
     play(&mut console, &cart, &font, pad(1, false));
@@ -123,7 +118,7 @@ fn a_store_past_the_page_stores_nothing(rt: HostRuntime) -> Result<(), Fail> {
 /// frame traps. The second input may have a reset.
 fn halts(alloc: Global, reset: bool) -> Result<([Halt; 3], usize), Fail> {
     let cart = cart(alloc, &LOADING)?;
-    let font = Font::new(&[0; 1792]).map_err(|_| "no font")?;
+    let font = font()?;
     let mut console = started(alloc, &cart, &font)?;
     play(&mut console, &cart, &font, pad(1, false));
     let first = console.state().halt;

@@ -2,11 +2,11 @@
 
 use super::houses::{EDITED, edit, house_without_script};
 use crate::run::w4_run;
-use crate::status::Status;
 use std::alloc::Global;
 use std::process::Abort;
 use std::test::Fail;
 use std::thread::Threads;
+use w4_commands::Status;
 use w4_defs::OutOfMemory;
 
 /// Edits, an undo too many, and what they print after two images.

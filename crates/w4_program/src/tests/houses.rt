@@ -1,23 +1,16 @@
 //! Edits over houses in memory.
 
+use super::carts::PAINTING;
 use crate::run::w4_run;
-use crate::status::{RecordingKind, Status};
 use std::alloc::Global;
 use std::process::Abort;
 use std::test::Fail;
 use std::thread::Threads;
+use w4_commands::{RecordingKind, Status};
 use w4_defs::OutOfMemory;
 use w4_house::{MemoryHouse, SureHouse};
 
-/// It stores pad 1 into the first byte of the framebuffer.
-const CART: [u8; 64] = [
-    0x00, 0x61, 0x73, 0x6d, 0x01, 0x00, 0x00, 0x00, 0x01, 0x04, 0x01, 0x60, 0x00, 0x00, 0x02, 0x0f,
-    0x01, 0x03, 0x65, 0x6e, 0x76, 0x06, 0x6d, 0x65, 0x6d, 0x6f, 0x72, 0x79, 0x02, 0x00, 0x01, 0x03,
-    0x02, 0x01, 0x00, 0x07, 0x0a, 0x01, 0x06, 0x75, 0x70, 0x64, 0x61, 0x74, 0x65, 0x00, 0x00, 0x0a,
-    0x0f, 0x01, 0x0d, 0x00, 0x41, 0xa0, 0x01, 0x41, 0x16, 0x2d, 0x00, 0x00, 0x3a, 0x00, 0x00, 0x0b,
-];
-
-/// Two frames of zeros with a budget of 100,000, of this cart, in version 1.
+/// Two frames of zeros with a budget of 100,000, of the cart that stores pad 1, in version 1.
 const RECORDING: [u8; 65] = [
     0x57, 0x34, 0x52, 0x43, 0x01, 0xcd, 0xfa, 0xdf, 0x8a, 0xd2, 0x7d, 0x9c, 0xb2, 0xa2, 0x3a, 0xe7,
     0xa6, 0x84, 0x74, 0xdd, 0x63, 0x34, 0x52, 0xaa, 0xa1, 0x6a, 0xac, 0xdd, 0x25, 0x92, 0x7c, 0x00,
@@ -49,7 +42,7 @@ pub(super) fn edit(alloc: Global) -> Result<Vec<String>, OutOfMemory> {
 #[test]
 fn an_edit_is_done_where_no_call_fails(rt: HostRuntime) -> Result<(), Fail> {
     let mut house = SureHouse::new(rt.alloc());
-    house.put_file("c", &CART)?;
+    house.put_file("c", &PAINTING)?;
     house.put_file("r", &RECORDING)?;
     house.put_file("f", &[0; 1792])?;
     house.put_file("s", SCRIPT.as_bytes())?;
@@ -67,7 +60,7 @@ fn house_with_another_recording(alloc: Global) -> Result<MemoryHouse, OutOfMemor
     let mut house = MemoryHouse::new(alloc);
     let mut recording = RECORDING;
     recording[5] = 0xce;
-    house.put_file("c", &CART)?;
+    house.put_file("c", &PAINTING)?;
     house.put_file("r", &recording)?;
     Ok(house)
 }
@@ -92,7 +85,7 @@ fn a_refusal_stays_where_its_line_is_not_written(rt: HostRuntime) -> Result<(), 
 /// A house with the files of the edit but its script.
 pub(super) fn house_without_script(alloc: Global) -> Result<MemoryHouse, OutOfMemory> {
     let mut house = MemoryHouse::new(alloc);
-    house.put_file("c", &CART)?;
+    house.put_file("c", &PAINTING)?;
     house.put_file("r", &RECORDING)?;
     house.put_file("f", &[0; 1792])?;
     Ok(house)

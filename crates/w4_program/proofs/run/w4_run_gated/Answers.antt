@@ -1,15 +1,15 @@
 -- Each clause is what its status says, over the worlds before the words are obeyed and after the report.
 use Rattle.std.proofs.Common.{◌≡◌, map, ◌∙◌, None, Result, string_bytes}
 use Rattle.w4_house.specs.World.{Files}
-use Rattle.w4_program.specs.declared.status.Status.TheVariants as status
-use Rattle.w4_program.specs.Lines.{status_line}
-use Rattle.w4_program.specs.declared.status.Status.{Status}
-use Rattle.w4_program.specs.Forms.{form_of}
-use Rattle.w4_program.specs.Output.{Output}
-use Rattle.w4_program.specs.Outputs.{Outputs}
+use Rattle.w4_commands.specs.declared.status.Status.TheVariants as status
+use Rattle.w4_commands.specs.Lines.{status_line}
+use Rattle.w4_commands.specs.declared.status.Status.{Status}
+use Rattle.w4_commands.specs.Forms.{form_of}
+use Rattle.w4_commands.specs.Output.{Output}
+use Rattle.w4_commands.specs.Outputs.{Outputs}
 use Rattle.w4_program.specs.CartRuns.{CartRunsHaveMeaning}
-use Rattle.w4_program.proofs.CartLaws.{cart_runs}
-use Rattle.w4_program.proofs.EndLaws.{cut_short, ends_reported}
+use Rattle.w4_program.proofs.CartRunLaws.{cart_runs}
+use Rattle.w4_program.proofs.ReportLaws.{cut_short, ends_reported}
 use Rattle.w4_program.proofs.StatusLaws as laws
 use Rattle.w4_program.proofs.run.w4_run_gated.Goals as goal
 

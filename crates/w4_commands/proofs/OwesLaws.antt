@@ -1,0 +1,92 @@
+-- Bytes that are written piece after piece, and what has been written where one of them stopped.
+use Rattle.std.proofs.Common.{◌≡◌, ◌≤◌, ℕ, List, [], ◌++◌, refl, sym, ap, subst, ◌∙◌, append_assoc}
+use Rattle.std.proofs.lemmas.List.{append-nil}
+use Rattle.w4_house.specs.World.{World, Appends, AppendsFront}
+use Rattle.w4_house.proofs.WorldLaws.{appends_then, appends_then_front, front_none, front_of_more, rises_later}
+use Rattle.w4_commands.specs.Endings.{Manner, AllWritten, NoCommand, ReadFailed, WriteFailed, MemoryRefused, Refused}
+use Rattle.w4_commands.specs.Causes.{StopsWriting}
+
+-- what has been written since, and what is still owed, make the whole
+abbrev pub Owes : World → World → List ℕ → List ℕ → Type 0
+Owes first now owed whole =
+    (written : List ℕ) × Appends first.out now.out written × (written ++ owed ≡ whole)
+
+pub owes_less : (first now next : World) (some owed whole : List ℕ) → Appends now.out next.out some
+    → Owes first now (some ++ owed) whole → Owes first next owed whole
+owes_less first now next some owed whole more (written, so_far, e) = (
+  written ++ some,
+  appends_then first.out now.out next.out written some so_far more,
+  append_assoc written some owed ∙ e,
+)
+
+pub owes_nothing : (first now : World) (owed whole : List ℕ) → owed ≡ [] → Owes first now owed whole
+    → Appends first.out now.out whole
+owes_nothing first now owed whole none (written, so_far, e) =
+    subst (λ bytes. Appends first.out now.out bytes)
+    (sym (append-nil written) ∙ ap (λ (bytes : List ℕ). written ++ bytes) (sym none) ∙ e) so_far
+
+pub owes_after : (first now : World) (some owed whole : List ℕ) → Appends first.out now.out some
+    → some ++ owed ≡ whole → Owes first now owed whole
+owes_after first now some owed whole written e = (some, written, e)
+
+-- ---- where a piece stopped
+
+owes_front : (first now next : World) (owed whole : List ℕ) → Owes first now owed whole
+    → AppendsFront now.out next.out owed → AppendsFront first.out next.out whole
+owes_front first now next owed whole (written, so_far, e) front =
+    subst (λ bytes. AppendsFront first.out next.out bytes) e
+    (appends_then_front first.out now.out next.out written owed so_far front)
+
+-- what was written so far is one
+pub owes_begun : (first now : World) (owed whole : List ℕ) → Owes first now owed whole
+    → AppendsFront first.out now.out whole
+owes_begun first now owed whole so_far =
+    owes_front first now now owed whole so_far (front_none now.out now.out owed refl)
+
+-- a first part of what is owed, after what was written, is a first part of the whole
+pub owes_stopped : (first now next : World) (why : Manner) (owed whole : List ℕ)
+    → first.write_faults ≤ now.write_faults → Owes first now owed whole → StopsWriting now next why owed
+    → StopsWriting first next why whole
+owes_stopped first now next AllWritten owed whole le so_far h = h
+owes_stopped first now next NoCommand owed whole le so_far h = h
+owes_stopped first now next ReadFailed owed whole le so_far h = h
+owes_stopped first now next WriteFailed owed whole le so_far h = (
+  rises_later first.write_faults now.write_faults next.write_faults le h.0,
+  owes_front first now next owed whole so_far h.1,
+)
+owes_stopped first now next MemoryRefused owed whole le so_far h =
+    owes_front first now next owed whole so_far h
+owes_stopped first now next (Refused refusal) owed whole le so_far h = h
+
+-- a first part of the first piece is one of all
+pub stops_more : (old new : World) (why : Manner) (some more : List ℕ) → StopsWriting old new why some
+    → StopsWriting old new why (some ++ more)
+stops_more old new AllWritten some more h = h
+stops_more old new NoCommand some more h = h
+stops_more old new ReadFailed some more h = h
+stops_more old new WriteFailed some more h = (h.0, front_of_more old.out new.out some more h.1)
+stops_more old new MemoryRefused some more h = front_of_more old.out new.out some more h
+stops_more old new (Refused refusal) some more h = h
+
+-- the piece that stopped is the first of those that are owed
+pub piece_stopped : (first now next : World) (why : Manner) (piece rest owed whole : List ℕ)
+    → owed ≡ piece ++ rest → first.write_faults ≤ now.write_faults → Owes first now owed whole
+    → StopsWriting now next why piece → StopsWriting first next why whole
+piece_stopped first now next why piece rest owed whole e le so_far h =
+    owes_stopped first now next why owed whole le so_far
+    (subst (λ bytes. StopsWriting now next why bytes) (sym e) (stops_more now next why piece rest h))
+
+-- nothing is a first part of any bytes
+pub stops_untold : (old new : World) (why : Manner) (bytes other : List ℕ) → new.out ≡ old.out
+    → StopsWriting old new why bytes → StopsWriting old new why other
+stops_untold old new AllWritten bytes other same h = h
+stops_untold old new NoCommand bytes other same h = h
+stops_untold old new ReadFailed bytes other same h = h
+stops_untold old new WriteFailed bytes other same h = (h.0, front_none old.out new.out other same)
+stops_untold old new MemoryRefused bytes other same h = front_none old.out new.out other same
+stops_untold old new (Refused refusal) bytes other same h = h
+
+-- the same bytes in other words
+pub stops_as : (old new : World) (why : Manner) (bytes other : List ℕ) → other ≡ bytes
+    → StopsWriting old new why bytes → StopsWriting old new why other
+stops_as old new why bytes other e h = subst (λ xs. StopsWriting old new why xs) (sym e) h

@@ -1,0 +1,222 @@
+-- Lines of a query: the pages of the definitions and those of the calls, places that aren't there, and what
+-- is told of them.
+use Rattle.std.proofs.Common.{◌≡◌, ◌≢◌, ◌⊎◌, ℕ, ◌+◌, ◌-◌, ◌<◌, ◌≤◌, inl, inr, true, false, Bool, List, [], ◌∷◌, map, length, Option, Some, None, refl, sym, ap, subst}
+use Rattle.std.specs.Prelude.{Result, Ok, Err, OnOk, codes, nat_lt, if◌then◌else◌}
+use Rattle.std.specs.List.{range_with_len}
+use Rattle.std.proofs.lemmas.Bool.{le-leb, lt-leb, ltb-true, ltb-false}
+use Rattle.w4_defs.specs.declared.inspect.Ask.{Ask}
+use Rattle.w4_defs.specs.declared.inspect.Ask.TheVariants.{Watch}
+use Rattle.w4_defs.specs.declared.inspect.Test.{Test}
+use Rattle.w4_defs.specs.Bytes.{number_at}
+use Rattle.w4_defs.specs.FrameTexts.{numbered}
+use Rattle.w4_defs.specs.Run.{run}
+use Rattle.w4_defs.specs.Search.{Search, begin, narrow}
+use Rattle.w4_defs.specs.State.{Moment}
+use Rattle.w4_editor.specs.Editing.{Editing, editing_setup}
+use Rattle.w4_house.specs.World.{World, Appends}
+use Rattle.w4_inspect.specs.Pages as inspect
+use Rattle.w4_inspect.specs.Refusals.{IsRefusal, no_frame_refusal, watch_refusal}
+use Rattle.w4_inspect.specs.Watching.{watched}
+use Rattle.w4_inspect.specs.declared.refusal.RamRefusal.{RamRefusal}
+use Rattle.w4_inspect.specs.declared.refusal.RamRefusal.TheVariants.{NoFrame, Outside, OutOfMemory as MemoryRefused}
+use Rattle.w4_commands.specs.Answering.{no_frame}
+use Rattle.w4_commands.specs.Answers.{Answered, answer_text}
+use Rattle.w4_commands.specs.Causes.{Printed, StopsWriting, WritesNothing}
+use Rattle.w4_commands.specs.Editors.{OnlyShows}
+use Rattle.w4_commands.specs.Endings.{Manner, manner_of}
+use Rattle.w4_commands.specs.declared.status.Status.{Status}
+use Rattle.w4_commands.specs.Queries.{IsTold, GivesTold, ask_answer, editor_pages}
+use Rattle.w4_commands.specs.RamAnswers.{Pages, answer_narrow, answer_start, moment_page, outside, pages_of, ram_answer, watch_text}
+use Rattle.w4_commands.specs.RamAnswers as answers
+use Rattle.w4_commands.proofs.OwesLaws.{stops_as, stops_untold}
+use Rattle.w4_commands.proofs.SessionLaws.{appends_nothing, same_disk, same_inputs, same_editing_setup}
+use Rattle.w4_commands.proofs.TellLaws.{state_of}
+
+-- ---- pages
+
+page_alone : (m : Option Moment) → inspect.page_of (state_of m) ≡ moment_page m
+page_alone (Some moment) = refl
+page_alone None = refl
+
+pub same_page : (e : Editing) (p : ℕ) → inspect.page_at e p ≡ (editor_pages e).at p
+same_page e p = page_alone (run (editing_setup e) e.disk e.session.current.inputs p)
+
+-- ---- places
+
+past_as : (past : Bool) (refusal : RamRefusal) → IsRefusal (if past then Some NoFrame else None) refusal
+    → refusal ≢ MemoryRefused → past ≡ true
+past_as true refusal is other = refl
+past_as false refusal (inl none) other = absurd cc
+past_as false refusal (inr (memory, none)) other = absurd (other memory)
+
+there_as : (past : Bool) → (if past then Some NoFrame else None) ≡ None → past ≡ false
+there_as true e = absurd cc
+there_as false e = refl
+
+pub place_is_past : (e : Editing) (p : ℕ) (refusal : RamRefusal) → IsRefusal (no_frame_refusal e p) refusal
+    → refusal ≢ MemoryRefused → length e.session.current.inputs < p
+place_is_past e p refusal is other =
+    ltb-true (length e.session.current.inputs) p
+    (past_as (nat_lt (length e.session.current.inputs) p) refusal is other)
+
+pub place_is_there : (e : Editing) (p : ℕ) → no_frame_refusal e p ≡ None → p ≤ length e.session.current.inputs
+place_is_there e p none =
+    ltb-false (length e.session.current.inputs) p
+    (there_as (nat_lt (length e.session.current.inputs) p) none)
+
+-- ---- what is told
+
+pub told_text : (before after : World) (old new : Editing) (search : Option Search) (out : List ℕ)
+    (wanted : Answered (Option Search)) → wanted ≡ answer_text search out
+    → Appends before.out after.out out → OnlyShows old new → IsTold before after old new search wanted
+told_text before after old new search out wanted is written shows =
+    subst (λ (a : Answered (Option Search)). IsTold before after old new search a) (sym is)
+    (record { out = written; search = refl; shows = shows })
+
+pub told_alone : (world : World) (old new : Editing) (search : Option Search) (wanted : Answered (Option
+    Search))
+    → wanted ≡ answer_text search [] → OnlyShows old new → IsTold world world old new search wanted
+told_alone world old new search wanted is shows =
+    told_text world world old new search [] wanted is (appends_nothing world [] refl) shows
+
+pub told_on_text : {X : Type 0} (result : Result X Status) (before after : World) (old new : Editing)
+    (search : Option Search) (out : List ℕ) (wanted : Answered (Option Search))
+    → wanted ≡ answer_text search out → Printed before after result out
+    → OnOk result (OnlyShows old new) → GivesTold before after result old new search wanted
+told_on_text (Ok x) before after old new search out wanted is written shows =
+    told_text before after old new search out wanted is written shows
+told_on_text (Err why) before after old new search out wanted is written shows =
+    stops_as before after (manner_of why) out wanted.out (ap (λ (a : Answered (Option Search)). a.out) is)
+    written
+
+-- a refusal that is told, unless it is memory's
+pub refused_on_text : {X Other : Type 0} (result : Result X Status) (before after : World) (old new : Editing)
+    (search : Option Search) (out : List ℕ) (wanted : Answered (Option Search))
+    → Other ⊎ WritesNothing before after result
+    → (Other → wanted ≡ answer_text search out) → (Other → OnlyShows old new)
+    → Printed before after result out → GivesTold before after result old new search wanted
+refused_on_text (Ok x) before after old new search out wanted (inl other) is shows written =
+    told_text before after old new search out wanted (is other) written (shows other)
+refused_on_text (Ok x) before after old new search out wanted (inr (failed, same)) is shows written =
+    absurd cc
+refused_on_text (Err why) before after old new search out wanted (inl other) is shows written =
+    stops_as before after (manner_of why) out wanted.out
+    (ap (λ (a : Answered (Option Search)). a.out) (is other)) written
+refused_on_text (Err why) before after old new search out wanted (inr (failed, same)) is shows written =
+    stops_untold before after (manner_of why) out wanted.out same written
+
+pub printed_as : {X : Type 0} (result : Result X Status) (before after : World) (written out : List ℕ)
+    → out ≡ written → Printed before after result written → Printed before after result out
+printed_as result before after written out same h =
+    subst (λ (bytes : List ℕ). Printed before after result bytes) (sym same) h
+
+-- ---- a search
+
+pub start_there : (e : Editing) (search : Option Search) (width p : ℕ) → no_frame_refusal e p ≡ None
+    → answer_start (editor_pages e) search width p ≡ answer_text (Some (begin width (inspect.page_at e p))) []
+start_there e search width p none =
+    rw (le-leb p (length e.session.current.inputs) (place_is_there e p none))
+    (ap (λ page. answer_text (Some (begin width page)) []) (sym (same_page e p)))
+
+pub start_past : (e : Editing) (search : Option Search) (width p : ℕ) (refusal : RamRefusal)
+    → IsRefusal (no_frame_refusal e p) refusal → refusal ≢ MemoryRefused
+    → answer_start (editor_pages e) search width p ≡ answer_text search no_frame
+start_past e search width p refusal is other =
+    rw (lt-leb p (length e.session.current.inputs) (place_is_past e p refusal is other)) refl
+
+pub narrow_there : (e : Editing) (search : Search) (p : ℕ) (test : Test) → no_frame_refusal e p ≡ None
+    → answer_narrow (editor_pages e) (Some search) p test
+    ≡ answer_text (Some (narrow search (inspect.page_at e p, test))) []
+narrow_there e search p test none =
+    rw (le-leb p (length e.session.current.inputs) (place_is_there e p none))
+    (ap (λ page. answer_text (Some (narrow search (page, test))) []) (sym (same_page e p)))
+
+pub narrow_past : (e : Editing) (search : Search) (p : ℕ) (test : Test) (refusal : RamRefusal)
+    → IsRefusal (no_frame_refusal e p) refusal → refusal ≢ MemoryRefused
+    → answer_narrow (editor_pages e) (Some search) p test ≡ answer_text (Some search) no_frame
+narrow_past e search p test refusal is other =
+    rw (lt-leb p (length e.session.current.inputs) (place_is_past e p refusal is other)) refl
+
+-- ---- values
+
+both_false : (past far : Bool)
+    → (if past then Some NoFrame else if far then Some Outside else None) ≡ None
+    → (past ≡ false) × (far ≡ false)
+both_false true far e = absurd cc
+both_false false true e = absurd cc
+both_false false false e = (refl, refl)
+
+first_true : (past far : Bool)
+    → IsRefusal (if past then Some NoFrame else if far then Some Outside else None) NoFrame → past ≡ true
+first_true true far is = refl
+first_true false true (inl other) = absurd cc
+first_true false true (inr (memory, none)) = absurd cc
+first_true false false (inl other) = absurd cc
+first_true false false (inr (memory, none)) = absurd cc
+
+second_true : (past far : Bool)
+    → IsRefusal (if past then Some NoFrame else if far then Some Outside else None) Outside
+    → (past ≡ false) × (far ≡ true)
+second_true true far (inl other) = absurd cc
+second_true true far (inr (memory, none)) = absurd cc
+second_true false true is = (refl, refl)
+second_true false false (inl other) = absurd cc
+second_true false false (inr (memory, none)) = absurd cc
+
+pub watch_told : (e : Editing) (address width a b : ℕ) → watch_refusal e address width b ≡ None
+    → watch_text (editor_pages e) address width a b
+    ≡ numbered (codes "watch") (address ∷ watched e address width a b)
+watch_told e address width a b none =
+    let both =
+    both_false (nat_lt (length e.session.current.inputs) b) (nat_lt 65536 (address + width)) none in
+    let same : answers.watch_numbers (editor_pages e) address width a b
+    ≡ numbered (codes "watch") (address ∷ watched e address width a b)
+    = λ i. numbered (codes "watch")
+    (address ∷ map (λ p. number_at (sym (same_page e p) i) address width) (range_with_len a (b + 1 - a))) in
+    rw (both.0, both.1) same
+
+pub watch_past : (e : Editing) (address width a b : ℕ) (refusal : RamRefusal) → refusal ≡ NoFrame
+    → IsRefusal (watch_refusal e address width b) refusal
+    → watch_text (editor_pages e) address width a b ≡ no_frame
+watch_past e address width a b refusal same is =
+    let past = subst (λ r. IsRefusal (watch_refusal e address width b) r) same is in
+    rw (first_true (nat_lt (length e.session.current.inputs) b) (nat_lt 65536 (address + width)) past) refl
+
+pub watch_outside : (e : Editing) (address width a b : ℕ) (refusal : RamRefusal) → refusal ≡ Outside
+    → IsRefusal (watch_refusal e address width b) refusal
+    → watch_text (editor_pages e) address width a b ≡ outside
+watch_outside e address width a b refusal same is =
+    let far = subst (λ r. IsRefusal (watch_refusal e address width b) r) same is in
+    let both =
+    second_true (nat_lt (length e.session.current.inputs) b) (nat_lt 65536 (address + width)) far in
+    rw (both.0, both.1) refl
+
+-- ---- lines
+
+-- what a list of lines gives past its end
+abbrev pub past_query : Ask
+past_query = Watch 0 0 0 0
+
+-- the pages are those of the editor at first
+pub same_editor_pages : (old new : Editing) → OnlyShows old new → editor_pages new ≡ editor_pages old
+same_editor_pages old new shows =
+    λ i. pages_of (same_editing_setup old new shows.rest i) (same_disk old new shows.rest i)
+    (same_inputs old new shows i)
+
+pub told_at_first : (before after : World) (first old new : Editing) (search left : Option Search) (line :
+    Ask)
+    → OnlyShows first old
+    → IsTold before after old new left (ask_answer old search line)
+    → IsTold before after old new left (ram_answer (editor_pages first) search line)
+told_at_first before after first old new search left line shows told =
+    subst (λ (pages : Pages). IsTold before after old new left (ram_answer pages search line))
+    (same_editor_pages first old shows) told
+
+pub ram_stopped_at_first : (before after : World) (why : Manner) (first old : Editing)
+    (search : Option Search)
+    (line : Ask)
+    → OnlyShows first old → StopsWriting before after why (ask_answer old search line).out
+    → StopsWriting before after why (ram_answer (editor_pages first) search line).out
+ram_stopped_at_first before after why first old search line shows told =
+    subst (λ (pages : Pages). StopsWriting before after why (ram_answer pages search line).out)
+    (same_editor_pages first old shows) told

@@ -1,0 +1,146 @@
+-- An editor's session of places, and what its runs have in common, from one call to the next.
+use Rattle.std.proofs.Common.{◌≡◌, ℕ, suc, ◌-◌, ◌≤◌, Some, inl, inr, List, [], ◌∷◌, ◌++◌, map, length, Option, refl, sym, ap, ◌∙◌, arith, subst}
+use Rattle.std.specs.Prelude.{Result, Ok, Err, OnOk}
+use Rattle.std.proofs.lemmas.List.{append-nil}
+use Rattle.w4_defs.specs.KeptList.{Entry, kept_entries, place_at}
+use Rattle.w4_defs.specs.Session.{Session, draft_of_places}
+use Rattle.w4_editor.specs.Editing.{Editing, editing_setup, with_session}
+use Rattle.w4_editor.specs.Showing.{KeepsRecording, IsAtEnd}
+use Rattle.w4_house.specs.World.{World, Appends}
+use Rattle.w4_commands.specs.declared.place_text.PlaceText.{PlaceText}
+use Rattle.w4_commands.specs.Answering.{one_text}
+use Rattle.w4_commands.specs.Answers.{answer_text}
+use Rattle.w4_commands.specs.Causes.{Printed}
+use Rattle.w4_commands.specs.Editors.{KeepsRest, OnlyShows, IsAnswered, GivesAnswer, place_session, text_by}
+use Rattle.w4_commands.specs.Endings.{manner_of}
+use Rattle.w4_commands.specs.declared.status.Status.{Status}
+use Rattle.w4_commands.proofs.OwesLaws.{stops_as}
+
+-- ---- cart, font, digest, budget and disk
+
+pub rest_none : (e : Editing) → KeepsRest e e
+rest_none e = refl
+
+pub rest_then : (first second third : Editing) → KeepsRest first second → KeepsRest second third
+    → KeepsRest first third
+rest_then first second third one next =
+    next ∙ ap (λ (e : Editing). with_session e third.session third.at) one
+
+pub rest_at : (old new : Editing) (at : Option ℕ) → new ≡ with_session old new.session at
+    → KeepsRest old new
+rest_at old new at e =
+    e ∙ ap (λ (a : Option ℕ). with_session old new.session a) (sym (ap (λ (x : Editing). x.at) e))
+
+pub same_editing_setup : (old new : Editing) → KeepsRest old new → editing_setup new ≡ editing_setup old
+same_editing_setup old new rest = ap (λ (e : Editing). editing_setup e) rest
+
+pub same_disk : (old new : Editing) → KeepsRest old new → new.disk ≡ old.disk
+same_disk old new rest = ap (λ (e : Editing). e.disk) rest
+
+-- ---- showing
+
+same_list : (old new : List Entry) → length new ≡ length old
+    → ((i : ℕ) → place_at new i ≡ place_at old i)
+    → map kept_entries.place new ≡ map kept_entries.place old
+same_list [] [] many each = refl
+same_list [] (y ∷ new) many each = absurd (omega (arith, many))
+same_list (x ∷ old) [] many each = absurd (omega (arith, many))
+same_list (x ∷ old) (y ∷ new) many each =
+    let rest = same_list old new (omega (arith, many)) (λ i. each (suc i)) in
+    ap (λ (p : ℕ). p ∷ map kept_entries.place new) (each 0)
+    ∙ ap (λ (places : List ℕ). x.place ∷ places) rest
+
+same_session : (old new : Editing) → KeepsRecording old new → place_session new ≡ place_session old
+same_session old new keeps =
+    let kept =
+    same_list old.session.current.kept new.session.current.kept keeps.places.many keeps.places.places in
+    λ i. record {
+      current = record { inputs = keeps.inputs i; kept = kept i };
+      older = map (draft_of_places kept_entries) (keeps.older i);
+      newer = map (draft_of_places kept_entries) (keeps.newer i);
+    }
+
+pub only_shows : (old new : Editing) → KeepsRecording old new → OnlyShows old new
+only_shows old new keeps = record { session = same_session old new keeps; rest = keeps.same }
+
+-- the same session, at another place
+pub shows_at : (old new : Editing) (at : Option ℕ) → new ≡ with_session old old.session at
+    → OnlyShows old new
+shows_at old new at e =
+    let same : new.session ≡ old.session = ap (λ (x : Editing). x.session) e in record {
+      session = ap (λ (x : Editing). place_session x) e;
+      rest =
+          e
+          ∙ (λ i. with_session old (sym same i) (sym (ap (λ (x : Editing). x.at) e) i));
+    }
+
+pub shows_none : (e : Editing) → OnlyShows e e
+shows_none e = record { session = refl; rest = refl }
+
+pub shows_same : (old new : Editing) → new ≡ old → OnlyShows old new
+shows_same old new same = subst (λ (e : Editing). OnlyShows old e) (sym same) (shows_none old)
+
+pub shows_then : (first second third : Editing) → OnlyShows first second → OnlyShows second third
+    → OnlyShows first third
+shows_then first second third one next =
+    record { session = next.session ∙ one.session; rest = rest_then first second third one.rest next.rest }
+
+pub same_inputs : (old new : Editing) → OnlyShows old new
+    → new.session.current.inputs ≡ old.session.current.inputs
+same_inputs old new shows = ap (λ (s : Session ℕ). s.current.inputs) shows.session
+
+-- what is told of a place is the same
+pub same_text : (old new : Editing) (wanted : PlaceText) (p : ℕ) → OnlyShows old new
+    → text_by new wanted p ≡ text_by old wanted p
+same_text old new wanted p shows =
+    λ i. one_text (same_editing_setup old new shows.rest i) (same_disk old new shows.rest i) (shows.session i)
+    wanted p
+
+-- where nothing is to be written
+pub appends_nothing : (world : World) (out : List ℕ) → out ≡ [] → Appends world.out world.out out
+appends_nothing world out none = λ before texts.
+    texts ∙ ap (λ (bytes : List ℕ). Some bytes)
+    (sym (ap (λ (bytes : List ℕ). before ++ bytes) none ∙ append-nil before))
+
+-- an order that tells something and changes nothing
+pub told : (before after : World) (old new : Editing) (out : List ℕ) → OnlyShows old new
+    → Appends before.out after.out out
+    → IsAnswered before after old new (answer_text (place_session old) out)
+told before after old new out shows written =
+    record { out = written; session = shows.session; rest = shows.rest }
+
+pub told_on : {X : Type 0} (result : Result X Status) (before after : World) (old new : Editing)
+    (written out : List ℕ)
+    → out ≡ written → OnOk result (OnlyShows old new) → Printed before after result written
+    → GivesAnswer before after result old new (answer_text (place_session old) out)
+told_on (Ok x) before after old new written out e shows h =
+    told before after old new out shows (subst (λ bytes. Appends before.out after.out bytes) (sym e) h)
+told_on (Err why) before after old new written out e shows h =
+    stops_as before after (manner_of why) written out e h
+
+-- a refusal shows nothing
+pub refused_place : {X : Type 0} (result : Result X Status) (before after : World) (e : Editing)
+    (written out : List ℕ)
+    → out ≡ written → Printed before after result written
+    → GivesAnswer before after result e e (answer_text (place_session e) out)
+refused_place (Ok x) before after e written out same h =
+    told before after e e out (shows_none e) (subst (λ bytes. Appends before.out after.out bytes) (sym
+    same) h)
+refused_place (Err why) before after e written out same h =
+    stops_as before after (manner_of why) written out same h
+
+-- ---- where a place is shown
+
+some_place : (a b : ℕ) → Some a ≡ Some b → a ≡ b
+some_place a b e = cc
+
+pub same_place : (at : Option ℕ) (a b : ℕ) → at ≡ Some a → at ≡ Some b → a ≡ b
+same_place at a b one other = some_place a b (sym one ∙ other)
+
+-- the place before one of the recording isn't its last
+pub not_at_end : (e : Editing) (p : ℕ) → 1 ≤ p → p ≤ length e.session.current.inputs
+    → e.at ≡ Some (p - 1) → IsAtEnd e → ⊥
+not_at_end e p some within at (inl none) = cc
+not_at_end e p some within at (inr end) =
+    let same = same_place e.at (p - 1) (length e.session.current.inputs) at end in
+    omega (arith, same, some, within)

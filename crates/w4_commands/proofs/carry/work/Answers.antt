@@ -1,0 +1,21 @@
+use Rattle.std.proofs.Common.{subst}
+use Rattle.w4_defs.specs.KeptList.{state_at}
+use Rattle.w4_defs.specs.Recording.{encoding}
+use Rattle.w4_commands.specs.Causes.{Carried}
+use Rattle.w4_commands.specs.Editors.{answers_by, recording_by}
+use Rattle.w4_commands.specs.Views.{loaded_view}
+use Rattle.w4_commands.proofs.WorkLaws.{opened_carried}
+use Rattle.w4_commands.proofs.carry.work.Goals as goal
+
+pub returns-clause-carried : goal.returns-clause-carried
+returns-clause-carried g c =
+    let editor = c.in_ok-desk.desk.editor in
+    let before = g.H.House.world c.args.house.now in
+    let after = g.H.House.world c.answer_and_save.new.house in
+    let result = c.answer_and_save.result in
+    opened_carried before after result c.args.cart (loaded_view c.args.loaded) editor
+    (state_at editor.session.current.kept 0) c.args.name.now c.in_ok-desk.ensures
+    (subst (λ orders.
+    Carried before after result (answers_by editor orders).out c.args.name.now
+    (encoding 2 (recording_by editor orders)))
+    c.as_slice.ensures.value c.answer_and_save.ensures.carried)

@@ -1,0 +1,20 @@
+use Rattle.w4_defs.specs.Recording.{encoding}
+use Rattle.w4_commands.specs.Endings.{AllWritten, manner_of}
+use Rattle.w4_commands.specs.Output.{blank_recording}
+use Rattle.w4_commands.proofs.EndLaws.{ends_printed, prints_stopped}
+use Rattle.w4_commands.proofs.commands.blank.Goals as goal
+
+pub returns-in-Ok-clause-ends : goal.returns-in-Ok-clause-ends
+returns-in-Ok-clause-ends g c =
+    ends_printed (g.H.House.world c.args.house.now) (g.H.House.world c.print_blank.new.house) AllWritten
+    (encoding 2 (blank_recording c.args.file.now.digest c.args.budget.units))
+    c.print_blank.ensures.rest.files c.in-Ok.ensures.out
+
+pub returns-in-Err-clause-ends : goal.returns-in-Err-clause-ends
+returns-in-Err-clause-ends g c =
+    let old = g.H.House.world c.args.house.now in
+    let new = g.H.House.world c.print_blank.new.house in
+    let out = encoding 2 (blank_recording c.args.file.now.digest c.args.budget.units) in
+    let why = manner_of c.in-Err.status in
+    ends_printed old new why out c.print_blank.ensures.rest.files
+    (prints_stopped old new why out c.in-Err.ensures.out)

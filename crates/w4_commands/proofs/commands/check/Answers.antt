@@ -1,0 +1,17 @@
+use Rattle.w4_commands.specs.Endings.{AllWritten, manner_of}
+use Rattle.w4_commands.specs.Output.{checked}
+use Rattle.w4_commands.proofs.EndLaws.{ends_printed, prints_stopped}
+use Rattle.w4_commands.proofs.commands.check.Goals as goal
+
+pub returns-in-Ok-clause-ends : goal.returns-in-Ok-clause-ends
+returns-in-Ok-clause-ends g c =
+    ends_printed (g.H.House.world c.args.house.now) (g.H.House.world c.print.new.house) AllWritten checked
+    c.print.ensures.rest.files c.in-Ok.ensures.out
+
+pub returns-in-Err-clause-ends : goal.returns-in-Err-clause-ends
+returns-in-Err-clause-ends g c =
+    let old = g.H.House.world c.args.house.now in
+    let new = g.H.House.world c.print.new.house in
+    let why = manner_of c.in-Err.status in
+    ends_printed old new why checked c.print.ensures.rest.files
+    (prints_stopped old new why checked c.in-Err.ensures.out)

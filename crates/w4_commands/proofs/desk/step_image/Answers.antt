@@ -1,0 +1,26 @@
+use Rattle.std.proofs.Common.{◌≡◌, ◌+◌, ◌-◌, Some, sym, ◌∙◌, arith, subst}
+use Rattle.w4_defs.specs.Run.{run, run_state}
+use Rattle.w4_editor.specs.Editing.{editing_setup}
+use Rattle.w4_commands.proofs.SessionLaws.{shows_at, not_at_end}
+use Rattle.w4_commands.proofs.TellLaws.{image_of_state}
+use Rattle.w4_commands.proofs.desk.step_image.Goals as goal
+
+pub returns-clause-shows : goal.returns-clause-shows
+returns-clause-shows g c =
+    let stepped = rw c.in-Ok.is at c.step.follows.holds-at-none.0 in
+    shows_at c.args.editor.now c.step.follows.lender-at-none (Some (stepped.place + 1)) stepped.same
+
+pub returns-clause-image : goal.returns-clause-image
+returns-clause-image g c =
+    let old = c.args.editor.now in
+    let next : c.args.place - 1 + 1 ≡ c.args.place = omega (arith, c.requires.some) in
+    let state = subst (λ p. run_state (editing_setup old) old.disk old.session.current.inputs p
+    ≡ Some c.in-Ok.state.now) next (c.in-Ok.ensures.state (c.args.place - 1) c.requires.at) in
+    c.ppm_into.ensures
+    ∙ sym (image_of_state c.args.place
+    (run (editing_setup old) old.disk old.session.current.inputs c.args.place) c.in-Ok.state.now state)
+
+pub unreachable-requires : goal.unreachable-requires
+unreachable-requires g c =
+    not_at_end c.args.editor.now c.args.place c.requires.some c.requires.place c.requires.at
+    c.in-Err.ensures.refused.1

@@ -1,0 +1,27 @@
+use Rattle.std.proofs.Common.{◌≡◌, ◌+◌, ◌-◌, Some, arith, subst, option_map}
+use Rattle.w4_defs.specs.Run.{run}
+use Rattle.w4_defs.specs.State.{Moment}
+use Rattle.w4_devices.specs.Records.{record_of}
+use Rattle.w4_editor.specs.Editing.{editing_setup}
+use Rattle.w4_commands.proofs.SessionLaws.{shows_at, same_place, not_at_end}
+use Rattle.w4_commands.proofs.desk.step_record.Goals as goal
+
+pub returns-clause-shows : goal.returns-clause-shows
+returns-clause-shows g c =
+    let stepped = rw c.in-Ok.is at c.step.follows.holds-at-none.0 in
+    shows_at c.args.editor.now c.step.follows.lender-at-none (Some (stepped.place + 1)) stepped.same
+
+pub returns-clause-made : goal.returns-clause-made
+returns-clause-made g c =
+    let old = c.args.editor.now in
+    let stepped = rw c.in-Ok.is at c.step.follows.holds-at-none.0 in
+    let here = same_place old.at stepped.place (c.args.place - 1) stepped.at c.requires.at in
+    let next : stepped.place + 1 ≡ c.args.place = omega (arith, here, c.requires.some) in
+    subst (λ p. option_map (λ (moment : Moment). moment.made)
+    (run (editing_setup old) old.disk old.session.current.inputs p)
+    ≡ Some (record_of c.step.new.made)) next stepped.record_is
+
+pub unreachable-requires : goal.unreachable-requires
+unreachable-requires g c =
+    not_at_end c.args.editor.now c.args.place c.requires.some c.requires.place c.requires.at
+    c.in-Err.ensures.refused.1

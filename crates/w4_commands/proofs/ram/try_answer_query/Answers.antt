@@ -1,0 +1,31 @@
+use Rattle.std.proofs.Common.{List, None, ap, refl, sym, ◌∙◌}
+use Rattle.std.proofs.lemmas.Result.{err_from_is_err_and}
+use Rattle.w4_defs.specs.declared.inspect.Ask.{Ask}
+use Rattle.w4_editor.specs.Editing.{Editing}
+use Rattle.w4_house.proofs.WorldLaws.{front_none}
+use Rattle.w4_commands.specs.Queries.{editor_pages}
+use Rattle.w4_commands.specs.RamAnswers.{ram_answers}
+use Rattle.w4_commands.specs.ToolOutputs.{ram_text}
+use Rattle.w4_commands.specs.Views.{ram_loaded_view}
+use Rattle.w4_commands.proofs.RamLaws.{printed_as}
+use Rattle.w4_commands.proofs.ram.try_answer_query.Goals as goal
+
+pub returns-clause-out : goal.returns-clause-out
+returns-clause-out g c =
+    let editor = c.in_ok-editor.editor in
+    printed_as c.answer_lines.result (g.H.House.world c.args.house.now) (g.H.House.world
+    c.answer_lines.new.house)
+    (ram_answers (editor_pages editor) None c.as_slice.result.now).out
+    (ram_text c.args.cart (ram_loaded_view c.args.loaded))
+    (sym (ap (λ (e : Editing). (ram_answers (editor_pages e) None c.args.loaded.lines.items).out)
+    c.in_ok-editor.ensures)
+    ∙ ap (λ (lines : List Ask). (ram_answers (editor_pages editor) None lines).out)
+    (sym c.as_slice.ensures.value))
+    c.answer_lines.ensures.out
+
+pub returns-in_err-editor-clause-out : goal.returns-in_err-editor-clause-out
+returns-in_err-editor-clause-out g c =
+    let p = err_from_is_err_and c.from_residual.result c.from_residual.ensures.1 in
+    let world = g.H.House.world c.args.house.now in
+    rw (p.1, p.2)
+    (front_none world.out world.out (ram_text c.args.cart (ram_loaded_view c.args.loaded)) refl)

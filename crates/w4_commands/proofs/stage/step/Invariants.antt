@@ -1,0 +1,5 @@
+use Rattle.w4_commands.proofs.stage.step.Given as goal
+
+-- a ledger of its own, since nothing counts these frames
+abbrev pub ghosts-play : goal.ghosts-play
+ghosts-play a = record { name = a.blank.name; parts = a.blank.parts }

@@ -1,0 +1,22 @@
+-- A scene as the definitions see it, and a stage that stands at a place of its run.
+use Rattle.std.specs.Prelude.{◌≡◌, ℕ, List, Some}
+use Rattle.w4_defs.specs.declared.console.Input.{Input}
+use Rattle.w4_defs.specs.Reset.{Setup}
+use Rattle.w4_defs.specs.Board.{console_setup}
+use Rattle.w4_defs.specs.Run.{run}
+use Rattle.w4_defs.specs.State.{Moment, HasGlobals}
+use Rattle.w4_console.specs.ConsoleCalls.{moment}
+use Rattle.w4_commands.specs.declared.scene.Scene.{Scene}
+use Rattle.w4_commands.specs.declared.stage.Stage.{Stage}
+
+abbrev pub scene_setup : Scene → Setup
+scene_setup s = console_setup s.cart.now s.font.now s.budget
+
+-- the state and the record that the stage holds
+abbrev pub stage_moment : Stage → Moment
+stage_moment stage = moment stage.console stage.made
+
+abbrev pub IsAtPlace : Scene → List Input → ℕ → Stage → Type 0
+IsAtPlace scene inputs place stage =
+    (run (scene_setup scene) scene.disk.now inputs place ≡ Some (stage_moment stage))
+    × HasGlobals scene.cart.now stage.console

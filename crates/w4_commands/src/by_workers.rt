@@ -1,0 +1,116 @@
+//! Orders that are carried out by many workers: `film` and `settle`.
+
+ghost use Rattle.std.specs.Prelude.{◌≡◌, ◌≤◌, OnOk, flat_map, max, min};
+ghost use Rattle.w4_defs.specs.Image.{image};
+ghost use Rattle.w4_editor.specs.Editing.{editing_setup};
+ghost use Rattle.w4_house.specs.World.{LeavesPrinting};
+ghost use Rattle.w4_commands.specs.Answering.{film_text, if_place};
+ghost use Rattle.w4_commands.specs.Answers.{answer_text};
+ghost use Rattle.w4_commands.specs.Causes.{Printed};
+ghost use Rattle.w4_commands.specs.Editors.{GivesAnswer, OnlyShows, place_session};
+ghost use Rattle.w4_segments.specs.FilmPieces.{IsFilming, images_left};
+
+use crate::desk::last_place;
+use crate::printing::print;
+use crate::refusal::refuse;
+use crate::status::Status;
+use std::alloc::Global;
+use std::thread::Threads;
+use w4_defs::{EditRefusal, OutOfMemory};
+use w4_editor::Editor;
+use w4_house::House;
+use w4_image::{IMAGE_LEN, Screen, screen_into};
+use w4_segments::{FilmPieces, FilmRefusal, Gate, settle_wide};
+
+/// A number of workers, within the range that scripts have for it.
+fn hands(workers: u32) -> usize
+    ensures number { result ≡ min (max workers 1) 16 }
+    ensures some { 1 ≤ result }
+    ensures few { result ≤ 16 }
+{
+    (workers as usize).max(1).min(16)
+}
+
+/// The answer of `film`: at most 600 images.
+pub fn tell_film<R: Threads + Sync, H: House, G: Gate + Sync>(
+    rt: &R,
+    alloc: Global,
+    house: &mut H,
+    editor: &mut Editor,
+    a: u32,
+    b: u32,
+    workers: u32,
+    gate: &G,
+) -> Result<(), Status>
+    ensures answered { GivesAnswer (H.world house.old) (H.world house.new) result
+        editor.old editor.new
+        (answer_text (place_session editor.old) (if_place (place_session editor.old) b
+        (film_text (editing_setup editor.old) editor.old.disk (place_session editor.old) a b))) }
+    ensures rest { LeavesPrinting (H.world house.old) (H.world house.new) }
+{
+    let (from, to) = (a as usize, b as usize);
+    if to > last_place(editor) {
+        return refuse(alloc, house, EditRefusal::NoFrame);
+    }
+    // Scripts have no such order.
+    if from > to {
+        return Ok(());
+    }
+    match FilmPieces::begin(rt, alloc, editor, from, to, hands(workers)) {
+        Ok(mut film) => print_film(rt, alloc, house, &mut film, editor, gate),
+        Err(FilmRefusal::NoFrame) => refuse(alloc, house, EditRefusal::NoFrame),
+        Err(FilmRefusal::FilmTooLong) => print(alloc, house, b"refused too long\n"),
+        Err(FilmRefusal::OutOfMemory) => Err(Status::OutOfMemory),
+    }
+}
+
+/// Writes a film a piece at a time, so that no more of it is held than its workers make at once, and of images
+/// one.
+fn print_film<R: Threads + Sync, H: House, G: Gate + Sync>(
+    rt: &R,
+    alloc: Global,
+    house: &mut H,
+    film: &mut FilmPieces,
+    editor: &Editor,
+    gate: &G,
+) -> Result<(), Status>
+    requires { IsFilming film.old editor.now }
+    ensures out { Printed (H.world house.old) (H.world house.new) result (images_left film.old editor.now) }
+    ensures rest { LeavesPrinting (H.world house.old) (H.world house.new) }
+{
+    let mut picture = Box::new(alloc, [0; IMAGE_LEN])?;
+    while film.next_piece(rt, editor, gate)? {
+        print_images(alloc, house, film.screens(), &mut picture)?;
+    }
+    Ok(())
+}
+
+/// Writes the images of screens, one after another, each made in the same room.
+fn print_images<H: House>(
+    alloc: Global,
+    house: &mut H,
+    screens: &[Screen],
+    picture: &mut [u8; IMAGE_LEN],
+) -> Result<(), Status>
+    ensures out { Printed (H.world house.old) (H.world house.new) result (flat_map image screens.now) }
+    ensures rest { LeavesPrinting (H.world house.old) (H.world house.new) }
+{
+    for screen in screens {
+        screen_into(screen, picture);
+        print(alloc, house, picture)?;
+    }
+    Ok(())
+}
+
+/// Brings all kept places up to date.
+pub fn settle<R: Threads + Sync, G: Gate + Sync>(
+    rt: &R,
+    alloc: Global,
+    editor: &mut Editor,
+    workers: u32,
+    gate: &G,
+) -> Result<(), OutOfMemory>
+    ensures { OnOk result (OnlyShows editor.old editor.new) }
+{
+    settle_wide(rt, alloc, editor, hands(workers), gate)
+}

@@ -1,0 +1,219 @@
+//! Files, each judged before the next is read. Nothing is written.
+
+ghost use Rattle.std.specs.Prelude.{◌≡◌, ◌+◌, ◌≤◌, length, Result, Ok, Err, IfOk};
+ghost use Rattle.std.specs.Option.{ForSome};
+ghost use Rattle.w4_house.specs.World.{LeavesReading};
+ghost use Rattle.w4_commands.specs.Output.{
+  CartIn,
+  cart_recording,
+  edit_files,
+  font_in,
+  font_of,
+  script_in,
+  orders_of,
+  reading,
+  recording_in,
+  run_files,
+  run_files_to,
+};
+ghost use Rattle.w4_commands.specs.Reads.{GivesValue};
+ghost use Rattle.w4_commands.specs.Causes.{ResultsIn, StepGives};
+ghost use Rattle.w4_commands.specs.Views.{cart_view, edit_view, loaded_view, played_view, run_view};
+
+use crate::cart::{CartFile, CartRefusal, accept_file};
+use crate::status::{RecordingKind, ScriptKind, Status};
+use crate::words::{EditNames, RunNames};
+use std::alloc::Global;
+use w4_blit::{Font, FontLength};
+use w4_defs::Order;
+use w4_house::{House, HouseFault};
+use w4_record::{Recording, RecordingRefusal, read_recording};
+use w4_script::{ScriptRefusal, read_script};
+
+/// What a run is made of besides the cart.
+#[derive(Drop)]
+pub struct Played {
+    pub recording: Recording,
+    pub font: Font,
+}
+
+/// How many frames the recording has.
+pub fn frame_count(run: &Played) -> usize
+    ensures { result ≡ length run.now.recording.frames }
+{
+    run.recording.frames.len()
+}
+
+/// What an edit is made of besides the cart.
+#[derive(Drop)]
+pub struct Loaded {
+    pub run: Played,
+    pub orders: Vec<Order>,
+}
+
+/// The first `most` bytes of a file, or all.
+pub fn read_file<H: House>(
+    alloc: Global,
+    house: &mut H,
+    name: &str,
+    most: usize,
+) -> Result<Vec<u8>, Status>
+    ensures gives { StepGives (H.world house.old) (H.world house.new) (λ bytes. bytes.items) result
+        (ResultsIn (λ files. reading files name.now most)) }
+    ensures rest { LeavesReading (H.world house.old) (H.world house.new) }
+{
+    match house.read_front(alloc, name, most) {
+        Ok(bytes) => Ok(bytes),
+        Err(HouseFault::Absent) => Err(Status::ReadFault),
+        Err(HouseFault::Failed) => Err(Status::ReadFault),
+        Err(HouseFault::OutOfMemory) => Err(Status::OutOfMemory),
+    }
+}
+
+/// Reads and judges a cart.
+pub fn load_cart<H: House>(alloc: Global, house: &mut H, name: &str) -> Result<CartFile, Status>
+    ensures gives { StepGives (H.world house.old) (H.world house.new) cart_view result
+        (λ files cart. CartIn name.now files cart) }
+    ensures rest { LeavesReading (H.world house.old) (H.world house.new) }
+{
+    let bytes = read_file(alloc, house, name, 65_537)?;
+    match accept_file(alloc, bytes.as_slice()) {
+        Ok(file) => Ok(file),
+        Err(CartRefusal::Kind(kind)) => Err(Status::CartRefused(kind)),
+        Err(CartRefusal::OutOfMemory) => Err(Status::OutOfMemory),
+    }
+}
+
+/// The recording that the bytes encode, which has to be of the cart with this digest.
+#[tactic(auto, unfolding(crate::specs::Output::cart_recording))]
+fn judge_recording(alloc: Global, bytes: &[u8], digest: &[u8; 32]) -> Result<Recording, Status>
+    ensures { GivesValue (λ recording. recording) result (cart_recording digest.now bytes.now) }
+{
+    let recording = match read_recording(alloc, bytes) {
+        Ok(recording) => recording,
+        Err(RecordingRefusal::BadRecording) => {
+            return Err(Status::RecordingRefused(RecordingKind::Bad));
+        }
+        Err(RecordingRefusal::OutOfMemory) => return Err(Status::OutOfMemory),
+    };
+    if recording.digest != *digest {
+        return Err(Status::RecordingRefused(RecordingKind::WrongCart));
+    }
+    Ok(recording)
+}
+
+/// The font, where the bytes are one.
+fn judge_font(bytes: &[u8]) -> Result<Font, Status>
+    ensures { GivesValue (λ font. font) result (font_of bytes.now) }
+{
+    match Font::new(bytes) {
+        Ok(font) => Ok(font),
+        Err(FontLength) => Err(Status::FontRefused),
+    }
+}
+
+/// The orders of a script.
+#[tactic(auto, unfolding(crate::specs::Output::orders_of))]
+fn judge_script(alloc: Global, bytes: &[u8]) -> Result<Vec<Order>, Status>
+    ensures { GivesValue (λ orders. orders.items) result (orders_of bytes.now) }
+{
+    match read_script(alloc, bytes) {
+        Ok(orders) => Ok(orders),
+        Err(ScriptRefusal::TooLong) => Err(Status::ScriptRefused(ScriptKind::TooLong)),
+        Err(ScriptRefusal::BadLine(number)) => {
+            Err(Status::ScriptRefused(ScriptKind::BadLine(number)))
+        }
+        Err(ScriptRefusal::OutOfMemory) => Err(Status::OutOfMemory),
+    }
+}
+
+#[tactic(auto, unfolding(crate::specs::Output::recording_in))]
+fn load_recording<H: House>(
+    alloc: Global,
+    house: &mut H,
+    digest: &[u8; 32],
+    name: &str,
+) -> Result<Recording, Status>
+    ensures gives { StepGives (H.world house.old) (H.world house.new) (λ recording. recording) result
+        (ResultsIn (λ files. recording_in digest.now files name.now)) }
+    ensures rest { LeavesReading (H.world house.old) (H.world house.new) }
+{
+    let bytes = read_file(alloc, house, name, 361_072)?;
+    judge_recording(alloc, bytes.as_slice(), digest)
+}
+
+#[tactic(auto, unfolding(crate::specs::Output::font_in))]
+pub fn load_font<H: House>(alloc: Global, house: &mut H, name: &str) -> Result<Font, Status>
+    ensures gives { StepGives (H.world house.old) (H.world house.new) (λ font. font) result
+        (ResultsIn (λ files. font_in files name.now)) }
+    ensures rest { LeavesReading (H.world house.old) (H.world house.new) }
+{
+    let bytes = read_file(alloc, house, name, 1793)?;
+    judge_font(bytes.as_slice())
+}
+
+#[tactic(auto, unfolding(crate::specs::Output::script_in))]
+fn load_orders<H: House>(alloc: Global, house: &mut H, name: &str) -> Result<Vec<Order>, Status>
+    ensures gives { StepGives (H.world house.old) (H.world house.new) (λ orders. orders.items) result
+        (ResultsIn (λ files. script_in files name.now)) }
+    ensures rest { LeavesReading (H.world house.old) (H.world house.new) }
+{
+    let bytes = read_file(alloc, house, name, 1_048_577)?;
+    judge_script(alloc, bytes.as_slice())
+}
+
+/// Reads what a run of the cart with this digest is made of.
+#[tactic(auto, unfolding(crate::specs::Output::run_files))]
+pub fn load_run<H: House>(
+    alloc: Global,
+    house: &mut H,
+    digest: &[u8; 32],
+    names: RunNames<'_>,
+) -> Result<Played, Status>
+    ensures gives { StepGives (H.world house.old) (H.world house.new) played_view result
+        (ResultsIn (λ files. run_files digest.now (run_view names.entry) files)) }
+    ensures rest { LeavesReading (H.world house.old) (H.world house.new) }
+{
+    let recording = load_recording(alloc, house, digest, names.recording)?;
+    let font = load_font(alloc, house, names.font)?;
+    Ok(Played { recording, font })
+}
+
+/// Reads what a run of the cart with this digest is made of, which has to have this place.
+#[tactic(auto, unfolding(crate::specs::Output::run_files_to))]
+pub fn load_run_to<H: House>(
+    alloc: Global,
+    house: &mut H,
+    digest: &[u8; 32],
+    names: RunNames<'_>,
+    place: u32,
+) -> Result<Played, Status>
+    ensures gives { StepGives (H.world house.old) (H.world house.new) played_view result
+        (ResultsIn (λ files. run_files_to digest.now (run_view names.entry) place files)) }
+    ensures place { IfOk result (λ run. place ≤ length run.recording.frames) }
+    ensures rest { LeavesReading (H.world house.old) (H.world house.new) }
+{
+    let run = load_run(alloc, house, digest, names)?;
+    let n = frame_count(&run);
+    if place as usize > n {
+        return Err(Status::FrameRefused { number: place, n });
+    }
+    Ok(run)
+}
+
+/// Reads what an edit over the cart with this digest is made of.
+#[tactic(auto, unfolding(crate::specs::Output::edit_files))]
+pub fn load_edit<H: House>(
+    alloc: Global,
+    house: &mut H,
+    digest: &[u8; 32],
+    names: EditNames<'_>,
+) -> Result<Loaded, Status>
+    ensures gives { StepGives (H.world house.old) (H.world house.new) loaded_view result
+        (ResultsIn (λ files. edit_files digest.now (edit_view names.entry) files)) }
+    ensures rest { LeavesReading (H.world house.old) (H.world house.new) }
+{
+    let run = load_run(alloc, house, digest, names.run)?;
+    let orders = load_orders(alloc, house, names.script)?;
+    Ok(Loaded { run, orders })
+}

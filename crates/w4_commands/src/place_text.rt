@@ -1,0 +1,90 @@
+//! What is written of places, one after another.
+
+ghost use Rattle.std.specs.Prelude.{◌≡◌, ◌+◌, ◌-◌, ◌≤◌, length};
+ghost use Rattle.w4_defs.specs.Run.{run};
+ghost use Rattle.w4_house.specs.World.{LeavesPrinting};
+ghost use Rattle.w4_defs.specs.State.{HasGlobals};
+ghost use Rattle.w4_commands.specs.Causes.{Printed};
+ghost use Rattle.w4_commands.specs.Scenes.{scene_setup, stage_moment};
+ghost use Rattle.w4_commands.specs.Texts.{moment_text, place_text, place_texts};
+
+use crate::printing::print;
+use crate::scene::Scene;
+use crate::stage::{Stage, disk, paint, painted, run_to, schedule, step, traces};
+use crate::status::Status;
+use std::alloc::Global;
+use w4_defs::Input;
+use w4_house::House;
+
+/// What is written of a place.
+#[derive(Clone, Copy, PartialEq, Eq, Debug)]
+pub enum PlaceText {
+    Image,
+    /// The tones of the frame that led there.
+    Schedule,
+    /// The trace lines of the frame that led there.
+    Traces,
+    DiskBytes,
+}
+
+/// Writes what is told of the place where the stage stands.
+pub fn write_place<H: House>(
+    alloc: Global,
+    house: &mut H,
+    stage: &mut Stage,
+    wanted: PlaceText,
+    place: usize,
+) -> Result<(), Status>
+    ensures out { Printed (H.world house.old) (H.world house.new) result
+        (moment_text wanted place (stage_moment stage.old)) }
+    ensures console { stage.new.console ≡ stage.old.console }
+    ensures made { stage.new.made ≡ stage.old.made }
+    ensures rest { LeavesPrinting (H.world house.old) (H.world house.new) }
+{
+    match wanted {
+        PlaceText::Image => {
+            paint(stage);
+            print(alloc, house, painted(stage))
+        }
+        PlaceText::Schedule => {
+            let text = schedule(alloc, stage, place)?;
+            print(alloc, house, text.as_slice())
+        }
+        PlaceText::Traces => {
+            let text = traces(alloc, stage, place)?;
+            print(alloc, house, text.as_slice())
+        }
+        PlaceText::DiskBytes => print(alloc, house, disk(stage)),
+    }
+}
+
+/// Writes what is told of the places `from` to `to`, so that memory doesn't grow with their number.
+pub fn write_places<H: House>(
+    alloc: Global,
+    house: &mut H,
+    stage: &mut Stage,
+    scene: &Scene<'_>,
+    inputs: &[Input],
+    wanted: PlaceText,
+    from: usize,
+    to: usize,
+) -> Result<(), Status>
+    requires order { from ≤ to }
+    requires place { to ≤ length inputs.now }
+    requires disk { length scene.now.disk.now ≤ 1024 }
+    requires budget { 1 ≤ scene.now.budget }
+    requires globals { HasGlobals scene.now.cart.now stage.old.console }
+    ensures out { Printed (H.world house.old) (H.world house.new) result
+        (place_texts (λ place.
+        place_text wanted place (run (scene_setup scene.now) scene.now.disk.now inputs.now place))
+        from (to + 1 - from)) }
+    ensures rest { LeavesPrinting (H.world house.old) (H.world house.new) }
+{
+    run_to(stage, scene, inputs, from);
+    write_place(alloc, house, stage, wanted, from)?;
+    for place in from..to {
+        step(stage, scene, inputs, place);
+        write_place(alloc, house, stage, wanted, place + 1)?;
+    }
+    Ok(())
+}

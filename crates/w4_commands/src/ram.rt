@@ -1,0 +1,101 @@
+//! `ram`: values and searches of memory, over the places of a recording.
+
+ghost use Rattle.std.specs.Prelude.{◌≡◌, ◌<◌, All, None};
+ghost use Rattle.w4_house.specs.World.{LeavesPrinting};
+ghost use Rattle.w4_inspect.specs.Requests.{IsRequest};
+ghost use Rattle.w4_commands.specs.Causes.{Ends, LeavesErr, Printed, Prints, ResultsIn};
+ghost use Rattle.w4_commands.specs.Endings.{manner_of};
+ghost use Rattle.w4_commands.specs.Queries.{editor_pages};
+ghost use Rattle.w4_commands.specs.RamAnswers.{ram_answers};
+ghost use Rattle.w4_commands.specs.ToolOutputs.{ram_output, ram_text};
+ghost use Rattle.w4_commands.specs.Views.{cart_view, ram_loaded_view, run_view};
+
+use crate::asking::answer_line;
+use crate::cart::CartFile;
+use crate::load::Played;
+use crate::load_tools::{RamLoaded, load_ram};
+use crate::status::Status;
+use crate::words::RunNames;
+use std::alloc::Global;
+use std::marker::Brand;
+use std::sync::ledger::{Blank, Ledger};
+use w4_defs::Steps;
+use w4_defs::inspect::Ask;
+use w4_editor::Editor;
+use w4_house::House;
+use wasm_valid::Cart;
+
+/// `ram CART REC FONT QUERY`.
+#[tactic(auto, unfolding(crate::specs::ToolOutputs::ram_output))]
+pub fn ram<H: House>(
+    alloc: Global,
+    house: &mut H,
+    file: CartFile,
+    names: RunNames<'_>,
+    query: &str,
+) -> Status
+    ensures ends { Ends (H.world house.old) (H.world house.new) (manner_of result)
+        (ResultsIn (λ files. ram_output (run_view names.entry) query.now (cart_view file) files)) }
+    ensures formed { result ≡ Status.Usage → ⊥ }
+    ensures err { LeavesErr (H.world house.old) (H.world house.new) }
+{
+    match load_ram(alloc, house, &file.digest, names, query) {
+        Ok(loaded) => answer_query(alloc, house, file.cart, loaded),
+        Err(status) => status,
+    }
+}
+
+/// The answers of all lines.
+fn answer_query<H: House>(alloc: Global, house: &mut H, cart: Cart, loaded: RamLoaded) -> Status
+    requires { All IsRequest loaded.lines.items }
+    ensures prints { Prints (H.world house.old) (H.world house.new) (manner_of result)
+        (ram_text cart (ram_loaded_view loaded)) }
+    ensures rest { LeavesPrinting (H.world house.old) (H.world house.new) }
+{
+    match try_answer_query(alloc, house, cart, loaded) {
+        Ok(()) => Status::Done,
+        Err(status) => status,
+    }
+}
+
+/// Writes them, or gives the status that ends the run.
+fn try_answer_query<H: House>(
+    alloc: Global,
+    house: &mut H,
+    cart: Cart,
+    loaded: RamLoaded,
+) -> Result<(), Status>
+    requires { All IsRequest loaded.lines.items }
+    ensures out { Printed (H.world house.old) (H.world house.new) result
+        (ram_text cart (ram_loaded_view loaded)) }
+    ensures rest { LeavesPrinting (H.world house.old) (H.world house.new) }
+{
+    let RamLoaded { run, lines } = loaded;
+    let Played { recording, font } = run;
+    let mut editor = Editor::new(alloc, cart, font, recording)?;
+    answer_lines::<Brand, H>(alloc, house, &mut editor, lines.as_slice(), Blank::new(1))
+}
+
+/// Answers all lines. The frames that are run for them have a count of their own.
+fn answer_lines<L: Ledger, H: House>(
+    alloc: Global,
+    house: &mut H,
+    editor: &mut Editor,
+    lines: &[Ask],
+    blank: Blank,
+) -> Result<(), Status>
+    requires ranges { All IsRequest lines.now }
+    requires name { blank.name ≡ L.name }
+    requires parts { blank.parts ≡ L.parts }
+    requires some { 0 < L.parts }
+    ensures out { Printed (H.world house.old) (H.world house.new) result
+        (ram_answers (editor_pages editor.old) None lines.now).out }
+    ensures rest { LeavesPrinting (H.world house.old) (H.world house.new) }
+{
+    let mut steps: Steps<L> = Steps::new(blank);
+    let mut search = None;
+    for line in lines {
+        answer_line(alloc, house, editor, &mut search, line, &mut steps)?;
+    }
+    Ok(())
+}

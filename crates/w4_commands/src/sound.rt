@@ -1,0 +1,130 @@
+//! `wave`: the sound of a run as the bytes of a WAV file.
+
+ghost use Rattle.std.specs.Prelude.{◌≡◌, ◌+◌, ◌≤◌, length, map};
+ghost use Rattle.std.specs.List.{range_with_len};
+ghost use Rattle.w4_defs.specs.Run.{run};
+ghost use Rattle.w4_defs.specs.Sound.{after_frame, rendered, samples, wav_header};
+ghost use Rattle.w4_defs.specs.State.{HasGlobals};
+ghost use Rattle.w4_house.specs.World.{LeavesPrinting};
+ghost use Rattle.w4_commands.specs.Causes.{Ends, LeavesErr, Printed, Prints, ResultsIn};
+ghost use Rattle.w4_commands.specs.Endings.{manner_of};
+ghost use Rattle.w4_commands.specs.Scenes.{scene_setup, stage_moment};
+ghost use Rattle.w4_commands.specs.ToolOutputs.{record_at, wave_output, wave_text};
+ghost use Rattle.w4_commands.specs.Views.{cart_view, played_view, run_view};
+
+use crate::cart::CartFile;
+use crate::load::{Played, load_run};
+use crate::printing::print;
+use crate::scene::Scene;
+use crate::stage::{Stage, new_stage, render, run_to, step};
+use crate::status::Status;
+use crate::words::RunNames;
+use std::alloc::Global;
+use w4_defs::Input;
+use w4_house::House;
+use w4_wave::{FRAME_LEN, Wave, wav_header};
+
+/// `wave CART REC FONT`.
+#[tactic(auto, unfolding(crate::specs::ToolOutputs::wave_output))]
+pub fn wave<H: House>(alloc: Global, house: &mut H, file: &CartFile, names: RunNames<'_>) -> Status
+    ensures ends { Ends (H.world house.old) (H.world house.new) (manner_of result)
+        (ResultsIn (λ files. wave_output (run_view names.entry) (cart_view file.now) files)) }
+    ensures formed { result ≡ Status.Usage → ⊥ }
+    ensures err { LeavesErr (H.world house.old) (H.world house.new) }
+{
+    match load_run(alloc, house, &file.digest, names) {
+        Ok(run) => write_wave(alloc, house, file, &run),
+        Err(status) => status,
+    }
+}
+
+/// The header and the samples of all places of a run.
+fn write_wave<H: House>(alloc: Global, house: &mut H, file: &CartFile, run: &Played) -> Status
+    ensures prints { Prints (H.world house.old) (H.world house.new) (manner_of result)
+        (wave_text file.now.cart (played_view run.now)) }
+    ensures rest { LeavesPrinting (H.world house.old) (H.world house.new) }
+{
+    match try_write_wave(alloc, house, file, run) {
+        Ok(()) => Status::Done,
+        Err(status) => status,
+    }
+}
+
+/// Writes them, or gives the status that ends the run.
+fn try_write_wave<H: House>(
+    alloc: Global,
+    house: &mut H,
+    file: &CartFile,
+    run: &Played,
+) -> Result<(), Status>
+    ensures out { Printed (H.world house.old) (H.world house.new) result
+        (wave_text file.now.cart (played_view run.now)) }
+    ensures rest { LeavesPrinting (H.world house.old) (H.world house.new) }
+{
+    let mut stage = new_stage(alloc, &file.cart)?;
+    let recording = &run.recording;
+    let scene = Scene {
+        cart: &file.cart,
+        font: &run.font,
+        disk: recording.disk.as_slice(),
+        budget: recording.budget,
+    };
+    let inputs = recording.frames.as_slice();
+    write_header(alloc, house, inputs.len() + 1)?;
+    write_samples(alloc, house, &mut stage, &scene, inputs)
+}
+
+/// Writes the header of a file of so many places.
+fn write_header<H: House>(alloc: Global, house: &mut H, places: usize) -> Result<(), Status>
+    requires { places ≤ 36001 }
+    ensures out { Printed (H.world house.old) (H.world house.new) result
+        (wav_header places) }
+    ensures rest { LeavesPrinting (H.world house.old) (H.world house.new) }
+{
+    print(alloc, house, &wav_header(places as u32))
+}
+
+/// Writes the samples of all places, one frame at a time, so that memory doesn't grow with their number.
+#[tactic(auto, unfolding(w4_defs::specs::Sound::samples))]
+fn write_samples<H: House>(
+    alloc: Global,
+    house: &mut H,
+    stage: &mut Stage,
+    scene: &Scene<'_>,
+    inputs: &[Input],
+) -> Result<(), Status>
+    requires disk { length scene.now.disk.now ≤ 1024 }
+    requires budget { 1 ≤ scene.now.budget }
+    requires globals { HasGlobals scene.now.cart.now stage.old.console }
+    ensures out { Printed (H.world house.old) (H.world house.new) result
+        (samples (map (λ place.
+        record_at (run (scene_setup scene.now) scene.now.disk.now inputs.now place))
+        (range_with_len 0 (length inputs.now + 1)))) }
+    ensures rest { LeavesPrinting (H.world house.old) (H.world house.new) }
+{
+    let mut wave = Wave::new();
+    run_to(stage, scene, inputs, 0);
+    write_frame(alloc, house, stage, &mut wave)?;
+    for place in 0..inputs.len() {
+        step(stage, scene, inputs, place);
+        write_frame(alloc, house, stage, &mut wave)?;
+    }
+    Ok(())
+}
+
+/// Writes the samples of the frame that led to the place where the stage stands.
+fn write_frame<H: House>(
+    alloc: Global,
+    house: &mut H,
+    stage: &Stage,
+    wave: &mut Wave,
+) -> Result<(), Status>
+    ensures out { Printed (H.world house.old) (H.world house.new) result
+        (rendered (stage_moment stage.now).made wave.old) }
+    ensures wave { wave.new ≡ after_frame (stage_moment stage.now).made wave.old }
+    ensures rest { LeavesPrinting (H.world house.old) (H.world house.new) }
+{
+    let mut samples = [0; FRAME_LEN];
+    render(stage, wave, &mut samples);
+    print(alloc, house, &samples)
+}

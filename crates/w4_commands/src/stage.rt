@@ -1,0 +1,169 @@
+//! A console, the record of its last frame, and the buffer of its image.
+
+ghost use Rattle.std.specs.Prelude.{◌≡◌, ◌+◌, ◌≤◌, ◌<◌, Some, length, IfOk};
+ghost use Rattle.w4_defs.specs.State.{HasGlobals};
+ghost use Rattle.w4_defs.specs.Frame.{frame};
+ghost use Rattle.w4_commands.specs.Scenes.{IsAtPlace, scene_setup, stage_moment};
+ghost use Rattle.w4_defs.specs.FrameTexts.{schedule_text, trace_text};
+ghost use Rattle.w4_defs.specs.Image.{image};
+ghost use Rattle.w4_defs.specs.MadeSummary.{lit_pixels};
+ghost use Rattle.w4_defs.specs.Sound.{after_frame, rendered};
+
+use crate::scene::Scene;
+use crate::summary::lit_pixels;
+use std::alloc::Global;
+use std::marker::Brand;
+use std::sync::ledger::{Blank, Ledger};
+use w4_console::Console;
+use w4_defs::console_laws::runs_in_parts;
+use w4_defs::{Halt, Input, OutOfMemory, Steps};
+use w4_devices::{FrameRecord, schedule_text, trace_text};
+use w4_image::{IMAGE_LEN, ppm_into};
+use w4_wave::{FRAME_LEN, Wave};
+use wasm_valid::Cart;
+
+/// A console, what its last reset or frame left behind, and the image of its page.
+#[derive(Drop)]
+pub struct Stage {
+    console: Console,
+    made: FrameRecord,
+    image: Box<[u8; IMAGE_LEN]>,
+}
+
+/// A stage before any reset. Takes all the memory that running needs.
+pub fn new_stage(alloc: Global, cart: &Cart) -> Result<Stage, OutOfMemory>
+    ensures { IfOk result (λ stage. HasGlobals cart.now stage.console) }
+{
+    let console = Console::new(alloc, cart)?;
+    let made = FrameRecord::new();
+    let image = Box::new(alloc, [0; IMAGE_LEN])?;
+    Ok(Stage {
+        console,
+        made,
+        image,
+    })
+}
+
+/// Starts the run anew.
+fn begin(stage: &mut Stage, scene: &Scene<'_>, inputs: &[Input])
+    requires disk { length scene.now.disk.now ≤ 1024 }
+    requires budget { 1 ≤ scene.now.budget }
+    requires globals { HasGlobals scene.now.cart.now stage.old.console }
+    ensures { IsAtPlace scene.now inputs.now 0 stage.new }
+{
+    let made = &mut stage.made;
+    stage
+        .console
+        .reset(scene.cart, scene.font, scene.disk, scene.budget, made);
+}
+
+/// One frame, under a count of its own.
+fn play<L: Ledger>(stage: &mut Stage, scene: &Scene<'_>, input: &Input, blank: Blank)
+    requires name { blank.name ≡ L.name }
+    requires parts { blank.parts ≡ L.parts }
+    requires some { 0 < L.parts }
+    requires budget { 1 ≤ scene.now.budget }
+    requires globals { HasGlobals scene.now.cart.now stage.old.console }
+    ensures frame { frame (scene_setup scene.now) stage.old.console input.now
+        ≡ Some (stage_moment stage.new) }
+    ensures globals { HasGlobals scene.now.cart.now stage.new.console }
+{
+    let mut steps: Steps<L> = Steps::new(blank);
+    let made = &mut stage.made;
+    stage.console.frame(
+        scene.cart,
+        scene.font,
+        input,
+        scene.budget,
+        made,
+        &mut steps,
+    );
+}
+
+/// Goes on to the next place.
+pub fn step(stage: &mut Stage, scene: &Scene<'_>, inputs: &[Input], place: usize)
+    requires place { place < length inputs.now }
+    requires budget { 1 ≤ scene.now.budget }
+    requires here { IsAtPlace scene.now inputs.now place stage.old }
+    ensures { IsAtPlace scene.now inputs.now (place + 1) stage.new }
+{
+    runs_in_parts();
+    play::<Brand>(stage, scene, &inputs[place], Blank::new(1));
+}
+
+/// Runs from a reset up to a place, in as many frames as its number.
+pub fn run_to(stage: &mut Stage, scene: &Scene<'_>, inputs: &[Input], place: usize)
+    requires place { place ≤ length inputs.now }
+    requires disk { length scene.now.disk.now ≤ 1024 }
+    requires budget { 1 ≤ scene.now.budget }
+    requires globals { HasGlobals scene.now.cart.now stage.old.console }
+    ensures { IsAtPlace scene.now inputs.now place stage.new }
+{
+    begin(stage, scene, inputs);
+    for passed in 0..place {
+        step(stage, scene, inputs, passed);
+    }
+}
+
+/// Puts the image of the page into the stage.
+pub fn paint(stage: &mut Stage)
+    ensures image { stage.new.image.value ≡ image stage.old.console.page }
+    ensures console { stage.new.console ≡ stage.old.console }
+    ensures made { stage.new.made ≡ stage.old.made }
+{
+    ppm_into(stage.console.state(), &mut stage.image);
+}
+
+/// The image in the stage.
+pub fn painted(stage: &Stage) -> &[u8]
+    ensures { result.now ≡ stage.now.image.value }
+{
+    stage.image.as_slice()
+}
+
+/// The bytes on the disk.
+pub fn disk(stage: &Stage) -> &[u8]
+    ensures { result.now ≡ stage.now.console.disk }
+{
+    stage.console.state().disk.bytes()
+}
+
+/// Whether the cart still runs.
+pub fn halt(stage: &Stage) -> Halt
+    ensures { result ≡ stage.now.console.halt }
+{
+    stage.console.state().halt
+}
+
+/// How many pixels of the image don't have palette index 0.
+pub fn lit(stage: &Stage) -> u32
+    ensures { result ≡ lit_pixels stage.now.console.page }
+{
+    lit_pixels(stage.console.state().page.bytes())
+}
+
+/// The schedule of the frame that led to this place.
+pub fn schedule(alloc: Global, stage: &Stage, place: usize) -> Result<Vec<u8>, OutOfMemory>
+    ensures { IfOk result (λ text. text.items ≡ schedule_text place (stage_moment stage.now).made) }
+{
+    let mut text = Vec::new(alloc);
+    schedule_text(alloc, place, &stage.made, &mut text)?;
+    Ok(text)
+}
+
+/// The trace lines of the frame that led to this place.
+pub fn traces(alloc: Global, stage: &Stage, place: usize) -> Result<Vec<u8>, OutOfMemory>
+    ensures { IfOk result (λ text. text.items ≡ trace_text place (stage_moment stage.now).made) }
+{
+    let mut text = Vec::new(alloc);
+    trace_text(alloc, place, &stage.made, &mut text)?;
+    Ok(text)
+}
+
+/// Renders the sound of the frame that led to this place.
+pub fn render(stage: &Stage, wave: &mut Wave, samples: &mut [u8; FRAME_LEN])
+    ensures samples { samples.new ≡ rendered (stage_moment stage.now).made wave.old }
+    ensures wave { wave.new ≡ after_frame (stage_moment stage.now).made wave.old }
+{
+    wave.render(&stage.made, samples);
+}

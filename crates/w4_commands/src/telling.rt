@@ -1,0 +1,120 @@
+//! What is told of places of the recording as the edits so far leave it.
+
+ghost use Rattle.std.specs.Prelude.{◌≡◌, ◌+◌, ◌-◌, ◌≤◌, OnOk, length};
+ghost use Rattle.w4_house.specs.World.{LeavesPrinting};
+ghost use Rattle.w4_commands.specs.Answering.{if_place, range_text};
+ghost use Rattle.w4_commands.specs.Answers.{answer_text};
+ghost use Rattle.w4_commands.specs.Causes.{Printed};
+ghost use Rattle.w4_commands.specs.Editors.{GivesAnswer, OnlyShows, place_session, text_by};
+ghost use Rattle.w4_commands.specs.Texts.{place_texts};
+ghost use Rattle.w4_commands.specs.declared.place_text.PlaceText.TheVariants.{DiskBytes};
+ghost use Rattle.w4_editor.specs.Editing.{editing_setup};
+
+use crate::desk::{Desk, last_place, made_image, make_image, schedule, traces};
+use crate::place_text::PlaceText;
+use crate::printing::print;
+use crate::refusal::refuse;
+use crate::status::Status;
+use std::alloc::Global;
+use std::sync::ledger::Ledger;
+use w4_defs::{EditRefusal, Steps};
+use w4_editor::Editor;
+use w4_house::House;
+
+/// The answer of an order that asks for a text of each place from one to another.
+pub fn tell_range<L: Ledger, H: House>(
+    alloc: Global,
+    house: &mut H,
+    desk: &mut Desk,
+    wanted: PlaceText,
+    a: u32,
+    b: u32,
+    steps: &mut Steps<L>,
+) -> Result<(), Status>
+    ensures answered { GivesAnswer (H.world house.old) (H.world house.new) result
+        desk.old.editor desk.new.editor
+        (answer_text (place_session desk.old.editor) (if_place (place_session desk.old.editor) b
+        (range_text (editing_setup desk.old.editor) desk.old.editor.disk
+        (place_session desk.old.editor) wanted a b))) }
+    ensures rest { LeavesPrinting (H.world house.old) (H.world house.new) }
+{
+    if b as usize > last_place(&desk.editor) {
+        return refuse(alloc, house, EditRefusal::NoFrame);
+    }
+    write_all(alloc, house, desk, wanted, a, b, steps)
+}
+
+/// Writes what is told of the places `a` to `b`, one after another, so that memory doesn't grow with them.
+fn write_all<L: Ledger, H: House>(
+    alloc: Global,
+    house: &mut H,
+    desk: &mut Desk,
+    wanted: PlaceText,
+    a: u32,
+    b: u32,
+    steps: &mut Steps<L>,
+) -> Result<(), Status>
+    requires place { b ≤ length desk.old.editor.session.current.inputs }
+    ensures out { Printed (H.world house.old) (H.world house.new) result
+        (place_texts (text_by desk.old.editor wanted) a (b + 1 - a)) }
+    ensures shows { OnOk result (OnlyShows desk.old.editor desk.new.editor) }
+    ensures rest { LeavesPrinting (H.world house.old) (H.world house.new) }
+{
+    let end = b as usize + 1;
+    for place in a as usize..end {
+        write_one(alloc, house, desk, wanted, place, steps)?;
+    }
+    Ok(())
+}
+
+/// Writes what is told of a place.
+fn write_one<L: Ledger, H: House>(
+    alloc: Global,
+    house: &mut H,
+    desk: &mut Desk,
+    wanted: PlaceText,
+    place: usize,
+    steps: &mut Steps<L>,
+) -> Result<(), Status>
+    requires place { place ≤ length desk.old.editor.session.current.inputs }
+    ensures out { Printed (H.world house.old) (H.world house.new) result
+        (text_by desk.old.editor wanted place) }
+    ensures shows { OnOk result (OnlyShows desk.old.editor desk.new.editor) }
+    ensures rest { LeavesPrinting (H.world house.old) (H.world house.new) }
+{
+    match wanted {
+        PlaceText::Image => {
+            make_image(alloc, desk, place, steps)?;
+            print(alloc, house, made_image(desk))
+        }
+        PlaceText::Schedule => {
+            let text = schedule(alloc, desk, place, steps)?;
+            print(alloc, house, text.as_slice())
+        }
+        PlaceText::Traces => {
+            let text = traces(alloc, desk, place, steps)?;
+            print(alloc, house, text.as_slice())
+        }
+        PlaceText::DiskBytes => write_disk(alloc, house, &mut desk.editor, place, steps),
+    }
+}
+
+/// Writes the bytes of the disk at a place.
+fn write_disk<L: Ledger, H: House>(
+    alloc: Global,
+    house: &mut H,
+    editor: &mut Editor,
+    place: usize,
+    steps: &mut Steps<L>,
+) -> Result<(), Status>
+    requires place { place ≤ length editor.old.session.current.inputs }
+    ensures out { Printed (H.world house.old) (H.world house.new) result
+        (text_by editor.old DiskBytes place) }
+    ensures shows { OnOk result (OnlyShows editor.old editor.new) }
+    ensures rest { LeavesPrinting (H.world house.old) (H.world house.new) }
+{
+    match editor.show(alloc, place, steps) {
+        Ok(state) => print(alloc, house, state.disk.bytes()),
+        Err(_) => Err(Status::OutOfMemory),
+    }
+}

@@ -1,1 +1,0 @@
--- A run, frame after frame.

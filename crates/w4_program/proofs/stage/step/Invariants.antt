@@ -1,5 +1,0 @@
-use Rattle.w4_program.proofs.stage.step.Given as goal
-
--- a ledger of its own, since nothing counts these frames
-abbrev pub ghosts-play : goal.ghosts-play
-ghosts-play a = record { name = a.blank.name; parts = a.blank.parts }

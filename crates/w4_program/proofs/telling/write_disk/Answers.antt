@@ -1,8 +1,0 @@
-use Rattle.w4_program.proofs.AnswerLaws.{on_ok}
-use Rattle.w4_program.proofs.SessionLaws.{only_shows}
-use Rattle.w4_program.proofs.telling.write_disk.Goals as goal
-
-pub returns-in-Ok-clause-shows : goal.returns-in-Ok-clause-shows
-returns-in-Ok-clause-shows g c =
-    let shown = rw c.in-Ok.is at c.show.follows.holds-at-none.0 in
-    on_ok c.print.result (only_shows c.args.editor.now c.show.follows.lender-at-none shown.recording)

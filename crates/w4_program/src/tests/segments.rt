@@ -1,0 +1,147 @@
+//! Work split over threads, of which no clause says that with ample memory the calls succeed, and that two
+//! pieces are under way at once.
+
+ghost use Rattle.std.specs.Prelude.{◌≡◌, ◌<◌, IfOk, vec_len};
+
+use super::carts::{IDLE, cart, font, pad};
+use std::alloc::Global;
+use std::marker::Brand;
+use std::sync::atomic::{AtomicU64, Ordering};
+use std::sync::ledger::{Blank, Ledger};
+use std::test::Fail;
+use w4_defs::{EditRefusal, Halt, Input, Steps};
+use w4_editor::Editor;
+use w4_image::IMAGE_LEN;
+use w4_record::Recording;
+use w4_segments::{BatchRow, Gate, batch, film, settle_wide};
+
+/// How often a held piece looks for the other one.
+const TURNS: u64 = 1_000_000_000;
+
+/// A recording of one frame of zeros, on the cart whose digest is 32 bytes of 7.
+const ONE_FRAME: &[u8] = b"W4RC\x01\x07\x07\x07\x07\x07\x07\x07\x07\x07\x07\x07\x07\x07\x07\x07\x07\
+    \x07\x07\x07\x07\x07\x07\x07\x07\x07\x07\x07\x07\x07\x07\x07\x07\xa0\x86\x01\0\0\0\x01\0\0\0\
+    \0\0\0\0\0\0\0\0\0";
+
+/// The SHA-256 of an image whose pixels are all e0f8cf, by another program.
+const BLANK_IMAGE: [u8; 32] = [
+    0x14, 0x0f, 0x94, 0x51, 0x49, 0x30, 0xfa, 0x76, 0xb0, 0x89, 0xd3, 0x05, 0xb6, 0xba, 0x8c, 0xba,
+    0x4e, 0xea, 0x11, 0xe2, 0x58, 0x4f, 0x1e, 0xb3, 0x45, 0x82, 0xb7, 0x14, 0xda, 0x2f, 0xe0, 0x36,
+];
+
+/// A gate that holds piece 0 until piece 1 has passed, but for no longer than `TURNS`.
+#[derive(Drop)]
+struct Holder {
+    passed: AtomicU64,
+    seen: AtomicU64,
+}
+
+impl Holder {
+    fn new() -> Holder {
+        Holder {
+            passed: AtomicU64::new(0),
+            seen: AtomicU64::new(0),
+        }
+    }
+
+    fn hold(&self) {
+        for _ in 0..TURNS {
+            if self.passed.load(Ordering::SeqCst) == 1 {
+                self.seen.store(1, Ordering::SeqCst);
+                return;
+            }
+        }
+    }
+
+    /// Whether piece 0 saw piece 1 pass.
+    fn saw(&self) -> bool {
+        self.seen.load(Ordering::SeqCst) == 1
+    }
+}
+
+impl Gate for Holder {
+    fn pass(&self, piece: usize) {
+        match piece {
+            0 => self.hold(),
+            1 => self.passed.store(1, Ordering::SeqCst),
+            _ => {}
+        }
+    }
+}
+
+/// An editor of two frames of zeros, whose places are all kept.
+fn editor<L: Ledger>(alloc: Global, blank: Blank) -> Result<Editor, Fail>
+    requires name { blank.name ≡ L.name }
+    requires parts { blank.parts ≡ L.parts }
+    requires some { 0 < L.parts }
+{
+    let recording = Recording::new([7; 32], 100_000, Vec::new(alloc), inputs(alloc)?);
+    let mut editor = Editor::new(alloc, cart(alloc, &IDLE)?, font()?, recording)?;
+    let steps = &mut Steps::<L>::new(blank);
+    editor.keep(alloc, 1, steps)?;
+    editor.keep(alloc, 2, steps)?;
+    Ok(editor)
+}
+
+/// Two frames of zeros.
+fn inputs(alloc: Global) -> Result<Vec<Input>, Fail>
+    ensures { IfOk result (λ inputs. vec_len inputs ≡ 2) }
+{
+    Ok(Vec::from_slice(alloc, &[pad(0), pad(0)])?)
+}
+
+#[test]
+fn two_pieces_of_a_film_are_under_way_at_once(rt: HostRuntime) -> Result<(), Fail> {
+    let mut editor = editor::<Brand>(rt.alloc(), Blank::new(1))?;
+    let gate = Holder::new();
+    let film = film(&rt, rt.alloc(), &mut editor, 0, 2, 2, &gate)?;
+    assert_eq!(rt; film.len(), 3 * IMAGE_LEN);
+    assert!(rt; gate.saw());
+    Ok(())
+}
+
+/// Two edits, each of which takes a link away.
+fn two_unlinked(alloc: Global, editor: &mut Editor) -> Result<(), EditRefusal> {
+    editor.set(alloc, 0, pad(0))?;
+    editor.set(alloc, 1, pad(0))
+}
+
+#[test]
+fn two_segments_are_settled_at_once(rt: HostRuntime) -> Result<(), Fail> {
+    let mut editor = editor::<Brand>(rt.alloc(), Blank::new(1))?;
+    two_unlinked(rt.alloc(), &mut editor)?;
+    let gate = Holder::new();
+    settle_wide(&rt, rt.alloc(), &mut editor, 2, &gate)?;
+    assert!(rt; gate.saw());
+    Ok(())
+}
+
+#[test]
+fn two_items_of_a_batch_are_run_at_once(rt: HostRuntime) -> Result<(), Fail> {
+    let cart = cart(rt.alloc(), &IDLE)?;
+    let font = font()?;
+    let mut items = Vec::new(rt.alloc());
+    for bytes in [ONE_FRAME, ONE_FRAME, &ONE_FRAME[..46]] {
+        items.push(Vec::from_slice(rt.alloc(), bytes)?)?;
+    }
+    let gate = Holder::new();
+    let rows = batch(
+        &rt,
+        rt.alloc(),
+        &cart,
+        &font,
+        &[7; 32],
+        items.as_slice(),
+        2,
+        &gate,
+    )?;
+    let ran = BatchRow::Ran {
+        frames: 1,
+        halt: Halt::Running,
+        image: BLANK_IMAGE,
+        disk: 0,
+    };
+    assert_eq!(rt; rows.as_slice(), [ran, ran, BatchRow::Bad].as_slice());
+    assert!(rt; gate.saw());
+    Ok(())
+}
