@@ -6,14 +6,18 @@ ghost use Rattle.std.specs.Prelude.{◌≡◌, ◌<◌, IfOk, vec_len};
 use super::carts::{IDLE, cart, font, pad};
 use std::alloc::Global;
 use std::marker::Brand;
+use std::process::Abort;
 use std::sync::atomic::{AtomicU64, Ordering};
 use std::sync::ledger::{Blank, Ledger};
 use std::test::Fail;
+use std::thread::Threads;
+use w4_blit::Font;
 use w4_defs::{EditRefusal, Halt, Input, Steps};
 use w4_editor::Editor;
 use w4_image::IMAGE_LEN;
 use w4_record::Recording;
 use w4_segments::{BatchRow, Gate, batch, film, settle_wide};
+use wasm_valid::Cart;
 
 /// How often a held piece looks for the other one.
 const TURNS: u64 = 1_000_000_000;
@@ -90,14 +94,23 @@ fn inputs(alloc: Global) -> Result<Vec<Input>, Fail>
     Ok(Vec::from_slice(alloc, &[pad(0), pad(0)])?)
 }
 
-#[test]
-fn two_pieces_of_a_film_are_under_way_at_once(rt: HostRuntime) -> Result<(), Fail> {
-    let mut editor = editor::<Brand>(rt.alloc(), Blank::new(1))?;
+/// Tests that two workers film all places at once.
+fn check_film<R: Threads + Sync + Abort>(
+    rt: &R,
+    alloc: Global,
+    editor: &mut Editor,
+) -> Result<(), Fail> {
     let gate = Holder::new();
-    let film = film(&rt, rt.alloc(), &mut editor, 0, 2, 2, &gate)?;
+    let film = film(rt, alloc, editor, 0, 2, 2, &gate)?;
     assert_eq!(rt; film.len(), 3 * IMAGE_LEN);
     assert!(rt; gate.saw());
     Ok(())
+}
+
+#[test]
+fn two_pieces_of_a_film_are_under_way_at_once(rt: HostRuntime) -> Result<(), Fail> {
+    let mut editor = editor::<Brand>(rt.alloc(), Blank::new(1))?;
+    check_film(&rt, rt.alloc(), &mut editor)
 }
 
 /// Two edits, each of which takes a link away.
@@ -106,35 +119,44 @@ fn two_unlinked(alloc: Global, editor: &mut Editor) -> Result<(), EditRefusal> {
     editor.set(alloc, 1, pad(0))
 }
 
-#[test]
-fn two_segments_are_settled_at_once(rt: HostRuntime) -> Result<(), Fail> {
-    let mut editor = editor::<Brand>(rt.alloc(), Blank::new(1))?;
-    two_unlinked(rt.alloc(), &mut editor)?;
+/// Tests that two workers settle two segments at once.
+fn check_settling<R: Threads + Sync + Abort>(
+    rt: &R,
+    alloc: Global,
+    editor: &mut Editor,
+) -> Result<(), Fail> {
+    two_unlinked(alloc, editor)?;
     let gate = Holder::new();
-    settle_wide(&rt, rt.alloc(), &mut editor, 2, &gate)?;
+    settle_wide(rt, alloc, editor, 2, &gate)?;
     assert!(rt; gate.saw());
     Ok(())
 }
 
 #[test]
-fn two_items_of_a_batch_are_run_at_once(rt: HostRuntime) -> Result<(), Fail> {
-    let cart = cart(rt.alloc(), &IDLE)?;
-    let font = font()?;
-    let mut items = Vec::new(rt.alloc());
+fn two_segments_are_settled_at_once(rt: HostRuntime) -> Result<(), Fail> {
+    let mut editor = editor::<Brand>(rt.alloc(), Blank::new(1))?;
+    check_settling(&rt, rt.alloc(), &mut editor)
+}
+
+/// Two recordings, and one that lacks bytes.
+fn items(alloc: Global) -> Result<Vec<Vec<u8>>, Fail> {
+    let mut items = Vec::new(alloc);
     for bytes in [ONE_FRAME, ONE_FRAME, &ONE_FRAME[..46]] {
-        items.push(Vec::from_slice(rt.alloc(), bytes)?)?;
+        items.push(Vec::from_slice(alloc, bytes)?)?;
     }
+    Ok(items)
+}
+
+/// Tests that two workers run the two recordings at once.
+fn check_batch<R: Threads + Sync + Abort>(
+    rt: &R,
+    alloc: Global,
+    cart: &Cart,
+    font: &Font,
+    items: &[Vec<u8>],
+) -> Result<(), Fail> {
     let gate = Holder::new();
-    let rows = batch(
-        &rt,
-        rt.alloc(),
-        &cart,
-        &font,
-        &[7; 32],
-        items.as_slice(),
-        2,
-        &gate,
-    )?;
+    let rows = batch(rt, alloc, cart, font, &[7; 32], items, 2, &gate)?;
     let ran = BatchRow::Ran {
         frames: 1,
         halt: Halt::Running,
@@ -144,4 +166,12 @@ fn two_items_of_a_batch_are_run_at_once(rt: HostRuntime) -> Result<(), Fail> {
     assert_eq!(rt; rows.as_slice(), [ran, ran, BatchRow::Bad].as_slice());
     assert!(rt; gate.saw());
     Ok(())
+}
+
+#[test]
+fn two_items_of_a_batch_are_run_at_once(rt: HostRuntime) -> Result<(), Fail> {
+    let cart = cart(rt.alloc(), &IDLE)?;
+    let font = font()?;
+    let items = items(rt.alloc())?;
+    check_batch(&rt, rt.alloc(), &cart, &font, items.as_slice())
 }
