@@ -1,19 +1,22 @@
 -- Answers that are written one after another.
-use Rattle.std.proofs.Common.{◌≡◌, ℕ, ◌+◌, ◌<◌, ◌≤◌, List, [], ◌∷◌, ◌++◌, length, get_or, drop, false, pos, refl, sym, ap, subst, ◌∙◌, add-one, drop-cons}
+use Rattle.std.proofs.Common.{◌≡◌, ℕ, ◌+◌, ◌<◌, ◌≤◌, List, [], ◌∷◌, length, get_or, Option, drop, false, pos, refl, sym, ap, subst, ◌∙◌, add-one, drop-cons}
 use Rattle.std.specs.Prelude.{OnOk, IfOk, Result, Ok, Err}
+use Rattle.std.specs.Option.{ForSome}
 use Rattle.std.proofs.Math.ListN.{drop_of_length-le}
 use Rattle.w4_defs.specs.declared.order.Order.{Order}
 use Rattle.w4_defs.specs.declared.order.Order.TheVariants.{Set}
 use Rattle.w4_defs.specs.Reset.{Setup}
 use Rattle.w4_defs.specs.Session.{Session}
 use Rattle.w4_editor.specs.Editing.{Editing, editing_setup}
-use Rattle.w4_house.specs.World.{World, Appends}
-use Rattle.w4_commands.specs.Answering.{answer, answers}
-use Rattle.w4_commands.specs.Answers.{Answered, answer_text, answers_by}
+use Rattle.w4_defs.specs.World.{World, Appends}
+use Rattle.w4_defs.specs.ScriptAnswers.{answer, answers}
+use Rattle.w4_defs.specs.AllThere.{joined}
+use Rattle.w4_defs.specs.Answers.{Answered, carried_out, answers_by}
+use Rattle.w4_defs.specs.PlaceTexts.{as_it_stands}
 use Rattle.w4_commands.specs.Causes.{StopsWriting}
 use Rattle.w4_commands.specs.Editors.{KeepsRest, IsAnswered, answer_by, place_session}
-use Rattle.w4_commands.specs.Endings.{Manner}
-use Rattle.w4_commands.proofs.OwesLaws.{Owes, owes_less, owes_nothing, piece_stopped}
+use Rattle.w4_defs.specs.Endings.{Manner}
+use Rattle.w4_commands.proofs.OwesLaws.{OwesThere, there_less, there_nothing, there_stopped}
 use Rattle.w4_commands.proofs.SessionLaws.{same_editing_setup, same_disk}
 
 -- what a list of orders gives past its end
@@ -22,24 +25,28 @@ past_end = Set 0 (record { pads = []; mouse_x = pos 0; mouse_y = pos 0; buttons 
 
 -- an answer is the same by what the editor had at first
 pub same_answer : (first old : Editing) (order : Order) → KeepsRest first old
-    → answer_by old order ≡ answer (editing_setup first) first.disk (place_session old) order
+    → answer_by old order
+    ≡ answer as_it_stands (editing_setup first) first.disk (place_session old) order
 same_answer first old order rest =
-    λ i. answer (same_editing_setup first old rest i) (same_disk first old rest i) (place_session old) order
+    λ i. answer as_it_stands (same_editing_setup first old rest i) (same_disk first old rest i)
+    (place_session old) order
 
 pub answered_at_first : (now after : World) (first old new : Editing) (order : Order)
     → KeepsRest first old
     → IsAnswered now after old new (answer_by old order)
-    → IsAnswered now after old new (answer (editing_setup first) first.disk (place_session old) order)
+    → IsAnswered now after old new
+    (answer as_it_stands (editing_setup first) first.disk (place_session old) order)
 answered_at_first now after first old new order rest h =
     subst (λ (a : Answered (Session ℕ)). IsAnswered now after old new a) (same_answer first old order rest) h
 
 pub stopped_at_first : (now after : World) (why : Manner) (first old : Editing) (order : Order)
     → KeepsRest first old
-    → StopsWriting now after why (answer_by old order).out
-    → StopsWriting now after why (answer (editing_setup first) first.disk (place_session old) order).out
+    → ForSome (answer_by old order).out (λ out. StopsWriting now after why out)
+    → ForSome (answer as_it_stands (editing_setup first) first.disk (place_session old) order).out
+    (λ out. StopsWriting now after why out)
 stopped_at_first now after why first old order rest h =
-    subst (λ (a : Answered (Session ℕ)). StopsWriting now after why a.out) (same_answer first old order rest)
-    h
+    subst (λ (a : Answered (Session ℕ)). ForSome a.out (λ out. StopsWriting now after why out))
+    (same_answer first old order rest) h
 
 -- the first order's answer, and those of the rest over the session that it leaves
 answers-step : {S O : Type 0} (answer_of : S → O → Answered S) (s next : S) (orders : List O) (i : ℕ) (d : O)
@@ -47,7 +54,8 @@ answers-step : {S O : Type 0} (answer_of : S → O → Answered S) (s next : S) 
     → next ≡ (answer_of s (get_or orders i d)).session
     → answers_by answer_of s (drop i orders)
     ≡ record {
-      out = (answer_of s (get_or orders i d)).out ++ (answers_by answer_of next (drop (i + 1) orders)).out;
+      out =
+          joined (answer_of s (get_or orders i d)).out (answers_by answer_of next (drop (i + 1) orders)).out;
       session = (answers_by answer_of next (drop (i + 1) orders)).session;
     }
 unfolding answers_by
@@ -57,26 +65,27 @@ answers-step answer_of s next orders i d lt e =
     rw (first, e) refl
 
 pub answers-out-step : {S O : Type 0} (first now after : World) (answer_of : S → O → Answered S) (s next : S)
-    (orders : List O) (i : ℕ) (d : O) (whole : List ℕ)
+    (orders : List O) (i : ℕ) (d : O) (whole : Option (List ℕ))
     → i < length orders
     → next ≡ (answer_of s (get_or orders i d)).session
-    → Appends now.out after.out (answer_of s (get_or orders i d)).out
-    → Owes first now (answers_by answer_of s (drop i orders)).out whole
-    → Owes first after (answers_by answer_of next (drop (i + 1) orders)).out whole
+    → ForSome (answer_of s (get_or orders i d)).out (λ out. Appends now.out after.out out)
+    → OwesThere first now (answers_by answer_of s (drop i orders)).out whole
+    → OwesThere first after (answers_by answer_of next (drop (i + 1) orders)).out whole
 answers-out-step first now after answer_of s next orders i d whole lt e more so_far =
-    owes_less first now after (answer_of s (get_or orders i d)).out
+    there_less first now after (answer_of s (get_or orders i d)).out
     (answers_by answer_of next (drop (i + 1) orders)).out whole more
-    (subst (λ a. Owes first now a.out whole) (answers-step answer_of s next orders i d lt e) so_far)
+    (subst (λ a. OwesThere first now a.out whole) (answers-step answer_of s next orders i d lt e) so_far)
 
 -- one of them stopped
 pub answers-stop : {S O : Type 0} (first now after : World) (why : Manner) (answer_of : S → O → Answered S)
-    (s : S) (orders : List O) (i : ℕ) (d : O) (whole : List ℕ)
+    (s : S) (orders : List O) (i : ℕ) (d : O) (whole : Option (List ℕ))
     → i < length orders → first.write_faults ≤ now.write_faults
-    → StopsWriting now after why (answer_of s (get_or orders i d)).out
-    → Owes first now (answers_by answer_of s (drop i orders)).out whole → StopsWriting first after why whole
+    → ForSome (answer_of s (get_or orders i d)).out (λ out. StopsWriting now after why out)
+    → OwesThere first now (answers_by answer_of s (drop i orders)).out whole
+    → ForSome whole (λ all. StopsWriting first after why all)
 answers-stop first now after why answer_of s orders i d whole lt le h so_far =
     let one = answer_of s (get_or orders i d) in
-    piece_stopped first now after why one.out (answers_by answer_of one.session (drop (i + 1) orders)).out
+    there_stopped first now after why one.out (answers_by answer_of one.session (drop (i + 1) orders)).out
     (answers_by answer_of s (drop i orders)).out whole
     (ap (λ a. a.out) (answers-step answer_of s one.session orders i d lt refl)) le so_far h
 
@@ -90,7 +99,7 @@ answers-session-step answer_of s next orders i d whole lt e so_far =
     sym (ap (λ a. a.session) (answers-step answer_of s next orders i d lt e)) ∙ so_far
 
 pub answers-end : {S O : Type 0} (answer_of : S → O → Answered S) (s : S) (orders : List O) (i : ℕ)
-    → length orders ≤ i → answers_by answer_of s (drop i orders) ≡ answer_text s []
+    → length orders ≤ i → answers_by answer_of s (drop i orders) ≡ carried_out s
 unfolding answers_by
 answers-end answer_of s orders i le = rw (drop_of_length-le orders le) refl
 
@@ -98,13 +107,13 @@ answers-end answer_of s orders i le = rw (drop_of_length-le orders le) refl
 pub answers-done : (before after : World) (old new : Editing) (setup : Setup) (disk : List ℕ)
     (orders : List Order) (i : ℕ) (whole : Answered (Session ℕ))
     → length orders ≤ i
-    → Owes before after (answers setup disk (place_session new) (drop i orders)).out whole.out
+    → OwesThere before after (answers setup disk (place_session new) (drop i orders)).out whole.out
     → (answers setup disk (place_session new) (drop i orders)).session ≡ whole.session
     → KeepsRest old new → IsAnswered before after old new whole
 answers-done before after old new setup disk orders i whole le owed so_far rest =
-    let end = answers-end (answer setup disk) (place_session new) orders i le in record {
+    let end = answers-end (answer as_it_stands setup disk) (place_session new) orders i le in record {
       out =
-          owes_nothing before after (answers setup disk (place_session new) (drop i orders)).out whole.out
+          there_nothing before after (answers setup disk (place_session new) (drop i orders)).out whole.out
           (ap (λ (a : Answered (Session ℕ)). a.out) end) owed;
       session = sym (ap (λ (a : Answered (Session ℕ)). a.session) end) ∙ so_far;
       rest = rest;

@@ -4,11 +4,12 @@ use Rattle.std.specs.Option.{ForSome}
 use Rattle.w4_defs.specs.declared.refusal.CartKind.{CartKind}
 use Rattle.sha2.specs.Sha256.{sha256}
 use Rattle.w4_defs.specs.Cart.{IsCart, IsRefused, IsInvalid}
-use Rattle.w4_house.specs.World.{World}
-use Rattle.w4_commands.specs.declared.status.Status.TheVariants.{CartRefused}
-use Rattle.w4_commands.specs.Endings.{Manner, AllWritten, NoCommand, ReadFailed, WriteFailed, MemoryRefused, Refused}
-use Rattle.w4_commands.specs.Output.{CartFile, CartIn, reading}
-use Rattle.w4_commands.specs.Causes.{ResultsIn, StepRefuses, Stops}
+use Rattle.w4_defs.specs.World.{World}
+use Rattle.w4_defs.specs.declared.status.Status.TheVariants.{CartRefused}
+use Rattle.w4_defs.specs.Endings.{Manner, AllWritten, NoCommand, ReadFailed, WriteFailed, MemoryRefused, Refused}
+use Rattle.w4_defs.specs.Output.{CartFile, CartIn, reading}
+use Rattle.w4_defs.specs.Causes.{StepRefuses}
+use Rattle.w4_commands.specs.Causes.{ResultsIn, Stops}
 use Rattle.w4_defs.specs.declared.refusal.CartKind.TheVariants.{TooLarge, Malformed, Profile, Invalid}
 use Rattle.w4_defs.specs.declared.refusal.ProfileRefusal.{ProfileRefusal}
 use Rattle.w4_defs.specs.Module.{WasmModule}

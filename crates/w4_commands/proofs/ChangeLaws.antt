@@ -1,6 +1,7 @@
 -- What an editor makes of its session, its places make of theirs.
-use Rattle.std.proofs.Common.{◌≡◌, ◌≢◌, ◌⊎◌, ℕ, inl, inr, Some, None, List, [], Option, false, refl, sym, ap, ◌∙◌, subst, pos, append-nil}
+use Rattle.std.proofs.Common.{◌≡◌, ◌≢◌, ◌⊎◌, ℕ, inl, inr, Some, None, List, [], Option, false, refl, sym, ap, ◌∙◌, subst, pos}
 use Rattle.std.specs.Prelude.{Result, Ok, Err, OnOk, OnErr, IfErr}
+use Rattle.std.specs.Option.{ForSome}
 use Rattle.w4_defs.specs.declared.console.Input.{Input}
 use Rattle.w4_defs.specs.declared.editing.EditRefusal.{EditRefusal}
 use Rattle.w4_defs.specs.declared.editing.EditRefusal.TheVariants.{OutOfMemory}
@@ -13,14 +14,15 @@ use Rattle.w4_defs.specs.State.{blank_state}
 use Rattle.w4_editor.specs.Editing.{Editing, IsErrorOrMemory, with_session}
 use Rattle.w4_editor.specs.Settling.{linked_entry}
 use Rattle.w4_editor.specs.Showing.{IsKeptAt, IsCauseOrMemory}
-use Rattle.w4_house.specs.World.{World, Appends}
-use Rattle.w4_commands.specs.Answering.{answer, answer_change, refused_line, refusal_words}
-use Rattle.w4_commands.specs.Causes.{Printed, WritesNothing}
+use Rattle.w4_defs.specs.World.{World, Appends}
+use Rattle.w4_defs.specs.PlaceTexts.{as_it_stands}
+use Rattle.w4_defs.specs.ScriptAnswers.{answer, answer_change, refused_line, refusal_words}
+use Rattle.w4_commands.specs.Causes.{Printed, StopsWriting, WritesNothing}
 use Rattle.w4_commands.specs.Editors.{KeepsRest, IsAnswered, IsChanged, GivesAnswer, changed, place_session}
-use Rattle.w4_commands.specs.Endings.{manner_of}
-use Rattle.w4_commands.specs.declared.status.Status.{Status}
-use Rattle.w4_commands.proofs.OwesLaws.{stops_as, stops_untold}
-use Rattle.w4_commands.proofs.SessionLaws.{rest_then, rest_at, only_shows}
+use Rattle.w4_defs.specs.Endings.{Manner, manner_of}
+use Rattle.w4_defs.specs.declared.status.Status.{Status}
+use Rattle.w4_commands.proofs.OwesLaws.{stops_untold, there_is}
+use Rattle.w4_commands.proofs.SessionLaws.{appends_nothing, rest_then, rest_at, only_shows}
 
 abbrev pub Made : Type 0
 Made = Result (Session Entry) EditRefusal
@@ -126,7 +128,7 @@ pub change_answers : (setup : Setup) (disk : List ℕ) (s : Session ℕ) (o : Or
     → ((p : ℕ) → o ≢ order.Show p) → ((a b workers : ℕ) → o ≢ order.Film a b workers)
     → ((a b : ℕ) → o ≢ order.Tones a b) → ((a b : ℕ) → o ≢ order.Traces a b)
     → ((p : ℕ) → o ≢ order.DiskAt p) → ((p : ℕ) → o ≢ order.StateAt p)
-    → answer setup disk s o ≡ answer_change s (changed o s)
+    → answer as_it_stands setup disk s o ≡ answer_change as_it_stands s (changed o s)
 change_answers setup disk s (order.Set k input) show film tones traces at state = refl
 change_answers setup disk s (order.Insert k input) show film tones traces at state = refl
 change_answers setup disk s (order.Delete k) show film tones traces at state = refl
@@ -145,12 +147,16 @@ change_answers setup disk s (order.DiskAt p) show film tones traces at state = a
 change_answers setup disk s (order.StateAt p) show film tones traces at state = absurd (state p refl)
 
 pub carried : (world : World) (old new : Editing) (alone : SessionOrRefusal) → alone ≡ Ok (place_session new)
-    → KeepsRest old new → IsAnswered world world old new (answer_change (place_session old) alone)
+    → KeepsRest old new
+    → IsAnswered world world old new (answer_change as_it_stands (place_session old) alone)
 carried world old new alone is rest =
-    subst (λ (m : SessionOrRefusal). IsAnswered world world old new (answer_change (place_session old) m))
+    subst (λ (m : SessionOrRefusal).
+    IsAnswered world world old new (answer_change as_it_stands (place_session old) m))
     (sym is)
     (record {
-      out = λ before texts. texts ∙ ap (λ (bytes : List ℕ). Some bytes) (sym (append-nil before));
+      out =
+          there_is (λ out. Appends world.out world.out out) (Some []) [] refl
+          (appends_nothing world [] refl);
       session = refl;
       rest = rest;
     })
@@ -159,30 +165,39 @@ pub change_refused : (before after : World) (old new : Editing) (alone : Session
     (refusal : EditRefusal)
     → alone ≡ Err refusal → new ≡ old
     → Appends before.out after.out (refused_line (refusal_words refusal))
-    → IsAnswered before after old new (answer_change (place_session old) alone)
+    → IsAnswered before after old new (answer_change as_it_stands (place_session old) alone)
 change_refused before after old new alone refusal is same written =
-    subst (λ (m : SessionOrRefusal). IsAnswered before after old new (answer_change (place_session old) m))
+    let line = refused_line (refusal_words refusal) in
+    subst (λ (m : SessionOrRefusal).
+    IsAnswered before after old new (answer_change as_it_stands (place_session old) m))
     (sym is)
     (record {
-      out = written;
+      out = there_is (λ out. Appends before.out after.out out) (Some line) line refl written;
       session = ap (λ (e : Editing). place_session e) same;
       rest = ap (λ (e : Editing). e) same ∙ (λ i. with_session old (sym same i).session (sym same i).at);
     })
+
+-- nothing was written, whatever the answer is
+change_unwritten : (before after : World) (why : Manner) (line : List ℕ) (text : Option (List ℕ))
+    → after.out ≡ before.out → StopsWriting before after why line
+    → ForSome text (λ out. StopsWriting before after why out)
+change_unwritten before after why line text same h = λ out is. stops_untold before after why line out same h
 
 pub refused_on : {X : Type 0} (result : Result X Status) (before after : World) (old new : Editing)
     (alone : SessionOrRefusal) (refusal : EditRefusal)
     → (refusal ≢ OutOfMemory → (alone ≡ Err refusal) × (new ≡ old))
     → (refusal ≢ OutOfMemory) ⊎ WritesNothing before after result
     → Printed before after result (refused_line (refusal_words refusal))
-    → GivesAnswer before after result old new (answer_change (place_session old) alone)
+    → GivesAnswer before after result old new (answer_change as_it_stands (place_session old) alone)
 refused_on (Ok x) before after old new alone refusal why (inl cause) written =
     let is = why cause in
     change_refused before after old new alone refusal is.0 is.1 written
 refused_on (Ok x) before after old new alone refusal why (inr (failed, same)) written = absurd cc
 refused_on (Err e) before after old new alone refusal why (inl cause) written =
-    stops_as before after (manner_of e) (refused_line (refusal_words refusal))
-    (answer_change (place_session old) alone).out
-    (ap (λ (m : SessionOrRefusal). (answer_change (place_session old) m).out) (why cause).0) written
+    there_is (λ out. StopsWriting before after (manner_of e) out)
+    (answer_change as_it_stands (place_session old) alone).out (refused_line (refusal_words refusal))
+    (ap (λ (m : SessionOrRefusal). (answer_change as_it_stands (place_session old) m).out) (why cause).0)
+    written
 refused_on (Err e) before after old new alone refusal why (inr (failed, same)) written =
-    stops_untold before after (manner_of e) (refused_line (refusal_words refusal))
-    (answer_change (place_session old) alone).out same written
+    change_unwritten before after (manner_of e) (refused_line (refusal_words refusal))
+    (answer_change as_it_stands (place_session old) alone).out same written

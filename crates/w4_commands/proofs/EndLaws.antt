@@ -1,17 +1,20 @@
 -- How the whole ended, put together from how its steps ended.
-use Rattle.std.proofs.Common.{◌≡◌, ℕ, inl, inr, List, Result, Ok, Err, refl, sym, subst, ◌∙◌}
+use Rattle.std.proofs.Common.{◌≡◌, ℕ, inl, inr, List, Option, Some, option_map, Result, Ok, Err, refl, sym, subst, ◌∙◌}
 use Rattle.std.specs.Option.{ForSome}
+use Rattle.std.specs.Prelude.{IsSome}
 use Rattle.w4_defs.specs.Recording.{encoding}
-use Rattle.w4_house.specs.World.{Files, World, Rises, Appends, AppendsFront, LeavesReading, LeavesPrinting}
+use Rattle.w4_defs.specs.World.{Files, World, Rises, Appends, AppendsFront, LeavesReading, LeavesPrinting}
 use Rattle.w4_house.proofs.WorldLaws.{rises_later}
-use Rattle.w4_commands.specs.declared.status.Status.{Status}
-use Rattle.w4_commands.specs.declared.status.Status.TheVariants as status
-use Rattle.w4_commands.specs.Endings.{Manner, AllWritten, NoCommand, ReadFailed, WriteFailed, MemoryRefused, Refused}
-use Rattle.w4_commands.specs.Forms.{EditWords}
-use Rattle.w4_commands.specs.Output.{◌>>=◌, CartFile, Output, Loaded, edit_files, edit_answers, edited_recording, only_printed, edit_result, edit_output, CartIn}
-use Rattle.w4_commands.specs.Outputs.{OverCart}
-use Rattle.w4_commands.specs.Causes.{ResultsIn, Stops, StopsWriting, OpensFile, WritesPart, Ends, Carries, Prints}
-use Rattle.w4_commands.proofs.StepLaws.{stops_first}
+use Rattle.w4_defs.specs.declared.status.Status.{Status}
+use Rattle.w4_defs.specs.declared.status.Status.TheVariants as status
+use Rattle.w4_defs.specs.Endings.{Manner, AllWritten, NoCommand, ReadFailed, WriteFailed, MemoryRefused, Refused, manner_of}
+use Rattle.w4_defs.specs.Commands.{EditWords}
+use Rattle.w4_defs.specs.Output.{CartFile, Output, Loaded, edit_files, edit_answers, edited_recording, only_printed, edit_result, edit_output, making, printing, written, CartIn}
+use Rattle.w4_defs.specs.Outputs.{OverCart}
+use Rattle.w4_defs.specs.Causes.{OpensFile, WritesPart, Ends}
+use Rattle.w4_commands.specs.Causes.{MakesOf, ResultsIn, Stops, StopsWriting, Carries, Prints}
+use Rattle.w4_defs.proofs.ThereLaws.{value_there}
+use Rattle.w4_commands.proofs.StepLaws.{stops_making}
 
 pub prints_stopped : (old new : World) (why : Manner) (out : List ℕ) → StopsWriting old new why out
     → Prints old new why out
@@ -21,6 +24,21 @@ prints_stopped old new ReadFailed out h = h
 prints_stopped old new WriteFailed out h = h
 prints_stopped old new MemoryRefused out h = h
 prints_stopped old new (Refused refusal) out h = h
+
+-- where the text that was printed is there, the words were those of a command
+pub prints_formed : (old new : World) (ended : Status) (text : Option (List ℕ)) → IsSome text
+    → ForSome text (λ out. Prints old new (manner_of ended) out) → ended ≡ status.Usage → ⊥
+prints_formed old new ended text there h usage =
+    let told = value_there text there in
+    subst (λ (s : Status). Prints old new (manner_of s) told.0) usage (h told.0 told.1)
+
+-- and where the answers of an edit are
+pub carries_formed : (old new : World) (ended : Status) (text : Option (List ℕ)) (name bytes : List ℕ)
+    → IsSome text → ForSome text (λ out. Carries old new (manner_of ended) out name bytes)
+    → ended ≡ status.Usage → ⊥
+carries_formed old new ended text name bytes there h usage =
+    let told = value_there text there in
+    subst (λ (s : Status). Carries old new (manner_of s) told.0 name bytes) usage (h told.0 told.1)
 
 -- what was written after files were read
 front_later : (first second third : World) (bytes : List ℕ) → LeavesReading first second
@@ -39,7 +57,7 @@ part_later first second third made leaves (inr (written, opens)) = inr (
 
 -- the cart wasn't read or is none
 pub ends_unjudged : (old new : World) (why : Manner) (name : List ℕ)
-    (make : CartFile → Files → Result Output Status)
+    (make : CartFile → Files → Option (Result Output Status))
     → LeavesReading old new
     → Stops old new why (λ files cart. CartIn name files cart)
     → Ends old new why (λ files made. OverCart name make files made)
@@ -55,10 +73,10 @@ ends_unjudged old new (Refused refusal) name make leaves h =
 
 -- the cart was judged, and the rest ended so
 pub ends_judged : (first second third : World) (why : Manner) (name : List ℕ) (cart : CartFile)
-    (make : CartFile → Files → Result Output Status)
+    (make : CartFile → Files → Option (Result Output Status))
     → LeavesReading first second
     → ForSome first.files (λ files. CartIn name files (Ok cart))
-    → Ends second third why (ResultsIn (λ files. make cart files))
+    → Ends second third why (MakesOf (λ files. make cart files))
     → Ends first third why (λ files made. OverCart name make files made)
 ends_judged first second third AllWritten name cart make leaves given h = λ files texts.
     let made = h files (leaves.files ∙ texts) in
@@ -97,23 +115,32 @@ ends_judged first second third (Refused refusal) name cart make leaves given h =
 
 -- what was to be read wasn't right
 pub ends_untold : {G : Type 0} (old new : World) (why : Manner) (step : Files → Result G Status)
-    (make : Files → G → Output)
+    (make : Files → G → Option Output)
     → LeavesReading old new
     → Stops old new why (ResultsIn step)
-    → Ends old new why (ResultsIn (λ files. step files >>= λ g. Ok (make files g)))
+    → Ends old new why (MakesOf (λ files. making (step files) (make files)))
 ends_untold old new AllWritten step make leaves h = absurd h
 ends_untold old new NoCommand step make leaves h = absurd h
 ends_untold old new ReadFailed step make leaves h =
-    (stops_first old new ReadFailed step (λ files g. Ok (make files g)) h, (leaves.out, leaves.files))
+    (stops_making old new ReadFailed step make h, (leaves.out, leaves.files))
 ends_untold old new WriteFailed step make leaves h = absurd h
 ends_untold old new MemoryRefused step make leaves h = (leaves.files, inl leaves.out)
 ends_untold old new (Refused refusal) step make leaves h =
-    (stops_first old new (Refused refusal) step (λ files g. Ok (make files g)) h, (leaves.out, leaves.files))
+    (stops_making old new (Refused refusal) step make h, (leaves.out, leaves.files))
+
+-- and nothing was to be told
+pub ends_unprinted : {G : Type 0} (old new : World) (why : Manner) (step : Files → Result G Status)
+    (text : G → Option (List ℕ))
+    → LeavesReading old new
+    → Stops old new why (ResultsIn step)
+    → Ends old new why (MakesOf (λ files. printing (step files) text files))
+ends_unprinted old new why step text leaves h =
+    ends_untold old new why step (λ files g. option_map (λ out. only_printed out files) (text g)) leaves h
 
 -- it was, and bytes were written to standard output
 pub ends_printed : (old new : World) (why : Manner) (out : List ℕ) → new.files ≡ old.files
     → Prints old new why out
-    → Ends old new why (ResultsIn (λ files. Ok (only_printed out files)))
+    → Ends old new why (MakesOf (λ files. written out files))
 ends_printed old new AllWritten out same h = λ files texts. (only_printed out files, refl, (h, same ∙ texts))
 ends_printed old new NoCommand out same h = absurd h
 ends_printed old new ReadFailed out same h = absurd h
@@ -123,67 +150,79 @@ ends_printed old new MemoryRefused out same h =
     (same, inr (λ files texts. (only_printed out files, refl, h)))
 ends_printed old new (Refused refusal) out same h = absurd h
 
-pub ends_texts : {G : Type 0} (first second third : World) (why : Manner) (step : Files → Result G Status)
-    (g : G) (out : G → List ℕ)
-    → LeavesReading first second
-    → LeavesPrinting second third → ForSome first.files (λ files. step files ≡ Ok g)
-    → Prints second third why (out g)
-    → Ends first third why (ResultsIn (λ files. step files >>= λ g. Ok (only_printed (out g) files)))
-ends_texts first second third AllWritten step g out leaves rest given h = λ files texts. (
-  only_printed (out g) files,
-  rw (given files texts) refl,
-  ((λ before t. h before (leaves.out ∙ t)), rest.files ∙ (leaves.files ∙ texts)),
-)
-ends_texts first second third NoCommand step g out leaves rest given h = absurd h
-ends_texts first second third ReadFailed step g out leaves rest given h = absurd h
-ends_texts first second third WriteFailed step g out leaves rest given h = (
-  subst (λ n. Rises n third.write_faults) leaves.writes h.0,
-  λ files texts. (
-    only_printed (out g) files,
-    rw (given files texts) refl,
-    inl (front_later first second third (out g) leaves h.1, rest.files ∙ leaves.files),
-  ),
-)
-ends_texts first second third MemoryRefused step g out leaves rest given h = (
-  rest.files ∙ leaves.files,
-  inr (λ files texts. (
-    only_printed (out g) files,
-    rw (given files texts) refl,
-    front_later first second third (out g) leaves h,
-  )),
-)
-ends_texts first second third (Refused refusal) step g out leaves rest given h = absurd h
+-- it was, and what was made of it was printed
+module _ {G : Type 0} (first second third : World) (step : Files → Result G Status) (g : G)
+    (text : G → Option (List ℕ)) (leaves : LeavesReading first second) (rest : LeavesPrinting second third)
+    (given : ForSome first.files (λ files. step files ≡ Ok g)) where
+  printed_there : (why : Manner) (out : List ℕ) → text g ≡ Some out → Prints second third why out
+      → Ends first third why (MakesOf (λ files. printing (step files) text files))
+  printed_there AllWritten out is h = λ files texts. (
+    only_printed out files,
+    rw (given files texts, is) refl,
+    ((λ before t. h before (leaves.out ∙ t)), rest.files ∙ (leaves.files ∙ texts)),
+  )
+  printed_there NoCommand out is h = absurd h
+  printed_there ReadFailed out is h = absurd h
+  printed_there WriteFailed out is h = (
+    subst (λ n. Rises n third.write_faults) leaves.writes h.0,
+    λ files texts. (
+      only_printed out files,
+      rw (given files texts, is) refl,
+      inl (front_later first second third out leaves h.1, rest.files ∙ leaves.files),
+    ),
+  )
+  printed_there MemoryRefused out is h = (
+    rest.files ∙ leaves.files,
+    inr (λ files texts. (
+      only_printed out files,
+      rw (given files texts, is) refl,
+      front_later first second third out leaves h,
+    )),
+  )
+  printed_there (Refused refusal) out is h = absurd h
+
+  pub ends_texts : (why : Manner) → IsSome (text g) → ForSome (text g) (λ out. Prints second third why out)
+      → Ends first third why (MakesOf (λ files. printing (step files) text files))
+  ends_texts why there h =
+      let told = value_there (text g) there in printed_there why told.0 told.1 (h told.0 told.1)
 
 -- it was, and an edit was carried out
-pub ends_carried : (first second third : World) (why : Manner) (words : EditWords) (cart : CartFile)
-    (l : Loaded)
-    → LeavesReading first second
-    → ForSome first.files (λ files. edit_files cart.digest words files ≡ Ok l)
-    → Carries second third why (edit_answers cart.code l).out words.out
-    (encoding 2 (edited_recording cart.code l))
-    → Ends first third why (ResultsIn (λ files. edit_output words cart files))
-unfolding edit_output
-ends_carried first second third AllWritten words cart l leaves given h = λ files texts. (
-  edit_result cart.code l words.out files,
-  rw (given files texts) refl,
-  ((λ before t. h.0 before (leaves.out ∙ t)), h.1 files (leaves.files ∙ texts)),
-)
-ends_carried first second third NoCommand words cart l leaves given h = absurd h
-ends_carried first second third ReadFailed words cart l leaves given h = absurd h
-ends_carried first second third WriteFailed words cart l leaves given h = (
-  subst (λ n. Rises n third.write_faults) leaves.writes h.0,
-  λ files texts. (
-    edit_result cart.code l words.out files,
-    rw (given files texts) refl,
-    part_later first second third (edit_result cart.code l words.out files) leaves h.1,
-  ),
-)
-ends_carried first second third MemoryRefused words cart l leaves given h = (
-  h.1 ∙ leaves.files,
-  inr (λ files texts. (
-    edit_result cart.code l words.out files,
-    rw (given files texts) refl,
-    front_later first second third (edit_answers cart.code l).out leaves h.0,
-  )),
-)
-ends_carried first second third (Refused refusal) words cart l leaves given h = absurd h
+module _ (first second third : World) (words : EditWords) (cart : CartFile) (l : Loaded)
+    (leaves : LeavesReading first second)
+    (given : ForSome first.files (λ files. edit_files cart.digest words files ≡ Ok l)) where
+  carried_there : (why : Manner) (out : List ℕ) → (edit_answers cart.code l).out ≡ Some out
+      → Carries second third why out words.out (encoding 2 (edited_recording cart.code l))
+      → Ends first third why (MakesOf (λ files. edit_output words cart files))
+  unfolding edit_output
+  carried_there AllWritten out is h = λ files texts. (
+    edit_result cart.code l words.out files out,
+    rw (given files texts, is) refl,
+    ((λ before t. h.0 before (leaves.out ∙ t)), h.1 files (leaves.files ∙ texts)),
+  )
+  carried_there NoCommand out is h = absurd h
+  carried_there ReadFailed out is h = absurd h
+  carried_there WriteFailed out is h = (
+    subst (λ n. Rises n third.write_faults) leaves.writes h.0,
+    λ files texts. (
+      edit_result cart.code l words.out files out,
+      rw (given files texts, is) refl,
+      part_later first second third (edit_result cart.code l words.out files out) leaves h.1,
+    ),
+  )
+  carried_there MemoryRefused out is h = (
+    h.1 ∙ leaves.files,
+    inr (λ files texts. (
+      edit_result cart.code l words.out files out,
+      rw (given files texts, is) refl,
+      front_later first second third out leaves h.0,
+    )),
+  )
+  carried_there (Refused refusal) out is h = absurd h
+
+  pub ends_carried : (why : Manner) → IsSome (edit_answers cart.code l).out
+      → ForSome (edit_answers cart.code l).out (λ out. Carries second third why out words.out
+      (encoding 2 (edited_recording cart.code l)))
+      → Ends first third why (MakesOf (λ files. edit_output words cart files))
+  ends_carried why there h =
+      let told = value_there (edit_answers cart.code l).out there in
+      carried_there why told.0 told.1 (h told.0 told.1)

@@ -3,12 +3,12 @@ use Rattle.std.proofs.Common.{◌≡◌, ℕ, inl, inr, ◌+◌, ◌<◌, ◌≤
 use Rattle.std.specs.Option.{ForSome}
 use Rattle.std.proofs.Math.ListN.{drop_of_length-le}
 use Rattle.std.proofs.lemmas.List.{append-nil, get_or-map, length-map}
-use Rattle.w4_house.specs.World.{World, LeavesReading}
+use Rattle.w4_defs.specs.World.{World, LeavesReading}
 use Rattle.w4_house.proofs.WorldLaws.{rises_later}
-use Rattle.w4_commands.specs.declared.status.Status.{Status}
-use Rattle.w4_commands.specs.Endings.{Manner, AllWritten, NoCommand, ReadFailed, WriteFailed, MemoryRefused, Refused}
-use Rattle.w4_commands.specs.Output.{◌>>=◌, reading}
-use Rattle.w4_commands.specs.ToolOutputs.{listed_files}
+use Rattle.w4_defs.specs.declared.status.Status.{Status}
+use Rattle.w4_defs.specs.Endings.{Manner, AllWritten, NoCommand, ReadFailed, WriteFailed, MemoryRefused, Refused}
+use Rattle.w4_defs.specs.Output.{◌>>=◌, reading}
+use Rattle.w4_defs.specs.ToolOutputs.{listed_files}
 use Rattle.w4_commands.specs.Causes.{ResultsIn, Stops}
 
 -- what was read before, and what the files that are left come to

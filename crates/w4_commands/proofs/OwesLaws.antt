@@ -1,9 +1,13 @@
--- Bytes that are written piece after piece, and what has been written where one of them stopped.
-use Rattle.std.proofs.Common.{◌≡◌, ◌≤◌, ℕ, List, [], ◌++◌, refl, sym, ap, subst, ◌∙◌, append_assoc}
+-- Bytes that are written piece after piece, and what has been written where one of them stopped. A piece that
+-- isn't there is never written, and then the whole isn't there either.
+use Rattle.std.proofs.Common.{◌≡◌, ◌≤◌, ℕ, List, [], ◌++◌, Option, Some, None, refl, sym, ap, subst, ◌∙◌, append_assoc}
+use Rattle.std.specs.Option.{ForSome}
 use Rattle.std.proofs.lemmas.List.{append-nil}
-use Rattle.w4_house.specs.World.{World, Appends, AppendsFront}
+use Rattle.w4_defs.specs.AllThere.{joined}
+use Rattle.w4_defs.specs.World.{World, Appends, AppendsFront}
 use Rattle.w4_house.proofs.WorldLaws.{appends_then, appends_then_front, front_none, front_of_more, rises_later}
-use Rattle.w4_commands.specs.Endings.{Manner, AllWritten, NoCommand, ReadFailed, WriteFailed, MemoryRefused, Refused}
+use Rattle.w4_defs.specs.Endings.{Manner, AllWritten, NoCommand, ReadFailed, WriteFailed, MemoryRefused, Refused}
+use Rattle.w4_defs.proofs.OptionLaws.{some_same}
 use Rattle.w4_commands.specs.Causes.{StopsWriting}
 
 -- what has been written since, and what is still owed, make the whole
@@ -90,3 +94,68 @@ stops_untold old new (Refused refusal) bytes other same h = h
 pub stops_as : (old new : World) (why : Manner) (bytes other : List ℕ) → other ≡ bytes
     → StopsWriting old new why bytes → StopsWriting old new why other
 stops_as old new why bytes other e h = subst (λ xs. StopsWriting old new why xs) (sym e) h
+
+-- ---- what may not be there
+
+-- what is there is one thing
+pub there_is : (P : List ℕ → Type 0) (text : Option (List ℕ)) (bytes : List ℕ) → text ≡ Some bytes → P bytes
+    → ForSome text P
+there_is P text bytes is h = λ other same. subst P (some_same bytes other (sym is ∙ same)) h
+
+-- the parts of a text that is there are there
+pub joined_parts : (first rest : Option (List ℕ)) (whole : List ℕ) → joined first rest ≡ Some whole
+    → (some : List ℕ) × (more : List ℕ) × (first ≡ Some some) × (rest ≡ Some more) × (some ++ more ≡ whole)
+joined_parts (Some some) (Some more) whole is = (some, more, refl, refl, some_same (some ++ more) whole is)
+joined_parts (Some some) None whole is = absurd cc
+joined_parts None rest whole is = absurd cc
+
+-- where the whole is there, so is what is still owed, and with what has been written since it makes the whole
+abbrev pub OwesThere : World → World → Option (List ℕ) → Option (List ℕ) → Type 0
+OwesThere first now owed whole =
+    ForSome whole (λ all. (left : List ℕ) × (owed ≡ Some left) × Owes first now left all)
+
+pub there_begins : (world : World) (whole : Option (List ℕ)) → OwesThere world world whole whole
+there_begins world whole = λ all is. (
+  all,
+  is,
+  ([], (λ before texts. texts ∙ ap (λ (bytes : List ℕ). Some bytes) (sym (append-nil before))), refl),
+)
+
+pub there_less : (first now next : World) (piece rest whole : Option (List ℕ))
+    → ForSome piece (λ some. Appends now.out next.out some)
+    → OwesThere first now (joined piece rest) whole → OwesThere first next rest whole
+there_less first now next piece rest whole written so_far = λ all is.
+    let owes = so_far all is in
+    let parts = joined_parts piece rest owes.0 owes.1 in (
+      parts.1,
+      parts.3,
+      owes_less first now next parts.0 parts.1 all (written parts.0 parts.2)
+          (subst (λ owed. Owes first now owed all) (sym parts.4) owes.2),
+    )
+
+pub there_nothing : (first now : World) (owed whole : Option (List ℕ)) → owed ≡ Some []
+    → OwesThere first now owed whole → ForSome whole (λ all. Appends first.out now.out all)
+there_nothing first now owed whole none so_far = λ all is.
+    let owes = so_far all is in
+    owes_nothing first now owes.0 all (some_same owes.0 [] (sym owes.1 ∙ none)) owes.2
+
+pub there_begun : (first now : World) (owed whole : Option (List ℕ)) → OwesThere first now owed whole
+    → ForSome whole (λ all. AppendsFront first.out now.out all)
+there_begun first now owed whole so_far = λ all is.
+    let owes = so_far all is in
+    owes_begun first now owes.0 all owes.2
+
+-- the piece that stopped is the first of those that are owed
+pub there_stopped : (first now next : World) (why : Manner) (piece rest owed whole : Option (List ℕ))
+    → owed ≡ joined piece rest → first.write_faults ≤ now.write_faults → OwesThere first now owed whole
+    → ForSome piece (λ some. StopsWriting now next why some)
+    → ForSome whole (λ all. StopsWriting first next why all)
+there_stopped first now next why piece rest owed whole e le so_far h = λ all is.
+    let owes = so_far all is in
+    let parts = joined_parts piece rest owes.0 (sym e ∙ owes.1) in
+    piece_stopped first now next why parts.0 parts.1 owes.0 all (sym parts.4) le owes.2 (h parts.0 parts.2)
+
+-- the same text in other words
+pub there_as : (P : List ℕ → Type 0) (text other : Option (List ℕ)) → other ≡ text → ForSome text P
+    → ForSome other P
+there_as P text other e h = λ bytes is. h bytes (sym e ∙ is)

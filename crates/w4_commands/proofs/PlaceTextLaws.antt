@@ -1,61 +1,47 @@
--- Texts of places, one after another.
-use Rattle.std.proofs.Common.{◌≡◌, ℕ, suc, ◌+◌, ◌-◌, ◌<◌, ◌≤◌, List, ◌++◌, refl, sym, ap, subst, ◌∙◌, arith}
-use Rattle.w4_house.specs.World.{World, Appends}
+-- Texts of places, one after another. Where one of them isn't there, all together aren't.
+use Rattle.std.proofs.Common.{◌≡◌, ℕ, zero, suc, ◌+◌, ◌-◌, ◌<◌, ◌≤◌, List, Option, Some, None, [], refl, ap, subst, arith, append-nil}
+use Rattle.std.specs.Option.{ForSome}
+use Rattle.w4_defs.specs.AllThere.{joined}
+use Rattle.w4_defs.specs.World.{World, Appends}
 use Rattle.w4_commands.specs.Causes.{StopsWriting}
-use Rattle.w4_commands.specs.Endings.{Manner}
-use Rattle.w4_commands.specs.Texts.{place_texts}
-use Rattle.w4_commands.proofs.OwesLaws.{Owes, owes_less, owes_nothing, owes_after, piece_stopped, stops_as, stops_more}
+use Rattle.w4_defs.specs.Endings.{Manner}
+use Rattle.w4_defs.specs.PlaceTexts.{place_texts}
+use Rattle.w4_commands.proofs.OwesLaws.{OwesThere, there_less, there_nothing, there_stopped}
 
--- the first of at least one
-pub texts-first : (text : ℕ → List ℕ) (from to : ℕ) → from ≤ to
-    → place_texts text from (to + 1 - from) ≡ text from ++ place_texts text (from + 1) (to - from)
-texts-first text from to le = let k : to + 1 - from ≡ suc (to - from) = omega arith in rw k refl
+texts-next : (text : ℕ → Option (List ℕ)) (at end : ℕ) → at < end
+    → place_texts text at (end - at) ≡ joined (text at) (place_texts text (at + 1) (end - (at + 1)))
+texts-next text at end lt = let k : end - at ≡ suc (end - (at + 1)) = omega arith in rw k refl
 
--- after the first, the others are owed
-pub texts-begins : (first now : World) (text : ℕ → List ℕ) (written : List ℕ) (from to : ℕ) → from ≤ to
-    → Appends first.out now.out written → text from ≡ written
-    → Owes first now (place_texts text (from + 1) (to - from)) (place_texts text from (to + 1 - from))
-texts-begins first now text written from to le h e =
-    owes_after first now written (place_texts text (from + 1) (to - from))
-    (place_texts text from (to + 1 - from)) h
-    (ap (λ bytes. bytes ++ place_texts text (from + 1) (to - from)) (sym e)
-    ∙ sym (texts-first text from to le))
+pub texts-more : (first now next : World) (text : ℕ → Option (List ℕ)) (whole : Option (List ℕ)) (at end : ℕ)
+    → at < end → ForSome (text at) (λ written. Appends now.out next.out written)
+    → OwesThere first now (place_texts text at (end - at)) whole
+    → OwesThere first next (place_texts text (at + 1) (end - (at + 1))) whole
+texts-more first now next text whole at end lt h so_far =
+    there_less first now next (text at) (place_texts text (at + 1) (end - (at + 1))) whole h
+    (subst (λ owed. OwesThere first now owed whole) (texts-next text at end lt) so_far)
 
-next_texts-next : (text : ℕ → List ℕ) (written : List ℕ) (at to : ℕ) → at < to → text (at + 1) ≡ written
-    → place_texts text (at + 1) (to - at) ≡ written ++ place_texts text (at + 1 + 1) (to - (at + 1))
-next_texts-next text written at to lt e =
-    let k : to - at ≡ suc (to - (at + 1)) = omega arith in
-    rw k (ap (λ bytes. bytes ++ place_texts text (at + 1 + 1) (to - (at + 1))) e)
+-- where one of them stopped
+pub texts-stop : (first now next : World) (why : Manner) (text : ℕ → Option (List ℕ))
+    (whole : Option (List ℕ)) (at end : ℕ) → at < end → first.write_faults ≤ now.write_faults
+    → OwesThere first now (place_texts text at (end - at)) whole
+    → ForSome (text at) (λ written. StopsWriting now next why written)
+    → ForSome whole (λ all. StopsWriting first next why all)
+texts-stop first now next why text whole at end lt le so_far h =
+    there_stopped first now next why (text at) (place_texts text (at + 1) (end - (at + 1)))
+    (place_texts text at (end - at)) whole (texts-next text at end lt) le so_far h
 
-pub texts-goes_on : (first now next : World) (text : ℕ → List ℕ) (written whole : List ℕ) (at to : ℕ)
-    → at < to
-    → Appends now.out next.out written → text (at + 1) ≡ written
-    → Owes first now (place_texts text (at + 1) (to - at)) whole
-    → Owes first next (place_texts text (at + 1 + 1) (to - (at + 1))) whole
-texts-goes_on first now next text written whole at to lt h e so_far =
-    owes_less first now next written (place_texts text (at + 1 + 1) (to - (at + 1))) whole h
-    (subst (λ owed. Owes first now owed whole) (next_texts-next text written at to lt e) so_far)
+pub texts-all : (first now : World) (text : ℕ → Option (List ℕ)) (whole : Option (List ℕ)) (at end : ℕ)
+    → end ≤ at
+    → OwesThere first now (place_texts text at (end - at)) whole
+    → ForSome whole (λ all. Appends first.out now.out all)
+texts-all first now text whole at end le so_far =
+    let k : end - at ≡ 0 = omega arith in
+    there_nothing first now (place_texts text at (end - at)) whole (rw k refl) so_far
 
--- where the first, or a later one, stopped
-pub texts-stop_first : (old new : World) (why : Manner) (text : ℕ → List ℕ) (written : List ℕ) (from to : ℕ)
-    → from ≤ to → text from ≡ written → StopsWriting old new why written
-    → StopsWriting old new why (place_texts text from (to + 1 - from))
-texts-stop_first old new why text written from to le e h =
-    stops_as old new why (text from ++ place_texts text (from + 1) (to - from))
-    (place_texts text from (to + 1 - from)) (texts-first text from to le)
-    (stops_more old new why (text from) (place_texts text (from + 1) (to - from))
-    (stops_as old new why written (text from) e h))
+joined_nothing : (text : Option (List ℕ)) → joined text (Some []) ≡ text
+joined_nothing (Some bytes) = ap (λ (xs : List ℕ). Some xs) (append-nil bytes)
+joined_nothing None = refl
 
-pub next_texts-stop : (first now next : World) (why : Manner) (text : ℕ → List ℕ) (written whole : List ℕ)
-    (at to : ℕ) → at < to → text (at + 1) ≡ written → first.write_faults ≤ now.write_faults
-    → Owes first now (place_texts text (at + 1) (to - at)) whole
-    → StopsWriting now next why written → StopsWriting first next why whole
-next_texts-stop first now next why text written whole at to lt e le so_far h =
-    piece_stopped first now next why written (place_texts text (at + 1 + 1) (to - (at + 1)))
-    (place_texts text (at + 1) (to - at)) whole (next_texts-next text written at to lt e) le so_far h
-
-pub texts-ends : (first now : World) (text : ℕ → List ℕ) (whole : List ℕ) (at to : ℕ) → to ≤ at
-    → Owes first now (place_texts text (at + 1) (to - at)) whole → Appends first.out now.out whole
-texts-ends first now text whole at to le so_far =
-    let k : to - at ≡ 0 = omega arith in
-    owes_nothing first now (place_texts text (at + 1) (to - at)) whole (rw k refl) so_far
+-- the text of one place is that of a range
+pub text-alone : (text : ℕ → Option (List ℕ)) (p : ℕ) → place_texts text p (p + 1 - p) ≡ text p
+text-alone text p = let k : p + 1 - p ≡ suc zero = omega arith in rw k (joined_nothing (text p))

@@ -1,45 +1,33 @@
--- Lines of a query: the pages of the definitions and those of the calls, places that aren't there, and what
--- is told of them.
-use Rattle.std.proofs.Common.{◌≡◌, ◌≢◌, ◌⊎◌, ℕ, ◌+◌, ◌-◌, ◌<◌, ◌≤◌, inl, inr, true, false, Bool, List, [], ◌∷◌, map, length, Option, Some, None, refl, sym, ap, subst}
+-- Lines of a query: places that aren't there, and what is told of those that are.
+use Rattle.std.proofs.Common.{◌≡◌, ◌≢◌, ◌⊎◌, ℕ, ◌+◌, ◌<◌, ◌≤◌, inl, inr, true, false, Bool, List, [], ◌∷◌, length, Option, Some, None, option_map, refl, sym, ap, subst}
 use Rattle.std.specs.Prelude.{Result, Ok, Err, OnOk, codes, nat_lt, if◌then◌else◌}
-use Rattle.std.specs.List.{range_with_len}
+use Rattle.std.specs.Option.{ForSome}
 use Rattle.std.proofs.lemmas.Bool.{le-leb, lt-leb, ltb-true, ltb-false}
 use Rattle.w4_defs.specs.declared.inspect.Ask.{Ask}
 use Rattle.w4_defs.specs.declared.inspect.Ask.TheVariants.{Watch}
 use Rattle.w4_defs.specs.declared.inspect.Test.{Test}
-use Rattle.w4_defs.specs.Bytes.{number_at}
 use Rattle.w4_defs.specs.FrameTexts.{numbered}
-use Rattle.w4_defs.specs.Run.{run}
+use Rattle.w4_defs.specs.PlaceTexts.{as_it_stands}
 use Rattle.w4_defs.specs.Search.{Search, begin, narrow}
-use Rattle.w4_defs.specs.State.{Moment}
-use Rattle.w4_editor.specs.Editing.{Editing, editing_setup}
-use Rattle.w4_house.specs.World.{World, Appends}
-use Rattle.w4_inspect.specs.Pages as inspect
+use Rattle.w4_editor.specs.Editing.{Editing}
+use Rattle.w4_defs.specs.World.{World, Appends}
+use Rattle.w4_inspect.specs.Pages.{page_at}
 use Rattle.w4_inspect.specs.Refusals.{IsRefusal, no_frame_refusal, watch_refusal}
 use Rattle.w4_inspect.specs.Watching.{watched}
 use Rattle.w4_inspect.specs.declared.refusal.RamRefusal.{RamRefusal}
 use Rattle.w4_inspect.specs.declared.refusal.RamRefusal.TheVariants.{NoFrame, Outside, OutOfMemory as MemoryRefused}
-use Rattle.w4_commands.specs.Answering.{no_frame}
-use Rattle.w4_commands.specs.Answers.{Answered, answer_text}
+use Rattle.w4_defs.specs.ScriptAnswers.{no_frame}
+use Rattle.w4_defs.specs.Answers.{Answered, answer_text, carried_out}
 use Rattle.w4_commands.specs.Causes.{Printed, StopsWriting, WritesNothing}
 use Rattle.w4_commands.specs.Editors.{OnlyShows}
-use Rattle.w4_commands.specs.Endings.{Manner, manner_of}
-use Rattle.w4_commands.specs.declared.status.Status.{Status}
+use Rattle.w4_defs.specs.Endings.{Manner, manner_of}
+use Rattle.w4_defs.specs.declared.status.Status.{Status}
 use Rattle.w4_commands.specs.Queries.{IsTold, GivesTold, ask_answer, editor_pages}
-use Rattle.w4_commands.specs.RamAnswers.{Pages, answer_narrow, answer_start, moment_page, outside, pages_of, ram_answer, watch_text}
-use Rattle.w4_commands.specs.RamAnswers as answers
-use Rattle.w4_commands.proofs.OwesLaws.{stops_as, stops_untold}
+use Rattle.w4_defs.specs.QueryAnswers.{Pages, answer_narrow, answer_start, outside, pages_of, ram_answer, searched, watch_text}
+use Rattle.w4_defs.proofs.OptionLaws.{some_same}
+use Rattle.w4_commands.proofs.AnswerLaws.{on_ok}
+use Rattle.w4_commands.proofs.OwesLaws.{stops_untold, there_is}
 use Rattle.w4_commands.proofs.SessionLaws.{appends_nothing, same_disk, same_inputs, same_editing_setup}
-use Rattle.w4_commands.proofs.TellLaws.{state_of}
-
--- ---- pages
-
-page_alone : (m : Option Moment) → inspect.page_of (state_of m) ≡ moment_page m
-page_alone (Some moment) = refl
-page_alone None = refl
-
-pub same_page : (e : Editing) (p : ℕ) → inspect.page_at e p ≡ (editor_pages e).at p
-same_page e p = page_alone (run (editing_setup e) e.disk e.session.current.inputs p)
 
 -- ---- places
 
@@ -66,74 +54,79 @@ place_is_there e p none =
 
 -- ---- what is told
 
-pub told_text : (before after : World) (old new : Editing) (search : Option Search) (out : List ℕ)
+pub told_text : (before after : World) (old new : Editing) (search : Option Search) (out : Option (List ℕ))
     (wanted : Answered (Option Search)) → wanted ≡ answer_text search out
-    → Appends before.out after.out out → OnlyShows old new → IsTold before after old new search wanted
+    → ForSome out (λ text. Appends before.out after.out text) → OnlyShows old new
+    → IsTold before after old new search wanted
 told_text before after old new search out wanted is written shows =
     subst (λ (a : Answered (Option Search)). IsTold before after old new search a) (sym is)
     (record { out = written; search = refl; shows = shows })
 
 pub told_alone : (world : World) (old new : Editing) (search : Option Search) (wanted : Answered (Option
     Search))
-    → wanted ≡ answer_text search [] → OnlyShows old new → IsTold world world old new search wanted
+    → wanted ≡ carried_out search → OnlyShows old new → IsTold world world old new search wanted
 told_alone world old new search wanted is shows =
-    told_text world world old new search [] wanted is (appends_nothing world [] refl) shows
+    told_text world world old new search (Some []) wanted is
+    (there_is (λ text. Appends world.out world.out text) (Some []) [] refl (appends_nothing world [] refl))
+    shows
 
 pub told_on_text : {X : Type 0} (result : Result X Status) (before after : World) (old new : Editing)
-    (search : Option Search) (out : List ℕ) (wanted : Answered (Option Search))
-    → wanted ≡ answer_text search out → Printed before after result out
+    (search : Option Search) (out : Option (List ℕ)) (wanted : Answered (Option Search))
+    → wanted ≡ answer_text search out → ForSome out (λ text. Printed before after result text)
     → OnOk result (OnlyShows old new) → GivesTold before after result old new search wanted
 told_on_text (Ok x) before after old new search out wanted is written shows =
     told_text before after old new search out wanted is written shows
 told_on_text (Err why) before after old new search out wanted is written shows =
-    stops_as before after (manner_of why) out wanted.out (ap (λ (a : Answered (Option Search)). a.out) is)
-    written
+    subst (λ (a : Answered (Option Search)). ForSome a.out (λ text. StopsWriting before after (manner_of why)
+    text)) (sym is) written
 
 -- a refusal that is told, unless it is memory's
 pub refused_on_text : {X Other : Type 0} (result : Result X Status) (before after : World) (old new : Editing)
     (search : Option Search) (out : List ℕ) (wanted : Answered (Option Search))
     → Other ⊎ WritesNothing before after result
-    → (Other → wanted ≡ answer_text search out) → (Other → OnlyShows old new)
+    → (Other → wanted ≡ answer_text search (Some out)) → (Other → OnlyShows old new)
     → Printed before after result out → GivesTold before after result old new search wanted
-refused_on_text (Ok x) before after old new search out wanted (inl other) is shows written =
-    told_text before after old new search out wanted (is other) written (shows other)
+refused_on_text result before after old new search out wanted (inl other) is shows written =
+    told_on_text result before after old new search (Some out) wanted (is other)
+    (there_is (λ text. Printed before after result text) (Some out) out refl written)
+    (on_ok result (shows other))
 refused_on_text (Ok x) before after old new search out wanted (inr (failed, same)) is shows written =
     absurd cc
-refused_on_text (Err why) before after old new search out wanted (inl other) is shows written =
-    stops_as before after (manner_of why) out wanted.out
-    (ap (λ (a : Answered (Option Search)). a.out) (is other)) written
 refused_on_text (Err why) before after old new search out wanted (inr (failed, same)) is shows written =
-    stops_untold before after (manner_of why) out wanted.out same written
-
-pub printed_as : {X : Type 0} (result : Result X Status) (before after : World) (written out : List ℕ)
-    → out ≡ written → Printed before after result written → Printed before after result out
-printed_as result before after written out same h =
-    subst (λ (bytes : List ℕ). Printed before after result bytes) (sym same) h
+    λ text there. stops_untold before after (manner_of why) out text same written
 
 -- ---- a search
 
-pub start_there : (e : Editing) (search : Option Search) (width p : ℕ) → no_frame_refusal e p ≡ None
-    → answer_start (editor_pages e) search width p ≡ answer_text (Some (begin width (inspect.page_at e p))) []
-start_there e search width p none =
+search_goes : (search : Option Search) (go : List ℕ → Search) (page : Option (List ℕ)) (left : Search)
+    → option_map go page ≡ Some left → searched search go page ≡ carried_out (Some left)
+search_goes search go (Some page) left is =
+    ap (λ (found : Search). carried_out (Some found)) (some_same (go page) left is)
+search_goes search go None left is = absurd cc
+
+pub start_there : (e : Editing) (search : Option Search) (width p : ℕ) (begun : Search)
+    → no_frame_refusal e p ≡ None → option_map (begin width) (page_at e p) ≡ Some begun
+    → answer_start as_it_stands (editor_pages e) search width p ≡ carried_out (Some begun)
+start_there e search width p begun none is =
     rw (le-leb p (length e.session.current.inputs) (place_is_there e p none))
-    (ap (λ page. answer_text (Some (begin width page)) []) (sym (same_page e p)))
+    (search_goes search (begin width) (page_at e p) begun is)
 
 pub start_past : (e : Editing) (search : Option Search) (width p : ℕ) (refusal : RamRefusal)
     → IsRefusal (no_frame_refusal e p) refusal → refusal ≢ MemoryRefused
-    → answer_start (editor_pages e) search width p ≡ answer_text search no_frame
+    → answer_start as_it_stands (editor_pages e) search width p ≡ answer_text search (Some no_frame)
 start_past e search width p refusal is other =
     rw (lt-leb p (length e.session.current.inputs) (place_is_past e p refusal is other)) refl
 
-pub narrow_there : (e : Editing) (search : Search) (p : ℕ) (test : Test) → no_frame_refusal e p ≡ None
-    → answer_narrow (editor_pages e) (Some search) p test
-    ≡ answer_text (Some (narrow search (inspect.page_at e p, test))) []
-narrow_there e search p test none =
+pub narrow_there : (e : Editing) (search : Search) (p : ℕ) (test : Test) (left : Search)
+    → no_frame_refusal e p ≡ None → option_map (λ page. narrow search (page, test)) (page_at e p) ≡ Some left
+    → answer_narrow as_it_stands (editor_pages e) (Some search) p test ≡ carried_out (Some left)
+narrow_there e search p test left none is =
     rw (le-leb p (length e.session.current.inputs) (place_is_there e p none))
-    (ap (λ page. answer_text (Some (narrow search (page, test))) []) (sym (same_page e p)))
+    (search_goes (Some search) (λ page. narrow search (page, test)) (page_at e p) left is)
 
 pub narrow_past : (e : Editing) (search : Search) (p : ℕ) (test : Test) (refusal : RamRefusal)
     → IsRefusal (no_frame_refusal e p) refusal → refusal ≢ MemoryRefused
-    → answer_narrow (editor_pages e) (Some search) p test ≡ answer_text (Some search) no_frame
+    → answer_narrow as_it_stands (editor_pages e) (Some search) p test
+    ≡ answer_text (Some search) (Some no_frame)
 narrow_past e search p test refusal is other =
     rw (lt-leb p (length e.session.current.inputs) (place_is_past e p refusal is other)) refl
 
@@ -163,28 +156,25 @@ second_true false true is = (refl, refl)
 second_true false false (inl other) = absurd cc
 second_true false false (inr (memory, none)) = absurd cc
 
-pub watch_told : (e : Editing) (address width a b : ℕ) → watch_refusal e address width b ≡ None
-    → watch_text (editor_pages e) address width a b
-    ≡ numbered (codes "watch") (address ∷ watched e address width a b)
-watch_told e address width a b none =
+pub watch_told : (e : Editing) (address width a b : ℕ) (values : List ℕ)
+    → watch_refusal e address width b ≡ None → watched e address width a b ≡ Some values
+    → watch_text as_it_stands (editor_pages e) address width a b
+    ≡ Some (numbered (codes "watch") (address ∷ values))
+watch_told e address width a b values none there =
     let both =
     both_false (nat_lt (length e.session.current.inputs) b) (nat_lt 65536 (address + width)) none in
-    let same : answers.watch_numbers (editor_pages e) address width a b
-    ≡ numbered (codes "watch") (address ∷ watched e address width a b)
-    = λ i. numbered (codes "watch")
-    (address ∷ map (λ p. number_at (sym (same_page e p) i) address width) (range_with_len a (b + 1 - a))) in
-    rw (both.0, both.1) same
+    rw (both.0, both.1, there) refl
 
 pub watch_past : (e : Editing) (address width a b : ℕ) (refusal : RamRefusal) → refusal ≡ NoFrame
     → IsRefusal (watch_refusal e address width b) refusal
-    → watch_text (editor_pages e) address width a b ≡ no_frame
+    → watch_text as_it_stands (editor_pages e) address width a b ≡ Some no_frame
 watch_past e address width a b refusal same is =
     let past = subst (λ r. IsRefusal (watch_refusal e address width b) r) same is in
     rw (first_true (nat_lt (length e.session.current.inputs) b) (nat_lt 65536 (address + width)) past) refl
 
 pub watch_outside : (e : Editing) (address width a b : ℕ) (refusal : RamRefusal) → refusal ≡ Outside
     → IsRefusal (watch_refusal e address width b) refusal
-    → watch_text (editor_pages e) address width a b ≡ outside
+    → watch_text as_it_stands (editor_pages e) address width a b ≡ Some outside
 watch_outside e address width a b refusal same is =
     let far = subst (λ r. IsRefusal (watch_refusal e address width b) r) same is in
     let both =
@@ -207,16 +197,18 @@ pub told_at_first : (before after : World) (first old new : Editing) (search lef
     Ask)
     → OnlyShows first old
     → IsTold before after old new left (ask_answer old search line)
-    → IsTold before after old new left (ram_answer (editor_pages first) search line)
+    → IsTold before after old new left (ram_answer as_it_stands (editor_pages first) search line)
 told_at_first before after first old new search left line shows told =
-    subst (λ (pages : Pages). IsTold before after old new left (ram_answer pages search line))
+    subst (λ (pages : Pages). IsTold before after old new left (ram_answer as_it_stands pages search line))
     (same_editor_pages first old shows) told
 
 pub ram_stopped_at_first : (before after : World) (why : Manner) (first old : Editing)
     (search : Option Search)
     (line : Ask)
-    → OnlyShows first old → StopsWriting before after why (ask_answer old search line).out
-    → StopsWriting before after why (ram_answer (editor_pages first) search line).out
+    → OnlyShows first old
+    → ForSome (ask_answer old search line).out (λ text. StopsWriting before after why text)
+    → ForSome (ram_answer as_it_stands (editor_pages first) search line).out
+    (λ text. StopsWriting before after why text)
 ram_stopped_at_first before after why first old search line shows told =
-    subst (λ (pages : Pages). StopsWriting before after why (ram_answer pages search line).out)
-    (same_editor_pages first old shows) told
+    subst (λ (pages : Pages). ForSome (ram_answer as_it_stands pages search line).out
+    (λ text. StopsWriting before after why text)) (same_editor_pages first old shows) told

@@ -1,6 +1,7 @@
 -- Lines of a log: what a replica's calls leave of the session, and what is told.
 use Rattle.std.proofs.Common.{◌≡◌, ◌≢◌, ◌⊎◌, ℕ, ◌+◌, ◌<◌, ◌≤◌, inl, inr, true, false, Bool, List, [], ◌∷◌, length, Option, Some, None, refl, sym, ap, subst, ◌∙◌}
 use Rattle.std.specs.Prelude.{Result, Ok, Err, nat_le, if◌then◌else◌}
+use Rattle.std.specs.Option.{ForSome}
 use Rattle.std.proofs.lemmas.Bool.{lt-ltb, le-ltb, le-leb, lt-leb, leb-true, leb-false}
 use Rattle.std.proofs.lemmas.List.FromFn.{length-map-range_with_len}
 use Rattle.w4_defs.specs.declared.console.Input.{Input}
@@ -22,23 +23,24 @@ use Rattle.w4_defs.specs.Session.{place_refusal, places_alone, with_kept}
 use Rattle.w4_defs.specs.State.{State}
 use Rattle.w4_editor.specs.Editing.{Editing, editing_setup, new_editing}
 use Rattle.w4_editor.specs.Showing.{IsCauseOrMemory}
-use Rattle.w4_house.specs.World.{World, Appends}
-use Rattle.w4_netplay.specs.declared.refusal.NetRefusal.{NetRefusal}
-use Rattle.w4_netplay.specs.declared.refusal.NetRefusal.TheVariants as net
+use Rattle.w4_defs.specs.World.{World, Appends}
+use Rattle.w4_defs.specs.declared.net_refusal.NetRefusal.{NetRefusal}
+use Rattle.w4_defs.specs.declared.net_refusal.NetRefusal.TheVariants as net
 use Rattle.w4_netplay.specs.Pads.{known_in}
 use Rattle.w4_netplay.specs.Refusals.{edit_refusal}
 use Rattle.w4_netplay.specs.Replicas.{IsNetRefusal, KeepsNetplay, KeepsPlace, Netplay, places_kept, known_of, predicted_draft, prediction}
-use Rattle.w4_commands.specs.Answering.{refused_line, refusal_words}
-use Rattle.w4_commands.specs.Answers.{Answered, answer_text}
+use Rattle.w4_defs.specs.ScriptAnswers.{refused_line, refusal_words}
+use Rattle.w4_defs.specs.Answers.{Answered, answer_text, carried_out}
 use Rattle.w4_commands.specs.Causes.{Printed, StopsWriting, WritesNothing}
 use Rattle.w4_commands.specs.Editors.{KeepsRest}
-use Rattle.w4_commands.specs.Endings.{Manner, manner_of}
-use Rattle.w4_commands.specs.declared.status.Status.{Status}
-use Rattle.w4_commands.specs.NetSessions.{NetSession, first_session, net_answer, answer_keep, answer_next, answer_packet, if_passed, net_words, predicted_image, predicted_state}
+use Rattle.w4_defs.specs.Endings.{Manner, manner_of}
+use Rattle.w4_defs.specs.declared.status.Status.{Status}
+use Rattle.w4_defs.specs.LogAnswers.{NetSession, first_session, net_answer, answer_keep, answer_next, answer_packet, if_passed, net_words, predicted_image, predicted_state}
 use Rattle.w4_commands.specs.Replicas.{IsHeard, GivesHeard, net_session}
-use Rattle.w4_commands.proofs.OwesLaws.{stops_as, stops_untold}
+use Rattle.w4_commands.proofs.OwesLaws.{stops_untold, there_is}
 use Rattle.w4_commands.proofs.SessionLaws.{appends_nothing, rest_at, rest_none, rest_then, same_editing_setup}
-use Rattle.w4_commands.proofs.TellLaws.{image_of_state, line_of_state}
+use Rattle.w4_defs.specs.PlaceTexts.{as_it_stands}
+use Rattle.w4_defs.proofs.TextsOfStates.{image_of_state, line_of_state}
 
 -- ---- sessions
 
@@ -64,53 +66,59 @@ same_netplay old new same =
 
 -- ---- answers
 
-pub heard_text : (before after : World) (old new : Netplay) (out : List ℕ) (wanted : Answered NetSession)
-    → wanted ≡ answer_text (net_session old) out → Appends before.out after.out out → KeepsNetplay old new
-    → IsHeard before after old new wanted
+pub heard_text : (before after : World) (old new : Netplay) (out : Option (List ℕ))
+    (wanted : Answered NetSession)
+    → wanted ≡ answer_text (net_session old) out → ForSome out (λ text. Appends before.out after.out text)
+    → KeepsNetplay old new → IsHeard before after old new wanted
 heard_text before after old new out wanted is written keeps =
     subst (λ (a : Answered NetSession). IsHeard before after old new a) (sym is)
     (record { out = written; session = session_kept old new keeps; rest = keeps.rest })
 
 pub heard_on_text : {X : Type 0} (result : Result X Status) (before after : World) (old new : Netplay)
     (out : List ℕ) (wanted : Answered NetSession)
-    → wanted ≡ answer_text (net_session old) out → Printed before after result out
+    → wanted ≡ answer_text (net_session old) (Some out) → Printed before after result out
     → KeepsNetplay old new → GivesHeard before after result old new wanted
 heard_on_text (Ok x) before after old new out wanted is written keeps =
-    heard_text before after old new out wanted is written keeps
+    heard_text before after old new (Some out) wanted is
+    (there_is (λ text. Appends before.out after.out text) (Some out) out refl written) keeps
 heard_on_text (Err why) before after old new out wanted is written keeps =
-    stops_as before after (manner_of why) out wanted.out (ap (λ (a : Answered NetSession). a.out) is) written
+    there_is (λ text. StopsWriting before after (manner_of why) text) wanted.out out
+    (ap (λ (a : Answered NetSession). a.out) is) written
 
 -- a refusal that is told, unless it is memory's
 pub net_refused_on_text : {X Other : Type 0} (result : Result X Status) (before after : World)
     (old new : Netplay)
     (out : List ℕ) (wanted : Answered NetSession)
     → Other ⊎ WritesNothing before after result
-    → (Other → wanted ≡ answer_text (net_session old) out) → (Other → KeepsNetplay old new)
+    → (Other → wanted ≡ answer_text (net_session old) (Some out)) → (Other → KeepsNetplay old new)
     → Printed before after result out → GivesHeard before after result old new wanted
-net_refused_on_text (Ok x) before after old new out wanted (inl other) is keeps written =
-    heard_text before after old new out wanted (is other) written (keeps other)
+net_refused_on_text result before after old new out wanted (inl other) is keeps written =
+    heard_on_text result before after old new out wanted (is other) written (keeps other)
 net_refused_on_text (Ok x) before after old new out wanted (inr (failed, same)) is keeps written = absurd cc
-net_refused_on_text (Err why) before after old new out wanted (inl other) is keeps written =
-    stops_as before after (manner_of why) out wanted.out
-    (ap (λ (a : Answered NetSession). a.out) (is other)) written
 net_refused_on_text (Err why) before after old new out wanted (inr (failed, same)) is keeps written =
-    stops_untold before after (manner_of why) out wanted.out same written
+    λ text there. stops_untold before after (manner_of why) out text same written
 
 pub heard_alone : (world : World) (old new : Netplay) (wanted : Answered NetSession)
-    → wanted ≡ answer_text (net_session new) [] → KeepsRest old.editor new.editor
+    → wanted ≡ carried_out (net_session new) → KeepsRest old.editor new.editor
     → IsHeard world world old new wanted
 heard_alone world old new wanted is rest =
     subst (λ (a : Answered NetSession). IsHeard world world old new a) (sym is)
-    (record { out = appends_nothing world [] refl; session = refl; rest = rest })
+    (record {
+      out =
+          there_is (λ text. Appends world.out world.out text) (Some []) [] refl
+          (appends_nothing world [] refl);
+      session = refl;
+      rest = rest;
+    })
 
 -- ---- packets and frames
 
 pub packet_heard : (old new : Netplay) (packet : Packet) (found : Option NetRefusal) → found ≡ None
     → known_of new ≡ learned (known_of old) packet → new.frames ≡ old.frames → new.editor ≡ old.editor
-    → answer_packet (net_session old) packet found ≡ answer_text (net_session new) []
+    → answer_packet (net_session old) packet found ≡ carried_out (net_session new)
 packet_heard old new packet found none known frames editor =
     rw none
-    (ap (λ (s : NetSession). answer_text s [])
+    (ap (λ (s : NetSession). carried_out s)
     (sym (same_session_as (known_of new) (learned (known_of old) packet) new.frames old.frames
     (places_kept new) (places_kept old) known frames
     (ap (λ (e : Editing). places_kept (record { pads = new.pads; frames = new.frames; editor = e }))
@@ -121,10 +129,10 @@ same_rest old new same = subst (λ (e : Editing). KeepsRest old.editor e) (sym s
 
 pub frame_passed : (old new : Netplay) → old.frames < 36000
     → new ≡ record { pads = old.pads; frames = old.frames + 1; editor = old.editor }
-    → answer_next (net_session old) ≡ answer_text (net_session new) []
+    → answer_next (net_session old) ≡ carried_out (net_session new)
 frame_passed old new few is =
     rw (lt-ltb old.frames 36000 few)
-    (ap (λ (r : Netplay). answer_text (net_session r) []) (sym is))
+    (ap (λ (r : Netplay). carried_out (net_session r)) (sym is))
 
 pub same_editor : (old new : Netplay)
     → new ≡ record { pads = old.pads; frames = old.frames + 1; editor = old.editor } → new.editor ≡ old.editor
@@ -132,7 +140,7 @@ same_editor old new is = ap (λ (r : Netplay). r.editor) is
 
 pub full_recording_refused : (old : Netplay) (refusal : NetRefusal) → refusal ≡ net.FullRecording
     → 36000 ≤ old.frames
-    → answer_next (net_session old) ≡ answer_text (net_session old) (refused_line (net_words refusal))
+    → answer_next (net_session old) ≡ answer_text (net_session old) (Some (refused_line (net_words refusal)))
 full_recording_refused old refusal is many = rw (le-ltb old.frames 36000 many, is) refl
 
 -- ---- places
@@ -179,10 +187,10 @@ wanted_words wanted refusal is other = by_cause wanted refusal is.reason is.word
 pub place_kept : (old new : Netplay) (p : ℕ) (found : Option EditRefusal) → found ≡ None
     → new.pads ≡ old.pads → new.frames ≡ old.frames
     → places_kept new ≡ with_kept places_alone p (places_kept old)
-    → answer_keep (net_session old) p found ≡ answer_text (net_session new) []
+    → answer_keep (net_session old) p found ≡ carried_out (net_session new)
 place_kept old new p found none pads frames kept =
     rw none
-    (ap (λ (s : NetSession). answer_text s [])
+    (ap (λ (s : NetSession). carried_out s)
     (sym (same_session_as (known_of new) (known_of old) new.frames old.frames (places_kept new)
     (with_kept places_alone p (places_kept old)) (ap known_in pads) frames kept)))
 
@@ -195,7 +203,7 @@ rest_kept p before after old new kept =
 pub keep_refused : (old : Netplay) (p : ℕ) (found : Option EditRefusal) (refusal : NetRefusal)
     → IsNetRefusal found refusal → refusal ≢ net.OutOfMemory
     → answer_keep (net_session old) p found
-    ≡ answer_text (net_session old) (refused_line (net_words refusal))
+    ≡ answer_text (net_session old) (Some (refused_line (net_words refusal)))
 keep_refused old p found refusal is other =
     let why = wanted_words found refusal is other in
     rw (why.1, why.2) refl
@@ -220,14 +228,14 @@ is_there old p none =
     subst (λ n. p ≤ n) (length_inputs (known_of old) old.frames)
     (leb-true p (length (prediction old)) (there_as (nat_le p (length (prediction old))) none))
 
-pub passed_text : (old : Netplay) (p : ℕ) (out : List ℕ) → place_refusal p (predicted_draft old) ≡ None
-    → if_passed (net_session old) p out ≡ out
+pub passed_text : (old : Netplay) (p : ℕ) (out : Option (List ℕ))
+    → place_refusal p (predicted_draft old) ≡ None → if_passed (net_session old) p out ≡ out
 passed_text old p out none = rw (le-leb p old.frames (is_there old p none)) refl
 
-pub not_passed : (old : Netplay) (p : ℕ) (out : List ℕ) (refusal : NetRefusal)
+pub not_passed : (old : Netplay) (p : ℕ) (out : Option (List ℕ)) (refusal : NetRefusal)
     → IsNetRefusal (place_refusal p (predicted_draft old)) refusal → refusal ≢ net.OutOfMemory
     → answer_text (net_session old) (if_passed (net_session old) p out)
-    ≡ answer_text (net_session old) (refused_line (net_words refusal))
+    ≡ answer_text (net_session old) (Some (refused_line (net_words refusal)))
 not_passed old p out refusal is other =
     let why = wanted_words (place_refusal p (predicted_draft old)) refusal is other in
     let past = past_as (nat_le p (length (prediction old))) why.0 why.1 in
@@ -238,17 +246,18 @@ not_passed old p out refusal is other =
 
 pub image_told : (old : Netplay) (p : ℕ) (state : State) → old.editor.disk ≡ []
     → run_state (editing_setup old.editor) old.editor.disk (prediction old) p ≡ Some state
-    → predicted_image (editing_setup old.editor) (net_session old) p ≡ image state.page
+    → predicted_image (editing_setup old.editor) (net_session old) p ≡ Some (image state.page)
 image_told old p state none is =
-    image_of_state p (run (editing_setup old.editor) [] (prediction old) p) state
+    image_of_state as_it_stands p (run (editing_setup old.editor) [] (prediction old) p) state
     (subst (λ disk. run_state (editing_setup old.editor) disk (prediction old) p ≡ Some state) none is)
 
 pub state_told : (old : Netplay) (p : ℕ) (state : State) → old.editor.disk ≡ []
     → run_state (editing_setup old.editor) old.editor.disk (prediction old) p ≡ Some state
     → predicted_state (editing_setup old.editor) (net_session old) p
-    ≡ state_line p old.frames state (places_kept old)
+    ≡ Some (state_line p old.frames state (places_kept old))
 state_told old p state none is =
-    line_of_state p old.frames (places_kept old) (run (editing_setup old.editor) [] (prediction old) p) state
+    line_of_state as_it_stands p old.frames (places_kept old)
+    (run (editing_setup old.editor) [] (prediction old) p) state
     (subst (λ disk. run_state (editing_setup old.editor) disk (prediction old) p ≡ Some state) none is)
 
 -- ---- lines
@@ -267,11 +276,13 @@ heard_at_first before after first old new order rest heard =
 
 pub net_stopped_at_first : (before after : World) (why : Manner) (first old : Netplay) (order : NetOrder)
     → KeepsRest first.editor old.editor
-    → StopsWriting before after why (net_answer (editing_setup old.editor) (net_session old) order).out
-    → StopsWriting before after why (net_answer (editing_setup first.editor) (net_session old) order).out
+    → ForSome (net_answer (editing_setup old.editor) (net_session old) order).out
+    (λ text. StopsWriting before after why text)
+    → ForSome (net_answer (editing_setup first.editor) (net_session old) order).out
+    (λ text. StopsWriting before after why text)
 net_stopped_at_first before after why first old order rest heard =
-    subst (λ (setup : Setup). StopsWriting before after why (net_answer setup (net_session old) order).out)
-    (same_editing_setup first.editor old.editor rest) heard
+    subst (λ (setup : Setup). ForSome (net_answer setup (net_session old) order).out
+    (λ text. StopsWriting before after why text)) (same_editing_setup first.editor old.editor rest) heard
 
 -- ---- the beginning
 

@@ -1,20 +1,22 @@
 -- An editor's session of places, and what its runs have in common, from one call to the next.
 use Rattle.std.proofs.Common.{◌≡◌, ℕ, suc, ◌-◌, ◌≤◌, Some, inl, inr, List, [], ◌∷◌, ◌++◌, map, length, Option, refl, sym, ap, ◌∙◌, arith, subst}
 use Rattle.std.specs.Prelude.{Result, Ok, Err, OnOk}
+use Rattle.std.specs.Option.{ForSome}
 use Rattle.std.proofs.lemmas.List.{append-nil}
 use Rattle.w4_defs.specs.KeptList.{Entry, kept_entries, place_at}
 use Rattle.w4_defs.specs.Session.{Session, draft_of_places}
 use Rattle.w4_editor.specs.Editing.{Editing, editing_setup, with_session}
 use Rattle.w4_editor.specs.Showing.{KeepsRecording, IsAtEnd}
-use Rattle.w4_house.specs.World.{World, Appends}
-use Rattle.w4_commands.specs.declared.place_text.PlaceText.{PlaceText}
-use Rattle.w4_commands.specs.Answering.{one_text}
-use Rattle.w4_commands.specs.Answers.{answer_text}
-use Rattle.w4_commands.specs.Causes.{Printed}
+use Rattle.w4_defs.specs.World.{World, Appends}
+use Rattle.w4_defs.specs.declared.place_text.PlaceText.{PlaceText}
+use Rattle.w4_defs.specs.ScriptAnswers.{one_text}
+use Rattle.w4_defs.specs.Answers.{answer_text}
+use Rattle.w4_defs.specs.PlaceTexts.{as_it_stands}
+use Rattle.w4_commands.specs.Causes.{Printed, StopsWriting}
 use Rattle.w4_commands.specs.Editors.{KeepsRest, OnlyShows, IsAnswered, GivesAnswer, place_session, text_by}
-use Rattle.w4_commands.specs.Endings.{manner_of}
-use Rattle.w4_commands.specs.declared.status.Status.{Status}
-use Rattle.w4_commands.proofs.OwesLaws.{stops_as}
+use Rattle.w4_defs.specs.Endings.{manner_of}
+use Rattle.w4_defs.specs.declared.status.Status.{Status}
+use Rattle.w4_commands.proofs.OwesLaws.{there_as, there_is}
 
 -- ---- cart, font, digest, budget and disk
 
@@ -93,8 +95,8 @@ same_inputs old new shows = ap (λ (s : Session ℕ). s.current.inputs) shows.se
 pub same_text : (old new : Editing) (wanted : PlaceText) (p : ℕ) → OnlyShows old new
     → text_by new wanted p ≡ text_by old wanted p
 same_text old new wanted p shows =
-    λ i. one_text (same_editing_setup old new shows.rest i) (same_disk old new shows.rest i) (shows.session i)
-    wanted p
+    λ i. one_text as_it_stands (same_editing_setup old new shows.rest i) (same_disk old new shows.rest i)
+    (shows.session i) wanted p
 
 -- where nothing is to be written
 pub appends_nothing : (world : World) (out : List ℕ) → out ≡ [] → Appends world.out world.out out
@@ -103,31 +105,32 @@ appends_nothing world out none = λ before texts.
     (sym (ap (λ (bytes : List ℕ). before ++ bytes) none ∙ append-nil before))
 
 -- an order that tells something and changes nothing
-pub told : (before after : World) (old new : Editing) (out : List ℕ) → OnlyShows old new
-    → Appends before.out after.out out
-    → IsAnswered before after old new (answer_text (place_session old) out)
-told before after old new out shows written =
+pub told : (before after : World) (old new : Editing) (text : Option (List ℕ)) → OnlyShows old new
+    → ForSome text (λ out. Appends before.out after.out out)
+    → IsAnswered before after old new (answer_text (place_session old) text)
+told before after old new text shows written =
     record { out = written; session = shows.session; rest = shows.rest }
 
 pub told_on : {X : Type 0} (result : Result X Status) (before after : World) (old new : Editing)
-    (written out : List ℕ)
-    → out ≡ written → OnOk result (OnlyShows old new) → Printed before after result written
-    → GivesAnswer before after result old new (answer_text (place_session old) out)
-told_on (Ok x) before after old new written out e shows h =
-    told before after old new out shows (subst (λ bytes. Appends before.out after.out bytes) (sym e) h)
-told_on (Err why) before after old new written out e shows h =
-    stops_as before after (manner_of why) written out e h
+    (written text : Option (List ℕ))
+    → text ≡ written → OnOk result (OnlyShows old new)
+    → ForSome written (λ out. Printed before after result out)
+    → GivesAnswer before after result old new (answer_text (place_session old) text)
+told_on (Ok x) before after old new written text e shows h =
+    told before after old new text shows (there_as (λ out. Appends before.out after.out out) written text e h)
+told_on (Err why) before after old new written text e shows h =
+    there_as (λ out. StopsWriting before after (manner_of why) out) written text e h
 
 -- a refusal shows nothing
 pub refused_place : {X : Type 0} (result : Result X Status) (before after : World) (e : Editing)
-    (written out : List ℕ)
-    → out ≡ written → Printed before after result written
-    → GivesAnswer before after result e e (answer_text (place_session e) out)
-refused_place (Ok x) before after e written out same h =
-    told before after e e out (shows_none e) (subst (λ bytes. Appends before.out after.out bytes) (sym
-    same) h)
-refused_place (Err why) before after e written out same h =
-    stops_as before after (manner_of why) written out same h
+    (written : List ℕ) (text : Option (List ℕ))
+    → text ≡ Some written → Printed before after result written
+    → GivesAnswer before after result e e (answer_text (place_session e) text)
+refused_place (Ok x) before after e written text same h =
+    told before after e e text (shows_none e)
+    (there_is (λ out. Appends before.out after.out out) text written same h)
+refused_place (Err why) before after e written text same h =
+    there_is (λ out. StopsWriting before after (manner_of why) out) text written same h
 
 -- ---- where a place is shown
 

@@ -1,13 +1,13 @@
 -- Steps on files, one after another: why the first or a later one stopped, and what they gave.
-use Rattle.std.proofs.Common.{◌≡◌, ℕ, ◌+◌, inl, inr, List, Result, Ok, Err, refl, sym, ◌∙◌}
+use Rattle.std.proofs.Common.{◌≡◌, ℕ, ◌+◌, inl, inr, List, Option, Result, Ok, Err, refl, sym, ◌∙◌}
 use Rattle.std.specs.Option.{ForSome}
-use Rattle.w4_house.specs.World.{Files, World, LeavesReading}
+use Rattle.w4_defs.specs.World.{Files, World, LeavesReading}
 use Rattle.w4_house.proofs.WorldLaws.{rises_later}
-use Rattle.w4_commands.specs.declared.status.Status.{Status}
-use Rattle.w4_commands.specs.Endings.{Manner, AllWritten, NoCommand, ReadFailed, WriteFailed, MemoryRefused, Refused, manner_of}
-use Rattle.w4_commands.specs.Output.{◌>>=◌, reading, judged}
+use Rattle.w4_defs.specs.declared.status.Status.{Status}
+use Rattle.w4_defs.specs.Endings.{Manner, AllWritten, NoCommand, ReadFailed, WriteFailed, MemoryRefused, Refused, manner_of}
+use Rattle.w4_defs.specs.Output.{◌>>=◌, Output, reading, judged, making}
 use Rattle.w4_commands.specs.Reads.{GivesRefusal, GivesValue}
-use Rattle.w4_commands.specs.Causes.{ResultsIn, Stops, StepGives}
+use Rattle.w4_commands.specs.Causes.{MakesOf, ResultsIn, Stops, StepGives}
 
 -- what stops a step stops what begins with it
 pub stops_first : {A B : Type 0} (old new : World) (why : Manner) (step : Files → Result A Status)
@@ -20,6 +20,19 @@ stops_first old new ReadFailed step next (inr (files, texts, e)) = inr (files, t
 stops_first old new WriteFailed step next h = h
 stops_first old new MemoryRefused step next h = tt
 stops_first old new (Refused refusal) step next h = λ files texts. rw (h files texts) refl
+
+-- and what is made of what it gives
+pub stops_making : {G : Type 0} (old new : World) (why : Manner) (step : Files → Result G Status)
+    (make : Files → G → Option Output)
+    → Stops old new why (ResultsIn step)
+    → Stops old new why (MakesOf (λ files. making (step files) (make files)))
+stops_making old new AllWritten step make h = h
+stops_making old new NoCommand step make h = h
+stops_making old new ReadFailed step make (inl rise) = inl rise
+stops_making old new ReadFailed step make (inr (files, texts, e)) = inr (files, texts, rw e refl)
+stops_making old new WriteFailed step make h = h
+stops_making old new MemoryRefused step make h = tt
+stops_making old new (Refused refusal) step make h = λ files texts. rw (h files texts) refl
 
 -- what stops a later step stops what went before it
 pub stops_later : {A B : Type 0} (first second third : World) (why : Manner) (step : Files → Result A Status)

@@ -1,6 +1,7 @@
 -- The lines that tell of a made cart.
-use Rattle.std.proofs.Common.{◌≡◌, ℕ, ◌+◌, ◌/◌, ◌%◌, ◌<◌, ◌≤◌, Bool, true, false, List, [], length, take, get_or, Some, cond, refl, sym, ap, subst, ◌∙◌, arith}
-use Rattle.std.specs.Prelude.{count_by, not, ◌==◌, replicate}
+use Rattle.std.proofs.Common.{◌≡◌, ℕ, ◌+◌, ◌/◌, ◌%◌, ◌<◌, ◌≤◌, Bool, true, false, List, [], length, take, get_or, Option, Some, option_map, cond, refl, sym, ap, subst, ◌∙◌, arith}
+use Rattle.std.specs.Prelude.{count_by, IsSome, not, ◌==◌, Ok, replicate}
+use Rattle.std.specs.Option.{ForSome}
 use Rattle.std.specs.List.{range_with_len}
 use Rattle.std.proofs.lemmas.List.{take_all}
 use Rattle.std.proofs.lemmas.List.Sums.{sum_by_more}
@@ -14,8 +15,14 @@ use Rattle.w4_defs.specs.Generator.{made_module, made_inputs, made_frames, made_
 use Rattle.w4_defs.specs.MadeSummary.{made_setup, summary_text, lit_pixels}
 use Rattle.w4_defs.specs.Run.{run}
 use Rattle.w4_defs.specs.State.{Moment}
-use Rattle.wasm_write.specs.EncodeModule.{module_bytes}
-use Rattle.w4_commands.specs.Output.{made_text}
+use Rattle.w4_defs.specs.EncodeModule.{module_bytes}
+use Rattle.w4_defs.specs.Causes.{Ends}
+use Rattle.w4_defs.specs.Endings.{Manner}
+use Rattle.w4_defs.specs.Output.{made_text, make_output, only_printed}
+use Rattle.w4_defs.specs.World.{World}
+use Rattle.w4_defs.proofs.ThereLaws.{value_there}
+use Rattle.w4_commands.specs.Causes.{MakesOf, Prints}
+use Rattle.w4_commands.proofs.EndLaws.{ends_printed}
 
 bit_small : (b : Bool) → cond b 1 0 ≤ 1
 bit_small true = omega arith
@@ -53,7 +60,7 @@ lit_all page n lit most least counted =
 -- the run of a made cart comes to a moment, and the lines tell of its state
 lines_tell : (number : ℕ) (moment : Moment)
     → run (made_setup number) [] (made_inputs number) made_frames ≡ Some moment
-    → made_text number ≡ summary_text sha256 (length (module_bytes (made_module number))) moment.state
+    → made_text number ≡ Some (summary_text sha256 (length (module_bytes (made_module number))) moment.state)
 lines_tell number moment e = rw e refl
 
 pub summary_is : (number : ℕ) (cart : WasmModule) (font : List ℕ) (budget : ℕ) (inputs : List Input)
@@ -61,7 +68,7 @@ pub summary_is : (number : ℕ) (cart : WasmModule) (font : List ℕ) (budget : 
     → cart ≡ made_module number → font ≡ replicate 1792 0 → budget ≡ made_budget → inputs ≡ made_inputs number
     → bytes ≡ module_bytes (made_module number) → count ≡ length bytes
     → run (console_setup cart font budget) [] inputs made_frames ≡ Some moment
-    → summary_text sha256 count moment.state ≡ made_text number
+    → made_text number ≡ Some (summary_text sha256 count moment.state)
 summary_is number cart font budget inputs bytes count moment made zeros units frames written counted e =
     let of_cart = subst
     (λ (x : WasmModule). run (console_setup x font budget) [] inputs made_frames ≡ Some moment)
@@ -76,5 +83,16 @@ summary_is number cart font budget inputs bytes count moment made zeros units fr
     units with_font in
     let whole = subst (λ (x : List Input). run (made_setup number) [] x made_frames ≡ Some moment)
     frames with_budget in
-    ap (λ (n : ℕ). summary_text sha256 n moment.state) (counted ∙ ap (λ (b : List ℕ). length b) written)
-    ∙ sym (lines_tell number moment whole)
+    lines_tell number moment whole
+    ∙ ap (λ (n : ℕ). Some (summary_text sha256 n moment.state))
+    (sym (counted ∙ ap (λ (b : List ℕ). length b) written))
+
+-- the lines are there, and so is what is made of them
+pub ends_made : (old new : World) (why : Manner) (number : ℕ) → IsSome (made_text number)
+    → new.files ≡ old.files → ForSome (made_text number) (λ out. Prints old new why out)
+    → Ends old new why (MakesOf (λ files. make_output number files))
+ends_made old new why number there same h =
+    let told = value_there (made_text number) there in
+    subst (λ (text : Option (List ℕ)). Ends old new why (MakesOf (λ files.
+    option_map (λ out. Ok (only_printed out files)) text))) (sym told.1)
+    (ends_printed old new why told.0 same (h told.0 told.1))

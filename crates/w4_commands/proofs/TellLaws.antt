@@ -1,102 +1,71 @@
 -- What is told of places: by the state or the record of a run, and by the number of the last place.
-use Rattle.std.proofs.Common.{◌≡◌, ℕ, zero, suc, ◌+◌, ◌-◌, ◌<◌, ◌≤◌, true, false, List, ◌++◌, map, length, drop, Option, Some, None, option_map, refl, sym, ap, ◌∙◌, arith, subst, append_assoc, append-nil}
-use Rattle.std.specs.Prelude.{Result, flat_map, nat_lt}
+use Rattle.std.proofs.Common.{◌≡◌, ℕ, ◌+◌, ◌<◌, ◌≤◌, List, ◌++◌, map, length, drop, Option, Some, None, option_map, option_and_then, refl, sym, ap, ◌∙◌, subst, append_assoc, append-nil}
+use Rattle.std.specs.Prelude.{Result, flat_map}
 use Rattle.std.proofs.Math.ListN.{drop_of_length-le}
 use Rattle.std.proofs.lemmas.List.{length-map}
 use Rattle.std.proofs.lemmas.Bool.{lt-leb, le-leb}
-use Rattle.w4_defs.specs.FrameTexts.{spaced, state_line}
-use Rattle.w4_defs.specs.Image.{image}
+use Rattle.w4_defs.specs.declared.console.Input.{Input}
+use Rattle.w4_defs.specs.FrameTexts.{schedule_text, spaced, trace_text}
 use Rattle.w4_defs.specs.KeptList.{Entry, kept_entries, place_at}
-use Rattle.w4_defs.specs.Reset.{Setup}
-use Rattle.w4_defs.specs.State.{State, Moment}
+use Rattle.w4_defs.specs.Reset.{Setup, reset}
+use Rattle.w4_defs.specs.Run.{run}
 use Rattle.w4_defs.specs.Session.{Session}
+use Rattle.w4_defs.specs.State.{State, Moment, FrameRecord}
 use Rattle.w4_editor.specs.Editing.{Editing, editing_setup}
-use Rattle.w4_house.specs.World.{World, Appends}
-use Rattle.w4_commands.specs.declared.place_text.PlaceText.{PlaceText}
-use Rattle.w4_commands.specs.declared.place_text.PlaceText.TheVariants.{Image}
-use Rattle.w4_commands.specs.Texts.{place_text, place_texts, state_text}
-use Rattle.w4_commands.specs.Answering.{if_place, film_text, range_text, too_long, no_frame}
-use Rattle.w4_commands.specs.Answers.{answer_text}
-use Rattle.w4_commands.specs.Causes.{StopsWriting}
+use Rattle.w4_defs.specs.World.{World}
+use Rattle.w4_defs.specs.declared.place_text.PlaceText.{PlaceText}
+use Rattle.w4_defs.specs.PlaceTexts.{as_it_stands, place_text}
+use Rattle.w4_defs.specs.declared.place_text.PlaceText.TheVariants.{Schedule, Traces, DiskBytes}
+use Rattle.w4_defs.proofs.OptionLaws.{some_same}
+use Rattle.w4_defs.proofs.TextsOfStates.{state_of}
+use Rattle.w4_defs.specs.ScriptAnswers.{if_place, range_text, no_frame}
+use Rattle.w4_defs.specs.Answers.{answer_text}
 use Rattle.w4_commands.specs.Editors.{GivesAnswer, place_session, text_by}
-use Rattle.w4_commands.specs.Endings.{Manner}
-use Rattle.w4_commands.specs.declared.status.Status.{Status}
+use Rattle.w4_defs.specs.declared.status.Status.{Status}
 use Rattle.w4_commands.proofs.KeepEveryLaws.{places_from}
-use Rattle.w4_commands.proofs.OwesLaws.{Owes, owes_less, owes_nothing, piece_stopped}
+use Rattle.w4_commands.proofs.PlaceTextLaws.{text-alone}
 
 -- ---- one place
 
-abbrev pub state_of : Option Moment → Option State
-state_of m = option_map (λ (moment : Moment). moment.state) m
+pub disk_of_state : (p : ℕ) (m : Option Moment) (s : State) → state_of m ≡ Some s
+    → place_text as_it_stands DiskBytes p m ≡ Some s.disk
+disk_of_state p (Some moment) s e = ap (λ (x : State). Some x.disk) (some_same moment.state s e)
+disk_of_state p None s e = absurd cc
 
-some_state : (a b : State) → Some a ≡ Some b → a ≡ b
-some_state a b e = cc
+abbrev pub made_in : Option Moment → Option FrameRecord
+made_in m = option_map (λ (moment : Moment). moment.made) m
 
-pub image_of_state : (p : ℕ) (m : Option Moment) (s : State) → state_of m ≡ Some s
-    → place_text Image p m ≡ image s.page
-image_of_state p (Some moment) s e = ap (λ (x : State). image x.page) (some_state moment.state s e)
-image_of_state p None s e = cc
+pub schedule_of_record : (p : ℕ) (m : Option Moment) (r : FrameRecord) → made_in m ≡ Some r
+    → place_text as_it_stands Schedule p m ≡ Some (schedule_text p r)
+schedule_of_record p (Some moment) r e =
+    ap (λ (x : FrameRecord). Some (schedule_text p x)) (some_same moment.made r e)
+schedule_of_record p None r e = absurd cc
 
-pub line_of_state : (p count : ℕ) (kept : List ℕ) (m : Option Moment) (s : State) → state_of m ≡ Some s
-    → state_text p count m kept ≡ state_line p count s kept
-line_of_state p count kept (Some moment) s e =
-    ap (λ (x : State). state_line p count x kept) (some_state moment.state s e)
-line_of_state p count kept None s e = cc
+pub traces_of_record : (p : ℕ) (m : Option Moment) (r : FrameRecord) → made_in m ≡ Some r
+    → place_text as_it_stands Traces p m ≡ Some (trace_text p r)
+traces_of_record p (Some moment) r e =
+    ap (λ (x : FrameRecord). Some (trace_text p x)) (some_same moment.made r e)
+traces_of_record p None r e = absurd cc
 
--- ---- places one after another
+same_record : (m : Option Moment) (r : FrameRecord) → made_in m ≡ Some r
+    → made_in (option_and_then (λ moment. Some moment) m) ≡ Some r
+same_record (Some moment) r e = e
+same_record None r e = absurd cc
 
-texts-next : (text : ℕ → List ℕ) (written : List ℕ) (at end : ℕ) → at < end → written ≡ text at
-    → place_texts text at (end - at) ≡ written ++ place_texts text (at + 1) (end - (at + 1))
-texts-next text written at end lt e =
-    let k : end - at ≡ suc (end - (at + 1)) = omega arith in
-    rw k (ap (λ (bytes : List ℕ). bytes ++ place_texts text (at + 1) (end - (at + 1))) (sym e))
-
-pub texts-more : (first now next : World) (text : ℕ → List ℕ) (written whole : List ℕ) (at end : ℕ)
-    → at < end → Appends now.out next.out written → written ≡ text at
-    → Owes first now (place_texts text at (end - at)) whole
-    → Owes first next (place_texts text (at + 1) (end - (at + 1))) whole
-texts-more first now next text written whole at end lt h e so_far =
-    owes_less first now next written (place_texts text (at + 1) (end - (at + 1))) whole h
-    (subst (λ owed. Owes first now owed whole) (texts-next text written at end lt e) so_far)
-
--- where one of them stopped
-pub texts-stop : (first now next : World) (why : Manner) (text : ℕ → List ℕ) (written whole : List ℕ)
-    (at end : ℕ) → at < end → written ≡ text at → first.write_faults ≤ now.write_faults
-    → Owes first now (place_texts text at (end - at)) whole
-    → StopsWriting now next why written → StopsWriting first next why whole
-texts-stop first now next why text written whole at end lt e le so_far h =
-    piece_stopped first now next why written (place_texts text (at + 1) (end - (at + 1)))
-    (place_texts text at (end - at)) whole (texts-next text written at end lt e) le so_far h
-
-pub texts-all : (first now : World) (text : ℕ → List ℕ) (whole : List ℕ) (at end : ℕ) → end ≤ at
-    → Owes first now (place_texts text at (end - at)) whole → Appends first.out now.out whole
-texts-all first now text whole at end le so_far =
-    let k : end - at ≡ 0 = omega arith in
-    owes_nothing first now (place_texts text at (end - at)) whole (rw k refl) so_far
-
--- the text of one place is that of a range
-pub text-alone : (text : ℕ → List ℕ) (p : ℕ) → place_texts text p (p + 1 - p) ≡ text p
-text-alone text p =
-    let k : p + 1 - p ≡ suc zero = omega arith in
-    rw k (append-nil (text p))
+-- place 0 is the reset
+pub reset_record : (setup : Setup) (disk : List ℕ) (inputs : List Input) (r : FrameRecord)
+    → made_in (reset setup disk) ≡ Some r → made_in (run setup disk inputs 0) ≡ Some r
+reset_record setup disk inputs r e = same_record (reset setup disk) r e
 
 -- ---- the last place
 
-pub if_place-past : (s : Session ℕ) (last : ℕ) (out : List ℕ) → length s.current.inputs < last
-    → if_place s last out ≡ no_frame
-if_place-past s last out lt = rw (lt-leb last (length s.current.inputs) lt) refl
+pub if_place-past : (s : Session ℕ) (last : ℕ) (text : Option (List ℕ)) → length s.current.inputs < last
+    → if_place as_it_stands s last text ≡ Some no_frame
+if_place-past s last text lt = rw (lt-leb last (length s.current.inputs) lt) refl
 
-pub if_place-within : (s : Session ℕ) (last : ℕ) (out : List ℕ) → last ≤ length s.current.inputs
-    → if_place s last out ≡ out
-if_place-within s last out le = rw (le-leb last (length s.current.inputs) le) refl
-
-pub film-long : (setup : Setup) (disk : List ℕ) (s : Session ℕ) (a b : ℕ)
-    → nat_lt 600 (b + 1 - a) ≡ true → film_text setup disk s a b ≡ too_long
-film-long setup disk s a b long = rw long refl
-
-pub film-short : (setup : Setup) (disk : List ℕ) (s : Session ℕ) (a b : ℕ)
-    → nat_lt 600 (b + 1 - a) ≡ false → film_text setup disk s a b ≡ range_text setup disk s Image a b
-film-short setup disk s a b short = rw short refl
+pub if_place-within : (s : Session ℕ) (last : ℕ) (text : Option (List ℕ)) → last ≤ length s.current.inputs
+    → if_place as_it_stands s last text ≡ text
+if_place-within s last text le = rw (le-leb last (length s.current.inputs) le) refl
 
 -- ---- numbers one after another
 
@@ -125,10 +94,11 @@ numbers-all text whole entries i le so_far =
 -- the answer for one place is that for a range
 pub one_range : {X : Type 0} (result : Result X Status) (before after : World) (old new : Editing)
     (wanted : PlaceText) (p : ℕ)
-    → GivesAnswer before after result old new (answer_text (place_session old) (if_place (place_session old) p
-    (range_text (editing_setup old) old.disk (place_session old) wanted p p)))
+    → GivesAnswer before after result old new
+    (answer_text (place_session old) (if_place as_it_stands (place_session old) p
+    (range_text as_it_stands (editing_setup old) old.disk (place_session old) wanted p p)))
     → GivesAnswer before after result old new (answer_text (place_session old)
-    (if_place (place_session old) p (text_by old wanted p)))
+    (if_place as_it_stands (place_session old) p (text_by old wanted p)))
 one_range result before after old new wanted p h =
-    subst (λ bytes. GivesAnswer before after result old new (answer_text (place_session old)
-    (if_place (place_session old) p bytes))) (text-alone (text_by old wanted) p) h
+    subst (λ text. GivesAnswer before after result old new (answer_text (place_session old)
+    (if_place as_it_stands (place_session old) p text))) (text-alone (text_by old wanted) p) h

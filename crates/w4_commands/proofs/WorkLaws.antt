@@ -1,29 +1,33 @@
 -- From the editor that an edit opens to the recording that it leaves.
 use Rattle.std.proofs.Common.{◌≡◌, ℕ, List, inl, inr, ap, ◌∙◌, subst}
 use Rattle.std.specs.Prelude.{Result, Ok, Err}
+use Rattle.std.specs.Option.{ForSome}
 use Rattle.w4_defs.specs.declared.order.Order.{Order}
 use Rattle.w4_defs.specs.Module.{WasmModule}
 use Rattle.w4_defs.specs.Recording.{encoding}
 use Rattle.w4_defs.specs.Session.{Session}
 use Rattle.w4_defs.specs.State.{State}
 use Rattle.w4_editor.specs.Editing.{Editing, new_editing, current_recording}
-use Rattle.w4_house.specs.World.{World, Appends, LeavesPrinting, LeavesSaving, OpensOnly, Puts}
+use Rattle.w4_defs.specs.World.{World, Appends, LeavesPrinting, LeavesSaving, OpensOnly, Puts}
 use Rattle.w4_house.proofs.WorldLaws.{front_whole, rises_later}
-use Rattle.w4_commands.specs.declared.status.Status.{Status}
+use Rattle.w4_defs.specs.declared.status.Status.{Status}
 use Rattle.w4_commands.specs.Causes.{Carried, Carries, Saved, StopsSaving, StopsWriting}
 use Rattle.w4_commands.specs.Editors.{IsAnswered, answers_by, recording_by}
-use Rattle.w4_commands.specs.Endings.{Manner, AllWritten, NoCommand, ReadFailed, WriteFailed, MemoryRefused, Refused, manner_of}
-use Rattle.w4_commands.specs.Output.{Loaded, edit_answers, edited_recording}
+use Rattle.w4_defs.specs.Endings.{Manner, AllWritten, NoCommand, ReadFailed, WriteFailed, MemoryRefused, Refused, manner_of}
+use Rattle.w4_defs.specs.Output.{Loaded, edit_answers, edited_recording}
 
 -- what was carried out at the editor that a file opens was carried out for the file
 pub opened_carried : {X : Type 0} (before after : World) (result : Result X Status) (cart : WasmModule)
     (l : Loaded) (e : Editing) (state : State) (name : List ℕ)
     → e ≡ new_editing cart l.run.font l.run.recording state
-    → Carried before after result (answers_by e l.orders).out name (encoding 2 (recording_by e l.orders))
-    → Carried before after result (edit_answers cart l).out name (encoding 2 (edited_recording cart l))
+    → ForSome (answers_by e l.orders).out
+    (λ out. Carried before after result out name (encoding 2 (recording_by e l.orders)))
+    → ForSome (edit_answers cart l).out
+    (λ out. Carried before after result out name (encoding 2 (edited_recording cart l)))
 opened_carried before after result cart l e state name is h =
     subst (λ (x : Editing).
-    Carried before after result (answers_by x l.orders).out name (encoding 2 (recording_by x l.orders)))
+    ForSome (answers_by x l.orders).out
+    (λ out. Carried before after result out name (encoding 2 (recording_by x l.orders))))
     is h
 
 -- the answers stopped, so that no file was begun

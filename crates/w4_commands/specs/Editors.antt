@@ -1,6 +1,7 @@
 -- An editor as the answers of a script see it: its session of places, and what its runs have in common
 -- (project rule). Each order is answered from these alone.
-use Rattle.std.specs.Prelude.{◌≡◌, ◌≢◌, ℕ, ◌%◌, ◌==◌, ◌&&◌, Bool, not, List, length, Result, Ok, Err, if◌then◌else◌}
+use Rattle.std.specs.Prelude.{◌≡◌, ◌≢◌, ℕ, ◌%◌, ◌==◌, ◌&&◌, Bool, not, List, length, Option, Result, Ok, Err, if◌then◌else◌}
+use Rattle.std.specs.Option.{ForSome}
 use Rattle.w4_defs.specs.declared.editing.EditRefusal.{EditRefusal}
 use Rattle.w4_defs.specs.declared.editing.EditRefusal.TheVariants.{OutOfMemory}
 use Rattle.w4_defs.specs.declared.order.Order.{Order}
@@ -8,14 +9,15 @@ use Rattle.w4_defs.specs.declared.order.Order.TheVariants as order
 use Rattle.w4_defs.specs.KeptList.{kept_entries}
 use Rattle.w4_defs.specs.Recording.{Recording}
 use Rattle.w4_defs.specs.Session.{Session, places_alone, session_of_places, set_input, insert_input, delete_input, undo, redo, keep, keep_every, drop_kept, multiples, all_kept, is_kept, with_kept}
+use Rattle.w4_defs.specs.PlaceTexts.{as_it_stands}
 use Rattle.w4_editor.specs.Editing.{Editing, current_recording, editing_setup, with_session}
-use Rattle.w4_house.specs.World.{World, Appends}
-use Rattle.w4_commands.specs.declared.place_text.PlaceText.{PlaceText}
-use Rattle.w4_commands.specs.declared.status.Status.{Status}
-use Rattle.w4_commands.specs.Answering.{answer, answers, one_text}
-use Rattle.w4_commands.specs.Answers.{Answered}
+use Rattle.w4_defs.specs.World.{World, Appends}
+use Rattle.w4_defs.specs.declared.place_text.PlaceText.{PlaceText}
+use Rattle.w4_defs.specs.declared.status.Status.{Status}
+use Rattle.w4_defs.specs.ScriptAnswers.{answer, answers, one_text}
+use Rattle.w4_defs.specs.Answers.{Answered}
 use Rattle.w4_commands.specs.Causes.{StopsWriting}
-use Rattle.w4_commands.specs.Endings.{manner_of}
+use Rattle.w4_defs.specs.Endings.{manner_of}
 
 -- the session of its places, without states and links
 abbrev pub place_session : Editing → Session ℕ
@@ -32,10 +34,10 @@ pub record OnlyShows (old new : Editing) : Type 0 where
 
 -- the answer of an order, and what is told of a place
 abbrev pub answer_by : Editing → Order → Answered (Session ℕ)
-answer_by e order = answer (editing_setup e) e.disk (place_session e) order
+answer_by e order = answer as_it_stands (editing_setup e) e.disk (place_session e) order
 
-abbrev pub text_by : Editing → PlaceText → ℕ → List ℕ
-text_by e wanted p = one_text (editing_setup e) e.disk (place_session e) wanted p
+abbrev pub text_by : Editing → PlaceText → ℕ → Option (List ℕ)
+text_by e wanted p = one_text as_it_stands (editing_setup e) e.disk (place_session e) wanted p
 
 -- the answers of a script's orders, one after another, and the recording that they leave
 abbrev pub answers_by : Editing → List Order → Answered (Session ℕ)
@@ -47,7 +49,7 @@ recording_by e orders = record (current_recording e) { frames = (answers_by e or
 -- an order was answered so: standard output has got the answer, and the session is the one that is left
 pub record IsAnswered (before after : World) (old new : Editing) (wanted : Answered (Session ℕ)) : Type 0
   where
-    pub out : Appends before.out after.out wanted.out
+    pub out : ForSome wanted.out (λ out. Appends before.out after.out out)
     pub session : place_session new ≡ wanted.session
     pub rest : KeepsRest old new
 
@@ -55,7 +57,8 @@ pub record IsAnswered (before after : World) (old new : Editing) (wanted : Answe
 abbrev pub GivesAnswer : {X : Type 0} → World → World → Result X Status → Editing → Editing
     → Answered (Session ℕ) → Type 0
 GivesAnswer before after (Ok x) old new wanted = IsAnswered before after old new wanted
-GivesAnswer before after (Err why) old new wanted = StopsWriting before after (manner_of why) wanted.out
+GivesAnswer before after (Err why) old new wanted =
+    ForSome wanted.out (λ out. StopsWriting before after (manner_of why) out)
 
 -- what an order makes of a session, or why it is refused; an order that only tells makes nothing of it
 abbrev pub changed : Order → Session ℕ → Result (Session ℕ) EditRefusal

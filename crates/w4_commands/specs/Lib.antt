@@ -1,20 +1,8 @@
 -- What the program promises, from its words and files to its answers and statuses.
-pub mod Endings
-pub mod Lines
-pub mod Forms
 pub mod Reads
-pub mod Texts
-pub mod Answers
-pub mod Answering
 pub mod Editors
-pub mod Output
-pub mod NetSessions
 pub mod Replicas
-pub mod RamAnswers
 pub mod Queries
-pub mod RowTexts
-pub mod ToolOutputs
-pub mod Outputs
 pub mod Causes
 pub mod Scenes
 pub mod Views

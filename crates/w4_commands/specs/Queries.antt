@@ -1,15 +1,17 @@
 -- An editor as the answers of a query see it: the pages of its recording, and the search that is left.
 use Rattle.std.specs.Prelude.{◌≡◌, Option, Result, Ok, Err}
+use Rattle.std.specs.Option.{ForSome}
 use Rattle.w4_defs.specs.Search.{Search}
 use Rattle.w4_defs.specs.declared.inspect.Ask.{Ask}
+use Rattle.w4_defs.specs.PlaceTexts.{as_it_stands}
 use Rattle.w4_editor.specs.Editing.{Editing, editing_setup}
-use Rattle.w4_house.specs.World.{World, Appends}
-use Rattle.w4_commands.specs.declared.status.Status.{Status}
-use Rattle.w4_commands.specs.Answers.{Answered}
+use Rattle.w4_defs.specs.World.{World, Appends}
+use Rattle.w4_defs.specs.declared.status.Status.{Status}
+use Rattle.w4_defs.specs.Answers.{Answered}
 use Rattle.w4_commands.specs.Causes.{StopsWriting}
 use Rattle.w4_commands.specs.Editors.{OnlyShows}
-use Rattle.w4_commands.specs.Endings.{manner_of}
-use Rattle.w4_commands.specs.RamAnswers.{Pages, pages_of, ram_answer}
+use Rattle.w4_defs.specs.Endings.{manner_of}
+use Rattle.w4_defs.specs.QueryAnswers.{Pages, pages_of, ram_answer}
 
 abbrev pub editor_pages : Editing → Pages
 editor_pages e = pages_of (editing_setup e) e.disk e.session.current.inputs
@@ -18,7 +20,7 @@ editor_pages e = pages_of (editing_setup e) e.disk e.session.current.inputs
 -- editor at most shows another place
 pub record IsTold (before after : World) (old new : Editing) (left : Option Search)
     (wanted : Answered (Option Search)) : Type 0 where
-  pub out : Appends before.out after.out wanted.out
+  pub out : ForSome wanted.out (λ out. Appends before.out after.out out)
   pub search : left ≡ wanted.session
   pub shows : OnlyShows old new
 
@@ -26,7 +28,8 @@ pub record IsTold (before after : World) (old new : Editing) (left : Option Sear
 abbrev pub GivesTold : {X : Type 0} → World → World → Result X Status → Editing → Editing → Option Search
     → Answered (Option Search) → Type 0
 GivesTold before after (Ok x) old new left wanted = IsTold before after old new left wanted
-GivesTold before after (Err why) old new left wanted = StopsWriting before after (manner_of why) wanted.out
+GivesTold before after (Err why) old new left wanted =
+    ForSome wanted.out (λ out. StopsWriting before after (manner_of why) out)
 
 abbrev pub ask_answer : Editing → Option Search → Ask → Answered (Option Search)
-ask_answer e search ask = ram_answer (editor_pages e) search ask
+ask_answer e search ask = ram_answer as_it_stands (editor_pages e) search ask

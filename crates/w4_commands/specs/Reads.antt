@@ -1,7 +1,7 @@
 -- What a judge of bytes gives: what the definition makes of them, or that memory was refused.
 use Rattle.std.specs.Prelude.{◌≡◌, Result, Ok, Err, ⊤}
-use Rattle.w4_commands.specs.declared.status.Status.{Status}
-use Rattle.w4_commands.specs.Endings.{Manner, AllWritten, NoCommand, ReadFailed, WriteFailed, MemoryRefused, Refused, manner_of}
+use Rattle.w4_defs.specs.declared.status.Status.{Status}
+use Rattle.w4_defs.specs.Endings.{Manner, AllWritten, NoCommand, ReadFailed, WriteFailed, MemoryRefused, Refused, manner_of}
 
 abbrev pub GivesRefusal : {Y : Type 0} → Manner → Result Y Status → Type 0
 GivesRefusal AllWritten made = ⊥

@@ -12,9 +12,9 @@ use Rattle.w4_commands.specs.declared.load.Loaded.{Loaded}
 use Rattle.w4_commands.specs.declared.load_tools.NetLoaded.{NetLoaded}
 use Rattle.w4_commands.specs.declared.load_tools.RamLoaded.{RamLoaded}
 use Rattle.w4_commands.specs.declared.load_tools.BatchLoaded.{BatchLoaded}
-use Rattle.w4_commands.specs.Forms.{RunWords, EditWords, NetWords, BatchWords, Form, Check, Blank, Frames, Tones, Trace, Disk, Edit, Make, Net, Ram, Wave, Batch}
-use Rattle.w4_commands.specs.Output.{CartFile as GivenCart, Played as Given, Loaded as GivenOrders}
-use Rattle.w4_commands.specs.ToolOutputs.{NetLoaded as GivenLog, RamLoaded as GivenQuery, BatchLoaded as GivenList}
+use Rattle.w4_defs.specs.Commands.{RunWords, EditWords, NetWords, BatchWords, Form, Check, Blank, Frames, Tones, Trace, Disk, Edit, Make, Net, Ram, Wave, Batch}
+use Rattle.w4_defs.specs.Output.{CartFile as GivenCart, Played as Given, Loaded as GivenOrders}
+use Rattle.w4_defs.specs.ToolOutputs.{NetLoaded as GivenLog, RamLoaded as GivenQuery, BatchLoaded as GivenList}
 
 abbrev pub run_view : RunNames → RunWords
 run_view n = record { cart = n.cart.now; recording = n.recording.now; font = n.font.now }

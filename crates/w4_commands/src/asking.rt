@@ -1,25 +1,26 @@
 //! The answer of one line of a query.
 
 ghost use Rattle.std.specs.Prelude.{◌≡◌, ◌≢◌, ◌⊎◌, ◌++◌, ◌∷◌, ◌≤◌, IfOk, OnOk, codes, decimal};
+ghost use Rattle.std.specs.Option.{ForSome};
 ghost use Rattle.w4_defs.specs.FrameTexts.{line_end, numbered};
-ghost use Rattle.w4_house.specs.World.{LeavesPrinting};
+ghost use Rattle.w4_defs.specs.PlaceTexts.{as_it_stands};
+ghost use Rattle.w4_defs.specs.World.{LeavesPrinting};
 ghost use Rattle.w4_inspect.specs.Requests.{IsRequest};
 ghost use Rattle.w4_inspect.specs.Widths.{IsWidth};
 ghost use Rattle.w4_inspect.specs.declared.refusal.RamRefusal.TheVariants.{OutOfMemory as MemoryRefused};
-ghost use Rattle.w4_commands.specs.Answering.{no_frame};
+ghost use Rattle.w4_defs.specs.ScriptAnswers.{no_frame};
 ghost use Rattle.w4_commands.specs.Causes.{Printed, WritesNothing};
 ghost use Rattle.w4_commands.specs.Editors.{OnlyShows};
 ghost use Rattle.w4_commands.specs.Queries.{GivesTold, ask_answer, editor_pages};
-ghost use Rattle.w4_commands.specs.RamAnswers.{answer_narrow, answer_start, found_text, list_text, watch_text};
+ghost use Rattle.w4_defs.specs.QueryAnswers.{answer_narrow, answer_start, found_text, list_text, watch_text};
 
 use crate::printing::print;
-use crate::status::Status;
 use crate::text::{add_number, add_words};
 use itoa::Buffer;
 use std::alloc::Global;
 use std::sync::ledger::Ledger;
 use w4_defs::inspect::{Ask, Test};
-use w4_defs::{OutOfMemory, Steps};
+use w4_defs::{OutOfMemory, Status, Steps};
 use w4_editor::Editor;
 use w4_house::House;
 use w4_inspect::{RamRefusal, Search, watch};
@@ -65,8 +66,8 @@ fn tell_watched<L: Ledger, H: House>(
 ) -> Result<(), Status>
     requires width { IsWidth width }
     requires order { a ≤ b }
-    ensures out { Printed (H.world house.old) (H.world house.new) result
-        (watch_text (editor_pages editor.old) address width a b) }
+    ensures out { ForSome (watch_text as_it_stands (editor_pages editor.old) address width a b)
+        (λ text. Printed (H.world house.old) (H.world house.new) result text) }
     ensures shows { OnOk result (OnlyShows editor.old editor.new) }
     ensures rest { LeavesPrinting (H.world house.old) (H.world house.new) }
 {
@@ -121,7 +122,7 @@ fn start<L: Ledger, H: House>(
     requires { IsWidth width }
     ensures told { GivesTold (H.world house.old) (H.world house.new) result
         editor.old editor.new search.new
-        (answer_start (editor_pages editor.old) search.old width p) }
+        (answer_start as_it_stands (editor_pages editor.old) search.old width p) }
     ensures rest { LeavesPrinting (H.world house.old) (H.world house.new) }
 {
     match Search::start(alloc, editor, width, p as usize, steps) {
@@ -145,7 +146,7 @@ fn narrow<L: Ledger, H: House>(
 ) -> Result<(), Status>
     ensures told { GivesTold (H.world house.old) (H.world house.new) result
         editor.old editor.new search.new
-        (answer_narrow (editor_pages editor.old) search.old p test) }
+        (answer_narrow as_it_stands (editor_pages editor.old) search.old p test) }
     ensures rest { LeavesPrinting (H.world house.old) (H.world house.new) }
 {
     match search {

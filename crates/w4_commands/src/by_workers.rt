@@ -1,11 +1,13 @@
 //! Orders that are carried out by many workers: `film` and `settle`.
 
 ghost use Rattle.std.specs.Prelude.{◌≡◌, ◌≤◌, OnOk, flat_map, max, min};
+ghost use Rattle.std.specs.Option.{ForSome};
 ghost use Rattle.w4_defs.specs.Image.{image};
 ghost use Rattle.w4_editor.specs.Editing.{editing_setup};
-ghost use Rattle.w4_house.specs.World.{LeavesPrinting};
-ghost use Rattle.w4_commands.specs.Answering.{film_text, if_place};
-ghost use Rattle.w4_commands.specs.Answers.{answer_text};
+ghost use Rattle.w4_defs.specs.World.{LeavesPrinting};
+ghost use Rattle.w4_defs.specs.ScriptAnswers.{film_text};
+ghost use Rattle.w4_defs.specs.Answers.{answer_text};
+ghost use Rattle.w4_defs.specs.PlaceTexts.{as_it_stands};
 ghost use Rattle.w4_commands.specs.Causes.{Printed};
 ghost use Rattle.w4_commands.specs.Editors.{GivesAnswer, OnlyShows, place_session};
 ghost use Rattle.w4_segments.specs.FilmPieces.{IsFilming, images_left};
@@ -13,10 +15,9 @@ ghost use Rattle.w4_segments.specs.FilmPieces.{IsFilming, images_left};
 use crate::desk::last_place;
 use crate::printing::print;
 use crate::refusal::refuse;
-use crate::status::Status;
 use std::alloc::Global;
 use std::thread::Threads;
-use w4_defs::{EditRefusal, OutOfMemory};
+use w4_defs::{EditRefusal, OutOfMemory, Status};
 use w4_editor::Editor;
 use w4_house::House;
 use w4_image::{IMAGE_LEN, Screen, screen_into};
@@ -44,8 +45,9 @@ pub fn tell_film<R: Threads + Sync, H: House, G: Gate + Sync>(
 ) -> Result<(), Status>
     ensures answered { GivesAnswer (H.world house.old) (H.world house.new) result
         editor.old editor.new
-        (answer_text (place_session editor.old) (if_place (place_session editor.old) b
-        (film_text (editing_setup editor.old) editor.old.disk (place_session editor.old) a b))) }
+        (answer_text (place_session editor.old)
+        (film_text as_it_stands (editing_setup editor.old) editor.old.disk
+        (place_session editor.old) a b)) }
     ensures rest { LeavesPrinting (H.world house.old) (H.world house.new) }
 {
     let (from, to) = (a as usize, b as usize);
@@ -64,8 +66,8 @@ pub fn tell_film<R: Threads + Sync, H: House, G: Gate + Sync>(
     }
 }
 
-/// Writes a film a piece at a time, so that no more of it is held than its workers make at once, and of images
-/// one.
+/// Writes a film a piece at a time, so that no more of it is held than its workers make at once, and of
+/// images one.
 fn print_film<R: Threads + Sync, H: House, G: Gate + Sync>(
     rt: &R,
     alloc: Global,
@@ -75,7 +77,8 @@ fn print_film<R: Threads + Sync, H: House, G: Gate + Sync>(
     gate: &G,
 ) -> Result<(), Status>
     requires { IsFilming film.old editor.now }
-    ensures out { Printed (H.world house.old) (H.world house.new) result (images_left film.old editor.now) }
+    ensures out { ForSome (images_left film.old editor.now)
+        (λ images. Printed (H.world house.old) (H.world house.new) result images) }
     ensures rest { LeavesPrinting (H.world house.old) (H.world house.new) }
 {
     let mut picture = Box::new(alloc, [0; IMAGE_LEN])?;

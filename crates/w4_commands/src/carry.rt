@@ -1,22 +1,23 @@
 //! An edit: the answers of its orders, and then the file of the recording left.
 
+ghost use Rattle.std.specs.Option.{ForSome};
 ghost use Rattle.w4_defs.specs.Recording.{encoding};
-ghost use Rattle.w4_house.specs.World.{LeavesSaving};
+ghost use Rattle.w4_defs.specs.World.{LeavesSaving};
 ghost use Rattle.w4_commands.specs.Editors.{answers_by, recording_by};
-ghost use Rattle.w4_commands.specs.Endings.{manner_of};
-ghost use Rattle.w4_commands.specs.Output.{edit_answers, edited_recording};
-ghost use Rattle.w4_commands.specs.Causes.{Carried, Carries, LeavesErr, Saved};
+ghost use Rattle.w4_defs.specs.Endings.{manner_of};
+ghost use Rattle.w4_defs.specs.Output.{edit_answers, edited_recording};
+ghost use Rattle.w4_defs.specs.Causes.{LeavesErr};
+ghost use Rattle.w4_commands.specs.Causes.{Carried, Carries, Saved};
 ghost use Rattle.w4_commands.specs.Views.{loaded_view};
 
 use crate::desk::{Desk, new_desk};
 use crate::load::{Loaded, Played};
 use crate::orders::answer_script;
-use crate::status::Status;
 use std::alloc::Global;
 use std::marker::Brand;
 use std::sync::ledger::Blank;
 use std::thread::Threads;
-use w4_defs::Order;
+use w4_defs::{Order, Status};
 use w4_house::{House, WriteRefusal};
 use w4_record::write_recording;
 use w4_segments::Gate;
@@ -44,9 +45,9 @@ fn answer_and_save<R: Threads + Sync, H: House, G: Gate + Sync>(
     name: &str,
     gate: &G,
 ) -> Result<(), Status>
-    ensures carried { Carried (H.world house.old) (H.world house.new) result
-        (answers_by desk.old.editor orders.now).out name.now
-        (encoding 2 (recording_by desk.old.editor orders.now)) }
+    ensures carried { ForSome (answers_by desk.old.editor orders.now).out
+        (λ out. Carried (H.world house.old) (H.world house.new) result out name.now
+        (encoding 2 (recording_by desk.old.editor orders.now))) }
     ensures err { LeavesErr (H.world house.old) (H.world house.new) }
 {
     let blank = Blank::new(1);
@@ -65,9 +66,9 @@ fn work<R: Threads + Sync, H: House, G: Gate + Sync>(
     name: &str,
     gate: &G,
 ) -> Result<(), Status>
-    ensures carried { Carried (H.world house.old) (H.world house.new) result
-        (edit_answers cart (loaded_view loaded)).out name.now
-        (encoding 2 (edited_recording cart (loaded_view loaded))) }
+    ensures carried { ForSome (edit_answers cart (loaded_view loaded)).out
+        (λ out. Carried (H.world house.old) (H.world house.new) result out name.now
+        (encoding 2 (edited_recording cart (loaded_view loaded)))) }
     ensures err { LeavesErr (H.world house.old) (H.world house.new) }
 {
     let Loaded { run, orders } = loaded;
@@ -86,9 +87,9 @@ pub fn carry_out<R: Threads + Sync, H: House, G: Gate + Sync>(
     name: &str,
     gate: &G,
 ) -> Status
-    ensures ends { Carries (H.world house.old) (H.world house.new) (manner_of result)
-        (edit_answers cart (loaded_view loaded)).out name.now
-        (encoding 2 (edited_recording cart (loaded_view loaded))) }
+    ensures ends { ForSome (edit_answers cart (loaded_view loaded)).out
+        (λ out. Carries (H.world house.old) (H.world house.new) (manner_of result) out name.now
+        (encoding 2 (edited_recording cart (loaded_view loaded)))) }
     ensures err { LeavesErr (H.world house.old) (H.world house.new) }
 {
     match work(rt, alloc, house, cart, loaded, name, gate) {

@@ -1,16 +1,16 @@
 //! Orders that change inputs, history or kept places.
 
-ghost use Rattle.w4_house.specs.World.{LeavesPrinting};
-ghost use Rattle.w4_commands.specs.Answering.{answer_change};
+ghost use Rattle.w4_defs.specs.World.{LeavesPrinting};
+ghost use Rattle.w4_defs.specs.PlaceTexts.{as_it_stands};
+ghost use Rattle.w4_defs.specs.ScriptAnswers.{answer_change};
 ghost use Rattle.w4_commands.specs.Editors.{GivesAnswer, IsChanged, changed, place_session};
 
 use crate::keep_every::keep_every;
 use crate::refusal::refuse;
-use crate::status::Status;
 use std::alloc::Global;
 use std::sync::ledger::Ledger;
 use w4_defs::editing_laws::places_decide;
-use w4_defs::{EditRefusal, Order, Steps};
+use w4_defs::{EditRefusal, Order, Status, Steps};
 use w4_editor::Editor;
 use w4_house::House;
 
@@ -24,7 +24,8 @@ pub fn answer_change<L: Ledger, H: House>(
 ) -> Result<(), Status>
     ensures answered { GivesAnswer (H.world house.old) (H.world house.new) result
         editor.old editor.new
-        (answer_change (place_session editor.old) (changed order.now (place_session editor.old))) }
+        (answer_change as_it_stands (place_session editor.old)
+        (changed order.now (place_session editor.old))) }
     ensures rest { LeavesPrinting (H.world house.old) (H.world house.new) }
 {
     match change(alloc, editor, order, steps) {

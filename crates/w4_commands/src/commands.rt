@@ -1,12 +1,15 @@
 //! The commands, each over a cart that is judged first.
 
-ghost use Rattle.std.specs.Prelude.{◌≡◌, ◌+◌, ◌-◌, ◌≤◌, length, Ok, Some};
+ghost use Rattle.std.specs.Prelude.{◌≡◌, ◌+◌, ◌-◌, ◌≤◌, length, Some};
+ghost use Rattle.std.specs.Option.{ForSome};
+ghost use Rattle.w4_defs.specs.Meaning.{RunsHaveMeaning};
 ghost use Rattle.w4_defs.specs.Recording.{encoding};
-ghost use Rattle.w4_house.specs.World.{LeavesPrinting};
-ghost use Rattle.w4_commands.specs.Endings.{manner_of};
-ghost use Rattle.w4_commands.specs.Output.{blank_output, blank_recording, checked, disk_output, edit_output, images_output, only_printed, texts_output, place_texts_from};
-ghost use Rattle.w4_commands.specs.Outputs.{OutputsForm, OverCart, output_of};
-ghost use Rattle.w4_commands.specs.Causes.{Ends, LeavesErr, Printed, Prints, ResultsIn};
+ghost use Rattle.w4_defs.specs.World.{LeavesPrinting};
+ghost use Rattle.w4_defs.specs.Endings.{manner_of};
+ghost use Rattle.w4_defs.specs.Output.{blank_output, blank_recording, checked, disk_output, edit_output, images_output, texts_output, place_texts_from, written};
+ghost use Rattle.w4_defs.specs.Outputs.{OutputsForm, OverCart, output_of};
+ghost use Rattle.w4_defs.specs.Causes.{Ends, LeavesErr};
+ghost use Rattle.w4_commands.specs.Causes.{MakesOf, Printed, Prints};
 ghost use Rattle.w4_commands.specs.Views.{cart_view, edit_view, form_view, played_view, run_view};
 
 use crate::budget::Budget;
@@ -15,7 +18,7 @@ use crate::cart::CartFile;
 use crate::load::{Played, frame_count, load_cart, load_edit, load_run, load_run_to};
 use crate::made::make_cart;
 use crate::net::net;
-use crate::place_text::{PlaceText, write_places};
+use crate::place_text::write_places;
 use crate::places::Places;
 use crate::printing::print;
 use crate::ram::ram;
@@ -23,10 +26,11 @@ use crate::rows::run_list;
 use crate::scene::Scene;
 use crate::sound::wave;
 use crate::stage::new_stage;
-use crate::status::Status;
 use crate::words::{EditNames, Form, RunNames};
 use std::alloc::Global;
 use std::thread::Threads;
+use w4_console::laws::accepted_runs_have_meaning;
+use w4_defs::{PlaceText, Status};
 use w4_house::House;
 use w4_record::{Recording, write_recording};
 use w4_segments::Gate;
@@ -75,13 +79,14 @@ fn over_cart<R: Threads + Sync, H: House, G: Gate + Sync>(
     ensures formed { result ≡ Status.Usage → ⊥ }
     ensures err { LeavesErr (H.world house.old) (H.world house.new) }
 {
+    accepted_runs_have_meaning();
     match load_cart(alloc, house, name) {
         Ok(file) => make(rt, alloc, house, file, form, gate),
         Err(status) => status,
     }
 }
 
-/// What a form makes of a cart.
+/// What a form makes of a cart, whose runs have a meaning.
 fn make<R: Threads + Sync, H: House, G: Gate + Sync>(
     rt: &R,
     alloc: Global,
@@ -90,8 +95,9 @@ fn make<R: Threads + Sync, H: House, G: Gate + Sync>(
     form: Form<'_>,
     gate: &G,
 ) -> Status
+    requires meaning { RunsHaveMeaning file.cart }
     ensures ends { Ends (H.world house.old) (H.world house.new) (manner_of result)
-        (ResultsIn (λ files. output_of (form_view form.entry) (cart_view file) files)) }
+        (MakesOf (λ files. output_of (form_view form.entry) (cart_view file) files)) }
     ensures formed { result ≡ Status.Usage → ⊥ }
     ensures err { LeavesErr (H.world house.old) (H.world house.new) }
 {
@@ -114,7 +120,7 @@ fn make<R: Threads + Sync, H: House, G: Gate + Sync>(
 /// `check CART`, of a cart that is accepted.
 fn check<H: House>(alloc: Global, house: &mut H) -> Status
     ensures ends { Ends (H.world house.old) (H.world house.new) (manner_of result)
-        (ResultsIn (λ files. Ok (only_printed checked files))) }
+        (MakesOf (λ files. written checked files)) }
     ensures formed { result ≡ Status.Usage → ⊥ }
     ensures err { LeavesErr (H.world house.old) (H.world house.new) }
 {
@@ -127,7 +133,7 @@ fn check<H: House>(alloc: Global, house: &mut H) -> Status
 /// `blank CART BUDGET`: the recording of this cart with this budget, no disk and no frames.
 fn blank<H: House>(alloc: Global, house: &mut H, file: &CartFile, budget: Budget) -> Status
     ensures ends { Ends (H.world house.old) (H.world house.new) (manner_of result)
-        (ResultsIn (λ files. blank_output budget.units (cart_view file.now) files)) }
+        (MakesOf (λ files. blank_output budget.units (cart_view file.now) files)) }
     ensures formed { result ≡ Status.Usage → ⊥ }
     ensures err { LeavesErr (H.world house.old) (H.world house.new) }
 {
@@ -154,7 +160,7 @@ fn print_blank<H: House>(
 }
 
 /// `frames CART REC FONT FROM TO`.
-#[tactic(auto, unfolding(crate::specs::Output::images_output))]
+#[tactic(auto, unfolding(w4_defs::specs::Output::images_output))]
 fn frames<H: House>(
     alloc: Global,
     house: &mut H,
@@ -162,8 +168,9 @@ fn frames<H: House>(
     names: RunNames<'_>,
     places: Places,
 ) -> Status
+    requires meaning { RunsHaveMeaning file.now.cart }
     ensures ends { Ends (H.world house.old) (H.world house.new) (manner_of result)
-        (ResultsIn (λ files.
+        (MakesOf (λ files.
         images_output (run_view names.entry) places.from places.to (cart_view file.now) files)) }
     ensures formed { result ≡ Status.Usage → ⊥ }
     ensures err { LeavesErr (H.world house.old) (H.world house.new) }
@@ -176,7 +183,7 @@ fn frames<H: House>(
 }
 
 /// `tones CART REC FONT` or `trace CART REC FONT`.
-#[tactic(auto, unfolding(crate::specs::Output::texts_output))]
+#[tactic(auto, unfolding(w4_defs::specs::Output::texts_output))]
 fn texts<H: House>(
     alloc: Global,
     house: &mut H,
@@ -184,8 +191,9 @@ fn texts<H: House>(
     names: RunNames<'_>,
     wanted: PlaceText,
 ) -> Status
+    requires meaning { RunsHaveMeaning file.now.cart }
     ensures ends { Ends (H.world house.old) (H.world house.new) (manner_of result)
-        (ResultsIn (λ files. texts_output wanted (run_view names.entry) (cart_view file.now) files)) }
+        (MakesOf (λ files. texts_output wanted (run_view names.entry) (cart_view file.now) files)) }
     ensures formed { result ≡ Status.Usage → ⊥ }
     ensures err { LeavesErr (H.world house.old) (H.world house.new) }
 {
@@ -199,7 +207,7 @@ fn texts<H: House>(
 }
 
 /// `disk CART REC FONT PLACE`.
-#[tactic(auto, unfolding(crate::specs::Output::disk_output))]
+#[tactic(auto, unfolding(w4_defs::specs::Output::disk_output))]
 fn disk<H: House>(
     alloc: Global,
     house: &mut H,
@@ -207,8 +215,9 @@ fn disk<H: House>(
     names: RunNames<'_>,
     place: u32,
 ) -> Status
+    requires meaning { RunsHaveMeaning file.now.cart }
     ensures ends { Ends (H.world house.old) (H.world house.new) (manner_of result)
-        (ResultsIn (λ files. disk_output (run_view names.entry) place (cart_view file.now) files)) }
+        (MakesOf (λ files. disk_output (run_view names.entry) place (cart_view file.now) files)) }
     ensures formed { result ≡ Status.Usage → ⊥ }
     ensures err { LeavesErr (H.world house.old) (H.world house.new) }
 {
@@ -220,7 +229,7 @@ fn disk<H: House>(
 }
 
 /// `edit CART REC FONT SCRIPT OUT`.
-#[tactic(auto, unfolding(crate::specs::Output::edit_output))]
+#[tactic(auto, unfolding(w4_defs::specs::Output::edit_output))]
 fn edit<R: Threads + Sync, H: House, G: Gate + Sync>(
     rt: &R,
     alloc: Global,
@@ -229,8 +238,9 @@ fn edit<R: Threads + Sync, H: House, G: Gate + Sync>(
     names: EditNames<'_>,
     gate: &G,
 ) -> Status
+    requires meaning { RunsHaveMeaning file.cart }
     ensures ends { Ends (H.world house.old) (H.world house.new) (manner_of result)
-        (ResultsIn (λ files. edit_output (edit_view names.entry) (cart_view file) files)) }
+        (MakesOf (λ files. edit_output (edit_view names.entry) (cart_view file) files)) }
     ensures formed { result ≡ Status.Usage → ⊥ }
     ensures err { LeavesErr (H.world house.old) (H.world house.new) }
 {
@@ -252,8 +262,8 @@ fn write_run<H: House>(
 ) -> Status
     requires order { from ≤ to }
     requires place { to ≤ length run.now.recording.frames }
-    ensures prints { Prints (H.world house.old) (H.world house.new) (manner_of result)
-        (place_texts_from wanted cart.now (played_view run.now) from (to + 1 - from)) }
+    ensures prints { ForSome (place_texts_from wanted cart.now (played_view run.now) from (to + 1 - from))
+        (λ text. Prints (H.world house.old) (H.world house.new) (manner_of result) text) }
     ensures rest { LeavesPrinting (H.world house.old) (H.world house.new) }
 {
     match try_write_run(alloc, house, cart, run, wanted, from, to) {
@@ -274,8 +284,8 @@ fn try_write_run<H: House>(
 ) -> Result<(), Status>
     requires order { from ≤ to }
     requires place { to ≤ length run.now.recording.frames }
-    ensures out { Printed (H.world house.old) (H.world house.new) result
-        (place_texts_from wanted cart.now (played_view run.now) from (to + 1 - from)) }
+    ensures out { ForSome (place_texts_from wanted cart.now (played_view run.now) from (to + 1 - from))
+        (λ text. Printed (H.world house.old) (H.world house.new) result text) }
     ensures rest { LeavesPrinting (H.world house.old) (H.world house.new) }
 {
     let mut stage = new_stage(alloc, cart)?;

@@ -8,12 +8,12 @@ ghost use Rattle.w4_defs.specs.State.{Moment, State};
 ghost use Rattle.w4_devices.specs.Records.{record_of};
 ghost use Rattle.w4_editor.specs.Editing.{editing_setup, new_editing};
 ghost use Rattle.w4_commands.specs.Editors.{OnlyShows, text_by};
-ghost use Rattle.w4_commands.specs.declared.place_text.PlaceText.TheVariants.{Image, Schedule, Traces};
+ghost use Rattle.w4_defs.specs.declared.place_text.PlaceText.TheVariants.{Image, Schedule, Traces};
 
 use std::alloc::Global;
 use std::sync::ledger::Ledger;
 use w4_blit::Font;
-use w4_defs::{Halt, OutOfMemory, Steps};
+use w4_defs::{Halt, OutOfMemory, PlaceText, Steps};
 use w4_devices::{FrameRecord, schedule_text, trace_text};
 use w4_editor::Editor;
 use w4_image::{IMAGE_LEN, ppm_into};
@@ -110,7 +110,7 @@ fn show_image<L: Ledger>(
 ) -> Result<(), OutOfMemory>
     requires place { place ≤ length editor.old.session.current.inputs }
     ensures shows { OnOk result (OnlyShows editor.old editor.new) }
-    ensures image { OnOk result (image.new ≡ text_by editor.old Image place) }
+    ensures image { OnOk result (text_by editor.old Image place ≡ Some image.new) }
 {
     match editor.show(alloc, place, steps) {
         Ok(state) => {
@@ -133,7 +133,7 @@ fn step_image<L: Ledger>(
     requires place { place ≤ length editor.old.session.current.inputs }
     requires at { editor.old.at ≡ Some (place - 1) }
     ensures shows { OnlyShows editor.old editor.new }
-    ensures image { image.new ≡ text_by editor.old Image place }
+    ensures image { text_by editor.old Image place ≡ Some image.new }
 {
     match editor.step(made, steps) {
         Ok(state) => ppm_into(state, image),
@@ -171,7 +171,7 @@ pub fn make_image<L: Ledger>(
 ) -> Result<(), OutOfMemory>
     requires place { place ≤ length desk.old.editor.session.current.inputs }
     ensures shows { OnOk result (OnlyShows desk.old.editor desk.new.editor) }
-    ensures image { OnOk result (desk.new.image.value ≡ text_by desk.old.editor Image place) }
+    ensures image { OnOk result (text_by desk.old.editor Image place ≡ Some desk.new.image.value) }
 {
     let Desk {
         editor,
@@ -221,7 +221,7 @@ pub fn schedule<L: Ledger>(
 ) -> Result<Vec<u8>, OutOfMemory>
     requires place { place ≤ length desk.old.editor.session.current.inputs }
     ensures shows { OnOk result (OnlyShows desk.old.editor desk.new.editor) }
-    ensures text { IfOk result (λ text. text.items ≡ text_by desk.old.editor Schedule place) }
+    ensures text { IfOk result (λ text. text_by desk.old.editor Schedule place ≡ Some text.items) }
 {
     let mut text = Vec::new(alloc);
     if place == 0 {
@@ -242,7 +242,7 @@ pub fn traces<L: Ledger>(
 ) -> Result<Vec<u8>, OutOfMemory>
     requires place { place ≤ length desk.old.editor.session.current.inputs }
     ensures shows { OnOk result (OnlyShows desk.old.editor desk.new.editor) }
-    ensures text { IfOk result (λ text. text.items ≡ text_by desk.old.editor Traces place) }
+    ensures text { IfOk result (λ text. text_by desk.old.editor Traces place ≡ Some text.items) }
 {
     let mut text = Vec::new(alloc);
     if place == 0 {

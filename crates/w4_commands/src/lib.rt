@@ -30,7 +30,6 @@ mod sound;
 mod stage;
 mod state_answer;
 mod state_line;
-pub mod status;
 mod summary;
 mod telling;
 mod text;
@@ -39,5 +38,5 @@ pub mod workers;
 
 pub use cart::{CartRefusal, accept};
 pub use commands::run_form;
-pub use status::{RecordingKind, ScriptKind, Status, number};
+pub use w4_defs::status::{RecordingKind, ScriptKind, Status, number};
 pub use words::{Form, form_of_words};

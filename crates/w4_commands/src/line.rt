@@ -2,7 +2,7 @@
 
 ghost use Rattle.std.specs.Prelude.{◌≡◌, ◌++◌, IfOk, OnOk};
 ghost use Rattle.w4_defs.specs.FrameTexts.{spaced};
-ghost use Rattle.w4_commands.specs.Lines.{
+ghost use Rattle.w4_defs.specs.StatusLines.{
   cart_words,
   invalid_words,
   profile_words,
@@ -12,10 +12,9 @@ ghost use Rattle.w4_commands.specs.Lines.{
   status_words,
 };
 
-use crate::status::{RecordingKind, ScriptKind, Status};
 use crate::text::{add_number, add_words};
 use std::alloc::Global;
-use w4_defs::{CartKind, OutOfMemory, ProfileRefusal};
+use w4_defs::{CartKind, OutOfMemory, ProfileRefusal, RecordingKind, ScriptKind, Status};
 
 /// Adds words and a number after a space.
 fn add_numbered(text: &mut Vec<u8>, words: &[u8], number: usize) -> Result<(), OutOfMemory>

@@ -1,9 +1,10 @@
 //! Files, each judged before the next is read. Nothing is written.
 
-ghost use Rattle.std.specs.Prelude.{◌≡◌, ◌+◌, ◌≤◌, length, Result, Ok, Err, IfOk};
+ghost use Rattle.std.specs.Prelude.{◌≡◌, ◌+◌, ◌≤◌, ℕ, List, length, Result, Ok, Err, IfOk};
 ghost use Rattle.std.specs.Option.{ForSome};
-ghost use Rattle.w4_house.specs.World.{LeavesReading};
-ghost use Rattle.w4_commands.specs.Output.{
+ghost use Rattle.w4_defs.specs.Cart.{IsCart};
+ghost use Rattle.w4_defs.specs.World.{LeavesReading};
+ghost use Rattle.w4_defs.specs.Output.{
   CartIn,
   cart_recording,
   edit_files,
@@ -21,11 +22,10 @@ ghost use Rattle.w4_commands.specs.Causes.{ResultsIn, StepGives};
 ghost use Rattle.w4_commands.specs.Views.{cart_view, edit_view, loaded_view, played_view, run_view};
 
 use crate::cart::{CartFile, CartRefusal, accept_file};
-use crate::status::{RecordingKind, ScriptKind, Status};
 use crate::words::{EditNames, RunNames};
 use std::alloc::Global;
 use w4_blit::{Font, FontLength};
-use w4_defs::Order;
+use w4_defs::{Order, RecordingKind, ScriptKind, Status};
 use w4_house::{House, HouseFault};
 use w4_record::{Recording, RecordingRefusal, read_recording};
 use w4_script::{ScriptRefusal, read_script};
@@ -74,6 +74,7 @@ pub fn read_file<H: House>(
 pub fn load_cart<H: House>(alloc: Global, house: &mut H, name: &str) -> Result<CartFile, Status>
     ensures gives { StepGives (H.world house.old) (H.world house.new) cart_view result
         (λ files cart. CartIn name.now files cart) }
+    ensures cart { IfOk result (λ file. (bytes : List ℕ) × IsCart bytes file.cart) }
     ensures rest { LeavesReading (H.world house.old) (H.world house.new) }
 {
     let bytes = read_file(alloc, house, name, 65_537)?;
@@ -85,7 +86,7 @@ pub fn load_cart<H: House>(alloc: Global, house: &mut H, name: &str) -> Result<C
 }
 
 /// The recording that the bytes encode, which has to be of the cart with this digest.
-#[tactic(auto, unfolding(crate::specs::Output::cart_recording))]
+#[tactic(auto, unfolding(w4_defs::specs::Output::cart_recording))]
 fn judge_recording(alloc: Global, bytes: &[u8], digest: &[u8; 32]) -> Result<Recording, Status>
     ensures { GivesValue (λ recording. recording) result (cart_recording digest.now bytes.now) }
 {
@@ -113,7 +114,7 @@ fn judge_font(bytes: &[u8]) -> Result<Font, Status>
 }
 
 /// The orders of a script.
-#[tactic(auto, unfolding(crate::specs::Output::orders_of))]
+#[tactic(auto, unfolding(w4_defs::specs::Output::orders_of))]
 fn judge_script(alloc: Global, bytes: &[u8]) -> Result<Vec<Order>, Status>
     ensures { GivesValue (λ orders. orders.items) result (orders_of bytes.now) }
 {
@@ -127,7 +128,7 @@ fn judge_script(alloc: Global, bytes: &[u8]) -> Result<Vec<Order>, Status>
     }
 }
 
-#[tactic(auto, unfolding(crate::specs::Output::recording_in))]
+#[tactic(auto, unfolding(w4_defs::specs::Output::recording_in))]
 fn load_recording<H: House>(
     alloc: Global,
     house: &mut H,
@@ -142,7 +143,7 @@ fn load_recording<H: House>(
     judge_recording(alloc, bytes.as_slice(), digest)
 }
 
-#[tactic(auto, unfolding(crate::specs::Output::font_in))]
+#[tactic(auto, unfolding(w4_defs::specs::Output::font_in))]
 pub fn load_font<H: House>(alloc: Global, house: &mut H, name: &str) -> Result<Font, Status>
     ensures gives { StepGives (H.world house.old) (H.world house.new) (λ font. font) result
         (ResultsIn (λ files. font_in files name.now)) }
@@ -152,7 +153,7 @@ pub fn load_font<H: House>(alloc: Global, house: &mut H, name: &str) -> Result<F
     judge_font(bytes.as_slice())
 }
 
-#[tactic(auto, unfolding(crate::specs::Output::script_in))]
+#[tactic(auto, unfolding(w4_defs::specs::Output::script_in))]
 fn load_orders<H: House>(alloc: Global, house: &mut H, name: &str) -> Result<Vec<Order>, Status>
     ensures gives { StepGives (H.world house.old) (H.world house.new) (λ orders. orders.items) result
         (ResultsIn (λ files. script_in files name.now)) }
@@ -163,7 +164,7 @@ fn load_orders<H: House>(alloc: Global, house: &mut H, name: &str) -> Result<Vec
 }
 
 /// Reads what a run of the cart with this digest is made of.
-#[tactic(auto, unfolding(crate::specs::Output::run_files))]
+#[tactic(auto, unfolding(w4_defs::specs::Output::run_files))]
 pub fn load_run<H: House>(
     alloc: Global,
     house: &mut H,
@@ -180,7 +181,7 @@ pub fn load_run<H: House>(
 }
 
 /// Reads what a run of the cart with this digest is made of, which has to have this place.
-#[tactic(auto, unfolding(crate::specs::Output::run_files_to))]
+#[tactic(auto, unfolding(w4_defs::specs::Output::run_files_to))]
 pub fn load_run_to<H: House>(
     alloc: Global,
     house: &mut H,
@@ -202,7 +203,7 @@ pub fn load_run_to<H: House>(
 }
 
 /// Reads what an edit over the cart with this digest is made of.
-#[tactic(auto, unfolding(crate::specs::Output::edit_files))]
+#[tactic(auto, unfolding(w4_defs::specs::Output::edit_files))]
 pub fn load_edit<H: House>(
     alloc: Global,
     house: &mut H,

@@ -1,11 +1,11 @@
 //! The files of `net`, `ram` and `batch`, each judged before the next is read. Nothing is written.
 
 ghost use Rattle.std.specs.Prelude.{◌≡◌, All, IfOk, length, map, string_bytes};
-ghost use Rattle.w4_house.specs.World.{LeavesReading};
+ghost use Rattle.w4_defs.specs.World.{LeavesReading};
 ghost use Rattle.w4_inspect.specs.Requests.{IsRequest};
 ghost use Rattle.w4_commands.specs.Causes.{ResultsIn, StepGives};
 ghost use Rattle.w4_commands.specs.Reads.{GivesValue};
-ghost use Rattle.w4_commands.specs.ToolOutputs.{
+ghost use Rattle.w4_defs.specs.ToolOutputs.{
   batch_files,
   listed_files,
   listed_names,
@@ -27,12 +27,12 @@ ghost use Rattle.w4_commands.specs.Views.{
 };
 
 use crate::load::{Played, load_font, load_run, read_file};
-use crate::status::{ScriptKind, Status};
 use crate::words::{BatchNames, NetNames, RunNames};
 use std::alloc::Global;
 use w4_blit::Font;
 use w4_defs::inspect::Ask;
 use w4_defs::netplay::NetOrder;
+use w4_defs::{ScriptKind, Status};
 use w4_house::House;
 use w4_inspect::read_query;
 use w4_netplay::read_log;
@@ -61,7 +61,7 @@ pub struct BatchLoaded {
 }
 
 /// The orders of a log.
-#[tactic(auto, unfolding(crate::specs::ToolOutputs::log_orders))]
+#[tactic(auto, unfolding(w4_defs::specs::ToolOutputs::log_orders))]
 fn judge_log(alloc: Global, bytes: &[u8]) -> Result<Vec<NetOrder>, Status>
     ensures { GivesValue (λ orders. orders.items) result (log_orders bytes.now) }
 {
@@ -76,7 +76,7 @@ fn judge_log(alloc: Global, bytes: &[u8]) -> Result<Vec<NetOrder>, Status>
 }
 
 /// The lines of a query.
-#[tactic(auto, unfolding(crate::specs::ToolOutputs::query_lines))]
+#[tactic(auto, unfolding(w4_defs::specs::ToolOutputs::query_lines))]
 fn judge_query(alloc: Global, bytes: &[u8]) -> Result<Vec<Ask>, Status>
     ensures lines { GivesValue (λ lines. lines.items) result (query_lines bytes.now) }
     ensures fit { IfOk result (λ lines. All IsRequest lines.items) }
@@ -92,7 +92,7 @@ fn judge_query(alloc: Global, bytes: &[u8]) -> Result<Vec<Ask>, Status>
 }
 
 /// The names of a list.
-#[tactic(auto, unfolding(crate::specs::ToolOutputs::listed_names))]
+#[tactic(auto, unfolding(w4_defs::specs::ToolOutputs::listed_names))]
 fn judge_names(alloc: Global, bytes: &[u8]) -> Result<Vec<String>, Status>
     ensures { GivesValue (λ names. map string_bytes names.items) result (listed_names bytes.now) }
 {
@@ -106,7 +106,7 @@ fn judge_names(alloc: Global, bytes: &[u8]) -> Result<Vec<String>, Status>
     }
 }
 
-#[tactic(auto, unfolding(crate::specs::ToolOutputs::log_in))]
+#[tactic(auto, unfolding(w4_defs::specs::ToolOutputs::log_in))]
 fn load_log<H: House>(alloc: Global, house: &mut H, name: &str) -> Result<Vec<NetOrder>, Status>
     ensures gives { StepGives (H.world house.old) (H.world house.new) (λ orders. orders.items) result
         (ResultsIn (λ files. log_in files name.now)) }
@@ -116,7 +116,7 @@ fn load_log<H: House>(alloc: Global, house: &mut H, name: &str) -> Result<Vec<Ne
     judge_log(alloc, bytes.as_slice())
 }
 
-#[tactic(auto, unfolding(crate::specs::ToolOutputs::query_in))]
+#[tactic(auto, unfolding(w4_defs::specs::ToolOutputs::query_in))]
 fn load_query<H: House>(alloc: Global, house: &mut H, name: &str) -> Result<Vec<Ask>, Status>
     ensures gives { StepGives (H.world house.old) (H.world house.new) (λ lines. lines.items) result
         (ResultsIn (λ files. query_in files name.now)) }
@@ -127,7 +127,7 @@ fn load_query<H: House>(alloc: Global, house: &mut H, name: &str) -> Result<Vec<
     judge_query(alloc, bytes.as_slice())
 }
 
-#[tactic(auto, unfolding(crate::specs::ToolOutputs::names_in))]
+#[tactic(auto, unfolding(w4_defs::specs::ToolOutputs::names_in))]
 fn load_names<H: House>(alloc: Global, house: &mut H, name: &str) -> Result<Vec<String>, Status>
     ensures gives { StepGives (H.world house.old) (H.world house.new)
         (λ names. map string_bytes names.items) result
@@ -159,7 +159,7 @@ fn load_listed<H: House>(
 }
 
 /// Reads what a session of rollback is made of.
-#[tactic(auto, unfolding(crate::specs::ToolOutputs::net_files))]
+#[tactic(auto, unfolding(w4_defs::specs::ToolOutputs::net_files))]
 pub fn load_net<H: House>(
     alloc: Global,
     house: &mut H,
@@ -175,7 +175,7 @@ pub fn load_net<H: House>(
 }
 
 /// Reads what a query over a run of the cart with this digest is made of.
-#[tactic(auto, unfolding(crate::specs::ToolOutputs::ram_files))]
+#[tactic(auto, unfolding(w4_defs::specs::ToolOutputs::ram_files))]
 pub fn load_ram<H: House>(
     alloc: Global,
     house: &mut H,
@@ -194,7 +194,7 @@ pub fn load_ram<H: House>(
 }
 
 /// Reads what a batch is made of.
-#[tactic(auto, unfolding(crate::specs::ToolOutputs::batch_files))]
+#[tactic(auto, unfolding(w4_defs::specs::ToolOutputs::batch_files))]
 pub fn load_batch<H: House>(
     alloc: Global,
     house: &mut H,

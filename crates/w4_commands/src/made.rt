@@ -1,30 +1,33 @@
 //! `make`: a cart that a number makes, run through all its frames.
 
-ghost use Rattle.std.specs.Prelude.{◌≡◌, Ok, IfOk, replicate};
+ghost use Rattle.std.specs.Prelude.{◌≡◌, Some, IfOk, replicate};
+ghost use Rattle.std.specs.Option.{ForSome};
 ghost use Rattle.sha2.specs.Sha256.{sha256};
 ghost use Rattle.w4_defs.specs.Cart.{IsCart};
 ghost use Rattle.w4_defs.specs.Generator.{made_budget, made_inputs, made_module};
 ghost use Rattle.w4_defs.specs.MadeSummary.{summary_text};
-ghost use Rattle.w4_house.specs.World.{LeavesPrinting};
-ghost use Rattle.w4_commands.specs.Causes.{Ends, LeavesErr, Printed, ResultsIn};
-ghost use Rattle.w4_commands.specs.Endings.{manner_of};
-ghost use Rattle.w4_commands.specs.Output.{made_text, make_output};
-ghost use Rattle.wasm_write.specs.EncodeModule.{module_bytes};
+ghost use Rattle.w4_defs.specs.World.{LeavesPrinting};
+ghost use Rattle.w4_defs.specs.Causes.{Ends, LeavesErr};
+ghost use Rattle.w4_commands.specs.Causes.{MakesOf, Printed};
+ghost use Rattle.w4_defs.specs.Endings.{manner_of};
+ghost use Rattle.w4_defs.specs.Output.{made_text, make_output};
+ghost use Rattle.w4_defs.specs.EncodeModule.{module_bytes};
 
 use crate::cart::{CartRefusal, accept};
 use crate::printing::print;
 use crate::scene::Scene;
 use crate::stage::{Stage, halt, lit, new_stage, paint, painted, run_to};
-use crate::status::Status;
 use crate::summary::{Summary, summary_text};
 use std::alloc::Global;
 use w4_blit::Font;
-use w4_defs::OutOfMemory;
+use w4_console::laws::accepted_runs_have_meaning;
 use w4_defs::tool_laws::generator_laws;
+use w4_defs::{OutOfMemory, Status};
 use w4_house::House;
 use w4_record::digest_of;
 use wasm_read::at_most_one;
 use wasm_valid::Cart;
+use wasm_write::laws::made_modules_are_carts;
 use wasm_write::{Made, Maker};
 
 /// How many frames a made cart is run for.
@@ -33,10 +36,12 @@ const FRAMES: usize = 600;
 /// `make NUMBER`.
 pub fn make_cart<H: House>(alloc: Global, house: &mut H, number: u32) -> Status
     ensures ends { Ends (H.world house.old) (H.world house.new) (manner_of result)
-        (ResultsIn (λ files. make_output number files)) }
+        (MakesOf (λ files. make_output number files)) }
     ensures formed { result ≡ Status.Usage → ⊥ }
     ensures err { LeavesErr (H.world house.old) (H.world house.new) }
 {
+    made_modules_are_carts();
+    accepted_runs_have_meaning();
     match print_made(alloc, house, number) {
         Ok(()) => Status::Done,
         Err(status) => status,
@@ -45,8 +50,8 @@ pub fn make_cart<H: House>(alloc: Global, house: &mut H, number: u32) -> Status
 
 /// Writes the lines, or gives the status that ends the run.
 fn print_made<H: House>(alloc: Global, house: &mut H, number: u32) -> Result<(), Status>
-    ensures out { Printed (H.world house.old) (H.world house.new) result
-        (made_text number) }
+    ensures out { ForSome (made_text number)
+        (λ text. Printed (H.world house.old) (H.world house.new) result text) }
     ensures rest { LeavesPrinting (H.world house.old) (H.world house.new) }
 {
     let text = made_lines(alloc, number)?;
@@ -78,7 +83,7 @@ fn zero_font() -> Font
 
 /// The five lines of the cart that a number makes.
 fn made_lines(alloc: Global, number: u32) -> Result<Vec<u8>, OutOfMemory>
-    ensures { IfOk result (λ text. text.items ≡ made_text number) }
+    ensures { IfOk result (λ text. made_text number ≡ Some text.items) }
 {
     let made = Maker::make(alloc, number)?;
     lines_of(alloc, number, &made)
@@ -90,7 +95,7 @@ fn lines_of(alloc: Global, number: u32, made: &Made) -> Result<Vec<u8>, OutOfMem
     requires shortest { made.now.cart.items ≡ module_bytes (made_module number) }
     requires budget { made.now.budget ≡ made_budget }
     requires inputs { made.now.inputs.items ≡ made_inputs number }
-    ensures { IfOk result (λ text. text.items ≡ made_text number) }
+    ensures { IfOk result (λ text. made_text number ≡ Some text.items) }
 {
     generator_laws();
     let bytes = made.cart.as_slice();

@@ -1,36 +1,39 @@
 //! `net`: a session of rollback that a log tells of.
 
 ghost use Rattle.std.specs.Prelude.{◌≡◌, ◌<◌, []};
+ghost use Rattle.std.specs.Option.{ForSome};
+ghost use Rattle.w4_defs.specs.Meaning.{RunsHaveMeaning};
 ghost use Rattle.w4_editor.specs.Editing.{editing_setup};
-ghost use Rattle.w4_house.specs.World.{LeavesPrinting};
-ghost use Rattle.w4_commands.specs.Causes.{Ends, LeavesErr, Printed, Prints, ResultsIn};
-ghost use Rattle.w4_commands.specs.Endings.{manner_of};
-ghost use Rattle.w4_commands.specs.NetSessions.{net_answers};
+ghost use Rattle.w4_defs.specs.World.{LeavesPrinting};
+ghost use Rattle.w4_defs.specs.Causes.{Ends, LeavesErr};
+ghost use Rattle.w4_commands.specs.Causes.{MakesOf, Printed, Prints};
+ghost use Rattle.w4_defs.specs.Endings.{manner_of};
+ghost use Rattle.w4_defs.specs.LogAnswers.{net_answers};
 ghost use Rattle.w4_commands.specs.Replicas.{net_session};
-ghost use Rattle.w4_commands.specs.ToolOutputs.{net_output, net_text};
+ghost use Rattle.w4_defs.specs.ToolOutputs.{net_output, net_text};
 ghost use Rattle.w4_commands.specs.Views.{cart_view, net_loaded_view, net_view};
 
 use crate::budget::Budget;
 use crate::cart::CartFile;
 use crate::load_tools::{NetLoaded, load_net};
 use crate::rolling::answer_order;
-use crate::status::Status;
 use crate::words::NetNames;
 use std::alloc::Global;
 use std::marker::Brand;
 use std::sync::ledger::{Blank, Ledger};
-use w4_defs::Steps;
 use w4_defs::netplay::NetOrder;
+use w4_defs::{Status, Steps};
 use w4_house::House;
 use w4_image::IMAGE_LEN;
 use w4_netplay::Replica;
 use w4_record::Recording;
 
 /// `net CART FONT BUDGET LOG`.
-#[tactic(auto, unfolding(crate::specs::ToolOutputs::net_output))]
+#[tactic(auto, unfolding(w4_defs::specs::ToolOutputs::net_output))]
 pub fn net<H: House>(alloc: Global, house: &mut H, file: CartFile, names: NetNames<'_>) -> Status
+    requires meaning { RunsHaveMeaning file.cart }
     ensures ends { Ends (H.world house.old) (H.world house.new) (manner_of result)
-        (ResultsIn (λ files. net_output (net_view names.entry) (cart_view file) files)) }
+        (MakesOf (λ files. net_output (net_view names.entry) (cart_view file) files)) }
     ensures formed { result ≡ Status.Usage → ⊥ }
     ensures err { LeavesErr (H.world house.old) (H.world house.new) }
 {
@@ -48,8 +51,8 @@ fn answer_log<H: House>(
     budget: Budget,
     loaded: NetLoaded,
 ) -> Status
-    ensures prints { Prints (H.world house.old) (H.world house.new) (manner_of result)
-        (net_text file.cart budget.units (net_loaded_view loaded)) }
+    ensures prints { ForSome (net_text file.cart budget.units (net_loaded_view loaded))
+        (λ text. Prints (H.world house.old) (H.world house.new) (manner_of result) text) }
     ensures rest { LeavesPrinting (H.world house.old) (H.world house.new) }
 {
     match try_answer_log(alloc, house, file, budget, loaded) {
@@ -66,8 +69,8 @@ fn try_answer_log<H: House>(
     budget: Budget,
     loaded: NetLoaded,
 ) -> Result<(), Status>
-    ensures out { Printed (H.world house.old) (H.world house.new) result
-        (net_text file.cart budget.units (net_loaded_view loaded)) }
+    ensures out { ForSome (net_text file.cart budget.units (net_loaded_view loaded))
+        (λ text. Printed (H.world house.old) (H.world house.new) result text) }
     ensures rest { LeavesPrinting (H.world house.old) (H.world house.new) }
 {
     let NetLoaded { font, orders } = loaded;
@@ -89,8 +92,9 @@ fn answer_orders<L: Ledger, H: House>(
     requires name { blank.name ≡ L.name }
     requires parts { blank.parts ≡ L.parts }
     requires some { 0 < L.parts }
-    ensures out { Printed (H.world house.old) (H.world house.new) result
-        (net_answers (editing_setup replica.old.editor) (net_session replica.old) orders.now).out }
+    ensures out { ForSome
+        (net_answers (editing_setup replica.old.editor) (net_session replica.old) orders.now).out
+        (λ text. Printed (H.world house.old) (H.world house.new) result text) }
     ensures rest { LeavesPrinting (H.world house.old) (H.world house.new) }
 {
     let mut image = Box::new(alloc, [0; IMAGE_LEN])?;

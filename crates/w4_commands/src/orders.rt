@@ -2,21 +2,19 @@
 
 ghost use Rattle.std.specs.Prelude.{◌≡◌, ◌<◌};
 ghost use Rattle.w4_editor.specs.Editing.{editing_setup};
-ghost use Rattle.w4_house.specs.World.{LeavesPrinting};
-ghost use Rattle.w4_commands.specs.Answering.{answers};
+ghost use Rattle.w4_defs.specs.World.{LeavesPrinting};
+ghost use Rattle.w4_defs.specs.ScriptAnswers.{answers};
 ghost use Rattle.w4_commands.specs.Editors.{GivesAnswer, answer_by, place_session};
 
 use crate::by_workers::{settle, tell_film};
 use crate::change::answer_change;
 use crate::desk::Desk;
-use crate::place_text::PlaceText;
 use crate::state_answer::tell_state;
-use crate::status::Status;
 use crate::telling::tell_range;
 use std::alloc::Global;
 use std::sync::ledger::{Blank, Ledger};
 use std::thread::Threads;
-use w4_defs::{Order, Steps};
+use w4_defs::{Order, PlaceText, Status, Steps};
 use w4_house::House;
 use w4_segments::Gate;
 

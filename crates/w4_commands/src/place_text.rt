@@ -1,31 +1,20 @@
 //! What is written of places, one after another.
 
 ghost use Rattle.std.specs.Prelude.{◌≡◌, ◌+◌, ◌-◌, ◌≤◌, length};
+ghost use Rattle.std.specs.Option.{ForSome};
 ghost use Rattle.w4_defs.specs.Run.{run};
-ghost use Rattle.w4_house.specs.World.{LeavesPrinting};
+ghost use Rattle.w4_defs.specs.World.{LeavesPrinting};
 ghost use Rattle.w4_defs.specs.State.{HasGlobals};
 ghost use Rattle.w4_commands.specs.Causes.{Printed};
 ghost use Rattle.w4_commands.specs.Scenes.{scene_setup, stage_moment};
-ghost use Rattle.w4_commands.specs.Texts.{moment_text, place_text, place_texts};
+ghost use Rattle.w4_defs.specs.PlaceTexts.{as_it_stands, moment_text, place_text, place_texts};
 
 use crate::printing::print;
 use crate::scene::Scene;
 use crate::stage::{Stage, disk, paint, painted, run_to, schedule, step, traces};
-use crate::status::Status;
 use std::alloc::Global;
-use w4_defs::Input;
+use w4_defs::{Input, PlaceText, Status};
 use w4_house::House;
-
-/// What is written of a place.
-#[derive(Clone, Copy, PartialEq, Eq, Debug)]
-pub enum PlaceText {
-    Image,
-    /// The tones of the frame that led there.
-    Schedule,
-    /// The trace lines of the frame that led there.
-    Traces,
-    DiskBytes,
-}
 
 /// Writes what is told of the place where the stage stands.
 pub fn write_place<H: House>(
@@ -74,10 +63,10 @@ pub fn write_places<H: House>(
     requires disk { length scene.now.disk.now ≤ 1024 }
     requires budget { 1 ≤ scene.now.budget }
     requires globals { HasGlobals scene.now.cart.now stage.old.console }
-    ensures out { Printed (H.world house.old) (H.world house.new) result
-        (place_texts (λ place.
-        place_text wanted place (run (scene_setup scene.now) scene.now.disk.now inputs.now place))
-        from (to + 1 - from)) }
+    ensures out { ForSome (place_texts (λ place.
+        place_text as_it_stands wanted place
+        (run (scene_setup scene.now) scene.now.disk.now inputs.now place)) from (to + 1 - from))
+        (λ text. Printed (H.world house.old) (H.world house.new) result text) }
     ensures rest { LeavesPrinting (H.world house.old) (H.world house.new) }
 {
     run_to(stage, scene, inputs, from);

@@ -1,10 +1,10 @@
 //! Bytes on standard output.
 
-ghost use Rattle.w4_house.specs.World.{LeavesPrinting};
+ghost use Rattle.w4_defs.specs.World.{LeavesPrinting};
 ghost use Rattle.w4_commands.specs.Causes.{Printed};
 
-use crate::status::Status;
 use std::alloc::Global;
+use w4_defs::Status;
 use w4_house::{House, WriteRefusal};
 
 /// Writes bytes to standard output.

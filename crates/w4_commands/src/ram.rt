@@ -1,32 +1,34 @@
 //! `ram`: values and searches of memory, over the places of a recording.
 
 ghost use Rattle.std.specs.Prelude.{◌≡◌, ◌<◌, All, None};
-ghost use Rattle.w4_house.specs.World.{LeavesPrinting};
+ghost use Rattle.std.specs.Option.{ForSome};
+ghost use Rattle.w4_defs.specs.Meaning.{RunsHaveMeaning};
+ghost use Rattle.w4_defs.specs.World.{LeavesPrinting};
 ghost use Rattle.w4_inspect.specs.Requests.{IsRequest};
-ghost use Rattle.w4_commands.specs.Causes.{Ends, LeavesErr, Printed, Prints, ResultsIn};
-ghost use Rattle.w4_commands.specs.Endings.{manner_of};
+ghost use Rattle.w4_defs.specs.Causes.{Ends, LeavesErr};
+ghost use Rattle.w4_commands.specs.Causes.{MakesOf, Printed, Prints};
+ghost use Rattle.w4_defs.specs.Endings.{manner_of};
 ghost use Rattle.w4_commands.specs.Queries.{editor_pages};
-ghost use Rattle.w4_commands.specs.RamAnswers.{ram_answers};
-ghost use Rattle.w4_commands.specs.ToolOutputs.{ram_output, ram_text};
+ghost use Rattle.w4_defs.specs.QueryAnswers.{ram_answers};
+ghost use Rattle.w4_defs.specs.ToolOutputs.{ram_output, ram_text};
 ghost use Rattle.w4_commands.specs.Views.{cart_view, ram_loaded_view, run_view};
 
 use crate::asking::answer_line;
 use crate::cart::CartFile;
 use crate::load::Played;
 use crate::load_tools::{RamLoaded, load_ram};
-use crate::status::Status;
 use crate::words::RunNames;
 use std::alloc::Global;
 use std::marker::Brand;
 use std::sync::ledger::{Blank, Ledger};
-use w4_defs::Steps;
 use w4_defs::inspect::Ask;
+use w4_defs::{Status, Steps};
 use w4_editor::Editor;
 use w4_house::House;
 use wasm_valid::Cart;
 
 /// `ram CART REC FONT QUERY`.
-#[tactic(auto, unfolding(crate::specs::ToolOutputs::ram_output))]
+#[tactic(auto, unfolding(w4_defs::specs::ToolOutputs::ram_output))]
 pub fn ram<H: House>(
     alloc: Global,
     house: &mut H,
@@ -34,8 +36,9 @@ pub fn ram<H: House>(
     names: RunNames<'_>,
     query: &str,
 ) -> Status
+    requires meaning { RunsHaveMeaning file.cart }
     ensures ends { Ends (H.world house.old) (H.world house.new) (manner_of result)
-        (ResultsIn (λ files. ram_output (run_view names.entry) query.now (cart_view file) files)) }
+        (MakesOf (λ files. ram_output (run_view names.entry) query.now (cart_view file) files)) }
     ensures formed { result ≡ Status.Usage → ⊥ }
     ensures err { LeavesErr (H.world house.old) (H.world house.new) }
 {
@@ -48,8 +51,8 @@ pub fn ram<H: House>(
 /// The answers of all lines.
 fn answer_query<H: House>(alloc: Global, house: &mut H, cart: Cart, loaded: RamLoaded) -> Status
     requires { All IsRequest loaded.lines.items }
-    ensures prints { Prints (H.world house.old) (H.world house.new) (manner_of result)
-        (ram_text cart (ram_loaded_view loaded)) }
+    ensures prints { ForSome (ram_text cart (ram_loaded_view loaded))
+        (λ text. Prints (H.world house.old) (H.world house.new) (manner_of result) text) }
     ensures rest { LeavesPrinting (H.world house.old) (H.world house.new) }
 {
     match try_answer_query(alloc, house, cart, loaded) {
@@ -66,8 +69,8 @@ fn try_answer_query<H: House>(
     loaded: RamLoaded,
 ) -> Result<(), Status>
     requires { All IsRequest loaded.lines.items }
-    ensures out { Printed (H.world house.old) (H.world house.new) result
-        (ram_text cart (ram_loaded_view loaded)) }
+    ensures out { ForSome (ram_text cart (ram_loaded_view loaded))
+        (λ text. Printed (H.world house.old) (H.world house.new) result text) }
     ensures rest { LeavesPrinting (H.world house.old) (H.world house.new) }
 {
     let RamLoaded { run, lines } = loaded;
@@ -88,8 +91,8 @@ fn answer_lines<L: Ledger, H: House>(
     requires name { blank.name ≡ L.name }
     requires parts { blank.parts ≡ L.parts }
     requires some { 0 < L.parts }
-    ensures out { Printed (H.world house.old) (H.world house.new) result
-        (ram_answers (editor_pages editor.old) None lines.now).out }
+    ensures out { ForSome (ram_answers (editor_pages editor.old) None lines.now).out
+        (λ text. Printed (H.world house.old) (H.world house.new) result text) }
     ensures rest { LeavesPrinting (H.world house.old) (H.world house.new) }
 {
     let mut steps: Steps<L> = Steps::new(blank);

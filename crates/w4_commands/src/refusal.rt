@@ -2,14 +2,13 @@
 
 ghost use Rattle.std.specs.Prelude.{◌≢◌, ◌⊎◌};
 ghost use Rattle.w4_defs.specs.declared.editing.EditRefusal.TheVariants.{OutOfMemory as MemoryRefused};
-ghost use Rattle.w4_house.specs.World.{LeavesPrinting};
-ghost use Rattle.w4_commands.specs.Answering.{refusal_words, refused_line};
+ghost use Rattle.w4_defs.specs.World.{LeavesPrinting};
+ghost use Rattle.w4_defs.specs.ScriptAnswers.{refusal_words, refused_line};
 ghost use Rattle.w4_commands.specs.Causes.{Printed, WritesNothing};
 
 use crate::printing::print;
-use crate::status::Status;
 use std::alloc::Global;
-use w4_defs::EditRefusal;
+use w4_defs::{EditRefusal, Status};
 use w4_house::House;
 
 /// Writes the line of an order that is refused. Where it is memory that was refused, the run ends.

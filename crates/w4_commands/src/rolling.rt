@@ -2,17 +2,17 @@
 
 ghost use Rattle.std.specs.Prelude.{◌≡◌, ◌≢◌, ◌⊎◌, IfErr, IfOk, None, OnOk, Some, [], length};
 ghost use Rattle.w4_editor.specs.Editing.{editing_setup};
-ghost use Rattle.w4_house.specs.World.{LeavesPrinting};
-ghost use Rattle.w4_netplay.specs.declared.refusal.NetRefusal.TheVariants.{OutOfMemory as MemoryRefused};
+ghost use Rattle.w4_defs.specs.World.{LeavesPrinting};
+ghost use Rattle.w4_defs.specs.declared.net_refusal.NetRefusal.TheVariants.{OutOfMemory as MemoryRefused};
 ghost use Rattle.w4_netplay.specs.Replicas.{IsNetRefusal, KeepsNetplay, known_of, predicted_draft, prediction};
-ghost use Rattle.w4_netplay.specs.Refusals.{packet_refusal};
+ghost use Rattle.w4_defs.specs.Rollback.{packet_refusal};
 ghost use Rattle.w4_defs.specs.Session.{keep_refusal, place_refusal, places_alone};
 ghost use Rattle.w4_defs.specs.Run.{run_state};
 ghost use Rattle.w4_defs.specs.State.{State};
-ghost use Rattle.w4_commands.specs.Answering.{refused_line};
-ghost use Rattle.w4_commands.specs.Answers.{answer_text};
+ghost use Rattle.w4_defs.specs.ScriptAnswers.{refused_line};
+ghost use Rattle.w4_defs.specs.Answers.{answer_text};
 ghost use Rattle.w4_commands.specs.Causes.{Printed, WritesNothing};
-ghost use Rattle.w4_commands.specs.NetSessions.{
+ghost use Rattle.w4_defs.specs.LogAnswers.{
   answer_keep,
   answer_next,
   answer_packet,
@@ -22,17 +22,16 @@ ghost use Rattle.w4_commands.specs.NetSessions.{
   predicted_image,
   predicted_state,
 };
-ghost use Rattle.w4_commands.specs.NetSessions as session;
+ghost use Rattle.w4_defs.specs.LogAnswers as session;
 ghost use Rattle.w4_commands.specs.Replicas.{GivesHeard, net_session};
 
 use crate::printing::print;
 use crate::state_line::{Facts, state_line};
-use crate::status::Status;
 use crate::text::{add_number, add_words};
 use std::alloc::Global;
 use std::sync::ledger::Ledger;
 use w4_defs::netplay::{NetOrder, Packet};
-use w4_defs::{OutOfMemory, Steps};
+use w4_defs::{OutOfMemory, Status, Steps};
 use w4_house::House;
 use w4_image::{IMAGE_LEN, ppm_into};
 use w4_netplay::{NetRefusal, Replica};

@@ -1,19 +1,21 @@
 //! `batch`: the lines that tell of the recordings of a list.
 
 ghost use Rattle.std.specs.Prelude.{◌≡◌, ◌++◌, IfOk, OnOk, Some, length, map, string_bytes};
+ghost use Rattle.std.specs.Option.{ForSome};
+ghost use Rattle.w4_defs.specs.Meaning.{RunsHaveMeaning};
 ghost use Rattle.w4_defs.specs.declared.batch.BatchRow.TheVariants.{Bad, Ran, WrongCart};
-ghost use Rattle.w4_house.specs.World.{LeavesPrinting};
-ghost use Rattle.w4_commands.specs.Causes.{Ends, LeavesErr, Printed, Prints, ResultsIn};
-ghost use Rattle.w4_commands.specs.Endings.{manner_of};
-ghost use Rattle.w4_commands.specs.RowTexts.{row_text, rows_text};
-ghost use Rattle.w4_commands.specs.ToolOutputs.{batch_output, batch_text};
+ghost use Rattle.w4_defs.specs.World.{LeavesPrinting};
+ghost use Rattle.w4_defs.specs.Causes.{Ends, LeavesErr};
+ghost use Rattle.w4_commands.specs.Causes.{MakesOf, Printed, Prints};
+ghost use Rattle.w4_defs.specs.Endings.{manner_of};
+ghost use Rattle.w4_defs.specs.BatchRows.{row_text, rows_text};
+ghost use Rattle.w4_defs.specs.ToolOutputs.{batch_output, batch_text};
 ghost use Rattle.w4_commands.specs.Views.{batch_loaded_view, batch_view, cart_view};
 
 use crate::cart::CartFile;
 use crate::load_tools::{BatchLoaded, load_batch};
 use crate::printing::print;
 use crate::state_line::add_halt;
-use crate::status::Status;
 use crate::summary::add_hexadecimal;
 use crate::text::{add_number, add_words};
 use crate::words::BatchNames;
@@ -21,7 +23,7 @@ use crate::workers::Workers;
 use std::alloc::Global;
 use std::thread::Threads;
 use w4_defs::batch::BatchRow;
-use w4_defs::{Halt, OutOfMemory};
+use w4_defs::{Halt, OutOfMemory, Status};
 use w4_house::House;
 use w4_segments::{Gate, batch};
 
@@ -35,7 +37,7 @@ struct Outcome {
 }
 
 /// `batch CART FONT LIST WORKERS`.
-#[tactic(auto, unfolding(crate::specs::ToolOutputs::batch_output))]
+#[tactic(auto, unfolding(w4_defs::specs::ToolOutputs::batch_output))]
 pub fn run_list<R: Threads + Sync, H: House, G: Gate + Sync>(
     rt: &R,
     alloc: Global,
@@ -44,8 +46,9 @@ pub fn run_list<R: Threads + Sync, H: House, G: Gate + Sync>(
     names: BatchNames<'_>,
     gate: &G,
 ) -> Status
+    requires meaning { RunsHaveMeaning file.now.cart }
     ensures ends { Ends (H.world house.old) (H.world house.new) (manner_of result)
-        (ResultsIn (λ files. batch_output (batch_view names.entry) (cart_view file.now) files)) }
+        (MakesOf (λ files. batch_output (batch_view names.entry) (cart_view file.now) files)) }
     ensures formed { result ≡ Status.Usage → ⊥ }
     ensures err { LeavesErr (H.world house.old) (H.world house.new) }
 {
@@ -66,8 +69,8 @@ fn tell_rows<R: Threads + Sync, H: House, G: Gate + Sync>(
     gate: &G,
 ) -> Status
     requires { length loaded.now.recordings.items ≡ length loaded.now.names.items }
-    ensures prints { Prints (H.world house.old) (H.world house.new) (manner_of result)
-        (batch_text (cart_view file.now) (batch_loaded_view loaded.now)) }
+    ensures prints { ForSome (batch_text (cart_view file.now) (batch_loaded_view loaded.now))
+        (λ text. Prints (H.world house.old) (H.world house.new) (manner_of result) text) }
     ensures rest { LeavesPrinting (H.world house.old) (H.world house.new) }
 {
     match try_tell_rows(rt, alloc, house, file, loaded, workers, gate) {
@@ -87,8 +90,8 @@ fn try_tell_rows<R: Threads + Sync, H: House, G: Gate + Sync>(
     gate: &G,
 ) -> Result<(), Status>
     requires { length loaded.now.recordings.items ≡ length loaded.now.names.items }
-    ensures out { Printed (H.world house.old) (H.world house.new) result
-        (batch_text (cart_view file.now) (batch_loaded_view loaded.now)) }
+    ensures out { ForSome (batch_text (cart_view file.now) (batch_loaded_view loaded.now))
+        (λ text. Printed (H.world house.old) (H.world house.new) result text) }
     ensures rest { LeavesPrinting (H.world house.old) (H.world house.new) }
 {
     let CartFile { cart, digest } = file;
@@ -106,8 +109,8 @@ fn print_rows<H: House>(
     rows: &[BatchRow],
 ) -> Result<(), Status>
     requires { length rows.now ≡ length names.now }
-    ensures out { Printed (H.world house.old) (H.world house.new) result
-        (rows_text (map string_bytes names.now) (map (λ row. Some row) rows.now)) }
+    ensures out { ForSome (rows_text (map string_bytes names.now) (map (λ row. Some row) rows.now))
+        (λ text. Printed (H.world house.old) (H.world house.new) result text) }
     ensures rest { LeavesPrinting (H.world house.old) (H.world house.new) }
 {
     for i in 0..names.len() {
@@ -119,7 +122,7 @@ fn print_rows<H: House>(
 
 /// The line of a row.
 fn row_line(alloc: Global, name: &str, row: &BatchRow) -> Result<Vec<u8>, OutOfMemory>
-    ensures { IfOk result (λ line. line.items ≡ row_text name.now (Some row.now)) }
+    ensures { IfOk result (λ line. line.items ≡ row_text name.now row.now) }
 {
     let mut line = Vec::new(alloc);
     match row {
@@ -152,20 +155,20 @@ fn add_two(line: &mut Vec<u8>, first: &[u8], second: &[u8]) -> Result<(), OutOfM
 }
 
 fn add_bad(line: &mut Vec<u8>, name: &str) -> Result<(), OutOfMemory>
-    ensures { OnOk result (line.new.items ≡ line.old.items ++ row_text name.now (Some Bad)) }
+    ensures { OnOk result (line.new.items ≡ line.old.items ++ row_text name.now Bad) }
 {
     add_two(line, name.as_bytes(), b" bad\n")
 }
 
 fn add_wrong_cart(line: &mut Vec<u8>, name: &str) -> Result<(), OutOfMemory>
-    ensures { OnOk result (line.new.items ≡ line.old.items ++ row_text name.now (Some WrongCart)) }
+    ensures { OnOk result (line.new.items ≡ line.old.items ++ row_text name.now WrongCart) }
 {
     add_two(line, name.as_bytes(), b" wrong cart\n")
 }
 
 fn add_outcome(line: &mut Vec<u8>, name: &str, outcome: Outcome) -> Result<(), OutOfMemory>
     ensures { OnOk result (line.new.items ≡ line.old.items ++ row_text name.now
-        (Some (Ran outcome.frames outcome.halt outcome.image outcome.disk))) }
+        (Ran outcome.frames outcome.halt outcome.image outcome.disk)) }
 {
     add_words(line, name.as_bytes())?;
     add_number(line, u64::from(outcome.frames))?;

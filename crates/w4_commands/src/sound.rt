@@ -1,15 +1,16 @@
 //! `wave`: the sound of a run as the bytes of a WAV file.
 
-ghost use Rattle.std.specs.Prelude.{◌≡◌, ◌+◌, ◌≤◌, length, map};
-ghost use Rattle.std.specs.List.{range_with_len};
-ghost use Rattle.w4_defs.specs.Run.{run};
+ghost use Rattle.std.specs.Prelude.{◌≡◌, ◌+◌, ◌≤◌, length};
+ghost use Rattle.std.specs.Option.{ForSome};
+ghost use Rattle.w4_defs.specs.Meaning.{RunsHaveMeaning};
 ghost use Rattle.w4_defs.specs.Sound.{after_frame, rendered, samples, wav_header};
 ghost use Rattle.w4_defs.specs.State.{HasGlobals};
-ghost use Rattle.w4_house.specs.World.{LeavesPrinting};
-ghost use Rattle.w4_commands.specs.Causes.{Ends, LeavesErr, Printed, Prints, ResultsIn};
-ghost use Rattle.w4_commands.specs.Endings.{manner_of};
-ghost use Rattle.w4_commands.specs.Scenes.{scene_setup, stage_moment};
-ghost use Rattle.w4_commands.specs.ToolOutputs.{record_at, wave_output, wave_text};
+ghost use Rattle.w4_defs.specs.World.{LeavesPrinting};
+ghost use Rattle.w4_defs.specs.Causes.{Ends, LeavesErr};
+ghost use Rattle.w4_commands.specs.Causes.{MakesOf, Printed, Prints};
+ghost use Rattle.w4_defs.specs.Endings.{manner_of};
+ghost use Rattle.w4_commands.specs.Scenes.{scene_records, stage_moment};
+ghost use Rattle.w4_defs.specs.ToolOutputs.{wave_output, wave_text};
 ghost use Rattle.w4_commands.specs.Views.{cart_view, played_view, run_view};
 
 use crate::cart::CartFile;
@@ -17,18 +18,18 @@ use crate::load::{Played, load_run};
 use crate::printing::print;
 use crate::scene::Scene;
 use crate::stage::{Stage, new_stage, render, run_to, step};
-use crate::status::Status;
 use crate::words::RunNames;
 use std::alloc::Global;
-use w4_defs::Input;
+use w4_defs::{Input, Status};
 use w4_house::House;
 use w4_wave::{FRAME_LEN, Wave, wav_header};
 
 /// `wave CART REC FONT`.
-#[tactic(auto, unfolding(crate::specs::ToolOutputs::wave_output))]
+#[tactic(auto, unfolding(w4_defs::specs::ToolOutputs::wave_output))]
 pub fn wave<H: House>(alloc: Global, house: &mut H, file: &CartFile, names: RunNames<'_>) -> Status
+    requires meaning { RunsHaveMeaning file.now.cart }
     ensures ends { Ends (H.world house.old) (H.world house.new) (manner_of result)
-        (ResultsIn (λ files. wave_output (run_view names.entry) (cart_view file.now) files)) }
+        (MakesOf (λ files. wave_output (run_view names.entry) (cart_view file.now) files)) }
     ensures formed { result ≡ Status.Usage → ⊥ }
     ensures err { LeavesErr (H.world house.old) (H.world house.new) }
 {
@@ -40,8 +41,8 @@ pub fn wave<H: House>(alloc: Global, house: &mut H, file: &CartFile, names: RunN
 
 /// The header and the samples of all places of a run.
 fn write_wave<H: House>(alloc: Global, house: &mut H, file: &CartFile, run: &Played) -> Status
-    ensures prints { Prints (H.world house.old) (H.world house.new) (manner_of result)
-        (wave_text file.now.cart (played_view run.now)) }
+    ensures prints { ForSome (wave_text file.now.cart (played_view run.now))
+        (λ text. Prints (H.world house.old) (H.world house.new) (manner_of result) text) }
     ensures rest { LeavesPrinting (H.world house.old) (H.world house.new) }
 {
     match try_write_wave(alloc, house, file, run) {
@@ -57,8 +58,8 @@ fn try_write_wave<H: House>(
     file: &CartFile,
     run: &Played,
 ) -> Result<(), Status>
-    ensures out { Printed (H.world house.old) (H.world house.new) result
-        (wave_text file.now.cart (played_view run.now)) }
+    ensures out { ForSome (wave_text file.now.cart (played_view run.now))
+        (λ text. Printed (H.world house.old) (H.world house.new) result text) }
     ensures rest { LeavesPrinting (H.world house.old) (H.world house.new) }
 {
     let mut stage = new_stage(alloc, &file.cart)?;
@@ -96,10 +97,8 @@ fn write_samples<H: House>(
     requires disk { length scene.now.disk.now ≤ 1024 }
     requires budget { 1 ≤ scene.now.budget }
     requires globals { HasGlobals scene.now.cart.now stage.old.console }
-    ensures out { Printed (H.world house.old) (H.world house.new) result
-        (samples (map (λ place.
-        record_at (run (scene_setup scene.now) scene.now.disk.now inputs.now place))
-        (range_with_len 0 (length inputs.now + 1)))) }
+    ensures out { ForSome (scene_records scene.now inputs.now (length inputs.now + 1))
+        (λ records. Printed (H.world house.old) (H.world house.new) result (samples records)) }
     ensures rest { LeavesPrinting (H.world house.old) (H.world house.new) }
 {
     let mut wave = Wave::new();

@@ -4,19 +4,19 @@ ghost use Rattle.std.specs.Prelude.{◌≡◌, ◌≤◌, IfOk, OnOk, Some, leng
 ghost use Rattle.w4_defs.specs.Run.{run_state};
 ghost use Rattle.w4_defs.specs.State.{State};
 ghost use Rattle.w4_editor.specs.Editing.{editing_setup};
-ghost use Rattle.w4_house.specs.World.{LeavesPrinting};
-ghost use Rattle.w4_commands.specs.Answering.{if_place, state_answer};
-ghost use Rattle.w4_commands.specs.Answers.{answer_text};
+ghost use Rattle.w4_defs.specs.World.{LeavesPrinting};
+ghost use Rattle.w4_defs.specs.ScriptAnswers.{if_place, state_answer};
+ghost use Rattle.w4_defs.specs.Answers.{answer_text};
+ghost use Rattle.w4_defs.specs.PlaceTexts.{as_it_stands};
 ghost use Rattle.w4_commands.specs.Editors.{GivesAnswer, OnlyShows, place_session};
 
 use crate::desk::last_place;
 use crate::printing::print;
 use crate::refusal::refuse;
 use crate::state_line::{Facts, state_line};
-use crate::status::Status;
 use std::alloc::Global;
 use std::sync::ledger::Ledger;
-use w4_defs::{EditRefusal, OutOfMemory, Steps};
+use w4_defs::{EditRefusal, OutOfMemory, Status, Steps};
 use w4_editor::Editor;
 use w4_house::House;
 
@@ -30,8 +30,9 @@ pub fn tell_state<L: Ledger, H: House>(
 ) -> Result<(), Status>
     ensures answered { GivesAnswer (H.world house.old) (H.world house.new) result
         editor.old editor.new
-        (answer_text (place_session editor.old) (if_place (place_session editor.old) p
-        (state_answer (editing_setup editor.old) editor.old.disk (place_session editor.old) p))) }
+        (answer_text (place_session editor.old) (if_place as_it_stands (place_session editor.old) p
+        (state_answer as_it_stands (editing_setup editor.old) editor.old.disk
+        (place_session editor.old) p))) }
     ensures rest { LeavesPrinting (H.world house.old) (H.world house.new) }
 {
     let place = p as usize;

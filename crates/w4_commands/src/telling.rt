@@ -1,25 +1,25 @@
 //! What is told of places of the recording as the edits so far leave it.
 
 ghost use Rattle.std.specs.Prelude.{◌≡◌, ◌+◌, ◌-◌, ◌≤◌, OnOk, length};
-ghost use Rattle.w4_house.specs.World.{LeavesPrinting};
-ghost use Rattle.w4_commands.specs.Answering.{if_place, range_text};
-ghost use Rattle.w4_commands.specs.Answers.{answer_text};
+ghost use Rattle.std.specs.Option.{ForSome};
+ghost use Rattle.w4_defs.specs.World.{LeavesPrinting};
+ghost use Rattle.w4_defs.specs.ScriptAnswers.{if_place, range_text};
+ghost use Rattle.w4_defs.specs.Answers.{answer_text};
 ghost use Rattle.w4_commands.specs.Causes.{Printed};
 ghost use Rattle.w4_commands.specs.Editors.{GivesAnswer, OnlyShows, place_session, text_by};
-ghost use Rattle.w4_commands.specs.Texts.{place_texts};
-ghost use Rattle.w4_commands.specs.declared.place_text.PlaceText.TheVariants.{DiskBytes};
+ghost use Rattle.w4_defs.specs.PlaceTexts.{as_it_stands, place_texts};
+ghost use Rattle.w4_defs.specs.declared.place_text.PlaceText.TheVariants.{DiskBytes};
 ghost use Rattle.w4_editor.specs.Editing.{editing_setup};
 
 use crate::desk::{Desk, last_place, made_image, make_image, schedule, traces};
-use crate::place_text::PlaceText;
 use crate::printing::print;
 use crate::refusal::refuse;
-use crate::status::Status;
 use std::alloc::Global;
 use std::sync::ledger::Ledger;
-use w4_defs::{EditRefusal, Steps};
+use w4_defs::{EditRefusal, PlaceText, Status, Steps};
 use w4_editor::Editor;
 use w4_house::House;
+use w4_map::State;
 
 /// The answer of an order that asks for a text of each place from one to another.
 pub fn tell_range<L: Ledger, H: House>(
@@ -33,9 +33,9 @@ pub fn tell_range<L: Ledger, H: House>(
 ) -> Result<(), Status>
     ensures answered { GivesAnswer (H.world house.old) (H.world house.new) result
         desk.old.editor desk.new.editor
-        (answer_text (place_session desk.old.editor) (if_place (place_session desk.old.editor) b
-        (range_text (editing_setup desk.old.editor) desk.old.editor.disk
-        (place_session desk.old.editor) wanted a b))) }
+        (answer_text (place_session desk.old.editor) (if_place as_it_stands
+        (place_session desk.old.editor) b (range_text as_it_stands (editing_setup desk.old.editor)
+        desk.old.editor.disk (place_session desk.old.editor) wanted a b))) }
     ensures rest { LeavesPrinting (H.world house.old) (H.world house.new) }
 {
     if b as usize > last_place(&desk.editor) {
@@ -55,8 +55,8 @@ fn write_all<L: Ledger, H: House>(
     steps: &mut Steps<L>,
 ) -> Result<(), Status>
     requires place { b ≤ length desk.old.editor.session.current.inputs }
-    ensures out { Printed (H.world house.old) (H.world house.new) result
-        (place_texts (text_by desk.old.editor wanted) a (b + 1 - a)) }
+    ensures out { ForSome (place_texts (text_by desk.old.editor wanted) a (b + 1 - a))
+        (λ text. Printed (H.world house.old) (H.world house.new) result text) }
     ensures shows { OnOk result (OnlyShows desk.old.editor desk.new.editor) }
     ensures rest { LeavesPrinting (H.world house.old) (H.world house.new) }
 {
@@ -77,8 +77,8 @@ fn write_one<L: Ledger, H: House>(
     steps: &mut Steps<L>,
 ) -> Result<(), Status>
     requires place { place ≤ length desk.old.editor.session.current.inputs }
-    ensures out { Printed (H.world house.old) (H.world house.new) result
-        (text_by desk.old.editor wanted place) }
+    ensures out { ForSome (text_by desk.old.editor wanted place)
+        (λ text. Printed (H.world house.old) (H.world house.new) result text) }
     ensures shows { OnOk result (OnlyShows desk.old.editor desk.new.editor) }
     ensures rest { LeavesPrinting (H.world house.old) (H.world house.new) }
 {
@@ -108,13 +108,21 @@ fn write_disk<L: Ledger, H: House>(
     steps: &mut Steps<L>,
 ) -> Result<(), Status>
     requires place { place ≤ length editor.old.session.current.inputs }
-    ensures out { Printed (H.world house.old) (H.world house.new) result
-        (text_by editor.old DiskBytes place) }
+    ensures out { ForSome (text_by editor.old DiskBytes place)
+        (λ text. Printed (H.world house.old) (H.world house.new) result text) }
     ensures shows { OnOk result (OnlyShows editor.old editor.new) }
     ensures rest { LeavesPrinting (H.world house.old) (H.world house.new) }
 {
     match editor.show(alloc, place, steps) {
-        Ok(state) => print(alloc, house, state.disk.bytes()),
+        Ok(state) => print_disk(alloc, house, state),
         Err(_) => Err(Status::OutOfMemory),
     }
+}
+
+/// Writes the bytes of a state's disk.
+fn print_disk<H: House>(alloc: Global, house: &mut H, state: &State) -> Result<(), Status>
+    ensures out { Printed (H.world house.old) (H.world house.new) result state.now.disk }
+    ensures rest { LeavesPrinting (H.world house.old) (H.world house.new) }
+{
+    print(alloc, house, state.disk.bytes())
 }

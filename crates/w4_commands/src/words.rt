@@ -1,7 +1,7 @@
 //! The words that the program is called with.
 
 ghost use Rattle.std.specs.Prelude.{◌≡◌, map, option_map, string_bytes};
-ghost use Rattle.w4_commands.specs.Forms.{
+ghost use Rattle.w4_defs.specs.Commands.{
   batch_form,
   blank_form,
   check_form,
@@ -108,7 +108,7 @@ fn check(words: &[String]) -> Option<Form<'_>>
     Some(Form::Check(cart.as_str()))
 }
 
-#[tactic(auto, unfolding(crate::specs::Forms::blank_form))]
+#[tactic(auto, unfolding(w4_defs::specs::Commands::blank_form))]
 fn blank(words: &[String]) -> Option<Form<'_>>
     ensures { option_map form_view result ≡ blank_form (map string_bytes words.now) }
 {
@@ -122,7 +122,7 @@ fn blank(words: &[String]) -> Option<Form<'_>>
     Some(Form::Blank(cart.as_str(), Budget { units }))
 }
 
-#[tactic(auto, unfolding(crate::specs::Forms::frames_form))]
+#[tactic(auto, unfolding(w4_defs::specs::Commands::frames_form))]
 fn frames(words: &[String]) -> Option<Form<'_>>
     ensures { option_map form_view result ≡ frames_form (map string_bytes words.now) }
 {
@@ -155,7 +155,7 @@ fn trace(words: &[String]) -> Option<Form<'_>>
     Some(Form::Trace(run_names(cart, recording, font)))
 }
 
-#[tactic(auto, unfolding(crate::specs::Forms::disk_form))]
+#[tactic(auto, unfolding(w4_defs::specs::Commands::disk_form))]
 fn disk(words: &[String]) -> Option<Form<'_>>
     ensures { option_map form_view result ≡ disk_form (map string_bytes words.now) }
 {
@@ -179,7 +179,7 @@ fn edit(words: &[String]) -> Option<Form<'_>>
     }))
 }
 
-#[tactic(auto, unfolding(crate::specs::Forms::make_form))]
+#[tactic(auto, unfolding(w4_defs::specs::Commands::make_form))]
 fn make(words: &[String]) -> Option<Form<'_>>
     ensures { option_map form_view result ≡ make_form (map string_bytes words.now) }
 {
@@ -190,7 +190,7 @@ fn make(words: &[String]) -> Option<Form<'_>>
     Some(Form::Make(number))
 }
 
-#[tactic(auto, unfolding(crate::specs::Forms::net_form))]
+#[tactic(auto, unfolding(w4_defs::specs::Commands::net_form))]
 fn net(words: &[String]) -> Option<Form<'_>>
     ensures { option_map form_view result ≡ net_form (map string_bytes words.now) }
 {
@@ -227,7 +227,7 @@ fn wave(words: &[String]) -> Option<Form<'_>>
     Some(Form::Wave(run_names(cart, recording, font)))
 }
 
-#[tactic(auto, unfolding(crate::specs::Forms::batch_form))]
+#[tactic(auto, unfolding(w4_defs::specs::Commands::batch_form))]
 fn batch(words: &[String]) -> Option<Form<'_>>
     ensures { option_map form_view result ≡ batch_form (map string_bytes words.now) }
 {
@@ -247,7 +247,7 @@ fn batch(words: &[String]) -> Option<Form<'_>>
 }
 
 /// The form of the words, or None where they have none.
-#[tactic(auto, unfolding(crate::specs::Forms::form_of))]
+#[tactic(auto, unfolding(w4_defs::specs::Commands::form_of))]
 pub fn form_of_words(words: &[String]) -> Option<Form<'_>>
     ensures { option_map form_view result ≡ form_of (map string_bytes words.now) }
 {

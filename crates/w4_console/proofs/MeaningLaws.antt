@@ -1,6 +1,6 @@
--- A run of an accepted cart has a meaning at every place.
+-- Each reset and each frame of an accepted cart has a meaning, and leaves globals of the cart's types.
 use Rattle.std.proofs.Common.{◌≡◌, ◌≢◌, ℕ, Bool, true, false, List, [], ◌∷◌, take, Option, Some, None, refl, ap}
-use Rattle.std.specs.Prelude.{IsSome, IfSome, length, codes}
+use Rattle.std.specs.Prelude.{IsSome, IsSomeAnd, IfSome, length, codes}
 use Rattle.std.specs.Option.{option_and_then, option_map}
 use Rattle.w4_defs.specs.declared.console.Halt.{Halt}
 use Rattle.w4_defs.specs.declared.console.Halt.TheVariants.{Running, Trapped, Spent}
@@ -14,14 +14,14 @@ use Rattle.w4_defs.specs.Module.{WasmModule, nothing_to_nothing}
 use Rattle.w4_defs.specs.Outcome.{Ended, RunDone, RunTrap, RunSpent, RunStuck}
 use Rattle.w4_defs.specs.Profile.{profile_refusal}
 use Rattle.w4_defs.specs.Reset.{call_all, fresh, logged_state_after, recorded, reset, start, store_of, then_on, with_empty_logs}
-use Rattle.w4_defs.specs.Run.{played_on}
+use Rattle.w4_defs.specs.Run.{fold, played_on}
 use Rattle.w4_defs.specs.State.{Board, Moment, State, LoggedState, HasGlobals}
 use Rattle.w4_defs.specs.Validity.{IsStart, IsValid}
 use Rattle.w4_host.specs.Answers.{answers_by_type}
-use Rattle.wasm_valid.specs.TypeSoundness.{HasTypes}
+use Rattle.w4_defs.specs.TypeSoundness.{HasTypes}
 use Rattle.wasm_valid.proofs.NeverStuck.{never_stuck_with, globals_keep_types_with}
 use Rattle.wasm_valid.proofs.ProfileFacts.{entry_point_found, update_found}
-use Rattle.w4_console.specs.Meaning.{AcceptedRunsHaveMeaning, RunsHaveMeaning}
+use Rattle.w4_defs.specs.Meaning.{AcceptedRunsHaveMeaning, FramesHaveMeaning, LeadsOn, RunsHaveMeaning}
 use Rattle.w4_console.proofs.GlobalLaws.{first_types}
 
 -- what the console's profile lets through, valid, with a body for each own function
@@ -174,6 +174,30 @@ run_meant m ok font budget disk inputs place =
     let first = reset_meant m font budget disk ok in
     rw first.1 (played_meant m font budget (take place inputs) first.0 ok first.2)
 
+-- inputs from any state
+
+folded_meant : (m : WasmModule) (font : List ℕ) (budget : ℕ) (inputs : List Input) (state : State)
+    → Accepted m
+    → HasGlobals m state
+    → IsSomeAnd (fold (console_setup m font budget) state inputs) (HasGlobals m)
+folded_meant m font budget [] state ok globals = globals
+folded_meant m font budget (input ∷ inputs) state ok globals =
+    let next = frame_meant m font budget state input ok globals in
+    rw next.1 (folded_meant m font budget inputs next.0.state ok next.2)
+
+leads_on : (m : WasmModule) (found : Option Moment) → MomentIs m found → LeadsOn m found
+leads_on m found (moment, e, globals) = rw e globals
+
 pub accepted_runs_have_meaning : AcceptedRunsHaveMeaning
-accepted_runs_have_meaning bytes m (small, (sections, others, whole, spelled, collected), within, valid) =
-    run_meant m (record { within = within; valid = valid; as_many_bodies = collected.as_many })
+accepted_runs_have_meaning bytes m
+    (small, (sections, others, whole, spelled, collected), within, valid) =
+    let ok : Accepted m =
+    record { within = within; valid = valid; as_many_bodies = collected.as_many } in
+    record {
+      resets = λ font budget disk. leads_on m _ (reset_meant m font budget disk ok);
+      frames =
+          λ font budget state input globals.
+          leads_on m _ (frame_meant m font budget state input ok globals);
+      folds = λ font budget state inputs globals. folded_meant m font budget inputs state ok globals;
+      runs = run_meant m ok;
+    }

@@ -1,4 +1,3 @@
 -- What a reset or a frame of the console has come to.
 pub mod Lending
 pub mod ConsoleCalls
-pub mod Meaning

@@ -8,7 +8,7 @@ use Rattle.w4_defs.specs.declared.refusal.ProfileRefusal.{ProfileRefusal}
 use Rattle.w4_defs.specs.Module.{WasmModule}
 use Rattle.w4_defs.specs.BinaryModule.{SpellsModule}
 use Rattle.w4_defs.specs.Profile.{profile_refusal}
-use Rattle.w4_defs.specs.Validity.{KeepsModuleRules, IsTypedAt, IsFirstUntyped}
+use Rattle.w4_defs.specs.Validity.{IsTypedAt, IsFirstUntyped}
 use Rattle.w4_defs.specs.Cart.{IsCart, IsRefused, EveryFileIsJudged}
 
 below_or_last : (n k : ℕ) → k < suc n → (k < n) ⊎ (k ≡ n)

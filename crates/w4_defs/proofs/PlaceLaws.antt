@@ -7,7 +7,8 @@ use Rattle.std.proofs.lemmas.Option.{slice_get-map}
 use Rattle.w4_defs.specs.declared.console.Input.{Input}
 use Rattle.w4_defs.specs.declared.editing.EditRefusal.{EditRefusal}
 use Rattle.w4_defs.specs.declared.editing.EditRefusal.TheVariants.{NoFrame, NothingToUndo, NothingToRedo, Kept, NotKept, FullSnapshots}
-use Rattle.w4_defs.specs.Session.{Kind, places_alone, is_kept, with_kept, next_after_drop, without, unlink_above, moved_up, moved_down, without_double, kept_after_insert, kept_after_delete, Draft, set_draft, insert_draft, delete_draft, Session, keep_last, last_item, without_last, edited, undone, redone, with_list, set_refusal, insert_refusal, delete_refusal, keep_refusal, drop_refusal, unless, if_some, IsPlaced, draft_of_places, session_of_places, result_of_places, PlacesDecide}
+use Rattle.w4_defs.specs.Session.{Kind, places_alone, is_kept, with_kept, next_after_drop, without, unlink_above, place_after_insert, place_after_delete, stays_after_delete, moved_up, moved_down, kept_after_insert, kept_after_delete, Draft, set_draft, insert_draft, delete_draft, Session, keep_last, last_item, without_last, edited, undone, redone, with_list, set_refusal, insert_refusal, delete_refusal, keep_refusal, drop_refusal, unless, if_some, IsPlaced, draft_of_places, session_of_places, result_of_places, PlacesDecide}
+use Rattle.w4_defs.proofs.EditedPlaces.{stay_by_cases}
 
 either : {A B : Type 0} (f : A → B) (b : Bool) (x y : A) → f (cond b x y) ≡ cond b (f x) (f y)
 either f true x y = refl
@@ -28,14 +29,10 @@ module _ {A : Type 0} (kind : Kind A) (is : IsPlaced kind) where
       ∙ (λ i. cond (ltb k (place x)) (is.unlinked x i ∷ places kept) (place x ∷ unlinked_places k kept i))
 
   raised_place : (k : ℕ) (x : A) → place (moved_up kind k x) ≡ moved_up places_alone k (place x)
-  raised_place k x =
-      either kind.place (ltb k (place x)) (kind.at (place x + 1) x) x
-      ∙ (λ i. cond (ltb k (place x)) (is.at (place x + 1) x i) (place x))
+  raised_place k x = is.at (place_after_insert k (place x)) x
 
   lowered_place : (k : ℕ) (x : A) → place (moved_down kind k x) ≡ moved_down places_alone k (place x)
-  lowered_place k x =
-      either kind.place (ltb k (place x)) (kind.at (place x - 1) x) x
-      ∙ (λ i. cond (ltb k (place x)) (is.at (place x - 1) x i) (place x))
+  lowered_place k x = is.at (place_after_delete k (place x)) x
 
   all_places : (f : A → A) (g : ℕ → ℕ) → ((x : A) → place (f x) ≡ g (place x)) → (kept : List A)
       → places (map f kept) ≡ map g (places kept)
@@ -54,11 +51,13 @@ module _ {A : Type 0} (kind : Kind A) (is : IsPlaced kind) where
       either places (not (eqb (place x) q)) (x ∷ rest) rest
       ∙ (λ i. cond (not (eqb (place x) q)) (place x ∷ filtered_places q kept i) (filtered_places q kept i))
 
-  single_places : (k : ℕ) (kept : List A)
-      → places (without_double kind k kept) ≡ without_double places_alone k (places kept)
-  single_places k kept =
-      either places (is_kept kind k kept) (filter (λ x. not (eqb (kind.place x) (k + 1))) kept) kept
+  left_places : (k : ℕ) (kept : List A) → places (filter (stays_after_delete kind k kept) kept)
+      ≡ filter (stays_after_delete places_alone k (places kept)) (places kept)
+  left_places k kept =
+      ap places (stay_by_cases kind k kept)
+      ∙ either places (is_kept kind k kept) (filter (λ x. not (eqb (kind.place x) (k + 1))) kept) kept
       ∙ (λ i. cond (kept_places k kept i) (filtered_places (k + 1) kept i) (places kept))
+      ∙ sym (stay_by_cases places_alone k (places kept))
 
   with_places : (x : A) (kept : List A)
       → places (with_kept kind x kept) ≡ with_kept places_alone (place x) (places kept)
@@ -89,10 +88,10 @@ module _ {A : Type 0} (kind : Kind A) (is : IsPlaced kind) where
   delete_places : (k : ℕ) (kept : List A)
       → places (kept_after_delete kind k kept) ≡ kept_after_delete places_alone k (places kept)
   delete_places k kept =
-      all_places (moved_down kind k) (moved_down places_alone k) (lowered_place k) (unlink_above kind k
-      (without_double kind k kept))
-      ∙ ap (map (moved_down places_alone k)) (unlinked_places k (without_double kind k kept)
-      ∙ ap (unlink_above places_alone k) (single_places k kept))
+      let left : List A = filter (stays_after_delete kind k kept) kept in
+      all_places (moved_down kind k) (moved_down places_alone k) (lowered_place k) (unlink_above kind k left)
+      ∙ ap (map (moved_down places_alone k)) (unlinked_places k left
+      ∙ ap (unlink_above places_alone k) (left_places k kept))
 
   -- ---- sessions
 

@@ -1,11 +1,10 @@
 -- A call that is refused traps, and leaves the store.
-use Rattle.std.specs.Prelude.{◌≡◌, refl, ℕ, List, ◌∷◌, Option, Some, None, false, slice_get}
-use Rattle.std.proofs.Common.{sym, subst}
+use Rattle.std.specs.Prelude.{◌≡◌, refl, ℕ, List, false}
 use Rattle.w4_defs.specs.declared.value.Val.{Val}
 use Rattle.w4_defs.specs.declared.value.Cause.TheVariants.{Type_}
 use Rattle.w4_defs.specs.Module.{Signature}
 use Rattle.w4_defs.specs.ValueTypes.{same_signature}
-use Rattle.w4_defs.specs.Outcome.{Store, Outcome, Trap}
+use Rattle.w4_defs.specs.Outcome.{Store, Trap}
 use Rattle.w4_defs.specs.Program.{Callee, own_function, host_function, no_function, Prog}
 use Rattle.w4_defs.specs.Evaluation.{Env, Evaluator, call_typed}
 use Rattle.w4_defs.specs.RunLaws.{ForbiddenCallLeavesStore, RefusedCallsLeaveStore, IsOfType}

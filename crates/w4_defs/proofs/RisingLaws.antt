@@ -3,19 +3,8 @@ use Rattle.std.proofs.Common.{◌≡◌, ◌≢◌, ℕ, ◌+◌, ◌-◌, ◌<�
 use Rattle.std.specs.List.{filter}
 use Rattle.std.proofs.lemmas.Bool.{cases_lt, cases_eq, le-ltb, lt-ltb, eq-eqb, ne_eqb, eqb-false, or_parts}
 use Rattle.std.proofs.lemmas.Bool.Decides.{nat_tests}
-use Rattle.w4_defs.specs.Session.{places_alone, is_kept, with_kept, next_after_drop, without, unlink_above, moved_up, moved_down, without_double, kept_after_insert, kept_after_delete, Rise, ArePlaces, PlacesStayRight}
-
--- ---- set
-
-both_same : (b : Bool) (places : List ℕ) → cond b places places ≡ places
-both_same true places = refl
-both_same false places = refl
-
-unlink_nothing : (k : ℕ) (places : List ℕ) → unlink_above places_alone k places ≡ places
-unlink_nothing k [] = refl
-unlink_nothing k (p ∷ places) =
-    ap (λ rest. cond (ltb k p) (p ∷ places) (p ∷ rest)) (unlink_nothing k places)
-    ∙ both_same (ltb k p) (p ∷ places)
+use Rattle.w4_defs.specs.Session.{places_alone, is_kept, with_kept, next_after_drop, without, moved_up, moved_down, stays_after_delete, kept_after_insert, kept_after_delete, Rise, ArePlaces, PlacesStayRight}
+use Rattle.w4_defs.proofs.EditedPlaces.{unlink_nothing, stay_by_cases}
 
 length_map : (f : ℕ → ℕ) (places : List ℕ) → length (map f places) ≡ length places
 length_map f [] = refl
@@ -117,9 +106,13 @@ length_filter test (p ∷ places) = elim (test p) as (λ t. length (cond t (p �
       | false ↦ omega (arith, length_filter test places)
     ]
 
--- place 0 and those above it, without the double one
+-- those that stay where input K is deleted
+abbrev left : ℕ → List ℕ → List ℕ
+left k places = filter (stays_after_delete places_alone k places) places
+
+-- place 0 stays, and those above it that do are apart
 single_are : (k n : ℕ) (places : List ℕ) → Rise 0 n places
-    → (rest : List ℕ) × (without_double places_alone k (0 ∷ places) ≡ 0 ∷ rest) × RiseApart k 0 n rest
+    → (rest : List ℕ) × (left k (0 ∷ places) ≡ 0 ∷ rest) × RiseApart k 0 n rest
     × (length rest ≤ length places)
 single_are k n places h =
     let test : ℕ → Bool = λ x. not (eqb x (k + 1)) in
@@ -127,7 +120,8 @@ single_are k n places h =
       | inl kept ↦
           let zero_stays : eqb 0 (k + 1) ≡ false = ne_eqb 0 (k + 1) (λ e. absurd (omega (arith, e))) in (
             filter test places,
-            ap (λ t. cond t (filter test (0 ∷ places)) (0 ∷ places)) kept
+            stay_by_cases places_alone k (0 ∷ places)
+                ∙ ap (λ t. cond t (filter test (0 ∷ places)) (0 ∷ places)) kept
                 ∙ ap (λ t. cond (not t) (0 ∷ filter test places) (filter test places)) zero_stays,
             dropped k 0 n places h,
             length_filter test places,
@@ -135,7 +129,8 @@ single_are k n places h =
       | inr not_kept ↦
           let parts = or_parts (eqb 0 k) (is_kept places_alone k places) not_kept in (
             places,
-            ap (λ t. cond t (filter test (0 ∷ places)) (0 ∷ places)) not_kept,
+            stay_by_cases places_alone k (0 ∷ places)
+                ∙ ap (λ t. cond t (filter test (0 ∷ places)) (0 ∷ places)) not_kept,
             apart_without k 0 n places (eqb-false 0 k parts.0) parts.1 h,
             omega arith,
           )
@@ -147,7 +142,7 @@ delete_from_zero n k places below h few =
     let single = single_are k n places h in
     let rest : List ℕ = single.0 in
     let same : kept_after_delete places_alone k (0 ∷ places) ≡ map (moved_down places_alone k) (0 ∷ rest) =
-    ap (map (moved_down places_alone k)) (unlink_nothing k (without_double places_alone k (0 ∷ places))
+    ap (map (moved_down places_alone k)) (unlink_nothing k (left k (0 ∷ places))
     ∙ single.1) in
     let are : ArePlaces (n - 1) (map (moved_down places_alone k) (0 ∷ rest)) = (
       lowered_zero k,

@@ -1,6 +1,11 @@
 -- Orders are read line by line, up to the first bad one.
-use Rattle.std.proofs.Common.{◌≡◌, ℕ, List, [], ◌∷◌, ◌++◌, Option, Some, None, Result, Ok, Err, refl, sym, ap, ◌∙◌}
-use Rattle.w4_defs.specs.OrderFile.{ScriptFault, with_order, orders_in, OrdersInParts, FirstBadLine}
+use Rattle.std.proofs.Common.{◌≡◌, ℕ, zero, suc, ◌+◌, List, [], ◌∷◌, ◌++◌, length, Option, Some, None, Result, Ok, Err, refl, sym, ap, ◌∙◌, arith}
+use Rattle.std.specs.Prelude.{replicate}
+use Rattle.std.proofs.lemmas.Bool.{le-leb, lt-leb}
+use Rattle.std.proofs.lemmas.List.{length-replicate}
+use Rattle.w4_defs.specs.Lines.{pieces, lines_from}
+use Rattle.w4_defs.specs.OrderFile.{ScriptFault, with_order, orders_in, OrdersInParts, FirstBadLine, FileLimit}
+use Rattle.w4_defs.specs.Script.{order_of, script_of, ScriptLimit}
 
 -- the orders, or others where there are none
 orders_or : {Order : Type 0} → List Order → Result (List Order) ScriptFault → List Order
@@ -36,3 +41,27 @@ first_bad_line order_of (first ∷ more) lines line before front bad =
     let parts = read_first first.number (order_of first.words) (orders_in order_of more) before front in
     let tail = first_bad_line order_of more lines line parts.1 parts.3 bad in
     λ k. with_order first.number (parts.2 k) (tail k)
+
+-- ---- the length of a file
+
+pub file_limit : {Order : Type 0} → FileLimit Order
+file_limit order_of bytes = (
+  λ short. rw (le-leb (length bytes) 1048576 short) refl,
+  λ long. rw (lt-leb (length bytes) 1048576 long) refl,
+)
+
+-- empty lines have no order
+empty_lines : (n number : ℕ) → orders_in order_of (lines_from number (pieces 10 (replicate n 10))) ≡ Ok []
+unfolding orders_in lines_from
+empty_lines zero number = refl
+empty_lines (suc n) number = empty_lines n (number + 1)
+
+pub script_limit : ScriptLimit
+unfolding script_of
+script_limit = (
+  λ bytes same. (file_limit order_of bytes).0 (omega (arith, same)),
+  λ bytes same. (file_limit order_of bytes).1 (omega (arith, same)),
+  λ n same. (file_limit order_of (replicate n 10)).0 (omega (arith, same, length-replicate {A = ℕ} n 10))
+      ∙ empty_lines n 1,
+  λ n same. (file_limit order_of (replicate n 10)).1 (omega (arith, same, length-replicate {A = ℕ} n 10)),
+)

@@ -36,10 +36,14 @@ call_update setup (Some function) now =
     then_on (run_entry setup.cart setup.host_functions function (store_of setup.font now) setup.budget)
     (λ now rest. Some now)
 
+-- what `update` finds: the input is in the page
+abbrev pub with_input : Input → LoggedState → LoggedState
+with_input input now =
+    record now { state = state_with_page now.state (page_after_input now.state.page input) }
+
 -- while the cart runs, the input and `update`; a halted cart is left as it is
 abbrev pub update_from : Setup → Input → LoggedState → Halt → Option LoggedState
-update_from setup input now Running = call_update setup (update_entry setup.cart)
-    (record now { state = state_with_page now.state (page_after_input now.state.page input) })
+update_from setup input now Running = call_update setup (update_entry setup.cart) (with_input input now)
 update_from setup input now (Trapped cause) = Some now
 update_from setup input now Spent = Some now
 

@@ -1,6 +1,5 @@
 -- Worked cases of resets and frames: small carts on the console, by computation.
 use Rattle.std.specs.Prelude.{◌≡◌, ℕ, ◌+◌, Bool, map, length, pos, negsuc, List, [], ◌∷◌, slice_index, true, false, Option, Some, None, option_map, codes, refl}
-use Rattle.w4_defs.specs.declared.value.ValType.TheVariants as type
 use Rattle.w4_defs.specs.declared.value.Cause.TheVariants as cause
 use Rattle.w4_defs.specs.declared.module.ImportKind.TheVariants as kind
 use Rattle.w4_defs.specs.declared.module.ExportKind.TheVariants as export

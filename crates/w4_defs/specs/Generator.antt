@@ -123,7 +123,8 @@ made_budget = 100000
 
 -- Worked cases: number 0 draws 15,470, 18,256 and 53,708 first, so that its first function is `local.get 0`,
 -- `local.get 1`, `i32.or`, `i32.const 18256`, `i32.shl`; its 193rd draw is 65,044, so that its first frame
--- has gamepad 1 at 20.
+-- has gamepad 1 at 20. Number 4,294,967,295, whose first step wraps, has other draws in its first and last
+-- functions and frames.
 abbrev pub GeneratorCases : Type 0
 GeneratorCases =
     (map (draw 0) (0 ∷ 1 ∷ 2 ∷ 192 ∷ []) ≡ 15470 ∷ 18256 ∷ 53708 ∷ 65044 ∷ [])
@@ -132,7 +133,19 @@ GeneratorCases =
       list = sequence (LocalGet 0 ∷ LocalGet 1 ∷ I32Or ∷ I32Const 18256 ∷ I32Shl ∷ []);
     })
     × ((made_input 0 0).pads ≡ 20 ∷ 0 ∷ 0 ∷ 0 ∷ [])
+    × (map (draw 4294967295) (0 ∷ 1 ∷ 2 ∷ 189 ∷ 190 ∷ 191 ∷ 192 ∷ 791 ∷ [])
+    ≡ 15445 ∷ 12311 ∷ 8835 ∷ 43465 ∷ 21507 ∷ 48829 ∷ 9397 ∷ 46152 ∷ [])
+    × (small_function 4294967295 0 ≡ record {
+      runs = [];
+      list = sequence (LocalGet 0 ∷ LocalGet 1 ∷ I32Sub ∷ I32Const 12311 ∷ I32Mul ∷ []);
+    })
+    × (small_function 4294967295 63 ≡ record {
+      runs = [];
+      list = sequence (LocalGet 0 ∷ LocalGet 1 ∷ I32Or ∷ I32Const 21507 ∷ I32Add ∷ []);
+    })
+    × ((made_input 4294967295 0).pads ≡ 181 ∷ 0 ∷ 0 ∷ 0 ∷ [])
+    × ((made_input 4294967295 599).pads ≡ 72 ∷ 0 ∷ 0 ∷ 0 ∷ [])
 
 pub generator-cases : GeneratorCases
 unfolding seed_after small_function
-generator-cases = (refl, refl, refl)
+generator-cases = (refl, refl, refl, refl, refl, refl, refl, refl)

@@ -18,6 +18,10 @@ pub mod BinaryMemory
 pub mod BinaryInstruction
 pub mod BinarySection
 pub mod BinaryModule
+pub mod EncodeNumber
+pub mod EncodeType
+pub mod EncodeInstruction
+pub mod EncodeModule
 -- the profile
 pub mod ImportNames
 pub mod Imports
@@ -40,6 +44,7 @@ pub mod Effects
 pub mod Evaluation
 pub mod Resume
 pub mod InstructionSoundness
+pub mod TypeSoundness
 -- The console: drawing
 pub mod Framebuffer
 pub mod Colours
@@ -60,8 +65,13 @@ pub mod EntryPoints
 pub mod Reset
 pub mod Frame
 pub mod Run
+pub mod FramesRun
 pub mod Board
+pub mod Meaning
+pub mod AllThere
 pub mod FrameTexts
+pub mod PlaceTexts
+pub mod Film
 -- files
 pub mod Reading
 pub mod Recording
@@ -69,6 +79,7 @@ pub mod Lines
 pub mod OrderWords
 pub mod OrderFile
 pub mod Script
+pub mod NameLists
 -- made carts, netplay, memory search, batches, sound
 pub mod Generator
 pub mod MadeSummary
@@ -84,6 +95,30 @@ pub mod Session
 pub mod SameState
 pub mod KeptList
 pub mod WorkedSessions
+-- the program: the commands, their answers, and how a run of it ends
+pub mod World
+pub mod Commands
+pub mod StatusLines
+pub mod Answers
+pub mod ScriptAnswers
+pub mod LogAnswers
+pub mod QueryAnswers
+pub mod BatchRows
+pub mod Output
+pub mod ToolOutputs
+pub mod Outputs
+pub mod OutputsThere
+pub mod Endings
+pub mod Causes
+pub mod OneOutput
+pub mod CartRuns
+pub mod Completeness
+pub mod Promise
+pub mod Units
+pub mod Comparison
+pub mod InputsText
+pub mod RecordingOutputs
+pub mod Live
 -- worked cases and laws
 pub mod WorkedNumbers
 pub mod EmptyCart
@@ -93,3 +128,4 @@ pub mod WorkedCalls
 pub mod WorkedPictures
 pub mod RunLaws
 pub mod FrameCases
+pub mod WorkedAnswers

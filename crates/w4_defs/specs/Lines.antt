@@ -1,10 +1,13 @@
--- Lines, words and numbers of a text (project rule), in which scripts, lists, queries and logs are written.
--- Byte 10 ends a line, and the last line may lack it; one byte 13 at the end of a line isn't part of it.
--- Words are parted by one or more spaces, which may also stand at either end of a line. A line without
--- words, or whose first word begins with `#`, is skipped; lines are counted from 1, skipped ones too.
-use Rattle.std.specs.Prelude.{◌≡◌, ℕ, ◌+◌, ◌-◌, ◌*◌, ◌==◌, ◌&&◌, ◌≢◌, Bool, true, List, [], ◌∷◌, ◌++◌, length, slice_index, codes, Option, Some, None, nat_le, nat_lt, if◌then◌else◌, refl, ℤ, pos, neg_ℤ, map}
-use Rattle.std.specs.List.{filter, AllByRecursion}
+-- Lines, words and numbers of a text (project rule), in which scripts, queries and logs are written; lists
+-- of names have lines alone. Byte 10 ends a line, and the last line may lack it; one byte 13 at the end of a
+-- line isn't part of it. Words are parted by one or more spaces, which may also stand at either end of a
+-- line. A line without words, or whose first word begins with `#`, is skipped; lines are counted from 1,
+-- skipped ones too.
+use Rattle.std.specs.Prelude.{◌≡◌, ℕ, ◌+◌, ◌-◌, ◌*◌, ◌^◌, ◌≤◌, ◌==◌, ◌&&◌, ◌≢◌, Bool, true, List, [], ◌∷◌, ◌++◌, length, slice_index, sum, codes, Option, Some, None, nat_le, nat_lt, if◌then◌else◌, refl, ℤ, pos, neg_ℤ, map}
+use Rattle.std.specs.List.{filter, range_with_len, AllByRecursion}
+use Rattle.std.specs.Fmt.{decimal}
 use Rattle.std.specs.Io.BufRead.{strip_last}
+use Rattle.std.specs.Str.{all_ascii_digits}
 use Rattle.w4_defs.specs.Reading.{◌>>=◌}
 
 -- ---- lines and words
@@ -46,15 +49,16 @@ lines_of bytes = lines_from 1 (pieces 10 bytes)
 abbrev pub at_most : ℕ → ℕ → Option ℕ
 at_most limit n = if nat_le n limit then Some n else None
 
--- the decimal digits, behind those whose value is n
-abbrev pub digits_after : ℕ → List ℕ → Option ℕ
-digits_after n [] = Some n
-digits_after n (d ∷ ds) = if nat_le 48 d && nat_le d 57 then digits_after (10 * n + (d - 48)) ds else None
+-- the value of decimal digits: the sum of all, each times 10 to the power of how many follow it
+unfoldable pub decimal_value : List ℕ → ℕ
+decimal_value digits = sum (map (λ i. (slice_index digits i - 48) * 10 ^ (length digits - 1 - i))
+    (range_with_len 0 (length digits)))
 
--- a number has 1 to 10 decimal digits, leading zeros among them, and is at most 4,294,967,295
+-- a number has 1 to 10 bytes, all of them decimal digits, leading zeros too, and is at most 4,294,967,295
 unfoldable pub number_of : List ℕ → Option ℕ
 number_of word =
-    if nat_le 1 (length word) && nat_le (length word) 10 then (digits_after 0 word >>= at_most 4294967295)
+    if nat_le 1 (length word) && nat_le (length word) 10 && all_ascii_digits word
+    then at_most 4294967295 (decimal_value word)
     else None
 
 -- a number from 0 to 255
@@ -84,6 +88,10 @@ abbrev pub LinesInParts : Type 0
 LinesInParts = (number : ℕ) (front rest : List (List ℕ)) →
     lines_from number (front ++ rest) ≡ lines_from number front ++ lines_from (number + length front) rest
 
+-- the decimal text of a number is read as that number
+abbrev pub DecimalIsRead : Type 0
+DecimalIsRead = (n : ℕ) → n ≤ 4294967295 → number_of (decimal n) ≡ Some n
+
 -- ---- worked cases
 
 abbrev pub LineCases : Type 0
@@ -106,7 +114,8 @@ line-cases = (refl, refl, refl, refl, refl)
 
 abbrev pub DecimalCases : Type 0
 DecimalCases =
-    (number_of (codes "4294967295") ≡ Some 4294967295)
+    (decimal_value (codes "4095") ≡ 4 * 1000 + 0 * 100 + 9 * 10 + 5)
+    × (number_of (codes "4294967295") ≡ Some 4294967295)
     × (number_of (codes "4294967296") ≡ None)
     × (number_of (codes "0000000012") ≡ Some 12)
     × (number_of (codes "00000000012") ≡ None)
@@ -126,8 +135,9 @@ DecimalCases =
     × (coordinate_of (codes "+1") ≡ None)
 
 pub decimal-cases : DecimalCases
-unfolding number_of decimal_byte coordinate_of
+unfolding decimal_value number_of decimal_byte coordinate_of
 decimal-cases = (
+  refl,
   refl,
   refl,
   refl,

@@ -3,13 +3,13 @@
 --   next
 --   keep P, show P, state P
 -- Anything else makes a line bad.
-use Rattle.std.specs.Prelude.{◌≡◌, ℕ, List, [], ◌∷◌, ◌++◌, codes, bytes_eq, if◌then◌else◌, Option, Some, None, Result, Ok, Err, refl}
+use Rattle.std.specs.Prelude.{◌≡◌, ℕ, List, [], ◌∷◌, ◌++◌, codes, Option, Some, None, Result, Ok, Err, refl}
 use Rattle.w4_defs.specs.declared.netplay.NetOrder.{NetOrder}
 use Rattle.w4_defs.specs.declared.netplay.NetOrder.TheVariants.{Pad, Next, Keep, Show, StateAt}
 use Rattle.w4_defs.specs.Reading.{◌>>=◌}
-use Rattle.w4_defs.specs.Lines.{lines_from, number_of, decimal_byte}
+use Rattle.w4_defs.specs.Lines.{lines_from, decimal_value, number_of, decimal_byte}
 use Rattle.w4_defs.specs.OrderWords.{no_word, one_number}
-use Rattle.w4_defs.specs.OrderFile.{ScriptFault, BadLine, orders_in, file_of}
+use Rattle.w4_defs.specs.OrderFile.{ScriptFault, BadLine, OrderRow, order_by, orders_in, file_of}
 
 -- a packet of three words
 abbrev pub packet_words : List (List ℕ) → Option NetOrder
@@ -20,20 +20,19 @@ packet_words (who ∷ when ∷ pressed ∷ []) = do
   Some (Pad (record { player = player; frame = frame; pad = pad }))
 packet_words words = None
 
--- the order of a name and the words after it
-unfoldable pub net_order_named : List ℕ → List (List ℕ) → Option NetOrder
-net_order_named name words =
-    if bytes_eq name (codes "pad") then packet_words words else
-    if bytes_eq name (codes "next") then no_word Next words else
-    if bytes_eq name (codes "keep") then one_number Keep words else
-    if bytes_eq name (codes "show") then one_number Show words else
-    if bytes_eq name (codes "state") then one_number StateAt words else
-    None
+-- what each name says of the words after it
+unfoldable pub log_rows : List (OrderRow NetOrder)
+log_rows =
+    record { name = codes "pad"; read = packet_words }
+    ∷ record { name = codes "next"; read = no_word Next }
+    ∷ record { name = codes "keep"; read = one_number Keep }
+    ∷ record { name = codes "show"; read = one_number Show }
+    ∷ record { name = codes "state"; read = one_number StateAt }
+    ∷ []
 
 -- the order of a line's words
 abbrev pub net_order_of : List (List ℕ) → Option NetOrder
-net_order_of [] = None
-net_order_of (name ∷ words) = net_order_named name words
+net_order_of words = order_by log_rows words
 
 -- the orders of a log
 unfoldable pub net_log_of : List ℕ → Result (List NetOrder) ScriptFault
@@ -64,9 +63,9 @@ BadNetOrderCases =
     ≡ Err (BadLine 3))
 
 pub net-order-cases : NetOrderCases
-unfolding net_log_of orders_in lines_from net_order_named number_of decimal_byte
+unfolding net_log_of orders_in lines_from log_rows decimal_value number_of decimal_byte
 net-order-cases = (refl, refl, refl, refl, refl, refl)
 
 pub bad-net-order-cases : BadNetOrderCases
-unfolding net_log_of orders_in lines_from net_order_named number_of decimal_byte
+unfolding net_log_of orders_in lines_from log_rows decimal_value number_of decimal_byte
 bad-net-order-cases = (refl, refl, refl, refl, refl, refl, refl, refl, refl)

@@ -1,7 +1,9 @@
 -- Files of orders (project rule): at most 1,048,576 bytes of lines, one order in each line that isn't
--- skipped. Edit scripts, logs of netplay and memory queries are such files; each has its own orders, read
--- from a line's words.
-use Rattle.std.specs.Prelude.{◌≡◌, ℕ, List, [], ◌∷◌, ◌++◌, length, Option, Some, None, Result, Ok, Err, nat_le, if◌then◌else◌}
+-- skipped. Edit scripts, logs of netplay and memory queries are such files; each has a table of its orders,
+-- by which a line's words are read. The program's arguments and the lines of a session are read by tables
+-- too.
+use Rattle.std.specs.Prelude.{◌≡◌, ℕ, ◌≤◌, ◌<◌, List, [], ◌∷◌, ◌++◌, length, Option, Some, None, Result, Ok, Err, nat_le, if◌then◌else◌}
+use Rattle.std.specs.Str.{bytes_eq}
 use Rattle.w4_defs.specs.Lines.{Line, lines_of}
 
 -- why bytes are no such file: they are too many, or this line is the first bad one
@@ -12,6 +14,22 @@ pub data ScriptFault : Type 0 where
 -- how a line's words are read as an order
 abbrev pub OrderReader : Type 0 → Type 0
 OrderReader Order = List (List ℕ) → Option Order
+
+-- a row of a table of orders: an order's name, and how the words after it are read. A table is a list of rows
+pub record OrderRow (Order : Type 0) : Type 0 where
+  pub name : List ℕ
+  pub read : OrderReader Order
+
+-- the words after a name, read as the first row of that name says; no order has a name without a row
+abbrev pub order_named : {Order : Type 0} → List (OrderRow Order) → List ℕ → List (List ℕ) → Option Order
+order_named [] name words = None
+order_named (row ∷ rows) name words =
+    if bytes_eq name row.name then row.read words else order_named rows name words
+
+-- a line's first word is the name of its order
+abbrev pub order_by : {Order : Type 0} → List (OrderRow Order) → List (List ℕ) → Option Order
+order_by rows [] = None
+order_by rows (name ∷ words) = order_named rows name words
 
 -- an order before those that follow it, or the number of the first bad line
 abbrev pub with_order : {Order : Type 0} →
@@ -42,3 +60,9 @@ FirstBadLine Order =
     (order_of : OrderReader Order) (front lines : List Line) (line : Line) (before : List Order) →
     orders_in order_of front ≡ Ok before → order_of line.words ≡ None →
     orders_in order_of (front ++ line ∷ lines) ≡ Err (BadLine line.number)
+
+-- 1,048,576 bytes are read, and more are too many
+abbrev pub FileLimit : Type 0 → Type 0
+FileLimit Order = (order_of : OrderReader Order) (bytes : List ℕ) →
+    (length bytes ≤ 1048576 → file_of order_of bytes ≡ orders_in order_of (lines_of bytes))
+    × (1048576 < length bytes → file_of order_of bytes ≡ Err TooLong)

@@ -5,15 +5,15 @@
 --   is P VALUE, same P, changed P, more P, less P
 --   list
 -- Anything else makes a line bad.
-use Rattle.std.specs.Prelude.{◌≡◌, ℕ, ◌==◌, ◌||◌, nat_le, List, [], ◌∷◌, ◌++◌, codes, bytes_eq, if◌then◌else◌, Option, Some, None, Result, Ok, Err, refl}
+use Rattle.std.specs.Prelude.{◌≡◌, ℕ, ◌==◌, ◌||◌, nat_le, List, [], ◌∷◌, ◌++◌, codes, if◌then◌else◌, Option, Some, None, Result, Ok, Err, refl}
 use Rattle.w4_defs.specs.declared.inspect.Ask.{Ask}
 use Rattle.w4_defs.specs.declared.inspect.Ask.TheVariants as ask
 use Rattle.w4_defs.specs.declared.inspect.Test.{Test}
 use Rattle.w4_defs.specs.declared.inspect.Test.TheVariants.{Is, Same, Changed, More, Less}
 use Rattle.w4_defs.specs.Reading.{◌>>=◌}
-use Rattle.w4_defs.specs.Lines.{lines_from, number_of}
+use Rattle.w4_defs.specs.Lines.{lines_from, decimal_value, number_of}
 use Rattle.w4_defs.specs.OrderWords.{no_word, one_number}
-use Rattle.w4_defs.specs.OrderFile.{ScriptFault, BadLine, orders_in, file_of}
+use Rattle.w4_defs.specs.OrderFile.{ScriptFault, BadLine, OrderRow, order_by, orders_in, file_of}
 
 -- a width
 abbrev pub decimal_width : List ℕ → Option ℕ
@@ -46,23 +46,22 @@ is_words words = None
 abbrev pub test_words : Test → List (List ℕ) → Option Ask
 test_words test words = one_number (λ p. ask.Narrow p test) words
 
--- the request of a name and the words after it
-unfoldable pub ask_named : List ℕ → List (List ℕ) → Option Ask
-ask_named name words =
-    if bytes_eq name (codes "watch") then watch_words words else
-    if bytes_eq name (codes "start") then start_words words else
-    if bytes_eq name (codes "is") then is_words words else
-    if bytes_eq name (codes "same") then test_words Same words else
-    if bytes_eq name (codes "changed") then test_words Changed words else
-    if bytes_eq name (codes "more") then test_words More words else
-    if bytes_eq name (codes "less") then test_words Less words else
-    if bytes_eq name (codes "list") then no_word ask.List words else
-    None
+-- what each name says of the words after it
+unfoldable pub query_rows : List (OrderRow Ask)
+query_rows =
+    record { name = codes "watch"; read = watch_words }
+    ∷ record { name = codes "start"; read = start_words }
+    ∷ record { name = codes "is"; read = is_words }
+    ∷ record { name = codes "same"; read = test_words Same }
+    ∷ record { name = codes "changed"; read = test_words Changed }
+    ∷ record { name = codes "more"; read = test_words More }
+    ∷ record { name = codes "less"; read = test_words Less }
+    ∷ record { name = codes "list"; read = no_word ask.List }
+    ∷ []
 
 -- the request of a line's words
 abbrev pub ask_of : List (List ℕ) → Option Ask
-ask_of [] = None
-ask_of (name ∷ words) = ask_named name words
+ask_of words = order_by query_rows words
 
 -- the requests of a query
 unfoldable pub query_of : List ℕ → Result (List Ask) ScriptFault
@@ -98,9 +97,9 @@ BadAskCases =
     × (query_of (codes "list" ++ 10 ∷ codes "start 3 1" ++ 10 ∷ []) ≡ Err (BadLine 2))
 
 pub ask-cases : AskCases
-unfolding query_of orders_in lines_from ask_named number_of
+unfolding query_of orders_in lines_from query_rows decimal_value number_of
 ask-cases = (refl, refl, refl, refl, refl, refl, refl, refl, refl, refl)
 
 pub bad-ask-cases : BadAskCases
-unfolding query_of orders_in lines_from ask_named number_of
+unfolding query_of orders_in lines_from query_rows decimal_value number_of
 bad-ask-cases = (refl, refl, refl, refl, refl, refl, refl, refl, refl, refl)

@@ -1,8 +1,10 @@
 -- Rollback (project rule; the words are those of GGPO): the pads of four players come as packets, late,
 -- again, in any order or never, and what isn't there yet is predicted.
-use Rattle.std.specs.Prelude.{◌≡◌, ◌↔◌, ◌<◌, ◌≤◌, ℕ, zero, suc, ◌+◌, ◌==◌, nat_lt, ◌&&◌, Bool, is_none, if◌then◌else◌, List, [], ◌∷◌, ◌++◌, map, fold, Contains, Option, Some, None, unwrap_or, option_and_then, pos, false, true, refl}
+use Rattle.std.specs.Prelude.{◌≡◌, ◌↔◌, ◌<◌, ◌≤◌, ℕ, zero, suc, ◌+◌, ◌==◌, nat_lt, nat_le, ◌&&◌, Bool, is_none, if◌then◌else◌, List, [], ◌∷◌, ◌++◌, map, fold, Contains, Option, Some, None, unwrap_or, option_map, option_and_then, pos, false, true, refl}
 use Rattle.std.specs.List.{range_with_len}
 use Rattle.w4_defs.specs.declared.console.Input.{Input}
+use Rattle.w4_defs.specs.declared.net_refusal.NetRefusal.{NetRefusal}
+use Rattle.w4_defs.specs.declared.net_refusal.NetRefusal.TheVariants.{NoPlayer, FrameRange, Conflict}
 use Rattle.w4_defs.specs.declared.netplay.Packet.{Packet}
 
 -- what is known of a player's pad in a frame
@@ -26,6 +28,13 @@ conflict known packet =
 abbrev pub is_accepted : Known → Packet → Bool
 is_accepted known packet =
     nat_lt packet.player 4 && nat_lt packet.frame 36000 && is_none (conflict known packet)
+
+-- why a packet is refused: for its player, its frame or another byte that is known, in this order
+abbrev pub packet_refusal : Known → Packet → Option NetRefusal
+packet_refusal known packet =
+    if nat_le 4 packet.player then Some NoPlayer else
+    if nat_le 36000 packet.frame then Some FrameRange else
+    option_map (λ kept. Conflict kept packet.pad) (conflict known packet)
 
 -- an accepted packet is known from then on; any other changes nothing
 abbrev pub learned : Known → Packet → Known

@@ -26,6 +26,11 @@ run setup disk inputs place =
 abbrev pub run_state : Setup → List ℕ → List Input → ℕ → Option State
 run_state setup disk inputs place = option_map (λ moment. moment.state) (run setup disk inputs place)
 
+-- its page alone
+abbrev pub run_page : Setup → List ℕ → List Input → ℕ → Option (List ℕ)
+run_page setup disk inputs place =
+    option_map (λ (state : State). state.page) (run_state setup disk inputs place)
+
 -- a run in two parts: the second goes on from where the first ends
 abbrev pub PlaysInParts : Type 0
 PlaysInParts = (setup : Setup) (moment : Moment) (first rest : List Input) →

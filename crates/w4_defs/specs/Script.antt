@@ -10,15 +10,15 @@
 --   film A B W                       A at most B, W 1 to 16
 --   tones A B, traces A B            A at most B
 -- Anything else makes a line bad.
-use Rattle.std.specs.Prelude.{◌≡◌, ℕ, ◌&&◌, Bool, true, false, List, [], ◌∷◌, ◌++◌, codes, Option, Some, None, Result, Ok, Err, nat_le, if◌then◌else◌, refl, pos, negsuc}
+use Rattle.std.specs.Prelude.{◌≡◌, ℕ, ◌&&◌, Bool, true, false, List, [], ◌∷◌, ◌++◌, length, replicate, codes, Option, Some, None, Result, Ok, Err, nat_le, if◌then◌else◌, refl, pos, negsuc}
 use Rattle.std.specs.Str.{bytes_eq}
 use Rattle.w4_defs.specs.declared.console.Input.{Input}
 use Rattle.w4_defs.specs.declared.order.Order.{Order}
 use Rattle.w4_defs.specs.declared.order.Order.TheVariants.{Set, Insert, Delete, Undo, Redo, Keep, KeepEvery, DropKept, Settle, Show, Film, Tones, Traces, DiskAt, StateAt}
 use Rattle.w4_defs.specs.Reading.{◌>>=◌}
-use Rattle.w4_defs.specs.Lines.{words_of, lines_from, number_of, decimal_byte, coordinate_of}
+use Rattle.w4_defs.specs.Lines.{words_of, lines_of, lines_from, decimal_value, number_of, decimal_byte, coordinate_of}
 use Rattle.w4_defs.specs.OrderWords.{no_word, one_number}
-use Rattle.w4_defs.specs.OrderFile.{ScriptFault, BadLine, orders_in, file_of}
+use Rattle.w4_defs.specs.OrderFile.{ScriptFault, TooLong, BadLine, OrderRow, order_by, orders_in, file_of}
 
 -- ---- the words after an order's name
 
@@ -75,34 +75,41 @@ frame_order make words = None
 
 -- ---- orders
 
--- the order of a name and the words after it
-unfoldable pub order_named : List ℕ → List (List ℕ) → Option Order
-order_named name words =
-    if bytes_eq name (codes "set") then frame_order Set words else
-    if bytes_eq name (codes "insert") then frame_order Insert words else
-    if bytes_eq name (codes "delete") then one_number Delete words else
-    if bytes_eq name (codes "undo") then no_word Undo words else
-    if bytes_eq name (codes "redo") then no_word Redo words else
-    if bytes_eq name (codes "keep") then one_number Keep words else
-    if bytes_eq name (codes "keep-every") then number_order KeepEvery 1 4294967295 words else
-    if bytes_eq name (codes "drop") then one_number DropKept words else
-    if bytes_eq name (codes "settle") then number_order Settle 1 16 words else
-    if bytes_eq name (codes "show") then one_number Show words else
-    if bytes_eq name (codes "film") then film_order words else
-    if bytes_eq name (codes "tones") then range_order Tones words else
-    if bytes_eq name (codes "traces") then range_order Traces words else
-    if bytes_eq name (codes "disk") then one_number DiskAt words else
-    if bytes_eq name (codes "state") then one_number StateAt words else
-    None
+-- what each name says of the words after it
+unfoldable pub script_rows : List (OrderRow Order)
+script_rows =
+    record { name = codes "set"; read = frame_order Set }
+    ∷ record { name = codes "insert"; read = frame_order Insert }
+    ∷ record { name = codes "delete"; read = one_number Delete }
+    ∷ record { name = codes "undo"; read = no_word Undo }
+    ∷ record { name = codes "redo"; read = no_word Redo }
+    ∷ record { name = codes "keep"; read = one_number Keep }
+    ∷ record { name = codes "keep-every"; read = number_order KeepEvery 1 4294967295 }
+    ∷ record { name = codes "drop"; read = one_number DropKept }
+    ∷ record { name = codes "settle"; read = number_order Settle 1 16 }
+    ∷ record { name = codes "show"; read = one_number Show }
+    ∷ record { name = codes "film"; read = film_order }
+    ∷ record { name = codes "tones"; read = range_order Tones }
+    ∷ record { name = codes "traces"; read = range_order Traces }
+    ∷ record { name = codes "disk"; read = one_number DiskAt }
+    ∷ record { name = codes "state"; read = one_number StateAt }
+    ∷ []
 
 -- the order of a line's words
 abbrev pub order_of : List (List ℕ) → Option Order
-order_of [] = None
-order_of (name ∷ words) = order_named name words
+order_of words = order_by script_rows words
 
 -- the orders of a script
 unfoldable pub script_of : List ℕ → Result (List Order) ScriptFault
 script_of bytes = file_of order_of bytes
+
+-- a script of 1,048,576 bytes is read, and one byte more is too much: any bytes, and empty lines
+abbrev pub ScriptLimit : Type 0
+ScriptLimit =
+    ((bytes : List ℕ) → length bytes ≡ 1048576 → script_of bytes ≡ orders_in order_of (lines_of bytes))
+    × ((bytes : List ℕ) → length bytes ≡ 1048577 → script_of bytes ≡ Err TooLong)
+    × ((n : ℕ) → n ≡ 1048576 → script_of (replicate n 10) ≡ Ok [])
+    × ((n : ℕ) → n ≡ 1048577 → script_of (replicate n 10) ≡ Err TooLong)
 
 -- ---- worked cases
 
@@ -176,7 +183,7 @@ ScriptCases =
     × (script_of (codes "#" ++ 10 ∷ 10 ∷ codes "bad" ++ 10 ∷ []) ≡ Err (BadLine 3))
 
 pub order-cases : OrderCases
-unfolding order_named number_of decimal_byte coordinate_of
+unfolding script_rows decimal_value number_of decimal_byte coordinate_of
 order-cases = (
   refl,
   refl,
@@ -198,7 +205,7 @@ order-cases = (
 )
 
 pub bad-order-cases : BadOrderCases
-unfolding order_named number_of decimal_byte coordinate_of
+unfolding script_rows decimal_value number_of decimal_byte coordinate_of
 bad-order-cases = (
   refl,
   refl,
@@ -230,5 +237,5 @@ bad-order-cases = (
 )
 
 pub script-cases : ScriptCases
-unfolding script_of orders_in lines_from order_named number_of decimal_byte coordinate_of
+unfolding script_of orders_in lines_from script_rows decimal_value number_of decimal_byte coordinate_of
 script-cases = (refl, refl, refl, refl)

@@ -4,7 +4,7 @@
 -- kept places. The draft before it goes to the undo history, which holds 32 and loses its oldest where it
 -- would hold more; the redo history is emptied. Undo and redo bring back a whole draft, kept places too.
 -- Keeping and dropping places aren't edits: they change the kept places of the current draft alone.
-use Rattle.std.specs.Prelude.{◌≡◌, ◌≢◌, ℕ, ◌+◌, ◌-◌, ◌≤◌, ◌<◌, ◌==◌, ◌%◌, ◌&&◌, Bool, false, not, List, [], ◌∷◌, ◌++◌, map, length, take, drop, insert, remove, slice_get, slice_set, Option, Some, None, IfSome, option_map, Result, Ok, Err, nat_le, nat_lt, if◌then◌else◌}
+use Rattle.std.specs.Prelude.{◌≡◌, ◌≢◌, ℕ, ◌+◌, ◌-◌, ◌≤◌, ◌<◌, ◌==◌, ◌%◌, ◌&&◌, ◌||◌, Bool, false, not, List, [], ◌∷◌, ◌++◌, map, length, take, drop, insert, remove, slice_get, slice_set, Option, Some, None, IfSome, option_map, Result, Ok, Err, nat_le, nat_lt, if◌then◌else◌}
 use Rattle.std.specs.List.{filter, list_any, range_with_len}
 use Rattle.w4_defs.specs.declared.console.Input.{Input}
 use Rattle.w4_defs.specs.declared.editing.EditRefusal.{EditRefusal}
@@ -57,25 +57,30 @@ abbrev pub without : {A : Type 0} → Kind A → ℕ → List A → List A
 without kind p [] = []
 without kind p (x ∷ kept) = if kind.place x == p then next_after_drop kind x kept else x ∷ without kind p kept
 
--- ---- what an edit of input K does to the kept list
+-- ---- what an edit of input K does to the kept list: which things stay, where they stand, which link goes
+
+-- where places K and K + 1 are kept, both would stand on K after a delete: the later thing is dropped
+abbrev pub stays_after_delete : {A : Type 0} → Kind A → ℕ → List A → A → Bool
+stays_after_delete kind k kept x = not (is_kept kind k kept && kind.place x == k + 1)
+
+-- a place above K rises by 1, or falls by 1
+abbrev pub place_after_insert : ℕ → ℕ → ℕ
+place_after_insert k p = if nat_lt k p then p + 1 else p
+
+abbrev pub place_after_delete : ℕ → ℕ → ℕ
+place_after_delete k p = if nat_lt k p then p - 1 else p
+
+abbrev pub moved_up : {A : Type 0} → Kind A → ℕ → A → A
+moved_up kind k x = kind.at (place_after_insert k (kind.place x)) x
+
+abbrev pub moved_down : {A : Type 0} → Kind A → ℕ → A → A
+moved_down kind k x = kind.at (place_after_delete k (kind.place x)) x
 
 -- the first thing above place K loses its link
 abbrev pub unlink_above : {A : Type 0} → Kind A → ℕ → List A → List A
 unlink_above kind k [] = []
 unlink_above kind k (x ∷ kept) =
     if nat_lt k (kind.place x) then kind.unlinked x ∷ kept else x ∷ unlink_above kind k kept
-
--- those above place K rise by 1, or fall by 1
-abbrev pub moved_up : {A : Type 0} → Kind A → ℕ → A → A
-moved_up kind k x = if nat_lt k (kind.place x) then kind.at (kind.place x + 1) x else x
-
-abbrev pub moved_down : {A : Type 0} → Kind A → ℕ → A → A
-moved_down kind k x = if nat_lt k (kind.place x) then kind.at (kind.place x - 1) x else x
-
--- where places K and K + 1 are kept, both would stand on K after a delete: the later one is dropped
-abbrev pub without_double : {A : Type 0} → Kind A → ℕ → List A → List A
-without_double kind k kept =
-    if is_kept kind k kept then filter (λ x. not (kind.place x == k + 1)) kept else kept
 
 abbrev pub kept_after_set : {A : Type 0} → Kind A → ℕ → List A → List A
 kept_after_set kind k kept = unlink_above kind k kept
@@ -84,7 +89,8 @@ abbrev pub kept_after_insert : {A : Type 0} → Kind A → ℕ → List A → Li
 kept_after_insert kind k kept = map (moved_up kind k) (unlink_above kind k kept)
 
 abbrev pub kept_after_delete : {A : Type 0} → Kind A → ℕ → List A → List A
-kept_after_delete kind k kept = map (moved_down kind k) (unlink_above kind k (without_double kind k kept))
+kept_after_delete kind k kept =
+    map (moved_down kind k) (unlink_above kind k (filter (stays_after_delete kind k kept) kept))
 
 -- ---- drafts
 
@@ -292,6 +298,33 @@ PlacesDecide {A} kind = (session : Session A) (k : ℕ) (input : Input) (x : A) 
     ≡ keep places_alone (kind.place x) (session_of_places kind session))
     × (result_of_places kind (drop_kept kind k session)
     ≡ drop_kept places_alone k (session_of_places kind session))
+
+-- which places are kept after an edit of input K. After a set they are the same; after an insert those up to
+-- K, and p + 1 for each p above K; after a delete those up to K, and p - 1 for each p above K
+abbrev pub PlacesAfterEdits : Type 0
+PlacesAfterEdits = (k p : ℕ) (places : List ℕ) →
+    (is_kept places_alone p (kept_after_set places_alone k places) ≡ is_kept places_alone p places)
+    × (is_kept places_alone p (kept_after_insert places_alone k places)
+    ≡ ((nat_le p k && is_kept places_alone p places)
+    || (nat_lt k (p - 1) && is_kept places_alone (p - 1) places)))
+    × (is_kept places_alone p (kept_after_delete places_alone k places)
+    ≡ ((nat_le p k && is_kept places_alone p places)
+    || (nat_lt k (p + 1) && is_kept places_alone (p + 1) places)))
+
+-- one more place is kept where 1,023 are, and refused where 1,024 are
+abbrev pub KeepLimit : {A : Type 0} → Kind A → Type 0
+KeepLimit {A} kind = (x : A) (session : Session A) → kind.place x ≤ length session.current.inputs
+    → is_kept kind (kind.place x) session.current.kept ≡ false →
+    (length session.current.kept ≤ 1023
+    → keep kind x session ≡ Ok (with_list session (with_kept kind x session.current.kept)))
+    × (1024 ≤ length session.current.kept → keep kind x session ≡ Err FullSnapshots)
+
+-- places are kept at once where 1,024 would be kept then, and refused where 1,025 would be
+abbrev pub KeepEveryLimit : Type 0
+KeepEveryLimit = (every : ℕ) (session : Session ℕ) →
+    let kept = all_kept (multiples every (length session.current.inputs)) session.current.kept in
+    (length kept ≤ 1024 → keep_every every session ≡ Ok (with_list session kept))
+    × (1025 ≤ length kept → keep_every every session ≡ Err FullSnapshots)
 
 -- an accepted edit, keep or drop leaves places of the recording as it then is
 abbrev pub PlacesStayRight : Type 0

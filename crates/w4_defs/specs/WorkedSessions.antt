@@ -1,12 +1,13 @@
 -- Worked cases of editing sessions, by computation.
-use Rattle.std.specs.Prelude.{◌≡◌, ℕ, zero, suc, ◌+◌, Bool, true, false, map, List, [], ◌∷◌, replicate, Some, None, Result, Ok, Err, pos, refl}
+use Rattle.std.specs.Prelude.{◌≡◌, ℕ, zero, suc, ◌+◌, Bool, true, false, map, length, List, [], ◌∷◌, replicate, Some, None, Result, Ok, Err, pos, refl}
+use Rattle.std.specs.List.{range_with_len}
 use Rattle.w4_defs.specs.declared.console.Input.{Input}
 use Rattle.w4_defs.specs.declared.console.Halt.TheVariants.{Running}
 use Rattle.w4_defs.specs.declared.editing.EditRefusal.{EditRefusal}
-use Rattle.w4_defs.specs.declared.editing.EditRefusal.TheVariants.{NoFrame, FullRecording, NothingToUndo, NothingToRedo, Kept, NotKept}
+use Rattle.w4_defs.specs.declared.editing.EditRefusal.TheVariants.{NoFrame, FullRecording, NothingToUndo, NothingToRedo, Kept, NotKept, FullSnapshots}
 use Rattle.w4_defs.specs.State.{State}
 use Rattle.w4_defs.specs.Tones.{silent}
-use Rattle.w4_defs.specs.Session.{Session, places_alone, kept_after_set, kept_after_insert, kept_after_delete, new_session, insert_refusal, set_input, insert_input, delete_input, undo, redo, keep, drop_kept, keep_every, multiples}
+use Rattle.w4_defs.specs.Session.{Session, places_alone, kept_after_set, kept_after_insert, kept_after_delete, new_session, insert_refusal, set_input, insert_input, delete_input, undo, redo, keep, drop_kept, keep_every, multiples, with_list}
 use Rattle.w4_defs.specs.SameState.{same_state}
 use Rattle.w4_defs.specs.KeptList.{Entry, kept_entries, without_entry, relinked_at, replaced_at, last_up_to, doubtful, show_frames, settle_frames}
 
@@ -99,6 +100,20 @@ KeepEveryCases =
 
 pub keep-every-cases : KeepEveryCases
 keep-every-cases = (refl, refl, refl)
+
+-- where 1,023 places are kept, place 0 among them, one more is kept; where 1,024 are, one more is refused
+abbrev filled : ℕ → Session ℕ
+filled count = with_list (still 1100) (range_with_len 0 count)
+
+abbrev pub LimitCases : Type 0
+LimitCases =
+    (length (kept_places (keep places_alone 1050 (filled 1023))) ≡ 1024)
+    × (keep places_alone 1050 (filled 1024) ≡ Err FullSnapshots)
+    × (length (kept_places (keep_every 1050 (filled 1023))) ≡ 1024)
+    × (keep_every 1050 (filled 1024) ≡ Err FullSnapshots)
+
+pub limit-cases : LimitCases
+limit-cases = (refl, refl, refl, refl)
 
 -- 33 edits: 32 of them are undone, and then made again; an edit after an undo empties the redo history
 abbrev edits : ℕ → Result (Session ℕ) EditRefusal → Result (Session ℕ) EditRefusal

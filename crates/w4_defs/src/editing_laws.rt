@@ -7,7 +7,11 @@ ghost use Rattle.w4_defs.specs.Session.{
   RedoTakesBack,
   UndoTakesBackRedo,
   PlacesDecide,
+  PlacesAfterEdits,
   PlacesStayRight,
+  KeepEveryLimit,
+  KeepLimit,
+  places_alone,
 };
 ghost use Rattle.w4_defs.specs.KeptList.{ConsistentPlaces, Entry, KeptInOrder, LinkedIsRun, UnlinksOne, kept_entries};
 ghost use Rattle.w4_defs.specs.WorkedSessions.{
@@ -15,6 +19,7 @@ ghost use Rattle.w4_defs.specs.WorkedSessions.{
   InputCases,
   RefusalCases,
   KeepEveryCases,
+  LimitCases,
   HistoryCase,
   EntryCases,
   DropCases,
@@ -38,6 +43,19 @@ pub fn histories_are_kept()
 /// A session of entries has the places and the refusals of the session of places alone.
 pub fn places_decide()
     ensures { PlacesDecide kept_entries }
+{}
+
+/// Which places are kept after an edit of input K. An insert moves those above K up by 1, and a delete down
+/// by 1; of two that would then stand on K one does.
+pub fn places_after_edits()
+    ensures { PlacesAfterEdits }
+{}
+
+/// At most 1,024 places are kept: with 1,023 another one is kept, with 1,024 it is refused.
+pub fn keep_limits()
+    ensures places { KeepLimit places_alone }
+    ensures entries { KeepLimit kept_entries }
+    ensures every { KeepEveryLimit }
 {}
 
 /// Kept places rise from place 0 within the recording, after each edit, keep and drop too; so do those of
@@ -64,6 +82,7 @@ pub fn session_cases()
     ensures inputs { InputCases }
     ensures refusals { RefusalCases }
     ensures keep_every { KeepEveryCases }
+    ensures limits { LimitCases }
     ensures history { HistoryCase }
 {}
 

@@ -11,37 +11,48 @@ pub mod editing;
 pub mod editing_laws;
 pub mod evaluation_laws;
 pub mod file_laws;
+pub mod film_refusal;
 pub mod inspect;
 pub mod instruction;
 pub mod instruction_table;
 pub mod integer;
+pub mod live;
 pub mod memory;
 pub mod module;
 pub mod module_laws;
+pub mod net_refusal;
 pub mod netplay;
 pub mod operation;
 pub mod order;
+pub mod output_laws;
 pub mod page;
 pub mod picture;
+pub mod place_text;
 pub mod refusal;
+pub mod status;
 pub mod steps;
 pub mod tool_laws;
 pub mod value;
 
 pub use console::{Halt, Import, Input, Sound, TextSource, Tone, Voice};
 pub use editing::EditRefusal;
+pub use film_refusal::FilmRefusal;
 pub use instruction::Instr;
 pub use instruction_table::{IntegerType, Row, Signedness};
 pub use integer::{Binary, Compare, Unary};
+pub use live::LiveOrder;
 pub use memory::OutOfMemory;
 pub use module::{
     Body, Element, Export, ExportKind, FuncType, GlobalEntry, ImportEntry, ImportKind, Locals,
     Module, Segment,
 };
+pub use net_refusal::NetRefusal;
 pub use operation::Op;
 pub use order::Order;
 pub use page::PageBytes;
 pub use picture::Picture;
+pub use place_text::PlaceText;
 pub use refusal::{CartKind, ProfileRefusal};
+pub use status::{RecordingKind, ScriptKind, Status};
 pub use steps::Steps;
 pub use value::{Cause, GlobalType, Limits, Val, ValType};

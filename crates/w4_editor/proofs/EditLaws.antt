@@ -12,9 +12,10 @@ use Rattle.w4_defs.specs.declared.console.Input.{Input}
 use Rattle.w4_defs.specs.State.{State}
 use Rattle.w4_defs.specs.Reset.{Setup}
 use Rattle.w4_defs.specs.Run.{fold}
-use Rattle.w4_defs.specs.Session.{is_kept, unlink_above, moved_up, moved_down, without_double, kept_after_set}
+use Rattle.w4_defs.specs.Session.{is_kept, unlink_above, moved_up, moved_down, stays_after_delete, kept_after_set}
 use Rattle.w4_defs.specs.Session.{kept_after_insert, kept_after_delete}
 use Rattle.w4_defs.specs.KeptList.{Entry, kept_entries, IsConsistent}
+use Rattle.w4_defs.proofs.EditedPlaces.{stay_by_cases}
 use Rattle.w4_editor.proofs.SliceLaws.{before_set, after_set, before_insert, after_insert, before_remove}
 use Rattle.w4_editor.proofs.SliceLaws.{after_remove}
 use Rattle.w4_editor.proofs.ChainLaws.{any, beside, Chain, FromReset, from_reset, consistent_from}
@@ -192,10 +193,10 @@ set_consistent setup disk inputs (x ∷ kept) k input is =
 -- ---- insert
 
 up_stays : (k : ℕ) (x : Entry) → x.place ≤ k → moved_up kept_entries k x ≡ x
-up_stays k x low = ap (λ t. cond t (at_place (x.place + 1) x) x) (le-ltb k x.place low)
+up_stays k x low = ap (λ t. at_place (cond t (x.place + 1) x.place) x) (le-ltb k x.place low)
 
 up_moves : (k : ℕ) (x : Entry) → k < x.place → moved_up kept_entries k x ≡ at_place (x.place + 1) x
-up_moves k x past = ap (λ t. cond t (at_place (x.place + 1) x) x) (lt-ltb k x.place past)
+up_moves k x past = ap (λ t. at_place (cond t (x.place + 1) x.place) x) (lt-ltb k x.place past)
 
 insert_moves : (inputs : List Input) (k : ℕ) (input : Input) → k ≤ length inputs
     → Moves k any inputs (insert inputs k input) (λ p. p + 1) (moved_up kept_entries k)
@@ -229,10 +230,10 @@ abbrev IsApart : ℕ → ℕ → ℕ → Type 0
 IsApart k p q = p ≡ k → q ≢ k + 1
 
 down_stays : (k : ℕ) (x : Entry) → x.place ≤ k → moved_down kept_entries k x ≡ x
-down_stays k x low = ap (λ t. cond t (at_place (x.place - 1) x) x) (le-ltb k x.place low)
+down_stays k x low = ap (λ t. at_place (cond t (x.place - 1) x.place) x) (le-ltb k x.place low)
 
 down_moves : (k : ℕ) (x : Entry) → k < x.place → moved_down kept_entries k x ≡ at_place (x.place - 1) x
-down_moves k x past = ap (λ t. cond t (at_place (x.place - 1) x) x) (lt-ltb k x.place past)
+down_moves k x past = ap (λ t. at_place (cond t (x.place - 1) x.place) x) (lt-ltb k x.place past)
 
 across_removed : (k p q : ℕ) → p ≤ k → k < q → IsApart k p q → p < q - 1
 across_removed k p q low past other = elim (cases_eq p k) [
@@ -337,7 +338,7 @@ length_filtered k (x ∷ kept) =
 -- the first entry stays, and what is left after it
 record Single (k : ℕ) (setup : Setup) (inputs : List Input) (x : Entry)
     (before kept : List Entry) : Type 0 where
-  is : without_double kept_entries k (x ∷ before) ≡ x ∷ kept
+  is : filter (stays_after_delete kept_entries k (x ∷ before)) (x ∷ before) ≡ x ∷ kept
   fewer : length kept ≤ length before
   near : Neighbours (IsApart k) x.place kept
   chain : Chain (beside k) setup inputs x.place x.state kept
@@ -355,7 +356,8 @@ single k setup inputs x before at c = elim (true_or_false (is_kept kept_entries 
       let first : eqb x.place (k + 1) ≡ false = ne_eqb x.place (k + 1) other in (
         filter (not_next k) before,
         record {
-          is = ap (λ t. cond t (filter (not_next k) (x ∷ before)) (x ∷ before)) double
+          is = stay_by_cases kept_entries k (x ∷ before)
+              ∙ ap (λ t. cond t (filter (not_next k) (x ∷ before)) (x ∷ before)) double
               ∙ ap (λ t. cond (not t) (x ∷ filter (not_next k) before) (filter (not_next k) before)) first;
           fewer = length_filtered k before;
           near = none_next k x.place before;
@@ -366,7 +368,8 @@ single k setup inputs x before at c = elim (true_or_false (is_kept kept_entries 
       let parts = or_parts (eqb x.place k) (is_kept kept_entries k before) none in (
         before,
         record {
-          is = ap (λ t. cond t (filter (not_next k) (x ∷ before)) (x ∷ before)) none;
+          is = stay_by_cases kept_entries k (x ∷ before)
+              ∙ ap (λ t. cond t (filter (not_next k) (x ∷ before)) (x ∷ before)) none;
           fewer = omega arith;
           near = none_here k x.place before (eqb-false x.place k parts.0) parts.1;
           chain = c;

@@ -8,6 +8,7 @@ use Rattle.std.proofs.lemmas.List.{get_or-set_same, get_or-set_other, set_past, 
 use Rattle.w4_defs.specs.declared.console.Input.{Input}
 use Rattle.w4_defs.specs.State.{State, HasGlobals}
 use Rattle.w4_defs.specs.Reset.{Setup}
+use Rattle.w4_defs.specs.FramesRun.{RunsAtMost}
 use Rattle.w4_defs.specs.Run.{fold}
 use Rattle.w4_defs.specs.SameState.{same_state}
 use Rattle.w4_defs.proofs.SameStateLaws.{same_state_decides}
@@ -258,14 +259,14 @@ module _ (setup : Setup) (inputs : List Input) (i : ℕ) (kept : List Entry) (st
 
 -- ---- the turns so far
 
--- after the turns up to entry i: the list is true, and settled so far in so many ticks; where all was
+-- after the turns up to entry i: the list is true, and settled so far by so many frames; where all was
 -- linked it is as before
 pub record Progress (setup : Setup) (inputs : List Input) (last : ℕ) (old now : List Entry)
     (i from steps : ℕ) : Type 0 where
   pub true_now : HasTrueLinks setup inputs now
   pub first : kept_entry_at now 0 ≡ kept_entry_at old 0
   pub settled : IsSettled i old now
-  pub ticks : steps ≤ from + doubtful old now i
+  pub frames_run : RunsAtMost from steps (doubtful old now i)
   pub idle : ((j : ℕ) → j ≤ last → linked_at old j ≡ true) → now ≡ old
 
 only_zero : (j : ℕ) → j ≤ 0 → j ≡ 0
@@ -285,7 +286,7 @@ progress_none setup inputs last kept steps t linked = record {
         (same_is_true (state_at kept 0) (state_at kept 0) refl);
     links = λ j lt. refl;
   };
-  ticks = omega arith;
+  frames_run = omega arith;
   idle = λ _. refl;
 }
 
@@ -315,7 +316,7 @@ module _ (setup : Setup) (inputs : List Input) (last : ℕ) (old now : List Entr
   pub progress_on : linked_at now (i + 1) ≡ true → Progress setup inputs last old now (i + 1) from steps
   progress_on link =
       let s = p.settled in
-      let ticks = p.ticks in
+      let counted = p.frames_run in
       let sure : doubtful old now (i + 1) ≡ doubtful old now i + 0 = doubtful_next old now i
       ∙ ap (λ t. doubtful old now i + cond t 0 (place_at old (i + 1) - place_at old i))
       (next_sure ∙ link) in record {
@@ -337,7 +338,7 @@ module _ (setup : Setup) (inputs : List Input) (last : ℕ) (old now : List Entr
               (sym (s.states (i + 1) (omega arith))));
           links = λ j lt. s.links j (omega (arith, lt));
         };
-        ticks = omega (arith, ticks, sure);
+        frames_run = omega (arith, counted, sure);
         idle = p.idle;
       }
 
@@ -377,9 +378,9 @@ module _ (setup : Setup) (inputs : List Input) (last : ℕ) (old now : List Entr
         let other : j ≢ i + 1 = λ e. absurd (omega (arith, lt, e)) in
         states_keep setup inputs i now new (true_change setup inputs i now new c) there p.true_now j other
 
-    ticks_more : more ≤ from + doubtful old new (i + 1)
-    ticks_more =
-        let ticks = p.ticks in
+    frames_more : RunsAtMost from more (doubtful old new (i + 1))
+    frames_more =
+        let counted = p.frames_run in
         let here = p.settled.same.places i in
         let next = p.settled.same.places (i + 1) in
         let before : doubtful old new i ≡ doubtful old now i =
@@ -389,7 +390,7 @@ module _ (setup : Setup) (inputs : List Input) (last : ℕ) (old now : List Entr
         let sum : doubtful old new (i + 1) ≡ doubtful old new i + (place_at old (i + 1) - place_at old i) =
         doubtful_next old new i
         ∙ ap (λ t. doubtful old new i + cond t 0 (place_at old (i + 1) - place_at old i)) sure in
-        omega (arith, ticks, here, next, before, sum, ran)
+        omega (arith, counted, here, next, before, sum, ran)
 
     first_more : kept_entry_at new 0 ≡ kept_entry_at old 0
     first_more = first_keeps setup inputs i now new (true_change setup inputs i now new c) there p.true_now
@@ -411,7 +412,7 @@ module _ (setup : Setup) (inputs : List Input) (last : ℕ) (old now : List Entr
             next = next_more;
             links = links_more;
           };
-          ticks = ticks_more;
+          frames_run = frames_more;
           idle = λ all. absurd (
               let linked : linked_at now (i + 1) ≡ true =
               ap (λ (kept : List Entry). linked_at kept (i + 1)) (p.idle all) ∙ all (i + 1) within in

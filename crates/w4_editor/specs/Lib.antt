@@ -3,3 +3,4 @@ pub mod Playing
 pub mod Settling
 pub mod Editing
 pub mod Showing
+pub mod Lending

@@ -1,8 +1,9 @@
 -- What showing, stepping, keeping and settling do to an editor.
-use Rattle.std.specs.Prelude.{◌≡◌, ℕ, ◌+◌, ◌-◌, ◌≤◌, ◌<◌, ◌⊎◌, false, length, Option, Some, None, option_map}
+use Rattle.std.specs.Prelude.{◌≡◌, ℕ, ◌+◌, ◌-◌, ◌<◌, ◌⊎◌, false, length, Option, Some, None, option_map}
 use Rattle.std.specs.Prelude.{Ok}
 use Rattle.w4_defs.specs.declared.editing.EditRefusal.{EditRefusal}
 use Rattle.w4_defs.specs.declared.editing.EditRefusal.TheVariants.{OutOfMemory}
+use Rattle.w4_defs.specs.FramesRun.{RunsAtMost}
 use Rattle.w4_defs.specs.Run.{run, run_state}
 use Rattle.w4_defs.specs.Session.{is_kept, keep}
 use Rattle.w4_defs.specs.State.{State, Moment, FrameRecord}
@@ -29,7 +30,8 @@ pub record IsShown (p ticks_before ticks_after : ℕ) (old new : Editing) : Type
   pub at : new.at ≡ Some p
   pub settled : IsSettled
       (last_up_to p old.session.current.kept) old.session.current.kept new.session.current.kept
-  pub frames : ticks_after ≤ ticks_before + show_frames p old.session.current.kept new.session.current.kept
+  pub frames_run : RunsAtMost ticks_before ticks_after
+      (show_frames p old.session.current.kept new.session.current.kept)
 
 -- no place is shown, or the last one
 abbrev pub IsAtEnd : Editing → Type 0
@@ -50,7 +52,8 @@ pub record IsAllSettled (ticks_before ticks_after : ℕ) (old new : Editing) : T
   pub at : new.at ≡ None
   pub settled : IsSettled
       (length old.session.current.kept - 1) old.session.current.kept new.session.current.kept
-  pub frames : ticks_after ≤ ticks_before + settle_frames old.session.current.kept new.session.current.kept
+  pub frames_run : RunsAtMost ticks_before ticks_after
+      (settle_frames old.session.current.kept new.session.current.kept)
 
 -- all kept states are those of a run from reset
 abbrev pub AreOfRun : Editing → Type 0

@@ -14,10 +14,10 @@ ghost use Rattle.w4_defs.specs.Session.{
   is_kept,
   moved_down,
   moved_up,
+  stays_after_delete,
   unlink_above,
   with_kept,
   without,
-  without_double,
 };
 
 use crate::kept::Kept;
@@ -126,7 +126,7 @@ pub(crate) fn move_down_above(kept: &mut [Kept], k: usize)
 /// Where places `k` and `k + 1` are kept, drops the later one.
 pub(crate) fn drop_double(kept: &mut Vec<Kept>, k: usize)
     requires { k < usize.MAX }
-    ensures { kept.new.items ≡ without_double kept_entries k kept.old.items }
+    ensures { kept.new.items ≡ filter (stays_after_delete kept_entries k kept.old.items) kept.old.items }
 {
     if is_kept(kept.as_slice(), k) {
         drop_all_at(kept, k + 1);

@@ -39,8 +39,7 @@ use w4_map::State;
 /// Showing.
 impl Editor {
     ghost use Rattle.std.specs.Borrow.{sem};
-    ghost use Rattle.std.specs.Io.BufRead.{Rests};
-    ghost use Rattle.w4_editor.specs.contracts.editor.Editor.{the_row};
+    ghost use Rattle.w4_editor.specs.Lending.{LendsShown, LendsStepped};
 
     /// The state at place `p`, which is shown then. Kept places up to it are brought up to date first, where
     /// that is owed; each frame is one tick. Takes no memory where the kept places up to `p` are linked.
@@ -53,11 +52,7 @@ impl Editor {
         p: usize,
         steps: &mut Steps<L>,
     ) -> Result<&State, EditRefusal>
-        ensures* after { sem 𝓛 (Rests the_row self.entry (λ n.
-            OnOk result (IsShown p steps.old steps.new self.old n)
-            × OnErr result (KeepsRecording self.old n)
-            × IfErr result (λ refusal. refusal ≢ NoMemory → (n ≡ self.old) × (steps.new ≡ steps.old))
-            × IfErr result (λ refusal. refusal ≡ NoMemory → n.at ≡ None))) }
+        ensures* frames_run { sem 𝓛 (LendsShown p steps.old steps.new self.entry result) }
         ensures state { IfOk result (λ state. run_state (editing_setup self.old) self.old.disk
             self.old.session.current.inputs p ≡ Some state.now) }
         ensures refused { IfErr result (IsCauseOrMemory (place_refusal p self.old.session.current)) }
@@ -117,9 +112,7 @@ impl Editor {
         made: &mut FrameRecord,
         steps: &mut Steps<L>,
     ) -> Result<&State, EditRefusal>
-        ensures* after { sem 𝓛 (Rests the_row self.entry (λ n.
-            OnOk result (IsStepped (record_of made.new) self.old n)
-            × OnErr result (n ≡ self.old))) }
+        ensures* stepped { sem 𝓛 (LendsStepped (record_of made.new) self.entry result) }
         ensures state { IfOk result (λ state. (p : ℕ) → self.old.at ≡ Some p
             → run_state (editing_setup self.old) self.old.disk self.old.session.current.inputs (p + 1)
             ≡ Some state.now) }

@@ -3,6 +3,7 @@
 ghost use Rattle.std.specs.Prelude.{◌≡◌, ℕ, ◌+◌, ◌-◌, ◌<◌, ◌≤◌, true, IsOk, OnErr, OnOk, length, Some};
 ghost use Rattle.w4_defs.specs.KeptList.{IsSettled, SamePlaces, computed, doubtful, kept_entry_at, linked_at};
 ghost use Rattle.w4_defs.specs.KeptList.{place_at, HasTrueLinks};
+ghost use Rattle.w4_defs.specs.FramesRun.{RunsAtMost};
 ghost use Rattle.w4_defs.specs.State.{HasGlobals};
 ghost use Rattle.w4_editor.specs.Playing.{in_state, setup_of};
 ghost use Rattle.w4_editor.specs.Settling.{AreLinked, IsComputed, StaysConsistent};
@@ -79,7 +80,7 @@ pub(crate) fn settle<L: Ledger>(
     ensures places { SamePlaces kept.old kept.new }
     ensures consistent { StaysConsistent (setup_of player.old) inputs.now kept.old kept.new }
     ensures settled { OnOk result (IsSettled last kept.old kept.new) }
-    ensures ticks { OnOk result (steps.new ≤ steps.old + doubtful kept.old kept.new last) }
+    ensures frames_run { OnOk result (RunsAtMost steps.old steps.new (doubtful kept.old kept.new last)) }
     ensures same { player.new ≡ in_state player.old player.new.state }
     ensures linked { AreLinked last kept.old → IsOk result }
 {

@@ -6,6 +6,7 @@ ghost use Rattle.w4_console.specs.ConsoleCalls.{moment};
 ghost use Rattle.w4_defs.specs.KeptList.{IsSettled, SamePlaces, kept_entries, last_up_to, linked_at};
 ghost use Rattle.w4_defs.specs.KeptList.{HasTrueLinks};
 ghost use Rattle.w4_defs.specs.KeptList.{place_at, relinked_at, replaced_at, settle_frames, show_frames};
+ghost use Rattle.w4_defs.specs.FramesRun.{RunsAtMost};
 ghost use Rattle.w4_defs.specs.State.{HasGlobals};
 ghost use Rattle.w4_defs.specs.Session.{keep_refusal, with_kept};
 ghost use Rattle.w4_editor.specs.Playing.{in_state, setup_of};
@@ -46,7 +47,8 @@ pub(crate) fn show<L: Ledger>(
     ensures settled { OnOk result (IsSettled (last_up_to p kept.old.items) kept.old.items kept.new.items) }
     ensures state { OnOk result
         (IsOfRun (setup_of player.old) recording.now.frames kept.old.items p player.new.state) }
-    ensures ticks { OnOk result (steps.new ≤ steps.old + show_frames p kept.old.items kept.new.items) }
+    ensures frames_run { OnOk result
+        (RunsAtMost steps.old steps.new (show_frames p kept.old.items kept.new.items)) }
     ensures same { player.new ≡ in_state player.old player.new.state }
     ensures linked { AreLinked (last_up_to p kept.old.items) kept.old.items → IsOk result }
 {
@@ -69,7 +71,8 @@ pub(crate) fn settle_all<L: Ledger>(
         kept.old.items kept.new.items }
     ensures places { SamePlaces kept.old.items kept.new.items }
     ensures settled { OnOk result (IsSettled (length kept.old.items - 1) kept.old.items kept.new.items) }
-    ensures ticks { OnOk result (steps.new ≤ steps.old + settle_frames kept.old.items kept.new.items) }
+    ensures frames_run { OnOk result
+        (RunsAtMost steps.old steps.new (settle_frames kept.old.items kept.new.items)) }
     ensures same { player.new ≡ in_state player.old player.new.state }
     ensures linked { AreLinked (length kept.old.items - 1) kept.old.items → IsOk result }
 {
@@ -96,7 +99,7 @@ fn show_place<L: Ledger>(
     ensures places { SamePlaces kept.old kept.new }
     ensures settled { OnOk result (IsSettled (last_up_to p kept.old) kept.old kept.new) }
     ensures state { OnOk result (IsOfRun (setup_of player.old) inputs.now kept.old p player.new.state) }
-    ensures ticks { OnOk result (steps.new ≤ steps.old + show_frames p kept.old kept.new) }
+    ensures frames_run { OnOk result (RunsAtMost steps.old steps.new (show_frames p kept.old kept.new)) }
     ensures same { player.new ≡ in_state player.old player.new.state }
     ensures linked { AreLinked (last_up_to p kept.old) kept.old → IsOk result }
 {

@@ -2,7 +2,7 @@
 use Rattle.std.proofs.Common.{◌≡◌, ◌≤◌, ℕ, ◌+◌, List, ◌++◌, take, length, Option, Some, refl, sym, ◌∙◌, ap, append_assoc, append-nil, drop, arith}
 use Rattle.std.proofs.Math.Seq.{take-append-add, take-append_seam, take-length}
 use Rattle.std.proofs.lemmas.List.{take-append-drop}
-use Rattle.w4_house.specs.World.{Files, World, Rises, Appends, AppendsFront, OpensOnly, LeavesReading, LeavesPrinting, LeavesReporting, LeavesSaving}
+use Rattle.w4_defs.specs.World.{Files, World, Rises, Appends, AppendsFront, OpensOnly, LeavesReading, LeavesPrinting, LeavesReporting, LeavesSaving}
 
 -- Where the files are unchanged, all but one are.
 pub opens_none : (old new : Option Files) (name : List ℕ) → new ≡ old → OpensOnly old new name

@@ -1,6 +1,6 @@
 -- What the house of the running program tells: no content, and its counts alone.
 use Rattle.std.specs.Prelude.{ℕ, Result, is_ok, None, if◌then◌else◌}
-use Rattle.w4_house.specs.World.{World, raised}
+use Rattle.w4_defs.specs.World.{World, raised}
 use Rattle.w4_house.specs.declared.real.RealHouse.{RealHouse}
 
 abbrev pub real_world : {R F D O E : Type 0} → RealHouse R F D O E → World

@@ -1,7 +1,7 @@
 -- What the two houses in memory tell.
 use Rattle.std.specs.Prelude.{◌≡◌, ℕ, List, Bool, ◌==◌, Some, if◌then◌else◌}
 use Rattle.std.specs.List.{list_any}
-use Rattle.w4_house.specs.World.{Files, World, raised}
+use Rattle.w4_defs.specs.World.{Files, World, raised}
 use Rattle.w4_house.specs.Stored.{stored_files}
 use Rattle.w4_house.specs.declared.sure.SureHouse.{SureHouse}
 use Rattle.w4_house.specs.declared.memory.MemoryHouse.{MemoryHouse}

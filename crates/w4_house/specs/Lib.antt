@@ -1,4 +1,3 @@
-pub mod World
 pub mod Stored
 pub mod InMemory
 pub mod Edge

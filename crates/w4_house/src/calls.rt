@@ -3,7 +3,7 @@
 ghost use Rattle.std.specs.Prelude.{◌≡◌, ◌≤◌, List, Some, length, IfOk, OnOk, OnErr, IsErrOf, ⊤};
 ghost use Rattle.std.specs.Option.{ForSome};
 ghost use Rattle.std.specs.FinMap.{get};
-ghost use Rattle.w4_house.specs.World.{
+ghost use Rattle.w4_defs.specs.World.{
   World,
   Rises,
   front_of,

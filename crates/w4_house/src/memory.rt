@@ -21,7 +21,7 @@ ghost use Rattle.std.specs.Prelude.{
   option_copied,
 };
 ghost use Rattle.std.specs.List.{list_any};
-ghost use Rattle.w4_house.specs.World.{raised};
+ghost use Rattle.w4_defs.specs.World.{raised};
 
 use crate::calls::{House, HouseFault, WriteRefusal};
 use crate::sure::SureHouse;
@@ -44,7 +44,7 @@ pub struct MemoryHouse {
 
 impl MemoryHouse {
     ghost use Rattle.std.specs.FinMap.{get, empty};
-    ghost use Rattle.w4_house.specs.World.{Puts, OnlyFiles, SameWorld};
+    ghost use Rattle.w4_defs.specs.World.{Puts, OnlyFiles, SameWorld};
     ghost use Rattle.w4_house.specs.InMemory.{failing_calls, last_call, memory_files, memory_world};
 
     /// A house with no files and nothing written, in which no call is to fail.
@@ -123,7 +123,7 @@ fn is_failing(calls: &mut u64, failing: &[u64]) -> bool
 
 impl House for MemoryHouse {
     ghost use Rattle.std.specs.Option.{ForSome};
-    ghost use Rattle.w4_house.specs.World.{
+    ghost use Rattle.w4_defs.specs.World.{
       Rises,
       front_of,
       LacksFile,

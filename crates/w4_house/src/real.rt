@@ -122,7 +122,7 @@ fn read_file<R: Files>(
 
 impl<'a, R: Files, O: Write + Drop, E: Write + Drop> House for RealHouse<'a, R, O, E> {
     ghost use Rattle.std.specs.Io.KnownBytes as known;
-    ghost use Rattle.w4_house.specs.World.{
+    ghost use Rattle.w4_defs.specs.World.{
       Rises,
       front_of,
       LacksFile,

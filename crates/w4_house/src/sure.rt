@@ -19,7 +19,7 @@ pub struct SureHouse {
 
 impl SureHouse {
     ghost use Rattle.std.specs.FinMap.{get, empty};
-    ghost use Rattle.w4_house.specs.World.{Files, Puts, OnlyFiles};
+    ghost use Rattle.w4_defs.specs.World.{Files, Puts, OnlyFiles};
     ghost use Rattle.w4_house.specs.InMemory.{sure_files, sure_world};
 
     /// A house with no files and nothing written.

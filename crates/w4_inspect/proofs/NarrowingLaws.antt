@@ -1,23 +1,62 @@
 -- What a search has left after any number of narrowings.
-use Rattle.std.proofs.Common.{◌≡◌, List, [], ◌∷◌, map, ap, sym, ◌∙◌, subst, refl}
+use Rattle.std.proofs.Common.{◌≡◌, ℕ, List, [], ◌∷◌, map, Option, Some, None, option_map, ap, sym, ◌∙◌, subst, refl}
 use Rattle.std.specs.Prelude.{fold}
 use Rattle.std.specs.List.Sorted.{IsStrictlyIncreasing}
-use Rattle.w4_defs.specs.Search.{Search, begin, narrow}
+use Rattle.w4_defs.specs.AllThere.{all_some}
+use Rattle.w4_defs.specs.Search.{Search, Step, begin, narrow, remaining}
+use Rattle.w4_defs.proofs.OptionLaws.{some_same}
 use Rattle.w4_defs.proofs.SearchLaws.{left_is_narrowed, left_rises}
 use Rattle.w4_inspect.specs.Narrowings.{Narrowing, search_step, narrowed, FoundIsRemaining, FoundRises}
 
+nothing_left : (narrowings : List Narrowing) → fold narrowed None narrowings ≡ None
+nothing_left [] = refl
+nothing_left (narrowing ∷ narrowings) = nothing_left narrowings
+
 -- narrowings are steps with the pages of these calls
+abbrev stepped : Search → Option (List Step) → Option Search
+stepped search steps = option_map (fold narrow search) steps
+
+step_before : (search : Search) (step : Step) (steps : Option (List Step))
+    → stepped (narrow search step) steps ≡ stepped search (option_map (λ more. step ∷ more) steps)
+step_before search step None = refl
+step_before search step (Some steps) = refl
+
+one_step : (search : Search) (step : Option Step) (narrowings : List Narrowing)
+    → ((next : Search) → fold narrowed (Some next) narrowings
+    ≡ stepped next (all_some (map search_step narrowings)))
+    → fold narrowed (option_map (narrow search) step) narrowings
+    ≡ stepped search (all_some (step ∷ map search_step narrowings))
+one_step search None narrowings rest = nothing_left narrowings
+one_step search (Some step) narrowings rest =
+    rest (narrow search step) ∙ step_before search step (all_some (map search_step narrowings))
+
 narrowed_by_steps : (search : Search) (narrowings : List Narrowing)
-    → fold narrowed search narrowings ≡ fold narrow search (map search_step narrowings)
+    → fold narrowed (Some search) narrowings ≡ stepped search (all_some (map search_step narrowings))
 narrowed_by_steps search [] = refl
-narrowed_by_steps search (narrowing ∷ narrowings) = narrowed_by_steps (narrowed search narrowing) narrowings
+narrowed_by_steps search (narrowing ∷ narrowings) =
+    one_step search (search_step narrowing) narrowings (λ next. narrowed_by_steps next narrowings)
+
+found_by_steps : (width : ℕ) (page : List ℕ) (steps : Option (List Step))
+    → option_map (λ (search : Search). search.candidates) (stepped (begin width page) steps)
+    ≡ option_map (remaining width page) steps
+found_by_steps width page None = refl
+found_by_steps width page (Some steps) = ap Some (left_is_narrowed width page steps)
 
 pub found_is_remaining : FoundIsRemaining
 found_is_remaining width page narrowings =
-    ap (λ (search : Search). search.candidates) (narrowed_by_steps (begin width page) narrowings)
-    ∙ left_is_narrowed width page (map search_step narrowings)
+    ap (λ found. option_map (λ (search : Search). search.candidates) found)
+    (narrowed_by_steps (begin width page) narrowings)
+    ∙ found_by_steps width page (all_some (map search_step narrowings))
+
+steps_rise : (width : ℕ) (page : List ℕ) (steps : Option (List Step)) (search : Search)
+    → stepped (begin width page) steps ≡ Some search → IsStrictlyIncreasing search.candidates
+steps_rise width page None search is = absurd cc
+steps_rise width page (Some steps) search is =
+    let found = ap (λ (s : Search). s.candidates)
+    (some_same (fold narrow (begin width page) steps) search is) in
+    subst IsStrictlyIncreasing (sym (left_is_narrowed width page steps) ∙ found) (left_rises width page steps)
 
 pub found_rises : FoundRises
-found_rises width page narrowings =
-    subst IsStrictlyIncreasing (sym (found_is_remaining width page narrowings))
-    (left_rises width page (map search_step narrowings))
+found_rises width page narrowings search is =
+    steps_rise width page (all_some (map search_step narrowings)) search
+    (sym (narrowed_by_steps (begin width page) narrowings) ∙ is)

@@ -1,15 +1,16 @@
 -- The pages of an editor whose recording stays.
-use Rattle.std.proofs.Common.{◌≡◌, ℕ, List, Option, ap, ◌∙◌}
+use Rattle.std.proofs.Common.{◌≡◌, ℕ, List, Option, Some, option_map, ap, sym, ◌∙◌}
 use Rattle.w4_defs.specs.declared.console.Input.{Input}
 use Rattle.w4_defs.specs.Reset.{Setup}
-use Rattle.w4_defs.specs.Run.{run_state}
+use Rattle.w4_defs.specs.Run.{run_page, run_state}
+use Rattle.w4_defs.specs.State.{State}
 use Rattle.w4_editor.specs.Editing.{Editing, editing_setup, with_session}
 use Rattle.w4_editor.specs.Showing.{KeepsRecording}
-use Rattle.w4_inspect.specs.Pages.{page_of, page_at}
+use Rattle.w4_inspect.specs.Pages.{page_at}
 use Rattle.w4_inspect.specs.Watching.{value_at}
 
-abbrev pages : Setup → List ℕ → List Input → ℕ → List ℕ
-pages setup disk inputs p = page_of (run_state setup disk inputs p)
+abbrev pages : Setup → List ℕ → List Input → ℕ → Option (List ℕ)
+pages setup disk inputs p = run_page setup disk inputs p
 
 -- whatever places were shown or brought up to date between
 pub same_pages : (old new : Editing) → KeepsRecording old new → page_at new ≡ page_at old
@@ -17,11 +18,18 @@ same_pages old new keeps =
     ap (λ e. pages (editing_setup e) e.disk new.session.current.inputs) keeps.same
     ∙ ap (pages (editing_setup old) old.disk) keeps.inputs
 
+-- what is made of the page of a state that is shown
+pub of_page : {A : Type 0} (e : Editing) (p : ℕ) (state : State) (make : List ℕ → A) (made : A)
+    → run_state (editing_setup e) e.disk e.session.current.inputs p ≡ Some state → made ≡ make state.page
+    → option_map make (page_at e p) ≡ Some made
+of_page e p state make made shown is =
+    ap (λ (s : Option State). option_map make (option_map (λ (x : State). x.page) s)) shown ∙ ap Some (sym is)
+
 -- a value that is read when another place is shown
 pub moved_value : (e moved : Editing) (at : Option ℕ) (x address width p : ℕ)
-    → moved ≡ with_session e e.session at → x ≡ value_at moved address width p
-    → x ≡ value_at e address width p
-moved_value e moved at x address width p is value = value ∙ ap (λ m. value_at m address width p) is
+    → moved ≡ with_session e e.session at → value_at moved address width p ≡ Some x
+    → value_at e address width p ≡ Some x
+moved_value e moved at x address width p is value = ap (λ m. value_at m address width p) (sym is) ∙ value
 
 -- and yet another place
 pub moved_on : (e moved new : Editing) (at next : Option ℕ) → moved ≡ with_session e e.session at

@@ -2,7 +2,8 @@
 
 ghost use Rattle.std.specs.Prelude.{◌≡◌, IfErr, IfOk, IfSome, Ok};
 ghost use Rattle.std.specs.List.{All};
-ghost use Rattle.w4_defs.specs.RamQuery.{ask_named, ask_of, decimal_width, is_words, query_of, start_words, test_words, watch_words};
+ghost use Rattle.w4_defs.specs.OrderFile.{order_named};
+ghost use Rattle.w4_defs.specs.RamQuery.{ask_of, decimal_width, is_words, query_of, query_rows, start_words, test_words, watch_words};
 ghost use Rattle.w4_inspect.specs.Requests.{IsRequest};
 ghost use Rattle.w4_inspect.specs.Widths.{IsWidth};
 ghost use Rattle.w4_script.specs.Left.{words_left};
@@ -88,9 +89,9 @@ fn ask_of(mut words: Words<'_>) -> Option<Ask>
 }
 
 /// The request of this name, with the words after it.
-#[tactic(auto, unfolding(w4_defs::specs::RamQuery::ask_named))]
+#[tactic(auto, unfolding(w4_defs::specs::RamQuery::query_rows))]
 fn ask_named(name: &[u8], words: Words<'_>) -> Option<Ask>
-    ensures ask { result ≡ ask_named name.now (words_left words.entry) }
+    ensures ask { result ≡ order_named query_rows name.now (words_left words.entry) }
     ensures fits { IfSome result IsRequest }
 {
     if name == b"watch".as_slice() {

@@ -1,6 +1,6 @@
 //! Searches over the places of a recording.
 
-ghost use Rattle.std.specs.Prelude.{◌≡◌, ◌≢◌, ◌≤◌, IfErr, IfOk, None, OnErr, OnOk, length};
+ghost use Rattle.std.specs.Prelude.{◌≡◌, ◌≢◌, ◌≤◌, IfErr, IfOk, None, OnErr, OnOk, Some, length, option_map};
 ghost use Rattle.w4_defs.specs.Search.{begin, narrow};
 ghost use Rattle.w4_editor.specs.Showing.{IsShown, KeepsRecording};
 ghost use Rattle.w4_inspect.specs.Pages.{page_at};
@@ -29,7 +29,8 @@ impl Search {
         steps: &mut Steps<L>,
     ) -> Result<Search, RamRefusal>
         requires { IsWidth width }
-        ensures begun { IfOk result (λ search. search ≡ begin width (page_at editor.old p)) }
+        ensures begun { IfOk result (λ search.
+            option_map (begin width) (page_at editor.old p) ≡ Some search) }
         ensures shown { OnOk result (IsShown p steps.old steps.new editor.old editor.new) }
         ensures accepted { OnOk result (no_frame_refusal editor.old p ≡ None) }
         ensures refused { IfErr result (IsRefusal (no_frame_refusal editor.old p)) }
@@ -54,7 +55,8 @@ impl Search {
         test: Test,
         steps: &mut Steps<L>,
     ) -> Result<(), RamRefusal>
-        ensures narrowed { OnOk result (self.new ≡ narrow self.old (page_at editor.old p, test)) }
+        ensures narrowed { OnOk result (option_map (λ page. narrow self.old (page, test))
+            (page_at editor.old p) ≡ Some self.new) }
         ensures shown { OnOk result (IsShown p steps.old steps.new editor.old editor.new) }
         ensures accepted { OnOk result (no_frame_refusal editor.old p ≡ None) }
         ensures refused { IfErr result (IsRefusal (no_frame_refusal editor.old p)) }
@@ -80,7 +82,7 @@ fn begin_at<L: Ledger>(
 ) -> Result<Search, OutOfMemory>
     requires width { IsWidth width }
     requires place { p ≤ length editor.old.session.current.inputs }
-    ensures begun { IfOk result (λ search. search ≡ begin width (page_at editor.old p)) }
+    ensures begun { IfOk result (λ search. option_map (begin width) (page_at editor.old p) ≡ Some search) }
     ensures shown { OnOk result (IsShown p steps.old steps.new editor.old editor.new) }
     ensures err { OnErr result (KeepsRecording editor.old editor.new) }
 {
@@ -100,7 +102,8 @@ fn narrow_at<L: Ledger>(
     steps: &mut Steps<L>,
 ) -> Result<(), OutOfMemory>
     requires { p ≤ length editor.old.session.current.inputs }
-    ensures narrowed { OnOk result (search.new ≡ narrow search.old (page_at editor.old p, test)) }
+    ensures narrowed { OnOk result (option_map (λ page. narrow search.old (page, test))
+        (page_at editor.old p) ≡ Some search.new) }
     ensures shown { OnOk result (IsShown p steps.old steps.new editor.old editor.new) }
     ensures same { OnErr result (search.new ≡ search.old) }
     ensures err { OnErr result (KeepsRecording editor.old editor.new) }

@@ -1,7 +1,8 @@
 //! The values at an address, over places of a recording.
 
-ghost use Rattle.std.specs.Prelude.{◌≡◌, ◌≢◌, ◌+◌, ◌-◌, ◌<◌, ◌≤◌, ◌++◌, IfErr, IfOk, None, OnErr, OnOk, Some, length, map};
+ghost use Rattle.std.specs.Prelude.{◌≡◌, ◌≢◌, ◌+◌, ◌-◌, ◌<◌, ◌≤◌, IfErr, IfOk, None, OnErr, OnOk, Some, length, map};
 ghost use Rattle.std.specs.List.{range_with_len};
+ghost use Rattle.w4_defs.specs.AllThere.{all_some, joined};
 ghost use Rattle.w4_defs.specs.Bytes.{number_at};
 ghost use Rattle.w4_editor.specs.Editing.{with_session};
 ghost use Rattle.w4_editor.specs.Showing.{IsShown, KeepsRecording};
@@ -45,7 +46,7 @@ pub fn watch<L: Ledger>(
 ) -> Result<Vec<u32>, RamRefusal>
     requires width { IsWidth width }
     requires order { a ≤ b }
-    ensures values { IfOk result (λ values. values.items ≡ watched editor.old address width a b) }
+    ensures values { IfOk result (λ values. watched editor.old address width a b ≡ Some values.items) }
     ensures shown { OnOk result (IsWatched a b steps.old steps.new editor.old editor.new) }
     ensures accepted { OnOk result (watch_refusal editor.old address width b ≡ None) }
     ensures refused { IfErr result (IsRefusal (watch_refusal editor.old address width b)) }
@@ -76,7 +77,8 @@ fn values<L: Ledger>(
     requires order { a ≤ b }
     requires place { b ≤ length editor.old.session.current.inputs }
     requires few { b ≤ 36000 }
-    ensures values { IfOk result (λ values. values.items ≡ watched editor.old what.address what.width a b) }
+    ensures values { IfOk result (λ values.
+        watched editor.old what.address what.width a b ≡ Some values.items) }
     ensures shown { OnOk result (IsWatched a b steps.old steps.new editor.old editor.new) }
     ensures err { OnErr result (KeepsRecording editor.old editor.new) }
 {
@@ -100,8 +102,9 @@ fn add_values<L: Ledger>(
     requires at { editor.old.at ≡ Some a }
     requires order { a ≤ b }
     requires place { b ≤ length editor.old.session.current.inputs }
-    ensures values { OnOk result (values.new.items ≡ values.old.items
-        ++ map (value_at editor.old what.address what.width) (range_with_len (a + 1) (b - a))) }
+    ensures values { OnOk result (joined (Some values.old.items)
+        (all_some (map (value_at editor.old what.address what.width) (range_with_len (a + 1) (b - a))))
+        ≡ Some values.new.items) }
     ensures same { OnOk result (editor.new ≡ with_session editor.old editor.old.session (Some b)) }
     ensures ticks { OnOk result (steps.new ≡ steps.old + (b - a)) }
     ensures err { OnErr result (KeepsRecording editor.old editor.new) }
@@ -124,7 +127,7 @@ fn shown_value<L: Ledger>(
 ) -> Result<u32, OutOfMemory>
     requires what { IsInPage what.address what.width }
     requires place { p ≤ length editor.old.session.current.inputs }
-    ensures value { IfOk result (λ value. value ≡ value_at editor.old what.address what.width p) }
+    ensures value { IfOk result (λ value. value_at editor.old what.address what.width p ≡ Some value) }
     ensures shown { OnOk result (IsShown p steps.old steps.new editor.old editor.new) }
     ensures err { OnErr result (KeepsRecording editor.old editor.new) }
 {
@@ -145,7 +148,7 @@ fn next_value<L: Ledger>(
     requires what { IsInPage what.address what.width }
     requires at { editor.old.at ≡ Some p }
     requires place { p < length editor.old.session.current.inputs }
-    ensures value { result ≡ value_at editor.old what.address what.width (p + 1) }
+    ensures value { value_at editor.old what.address what.width (p + 1) ≡ Some result }
     ensures same { editor.new ≡ with_session editor.old editor.old.session (Some (p + 1)) }
     ensures ticks { steps.new ≡ steps.old + 1 }
 {

@@ -130,7 +130,7 @@ links_set right k old now wrong is = record {
 
 stays-below : (n : ℕ) (x : Entry) → x.place ≤ n → moved_up kept_entries n x ≡ x
 stays-below n x low =
-    ap (λ t. cond t (kept_entries.at (x.place + 1) x) x) (le-ltb n x.place low)
+    ap (λ t. kept_entries.at (cond t (x.place + 1) x.place) x) (le-ltb n x.place low)
 
 pub inserted_last : (n : ℕ) (kept : List Entry) → ((i : ℕ) → i < length kept → place_at kept i ≤ n)
     → kept_after_insert kept_entries n kept ≡ kept

@@ -18,8 +18,8 @@ use Rattle.w4_editor.specs.Editing.{Editing, editing_setup, with_session}
 use Rattle.w4_editor.specs.Settling.{linked_entry}
 use Rattle.w4_editor.specs.Showing.{IsShown, IsKeptAt, IsPut, IsCauseOrMemory, KeepsRecording}
 use Rattle.w4_netplay.specs.Bound.{rollback_frames}
-use Rattle.w4_netplay.specs.declared.refusal.NetRefusal.{NetRefusal}
-use Rattle.w4_netplay.specs.declared.refusal.NetRefusal.TheVariants as net
+use Rattle.w4_defs.specs.declared.net_refusal.NetRefusal.{NetRefusal}
+use Rattle.w4_defs.specs.declared.net_refusal.NetRefusal.TheVariants as net
 use Rattle.w4_netplay.specs.Pads.{known_in}
 use Rattle.w4_netplay.specs.Refusals.{edit_refusal}
 use Rattle.w4_netplay.specs.Replicas.{Netplay, IsReplica, IsNetRefusal, KeepsNetplay, ShowsPlace, KeepsPlace, known_of, places_kept, prediction, predicted_draft}
@@ -124,11 +124,11 @@ module _ (old mid : Netplay) (rolled : IsRolled old mid) (after_it : Editing) wh
       → ShowsPlace p before after old shown
   shows_place p before after is =
       let bound = within_bound p in
-      let ticks = is.frames in record {
+      let counted = is.frames_run in record {
         netplay = still_keeps is.recording;
         inputs = is.recording.inputs ∙ rolled.inputs;
         at = is.at;
-        ticks = omega (arith, bound, ticks);
+        frames_run = omega (arith, bound, counted);
       }
 
 -- ---- what is asked of the editor is what is asked of the prediction

@@ -1,13 +1,16 @@
 -- How many frames a showing may run (project rule): as in the editor, where a segment counts as doubtful also
 -- if it holds an input that isn't the predicted one.
-use Rattle.std.specs.Prelude.{ℕ, ◌==◌, ◌&&◌, Bool, List, [], ◌∷◌}
+use Rattle.std.specs.Prelude.{◌≡◌, ℕ, ◌==◌, ◌&&◌, Bool, true, false, List, [], ◌∷◌, map, pos, refl}
 use lib.Pointwise.{pointwise}
 use Rattle.std.specs.Bool.{beq}
 use Rattle.std.specs.List.{slice_range}
 use Rattle.std.specs.Ordering.{int_eq}
 use Rattle.std.specs.Str.{bytes_eq}
 use Rattle.w4_defs.specs.declared.console.Input.{Input}
-use Rattle.w4_defs.specs.KeptList.{Entry, show_frames}
+use Rattle.w4_defs.specs.declared.console.Halt.TheVariants.{Running}
+use Rattle.w4_defs.specs.KeptList.{Entry, doubtful, show_frames}
+use Rattle.w4_defs.specs.SameState.{same_state}
+use Rattle.w4_defs.specs.Tones.{silent}
 
 abbrev pub same_input : Input → Input → Bool
 same_input a b =
@@ -33,3 +36,43 @@ rolled_back old new kept = rolled_from old new 0 kept
 -- inputs, and the kept list that is left
 abbrev pub rollback_frames : ℕ → List Input → List Input → List Entry → List Entry → ℕ
 rollback_frames p inputs predicted old new = show_frames p (rolled_back inputs predicted old) new
+
+-- ---- worked cases
+
+-- an input with these bits of gamepad 1
+abbrev pressed : ℕ → Input
+pressed bits =
+    record { pads = bits ∷ 0 ∷ 0 ∷ 0 ∷ []; mouse_x = pos 0; mouse_y = pos 0; buttons = 0; reset = false }
+
+-- an entry; states are told apart by their disks
+abbrev entry : ℕ → ℕ → Bool → Entry
+entry place n linked = record {
+  place = place;
+  state = record { page = []; globals = []; channels = silent; disk = n ∷ []; halt = Running };
+  linked = linked;
+}
+
+-- Five inputs and the kept places 0, 2 and 4, all linked. If nothing is predicted otherwise, place 5 is shown
+-- by the one frame after place 4. If input 1 is, the two frames up to place 2 are run again; where the same
+-- state is found there, the two up to place 4 aren't, and where another one is, they are. Input 3 is in the
+-- second segment alone, input 4 in none. A place is shown by no frame where it is kept and all is as it was.
+abbrev pub RollbackFrameCases : Type 0
+RollbackFrameCases =
+    let inputs = map pressed (1 ∷ 2 ∷ 3 ∷ 4 ∷ 5 ∷ []) in
+    let kept = entry 0 0 true ∷ entry 2 1 true ∷ entry 4 2 true ∷ [] in
+    let other = entry 0 0 true ∷ entry 2 5 true ∷ entry 4 6 true ∷ [] in
+    (rollback_frames 5 inputs inputs kept kept ≡ 1)
+    × (rollback_frames 4 inputs inputs kept kept ≡ 0)
+    × (rollback_frames 5 inputs (map pressed (1 ∷ 9 ∷ 3 ∷ 4 ∷ 5 ∷ [])) kept kept ≡ 3)
+    × (rollback_frames 5 inputs (map pressed (1 ∷ 9 ∷ 3 ∷ 4 ∷ 5 ∷ [])) kept other ≡ 5)
+    × (rollback_frames 3 inputs (map pressed (1 ∷ 9 ∷ 3 ∷ 4 ∷ 5 ∷ [])) kept kept ≡ 3)
+    × (rollback_frames 5 inputs (map pressed (1 ∷ 2 ∷ 3 ∷ 9 ∷ 5 ∷ [])) kept kept ≡ 3)
+    × (rollback_frames 2 inputs (map pressed (1 ∷ 2 ∷ 3 ∷ 9 ∷ 5 ∷ [])) kept kept ≡ 0)
+    × (rollback_frames 5 inputs (map pressed (1 ∷ 2 ∷ 3 ∷ 4 ∷ 9 ∷ [])) kept kept ≡ 1)
+    -- an input more, and a segment that wasn't linked before
+    × (rollback_frames 6 inputs (map pressed (1 ∷ 2 ∷ 3 ∷ 4 ∷ 5 ∷ 6 ∷ [])) kept kept ≡ 2)
+    × (rollback_frames 5 inputs inputs (entry 0 0 true ∷ entry 2 1 false ∷ entry 4 2 true ∷ []) kept ≡ 3)
+
+pub rollback-frame-cases : RollbackFrameCases
+unfolding same_state doubtful rolled_from
+rollback-frame-cases = (refl, refl, refl, refl, refl, refl, refl, refl, refl, refl)

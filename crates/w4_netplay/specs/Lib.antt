@@ -4,4 +4,5 @@ pub mod Refusals
 pub mod LogLines
 pub mod Bound
 pub mod Replicas
+pub mod Lending
 pub mod Rolling

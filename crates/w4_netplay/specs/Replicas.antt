@@ -1,13 +1,14 @@
 -- What a replica is seen as, and what its calls leave.
-use Rattle.std.specs.Prelude.{◌≡◌, ℕ, ◌+◌, ◌≤◌, List, Option, Some, length}
+use Rattle.std.specs.Prelude.{◌≡◌, ℕ, ◌≤◌, List, Option, Some, length}
 use Rattle.w4_defs.specs.declared.console.Input.{Input}
 use Rattle.w4_defs.specs.declared.editing.EditRefusal.{EditRefusal}
+use Rattle.w4_defs.specs.FramesRun.{RunsAtMost}
 use Rattle.w4_defs.specs.KeptList.{places_of}
 use Rattle.w4_defs.specs.Rollback.{Known, net_inputs}
 use Rattle.w4_defs.specs.Session.{Draft, places_alone, with_kept}
 use Rattle.w4_editor.specs.Editing.{Editing, with_session}
 use Rattle.w4_editor.specs.Showing.{IsPut, IsCauseOrMemory}
-use Rattle.w4_netplay.specs.declared.refusal.NetRefusal.{NetRefusal}
+use Rattle.w4_defs.specs.declared.net_refusal.NetRefusal.{NetRefusal}
 use Rattle.w4_netplay.specs.Bound.{rollback_frames}
 use Rattle.w4_netplay.specs.Pads.{known_in}
 use Rattle.w4_netplay.specs.Refusals.{edit_refusal}
@@ -56,8 +57,9 @@ pub record ShowsPlace (p before after : ℕ) (old new : Netplay) : Type 0 where
   pub netplay : KeepsNetplay old new
   pub inputs : new.editor.session.current.inputs ≡ prediction old
   pub at : new.editor.at ≡ Some p
-  pub ticks : after ≤ before + rollback_frames p old.editor.session.current.inputs (prediction old)
-      old.editor.session.current.kept new.editor.session.current.kept
+  pub frames_run : RunsAtMost before after
+      (rollback_frames p old.editor.session.current.inputs (prediction old)
+      old.editor.session.current.kept new.editor.session.current.kept)
 
 -- place P is shown, and then kept with the state of the run
 pub record KeepsPlace (p before after : ℕ) (old new : Netplay) : Type 0 where

@@ -4,13 +4,13 @@
 //! so, and on a shown state being that of a run from reset of the predicted inputs.
 #![tactic(auto)]
 
+pub mod laws;
 mod net_order;
 mod pads;
-pub mod refusal;
 pub mod replica;
 mod rollback;
 
 pub use net_order::read_log;
-pub use refusal::NetRefusal;
 pub use replica::Replica;
+pub use w4_defs::NetRefusal;
 pub use w4_defs::netplay::{NetOrder, Packet};

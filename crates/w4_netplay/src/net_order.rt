@@ -1,7 +1,8 @@
 //! The orders of a log, each read from a line's words.
 
 ghost use Rattle.std.specs.Prelude.{◌≡◌, IfErr, IfOk, Ok, map, option_map};
-ghost use Rattle.w4_defs.specs.NetLog.{net_log_of, net_order_named, net_order_of, packet_words};
+ghost use Rattle.w4_defs.specs.NetLog.{log_rows, net_log_of, net_order_of, packet_words};
+ghost use Rattle.w4_defs.specs.OrderFile.{order_named};
 ghost use Rattle.w4_defs.specs.declared.netplay.NetOrder.TheVariants.{Pad};
 ghost use Rattle.w4_script.specs.Left.{words_left};
 ghost use Rattle.w4_script.specs.Refuses.{Refuses};
@@ -30,9 +31,9 @@ fn packet(mut words: Words<'_>) -> Option<Packet>
 }
 
 /// The order of this name, with the words after it.
-#[tactic(auto, unfolding(w4_defs::specs::NetLog::net_order_named))]
+#[tactic(auto, unfolding(w4_defs::specs::NetLog::log_rows))]
 fn order_named(name: &[u8], words: Words<'_>) -> Option<NetOrder>
-    ensures { result ≡ net_order_named name.now (words_left words.entry) }
+    ensures { result ≡ order_named log_rows name.now (words_left words.entry) }
 {
     if name == b"pad".as_slice() {
         packet(words).map(|packet| NetOrder::Pad { packet })

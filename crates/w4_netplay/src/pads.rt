@@ -3,11 +3,11 @@
 ghost use Rattle.std.specs.Prelude.{◌≡◌, ◌<◌, IfOk, Some, length, slice_set, true};
 ghost use Rattle.w4_defs.specs.Rollback.{conflict, is_accepted, learned, net_input, nothing_known};
 ghost use Rattle.w4_netplay.specs.Pads.{known_in, pads_before};
-ghost use Rattle.w4_netplay.specs.Refusals.{packet_refusal};
+ghost use Rattle.w4_defs.specs.Rollback.{packet_refusal};
 
-use crate::refusal::NetRefusal;
 use std::alloc::{AllocError, Global};
 use std::marker::Model;
+use w4_defs::NetRefusal;
 use w4_defs::netplay::Packet;
 
 /// How many players there are.

@@ -7,28 +7,26 @@ ghost use Rattle.w4_defs.specs.Rollback.{learned, nothing_known};
 ghost use Rattle.w4_defs.specs.Run.{run_state};
 ghost use Rattle.w4_defs.specs.Session.{is_kept, keep_refusal, place_refusal, places_alone};
 ghost use Rattle.w4_editor.specs.Editing.{editing_setup, new_editing};
-ghost use Rattle.w4_netplay.specs.Refusals.{packet_refusal};
+ghost use Rattle.w4_defs.specs.Rollback.{packet_refusal};
 ghost use Rattle.w4_netplay.specs.Replicas.{
   KeepsPlace,
   IsNetRefusal,
-  ShowsPlace,
   KeepsNetplay,
   known_of,
   predicted_draft,
   prediction,
 };
 ghost use Rattle.w4_netplay.specs.Rolling.{IsRolled};
-ghost use Rattle.w4_netplay.specs.declared.refusal.NetRefusal.TheVariants.{FullRecording, OutOfMemory as NoMemory};
+ghost use Rattle.w4_defs.specs.declared.net_refusal.NetRefusal.TheVariants.{FullRecording, OutOfMemory as NoMemory};
 
 use crate::pads::{MOST_FRAMES, Pads};
-use crate::refusal::NetRefusal;
 use crate::rollback::{only_memory, roll_back};
 use std::alloc::Global;
 use std::marker::Model;
 use std::sync::ledger::Ledger;
 use w4_blit::Font;
 use w4_defs::netplay::Packet;
-use w4_defs::{OutOfMemory, Steps};
+use w4_defs::{NetRefusal, OutOfMemory, Steps};
 use w4_editor::Editor;
 use w4_map::State;
 use w4_record::Recording;
@@ -140,8 +138,7 @@ impl Replica {
 /// Keeping and showing.
 impl Replica {
     ghost use Rattle.std.specs.Borrow.{sem};
-    ghost use Rattle.std.specs.Io.BufRead.{Rests};
-    ghost use Rattle.w4_netplay.specs.contracts.replica.Replica.{the_row};
+    ghost use Rattle.w4_netplay.specs.Lending.{LendsPredicted};
 
     /// The state at place `p` of the predicted recording. The editor's inputs are brought up to it first;
     /// each frame that is run is one tick. Errors: NoFrame where so many frames haven't passed; OutOfMemory,
@@ -152,10 +149,7 @@ impl Replica {
         p: usize,
         steps: &mut Steps<L>,
     ) -> Result<&State, NetRefusal>
-        ensures* after { sem 𝓛 (Rests the_row self.entry (λ n.
-            OnOk result (ShowsPlace p steps.old steps.new self.old n)
-            × OnErr result (KeepsNetplay self.old n)
-            × IfErr result (λ refusal. refusal ≢ NoMemory → n ≡ self.old))) }
+        ensures* frames_run { sem 𝓛 (LendsPredicted p steps.old steps.new self.entry result) }
         ensures state { IfOk result (λ state. run_state (editing_setup self.old.editor) self.old.editor.disk
             (prediction self.old) p ≡ Some state.now) }
         ensures refused { IfErr result (IsNetRefusal (place_refusal p (predicted_draft self.old))) }

@@ -1,13 +1,13 @@
--- A cart that was judged runs with a meaning.
+-- Resets, frames and runs of a cart that was judged have a meaning.
 use Rattle.std.proofs.Common.{◌≡◌, ℕ, List, Result, Ok, Err, refl}
 use Rattle.w4_defs.specs.Generator.{made_module}
-use Rattle.w4_console.specs.Meaning.{RunsHaveMeaning, AcceptedRunsHaveMeaning}
-use Rattle.wasm_write.specs.EncodeModule.{module_bytes}
+use Rattle.w4_defs.specs.Meaning.{FramesHaveMeaning, AcceptedRunsHaveMeaning}
+use Rattle.w4_defs.specs.EncodeModule.{module_bytes}
 use Rattle.wasm_write.specs.Laws.{MadeModulesAreCarts}
-use Rattle.w4_house.specs.World.{Files}
-use Rattle.w4_commands.specs.declared.status.Status.{Status}
-use Rattle.w4_commands.specs.Output.{CartFile, JudgedCart, reading}
-use Rattle.w4_program.specs.CartRuns.{CartRunsHaveMeaning}
+use Rattle.w4_defs.specs.World.{Files}
+use Rattle.w4_defs.specs.declared.status.Status.{Status}
+use Rattle.w4_defs.specs.Output.{CartFile, JudgedCart, reading}
+use Rattle.w4_defs.specs.CartRuns.{CartRunsHaveMeaning}
 
 not_both : (cart : CartFile) (refusal : Status) (found : Result CartFile Status) → found ≡ Ok cart
     → found ≡ Err refusal → ⊥
@@ -15,11 +15,11 @@ not_both cart refusal found one other = cc
 
 judged_cart_runs : AcceptedRunsHaveMeaning
     → (found : Result (List ℕ) Status) (cart : CartFile) → JudgedCart found (Ok cart)
-    → RunsHaveMeaning cart.code
+    → FramesHaveMeaning cart.code
 judged_cart_runs law (Err refusal) cart judged = absurd (not_both cart refusal (Ok cart) refl judged)
 judged_cart_runs law (Ok bytes) cart judged = law bytes cart.code judged.0
 
--- each run of a cart that the words name, or have made, has a meaning
+-- of a cart that the words name, or have made
 pub cart_runs : AcceptedRunsHaveMeaning → MadeModulesAreCarts
     → (words : List (List ℕ)) (files : Files) → CartRunsHaveMeaning words files
 cart_runs law made words files = (

@@ -9,13 +9,13 @@ use Rattle.w4_defs.specs.Profile.{profile_refusal}
 use Rattle.w4_defs.specs.Validity.{IsFirstUntyped}
 use Rattle.w4_defs.specs.Cart.{IsInvalid, IsRefused}
 use Rattle.wasm_read.specs.Unique.{AtMostOneModule}
-use Rattle.w4_house.specs.World.{Files}
-use Rattle.w4_commands.specs.declared.status.Status.{Status}
-use Rattle.w4_commands.specs.declared.status.Status.TheVariants.{Done, Usage, ReadFault, WriteFault, OutOfMemory, CartRefused, RecordingRefused, FontRefused, ScriptRefused, FrameRefused, ListRefused}
-use Rattle.w4_commands.specs.Forms.{Form, Check, Blank, Frames, Tones, Trace, Disk, Edit, Make, Net, Ram, Wave, Batch, form_of}
-use Rattle.w4_commands.specs.Output.{CartFile, Output, ◌>>=◌, JudgedCart}
-use Rattle.w4_commands.specs.Outputs.{OutputsAlone, OverFile, OutputsForm, cart_word, output_of}
-use Rattle.w4_program.specs.OneOutput.{AtMostOneOutput}
+use Rattle.w4_defs.specs.World.{Files}
+use Rattle.w4_defs.specs.declared.status.Status.{Status}
+use Rattle.w4_defs.specs.declared.status.Status.TheVariants.{Done, Usage, ReadFault, WriteFault, OutOfMemory, CartRefused, RecordingRefused, FontRefused, ScriptRefused, FrameRefused, ListRefused}
+use Rattle.w4_defs.specs.Commands.{Form, Check, Blank, Frames, Tones, Trace, Disk, Edit, Make, Net, Ram, Wave, Batch, form_of}
+use Rattle.w4_defs.specs.Output.{CartFile, Output, JudgedCart, make_output, reading}
+use Rattle.w4_defs.specs.Outputs.{OutputsAlone, OverFile, OutputsForm, cart_word, output_of, over_cart}
+use Rattle.w4_defs.specs.OneOutput.{AtMostOneOutput}
 use Rattle.w4_commands.proofs.CartLaws.{never_both, no_profile}
 
 -- the first function without a typing is one
@@ -118,9 +118,13 @@ judged_once unique (Ok bytes) (Err (ScriptRefused kind)) other one two = absurd 
 judged_once unique (Ok bytes) (Err (FrameRefused number n)) other one two = absurd one
 judged_once unique (Ok bytes) (Err (ListRefused kind)) other one two = absurd one
 
+there_once : (found : Option (Result Output Status)) (made other : Result Output Status) → found ≡ Some made
+    → found ≡ Some other → made ≡ other
+there_once found made other one two = cc
+
 alone_once : (form : Form) (files : Files) (made other : Result Output Status)
     → OutputsAlone form files made → OutputsAlone form files other → made ≡ other
-alone_once (Make number) files made other one two = sym one ∙ two
+alone_once (Make number) files made other one two = there_once (make_output number files) made other one two
 alone_once (Check cart) files made other one two = absurd one
 alone_once (Blank cart budget) files made other one two = absurd one
 alone_once (Net words) files made other one two = absurd one
@@ -138,10 +142,9 @@ over_once : AtMostOneModule → (word : Option (List ℕ)) (form : Form) (files 
     → OverFile word form files made → OverFile word form files other → made ≡ other
 over_once unique None form files made other one two = alone_once form files made other one two
 over_once unique (Some name) form files made other (cart, judged, e) (again, rejudged, d) =
-    sym e
-    ∙ ap (λ (c : Result CartFile Status). c >>= λ x. output_of form x files)
-    (judged_once unique _ cart again judged rejudged)
-    ∙ d
+    there_once (over_cart (output_of form) files again) made other
+    (subst (λ c. over_cart (output_of form) files c ≡ Some made)
+    (judged_once unique (reading files name 65537) cart again judged rejudged) e) d
 
 form_once : AtMostOneModule → (form : Option Form) (files : Files) (made other : Result Output Status)
     → OutputsForm form files made → OutputsForm form files other → made ≡ other

@@ -1,13 +1,13 @@
 -- How the whole ended is so after the report of its status, too.
 use Rattle.std.proofs.Common.{◌≡◌, ◌≢◌, ◌⊎◌, ℕ, inl, inr, List, Result, sym, subst, ◌∙◌}
 use Rattle.std.specs.Prelude.{⊤}
-use Rattle.w4_house.specs.World.{Files, World, Rises, Appends, AppendsFront, LeavesReporting}
-use Rattle.w4_commands.specs.declared.status.Status.{Status}
-use Rattle.w4_commands.specs.declared.status.Status.TheVariants as status
-use Rattle.w4_commands.specs.Endings.{Manner, AllWritten, NoCommand, ReadFailed, WriteFailed, MemoryRefused, Refused, manner_of}
-use Rattle.w4_commands.specs.Output.{Output}
-use Rattle.w4_commands.specs.Lines.{status_line}
-use Rattle.w4_commands.specs.Causes.{ReadFails, LeavesErr, LeavesOutputs, OpensFile, Writes, WritesPart, Ends, IsCutShort}
+use Rattle.w4_defs.specs.World.{Files, World, Rises, Appends, AppendsFront, LeavesReporting}
+use Rattle.w4_defs.specs.declared.status.Status.{Status}
+use Rattle.w4_defs.specs.declared.status.Status.TheVariants as status
+use Rattle.w4_defs.specs.Endings.{Manner, AllWritten, NoCommand, ReadFailed, WriteFailed, MemoryRefused, Refused, manner_of}
+use Rattle.w4_defs.specs.Output.{Output}
+use Rattle.w4_defs.specs.StatusLines.{status_line}
+use Rattle.w4_defs.specs.Causes.{ReadFails, LeavesErr, LeavesOutputs, OpensFile, Writes, WritesPart, Ends, IsCutShort}
 
 writes_reported : (old mid new : World) (made : Output) → LeavesReporting mid new → Writes old mid made
     → Writes old new made

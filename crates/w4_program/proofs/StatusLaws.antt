@@ -2,14 +2,15 @@
 use Rattle.std.proofs.Common.{◌≡◌, ℕ, ◌⊎◌, inl, inr, List, Some, Option, Result, Ok, Err, refl, sym, subst, ◌∙◌}
 use Rattle.std.specs.Option.{ForSome}
 use Rattle.w4_defs.specs.declared.refusal.CartKind.{CartKind}
-use Rattle.w4_house.specs.World.{Files, World, Rises, Appends}
-use Rattle.w4_commands.specs.declared.status.RecordingKind.{RecordingKind}
-use Rattle.w4_commands.specs.declared.status.ScriptKind.{ScriptKind}
-use Rattle.w4_commands.specs.declared.status.Status.{Status}
-use Rattle.w4_commands.specs.declared.status.Status.TheVariants as status
-use Rattle.w4_commands.specs.Endings.{manner_of}
-use Rattle.w4_commands.specs.Output.{Output}
-use Rattle.w4_commands.specs.Causes.{ReadFails, StepRefuses, LeavesOutputs, WritesPart, IsExact, ChangesNothing, Reports, LeavesErr}
+use Rattle.w4_defs.specs.World.{Files, World, Rises, Appends}
+use Rattle.w4_defs.specs.declared.status.RecordingKind.{RecordingKind}
+use Rattle.w4_defs.specs.declared.status.ScriptKind.{ScriptKind}
+use Rattle.w4_defs.specs.declared.status.Status.{Status}
+use Rattle.w4_defs.specs.declared.status.Status.TheVariants as status
+use Rattle.w4_defs.specs.Endings.{manner_of}
+use Rattle.w4_defs.specs.Output.{Output}
+use Rattle.w4_defs.specs.Causes.{ReadFails, StepRefuses, LeavesOutputs, WritesPart, IsExact, ChangesNothing, Reports, LeavesErr}
+use Rattle.w4_defs.specs.Promise.{NoFault}
 use Rattle.w4_program.proofs.ReportLaws.{EndsBut}
 
 pub appends_when_done : (old new : World) (result : Status) (step : Files → Result Output Status → Type 0)
@@ -95,37 +96,36 @@ some_files files = Some files
 some_is : (a b : Files) → some_files a ≡ some_files b → a ≡ b
 some_is a b e = cc
 
--- where no count has risen, the status is that of what the step allows, or memory ran out
+-- where neither a read nor a write failed, the status is that of what the step allows, or memory ran out
 pub exact : (old new : World) (result : Status) (step : Files → Result Output Status → Type 0)
     → EndsBut old new (manner_of result) step
     → ForSome old.files
-    (λ files. ¬ Rises old.read_faults new.read_faults → ¬ Rises old.write_faults new.write_faults
-    → IsExact result (λ made. step files made))
+    (λ files. NoFault old new → IsExact result (step files))
 exact old new status.Done step h =
-    λ files texts reads writes. let made = h files texts in inr (Ok made.0, made.1, refl)
-exact old new status.Usage step h = λ files texts reads writes. inr (Err status.Usage, h.0 files texts, refl)
+    λ files texts well. let made = h files texts in inr (Ok made.0, made.1, refl)
+exact old new status.Usage step h = λ files texts well. inr (Err status.Usage, h.0 files texts, refl)
 exact old new (status.CartRefused kind) step h =
-    λ files texts reads writes. inr (Err (status.CartRefused kind), h.0 files texts, refl)
+    λ files texts well. inr (Err (status.CartRefused kind), h.0 files texts, refl)
 exact old new (status.RecordingRefused kind) step h =
-    λ files texts reads writes. inr (Err (status.RecordingRefused kind), h.0 files texts, refl)
+    λ files texts well. inr (Err (status.RecordingRefused kind), h.0 files texts, refl)
 exact old new status.FontRefused step h =
-    λ files texts reads writes. inr (Err status.FontRefused, h.0 files texts, refl)
+    λ files texts well. inr (Err status.FontRefused, h.0 files texts, refl)
 exact old new (status.ScriptRefused kind) step h =
-    λ files texts reads writes. inr (Err (status.ScriptRefused kind), h.0 files texts, refl)
-exact old new status.ReadFault step (inl rise, same) = λ files texts reads writes. absurd (reads rise)
-exact old new status.ReadFault step (inr (found, known, absent), same) = λ files texts reads writes.
+    λ files texts well. inr (Err (status.ScriptRefused kind), h.0 files texts, refl)
+exact old new status.ReadFault step (inl rise, same) = λ files texts well. absurd (well.0 rise)
+exact old new status.ReadFault step (inr (found, known, absent), same) = λ files texts well.
     inr (
       Err status.ReadFault,
       subst (λ fs. step fs (Err status.ReadFault))
           (some_is found files (sym known ∙ texts)) absent,
       refl,
     )
-exact old new status.WriteFault step h = λ files texts reads writes. absurd (writes h.0)
-exact old new status.OutOfMemory step h = λ files texts reads writes. inl refl
+exact old new status.WriteFault step h = λ files texts well. absurd (well.1 h.0)
+exact old new status.OutOfMemory step h = λ files texts well. inl refl
 exact old new (status.FrameRefused number n) step h =
-    λ files texts reads writes. inr (Err (status.FrameRefused number n), h.0 files texts, refl)
+    λ files texts well. inr (Err (status.FrameRefused number n), h.0 files texts, refl)
 exact old new (status.ListRefused kind) step h =
-    λ files texts reads writes. inr (Err (status.ListRefused kind), h.0 files texts, refl)
+    λ files texts well. inr (Err (status.ListRefused kind), h.0 files texts, refl)
 
 -- a status that stands, or memory that ran out while it was reported
 pub texts_or_memory : (texts why result : Status) → texts ≡ why → (result ≡ texts)

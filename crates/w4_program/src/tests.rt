@@ -1,5 +1,5 @@
-//! What neither a clause nor a case of cases/ shows: houses whose calls fail, inputs with a reset, pieces of work
-//! that are under way at once, and that calls of the crates below succeed where there is enough memory.
+//! What neither a clause nor a case of cases/ shows: houses whose calls fail, inputs with a reset, pieces of
+//! work that are under way at once, and that calls of the crates below succeed where there is enough memory.
 
 mod carts;
 mod console;

@@ -8,7 +8,7 @@ use Rattle.std.proofs.lemmas.List.{nil_from_length, append-nil, map-append, leng
 use Rattle.std.proofs.lemmas.Str.{IsUtf8-from_is_utf8, is_utf8-from_IsUtf8}
 use Rattle.w4_defs.specs.Lines.{pieces}
 use Rattle.w4_defs.specs.OrderFile.{ScriptFault, BadLine, with_order}
-use Rattle.w4_script.specs.Names.{NameLine, NameListCases, name_after, name_lines, name_lines_from, names_after, names_of}
+use Rattle.w4_defs.specs.NameLists.{NameLine, NameListCases, name_after, name_lines, name_lines_from, names_after, names_of}
 use Rattle.w4_script.proofs.OrderLaws.{with_orders, regroup_orders}
 
 pub named_before : (number : ℕ) (bytes line rest name : List ℕ)

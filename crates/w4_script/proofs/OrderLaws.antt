@@ -1,9 +1,8 @@
 -- Orders that are read line by line.
-use Rattle.std.proofs.Common.{◌≡◌, ◌≤◌, ℕ, length, List, [], ◌∷◌, ◌++◌, Option, Some, None, Result, Ok, Err, refl, sym, ap, ◌∙◌, append_assoc}
-use Rattle.std.proofs.lemmas.Bool.{le-leb}
+use Rattle.std.proofs.Common.{◌≡◌, ℕ, List, [], ◌∷◌, ◌++◌, Option, Some, None, Result, Ok, Err, refl, sym, ap, ◌∙◌, append_assoc}
 use Rattle.std.proofs.lemmas.List.{append-nil}
-use Rattle.w4_defs.specs.Lines.{Line, lines_of}
-use Rattle.w4_defs.specs.OrderFile.{ScriptFault, BadLine, OrderReader, file_of, orders_in, with_order}
+use Rattle.w4_defs.specs.Lines.{Line}
+use Rattle.w4_defs.specs.OrderFile.{ScriptFault, BadLine, OrderReader, orders_in, with_order}
 
 -- the orders that were read before, and what those of the lines that are left come to
 abbrev pub with_orders : {Order : Type 0} → List Order → Result (List Order) ScriptFault
@@ -51,8 +50,3 @@ no_line order_of before all whole none so_far =
     let one : with_orders before (orders_in order_of all) ≡ Ok before =
     rw none (ap (λ orders. Ok orders) (append-nil before)) in
     sym so_far ∙ one
-
--- a file that isn't too long
-pub short_file : {Order : Type 0} (order_of : OrderReader Order) (bytes : List ℕ) → length bytes ≤ 1048576
-    → file_of order_of bytes ≡ orders_in order_of (lines_of bytes)
-short_file order_of bytes short = rw (le-leb (length bytes) 1048576 short) refl

@@ -5,7 +5,7 @@ use Rattle.w4_defs.specs.Lines.{Line, lines_from, pieces}
 use Rattle.w4_script.specs.declared.name_lines.NameLines.{NameLines}
 use Rattle.w4_script.specs.declared.reading.Lines.{Lines}
 use Rattle.w4_script.specs.declared.words.Words.{Words}
-use Rattle.w4_script.specs.Names.{NameLine, name_lines_from}
+use Rattle.w4_defs.specs.NameLists.{NameLine, name_lines_from}
 
 -- the words in these bytes
 abbrev pub words_in : List ℕ → List (List ℕ)

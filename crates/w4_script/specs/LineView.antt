@@ -5,7 +5,7 @@ use Rattle.w4_script.specs.declared.lines.Line.{Line}
 use Rattle.w4_script.specs.declared.name_lines.NamedLine.{NamedLine}
 use Rattle.w4_script.specs.declared.reading.WrittenLine.{WrittenLine}
 use Rattle.w4_script.specs.Left.{words_left}
-use Rattle.w4_script.specs.Names.{NameLine}
+use Rattle.w4_defs.specs.NameLists.{NameLine}
 
 abbrev pub line_view : Line → DefinedLine
 line_view line = record { number = line.number; words = map (λ word. word.items) line.words.items }

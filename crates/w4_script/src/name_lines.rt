@@ -22,7 +22,7 @@ pub struct NameLines<'a> {
 
 impl<'a> NameLines<'a> {
     ghost use Rattle.w4_script.specs.Left.{name_lines_left};
-    ghost use Rattle.w4_script.specs.Names.{name_lines};
+    ghost use Rattle.w4_defs.specs.NameLists.{name_lines};
 
     /// The lines of a list.
     pub fn of(bytes: &'a [u8]) -> NameLines<'a>

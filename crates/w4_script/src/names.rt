@@ -1,7 +1,7 @@
 //! Lists of names: one file's name in each line that isn't empty.
 
 ghost use Rattle.std.specs.Prelude.{◌≡◌, IfErr, IfOk, Ok, map, option_map, string_bytes};
-ghost use Rattle.w4_script.specs.Names.{name_after, names_of};
+ghost use Rattle.w4_defs.specs.NameLists.{name_after, names_of};
 ghost use Rattle.w4_script.specs.Refuses.{Refuses};
 
 use crate::name_lines::NameLines;
@@ -34,7 +34,7 @@ fn name_after(count: usize, line: &[u8]) -> Option<&str>
 /// The names of a list, in order: at most 256 of at most 255 bytes of UTF-8, each in a line as it stands. One
 /// byte 13 at the end of a line is dropped, and empty lines are skipped. A list of more than 65,536 bytes is
 /// too long, and else the first line that isn't such a name, or is the 257th, is bad.
-#[tactic(auto, unfolding(crate::specs::Names::names_of))]
+#[tactic(auto, unfolding(w4_defs::specs::NameLists::names_of))]
 pub fn read_names(alloc: Global, bytes: &[u8]) -> Result<Vec<String>, ScriptRefusal>
     ensures names { IfOk result (λ names. names_of bytes.now ≡ Ok (map string_bytes names.items)) }
     ensures refused { IfErr result (λ refusal. Refuses refusal (names_of bytes.now)) }

@@ -1,7 +1,8 @@
 //! The orders of an edit script, each read from a line's words.
 
 ghost use Rattle.std.specs.Prelude.{◌≡◌};
-ghost use Rattle.w4_defs.specs.Script.{order_named, order_of};
+ghost use Rattle.w4_defs.specs.OrderFile.{order_named};
+ghost use Rattle.w4_defs.specs.Script.{order_of, script_rows};
 ghost use Rattle.w4_script.specs.Left.{words_left};
 
 use crate::frame::frame;
@@ -11,9 +12,9 @@ use crate::words::Words;
 use w4_defs::Order;
 
 /// The order of this name, with the words after it.
-#[tactic(auto, unfolding(w4_defs::specs::Script::order_named))]
+#[tactic(auto, unfolding(w4_defs::specs::Script::script_rows))]
 fn order_named(name: &[u8], words: Words<'_>) -> Option<Order>
-    ensures { result ≡ order_named name.now (words_left words.entry) }
+    ensures { result ≡ order_named script_rows name.now (words_left words.entry) }
 {
     if name == b"set".as_slice() {
         frame(words).map(|(k, input)| Order::Set { k, input })

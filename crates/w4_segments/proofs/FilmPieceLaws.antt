@@ -1,7 +1,8 @@
 -- A film that is handed out a piece at a time: a round more, a piece less, and what is left.
-use Rattle.std.proofs.Common.{◌≡◌, ℕ, ◌+◌, ◌-◌, ◌<◌, ◌≤◌, List, [], ◌++◌, length, get_or, Option, inl, inr, sym, ap, ◌∙◌, arith}
+use Rattle.std.proofs.Common.{◌≡◌, ℕ, ◌+◌, ◌-◌, ◌<◌, ◌≤◌, List, [], length, get_or, Option, Some, inl, inr, sym, ap, ◌∙◌, arith}
 use Rattle.std.specs.List.{All, slice_get}
 use Rattle.std.proofs.lemmas.Option.{slice_get_cases}
+use Rattle.w4_defs.specs.AllThere.{joined}
 use Rattle.w4_defs.specs.KeptList.{place_at}
 use Rattle.w4_editor.specs.Editing.{Editing, editing_setup}
 use Rattle.w4_editor.specs.Showing.{KeepsRecording}
@@ -43,34 +44,34 @@ module _ (e : Editing) (team : List Worker) (first end entry next made : ℕ)
               let low : k < length new = omega (arith, lt, same) in
               let at : length new - (made + length new - next) + k ≡ k = omega (arith, same) in
               let on : made + k ≡ next + k = omega (arith, same) in
-              ap (λ i. worker_images (get_or new i d)) at
+              ap (λ i. images_between e (cut i) (cut (i + 1))) (sym on)
               ∙ pieces_made e first end made team dealt new pieces did k d low
-              ∙ ap (λ i. images_between e (cut i) (cut (i + 1))) on;
+              ∙ ap (λ i. Some (worker_images (get_or new i d))) (sym at);
         },
         omega (arith, same, as_dealt, as_team, some),
       )
 
   -- the next piece, where there is one
   pub piece_next : next < made → (d : Worker)
-      → worker_images (get_or team (length team - (made - next)) d)
-      ≡ images_between e (cut next) (cut (next + 1))
+      → images_between e (cut next) (cut (next + 1))
+      ≡ Some (worker_images (get_or team (length team - (made - next)) d))
   piece_next some d =
       let at : length team - (made - next) ≡ length team - (made - next) + 0 = omega arith in
       let on : next + 0 ≡ next = omega arith in
-      ap (λ i. worker_images (get_or team i d)) at
+      ap (λ i. images_between e (cut i) (cut (i + 1))) (sym on)
       ∙ is.pieces 0 d (omega (arith, some))
-      ∙ ap (λ i. images_between e (cut i) (cut (i + 1))) on
+      ∙ ap (λ i. Some (worker_images (get_or team i d))) (sym at)
 
   pub piece_handed_out : next < made → (hand : ℕ) → hand ≡ length team - (made - next)
-      → images_by (slice_get team hand) ≡ images_between e (cut next) (cut (next + 1))
+      → images_between e (cut next) (cut (next + 1)) ≡ Some (images_by (slice_get team hand))
   piece_handed_out some hand is_hand =
       let few = is.some in
       elim (slice_get_cases team hand).1 [
         | inl (x, _, there, same) ↦
-            ap (λ (w : Option Worker). images_by w) there
-            ∙ ap (λ (w : Worker). worker_images w) (sym same)
-            ∙ ap (λ i. worker_images (get_or team i x)) is_hand
-            ∙ piece_next some x
+            piece_next some x
+            ∙ ap (λ i. Some (worker_images (get_or team i x))) (sym is_hand)
+            ∙ ap (λ (w : Worker). Some (worker_images w)) same
+            ∙ ap (λ (w : Option Worker). Some (images_by w)) (sym there)
         | inr (past, _) ↦ absurd (omega (arith, past, is_hand, some, few))
       ]
 
@@ -94,9 +95,9 @@ module _ (e : Editing) (team : List Worker) (first end entry next made : ℕ)
             let at : length team - (made - (next + 1)) + k ≡ length team - (made - next) + (k + 1) =
             omega (arith, lt, some, hands) in
             let on : next + (k + 1) ≡ next + 1 + k = omega arith in
-            ap (λ i. worker_images (get_or team i d)) at
+            ap (λ i. images_between e (cut i) (cut (i + 1))) (sym on)
             ∙ is.pieces (k + 1) d (omega (arith, lt))
-            ∙ ap (λ i. images_between e (cut i) (cut (i + 1))) on;
+            ∙ ap (λ i. Some (worker_images (get_or team i d))) (sym at);
       }
 
 -- what is left begins with the next piece
@@ -107,16 +108,16 @@ module _ (e : Editing) (first end : ℕ)
   cut_at i = piece_begin (entries_of e) first end i
 
   pub left_begins : (next : ℕ) → images_between e (cut_at next) end
-      ≡ images_between e (cut_at next) (cut_at (next + 1)) ++ images_between e (cut_at (next + 1)) end
+      ≡ joined (images_between e (cut_at next) (cut_at (next + 1))) (images_between e (cut_at (next + 1)) end)
   left_begins next =
-      sym (span_both e first end (cut_at next) (cut_at (next + 1)) end
+      span_both e first end (cut_at next) (cut_at (next + 1)) end
       (cut_rises (entries_of e) first end rising next)
-      (cut_to_end (entries_of e) first end (next + 1)))
+      (cut_to_end (entries_of e) first end (next + 1))
 
-  pub nothing_left : (next : ℕ) → end ≤ cut_at next → images_between e (cut_at next) end ≡ []
+  pub nothing_left : (next : ℕ) → end ≤ cut_at next → images_between e (cut_at next) end ≡ Some []
   nothing_left next past =
       let most = cut_to_end (entries_of e) first end next in
-      sym (span_none e first end (cut_at next) end (omega (arith, past, most)))
+      span_none e first end (cut_at next) end (omega (arith, past, most))
 
 -- a film that begins: nothing is made
 pub film_begun : (e : Editing) (team : List Worker) (first end entry : ℕ) → 0 < length team → length team ≤ 16

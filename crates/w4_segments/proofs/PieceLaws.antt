@@ -1,24 +1,29 @@
--- Images of a run in parts, the screens that they are made from, the cuts of a film, and what the workers of a
--- round make.
+-- Images of a run in parts, the screens that they are made from, the cuts of a film, and what the workers of
+-- a round make.
 use Rattle.std.proofs.Common.{◌≡◌, ℕ, zero, suc, ◌+◌, ◌-◌, ◌<◌, ◌≤◌, cond, min, max, List, [], ◌∷◌, ◌++◌, flat_map, length, get_or, Option, Some, None, inl, inr, refl, sym, ap, ◌∙◌, subst, arith}
 use Rattle.std.specs.List.{All}
 use Rattle.std.specs.Prelude.{vec_capacity}
 use Rattle.std.proofs.lemmas.Bool.{cases_lt, lt-ltb, le-ltb}
 use Rattle.std.proofs.lemmas.Grind.{flat_map-append}
-use Rattle.std.proofs.lemmas.List.{append_assoc, append-nil}
+use Rattle.std.proofs.lemmas.List.{append-nil}
 use Rattle.std.specs.Option.{unwrap_or}
 use Rattle.w4_defs.specs.declared.console.Input.{Input}
 use Rattle.w4_defs.specs.Image.{image}
 use Rattle.w4_defs.specs.KeptList.{Entry, place_at, state_at, IsDraft}
 use Rattle.w4_defs.specs.Reset.{Setup}
-use Rattle.w4_defs.specs.Run.{run_state}
+use Rattle.w4_defs.specs.Run.{run, run_state}
 use Rattle.w4_defs.specs.State.{State, HasGlobals}
 use Rattle.w4_editor.specs.Editing.{Editing, editing_setup}
+use Rattle.w4_defs.specs.AllThere.{joined}
+use Rattle.w4_defs.specs.PlaceTexts.{as_it_stands, place_text}
+use Rattle.w4_defs.specs.declared.place_text.PlaceText.TheVariants.{Image}
+use Rattle.w4_defs.proofs.AllThereLaws.{places_in_parts, places_one}
+use Rattle.w4_defs.proofs.TextsOfStates.{image_of_state}
 use Rattle.w4_defs.proofs.KeptListLaws.{linked_is_run}
 use Rattle.w4_editor.specs.Settling.{AreLinked}
 use Rattle.w4_segments.specs.declared.worker.Task.{Task}
 use Rattle.w4_segments.specs.declared.worker.Worker.{Worker}
-use Rattle.w4_segments.specs.Filming.{state_image, run_images}
+use Rattle.w4_defs.specs.Film.{run_images}
 use Rattle.w4_segments.specs.FilmPieces.{images_between}
 use Rattle.w4_segments.specs.Pieces.{images_of, piece_begin, AreOfRunBelow, IsPiece, ArePieces}
 use Rattle.w4_segments.specs.Rounds.{entries_of}
@@ -27,61 +32,46 @@ use Rattle.w4_segments.specs.Working.{HasCartTypes, CanFilm, EachDid, HasFilmed,
 -- ---- images of a run
 
 module _ (setup : Setup) (disk : List ℕ) (inputs : List Input) where
-  abbrev images : ℕ → ℕ → List ℕ
+  abbrev images : ℕ → ℕ → Option (List ℕ)
   images place count = run_images setup disk inputs place count
 
-  pub images_none : (place : ℕ) → images place 0 ≡ []
+  abbrev place_image : ℕ → Option (List ℕ)
+  place_image p = place_text as_it_stands Image p (run setup disk inputs p)
+
+  pub images_none : (place : ℕ) → images place 0 ≡ Some []
   unfolding run_images
   images_none place = refl
 
-  next_images : (place count : ℕ)
-      → images place (suc count)
-      ≡ state_image (run_state setup disk inputs place) ++ images (place + 1) count
-  unfolding run_images
-  next_images place count = refl
-
   pub images_in_parts : (m n all place middle : ℕ) → all ≡ m + n → middle ≡ place + m
-      → images place all ≡ images place m ++ images middle n
-  images_in_parts zero n all place middle long at =
-      let rest : all ≡ n = omega (arith, long) in
-      let here : place ≡ middle = omega (arith, at) in
-      (λ i. images (here i) (rest i)) ∙ ap (λ xs. xs ++ images middle n) (sym (images_none place))
-  images_in_parts (suc m) n all place middle long at =
-      let first = state_image (run_state setup disk inputs place) in
-      let more : all ≡ suc (m + n) = omega (arith, long) in
-      ap (images place) more
-      ∙ next_images place (m + n)
-      ∙ ap (λ xs. first ++ xs) (images_in_parts m n (m + n) (place + 1) middle refl (omega (arith, at)))
-      ∙ sym (append_assoc first (images (place + 1) m) (images middle n))
-      ∙ ap (λ xs. xs ++ images middle n) (sym (next_images place m))
+      → images place all ≡ joined (images place m) (images middle n)
+  unfolding run_images
+  images_in_parts m n all place middle long at = places_in_parts place_image m n all place middle long at
 
   -- the image of one place
   pub one_image : (place : ℕ) (state : State) → run_state setup disk inputs place ≡ Some state
-      → images place 1 ≡ image state.page
-  one_image place state is =
-      next_images place 0
-      ∙ ap (λ o. state_image o ++ images (place + 1) 0) is
-      ∙ ap (λ xs. image state.page ++ xs) (images_none (place + 1))
-      ∙ append-nil (image state.page)
+      → images place 1 ≡ Some (image state.page)
+  unfolding run_images
+  one_image place state is = places_one place_image place
+      ∙ image_of_state as_it_stands place (run setup disk inputs place) state is
 
   -- the first screen of a piece, and one more
   pub first_screen : (screen : List ℕ) (first : ℕ) (state : State)
       → run_state setup disk inputs first ≡ Some state → image screen ≡ image state.page
-      → flat_map image (screen ∷ []) ≡ images first (first + 1 - first)
+      → images first (first + 1 - first) ≡ Some (flat_map image (screen ∷ []))
   first_screen screen first state is same =
-      let one : 1 ≡ first + 1 - first = omega arith in
-      append-nil (image screen) ∙ same ∙ sym (one_image first state is) ∙ ap (images first) one
+      let one : first + 1 - first ≡ 1 = omega arith in
+      ap (images first) one ∙ one_image first state is ∙ ap Some (sym (append-nil (image screen) ∙ same))
 
   pub more_screens : (screens : List (List ℕ)) (screen : List ℕ) (first place : ℕ) (state : State)
       → first ≤ place → run_state setup disk inputs (place + 1) ≡ Some state → image screen ≡ image state.page
-      → flat_map image screens ≡ images first (place + 1 - first)
-      → flat_map image (screens ++ screen ∷ []) ≡ images first (place + 1 + 1 - first)
+      → images first (place + 1 - first) ≡ Some (flat_map image screens)
+      → images first (place + 1 + 1 - first) ≡ Some (flat_map image (screens ++ screen ∷ []))
   more_screens screens screen first place state le is same made =
-      flat_map-append image screens (screen ∷ [])
-      ∙ (λ k. made k ++ append-nil (image screen) k)
-      ∙ ap (λ xs. images first (place + 1 - first) ++ xs) (same ∙ sym (one_image (place + 1) state is))
-      ∙ sym (images_in_parts (place + 1 - first) 1 (place + 1 + 1 - first) first (place + 1)
-      (omega (arith, le)) (omega (arith, le)))
+      images_in_parts (place + 1 - first) 1 (place + 1 + 1 - first) first (place + 1)
+      (omega (arith, le)) (omega (arith, le))
+      ∙ (λ k. joined (made k) (one_image (place + 1) state is k))
+      ∙ ap (λ xs. Some (flat_map image screens ++ xs)) (sym (append-nil (image screen) ∙ same))
+      ∙ ap Some (sym (flat_map-append image screens (screen ∷ [])))
 
 task_of : (s t : Task) → Some s ≡ Some t → s ≡ t
 task_of s t e = ap (λ o. unwrap_or o s) e
@@ -132,42 +122,42 @@ module _ (e : Editing) (first end : ℕ) where
   abbrev cut_of : ℕ → ℕ
   cut_of i = piece_begin (entries_of e) first end i
 
-  pub span_none : (from to : ℕ) → to ≡ from → [] ≡ images_between e from to
+  pub span_none : (from to : ℕ) → to ≡ from → images_between e from to ≡ Some []
   span_none from to same =
-      let none : 0 ≡ to - from = omega (arith, same) in
-      sym (images_none (editing_setup e) e.disk e.session.current.inputs from) ∙ ap (images_of e from) none
+      let none : to - from ≡ 0 = omega (arith, same) in
+      ap (images_of e from) none ∙ images_none (editing_setup e) e.disk e.session.current.inputs from
 
   pub span_both : (from middle to : ℕ) → from ≤ middle → middle ≤ to
-      → images_between e from middle ++ images_between e middle to ≡ images_between e from to
+      → images_between e from to ≡ joined (images_between e from middle) (images_between e middle to)
   span_both from middle to one two =
-      sym (images_in_parts (editing_setup e) e.disk e.session.current.inputs (middle - from) (to - middle)
-      (to - from) from middle (omega (arith, one, two)) (omega (arith, one)))
+      images_in_parts (editing_setup e) e.disk e.session.current.inputs (middle - from) (to - middle)
+      (to - from) from middle (omega (arith, one, two)) (omega (arith, one))
 
-  abbrev images_in : Option Task → List ℕ
+  abbrev images_in : Option Task → Option (List ℕ)
   images_in task = task_images (editing_setup e) e.disk e.session.current.inputs task
 
   -- the images of a task are those from its entry's cut to the next
   task_makes : (i : ℕ) (task : Option Task) → ((t : Task) → task ≡ Some t → t.first ≡ cut_of i)
       → ((t : Task) → task ≡ Some t → t.end ≡ cut_of (i + 1))
       → (task ≡ None → cut_of (i + 1) ≡ cut_of i)
-      → images_in task ≡ images_between e (cut_of i) (cut_of (i + 1))
+      → images_between e (cut_of i) (cut_of (i + 1)) ≡ images_in task
   task_makes i None begins ends none = span_none (cut_of i) (cut_of (i + 1)) (none refl)
   task_makes i (Some t) begins ends none =
-      let from = begins t refl in
-      let to = ends t refl in
+      let from = sym (begins t refl) in
+      let to = sym (ends t refl) in
       (λ k. images_of e (from k) (to k - from k))
 
   -- and so are those of each worker of a round
   pub pieces_made : (next : ℕ) (old dealt made : List Worker) → ArePieces e first end next old dealt
       → EachDid (HasFilmed (editing_setup e) e.disk e.session.current.inputs) dealt made
       → (k : ℕ) (d : Worker) → k < length made
-      → worker_images (get_or made k d) ≡ images_between e (cut_of (next + k)) (cut_of (next + k + 1))
+      → images_between e (cut_of (next + k)) (cut_of (next + k + 1)) ≡ Some (worker_images (get_or made k d))
   pieces_made next old dealt made pieces did k d lt =
       let many = did.many in
       let below : k < length dealt = omega (arith, many, lt) in
       let piece = pieces.each k d below in
-      (did.each k d below).images
-      ∙ task_makes (next + k) (get_or dealt k d).task piece.begins piece.ends piece.none
+      task_makes (next + k) (get_or dealt k d).task piece.begins piece.ends piece.none
+      ∙ (did.each k d below).images
 
   pub types_made : (next : ℕ) (old dealt made : List Worker) → ArePieces e first end next old dealt
       → EachDid (HasFilmed (editing_setup e) e.disk e.session.current.inputs) dealt made

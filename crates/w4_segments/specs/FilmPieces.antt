@@ -13,11 +13,11 @@ abbrev pub film_cut : FilmPieces → Editing → ℕ → ℕ
 film_cut film e i = piece_begin (entries_of e) film.first film.end i
 
 -- the images from one place up to another
-abbrev pub images_between : Editing → ℕ → ℕ → List ℕ
+abbrev pub images_between : Editing → ℕ → ℕ → Option (List ℕ)
 images_between e from to = images_of e from (to - from)
 
 -- the images that are still to be handed out, and the most pieces that these are
-abbrev pub images_left : FilmPieces → Editing → List ℕ
+abbrev pub images_left : FilmPieces → Editing → Option (List ℕ)
 images_left film e = images_between e (film_cut film e film.next) film.end
 
 abbrev pub pieces_left : FilmPieces → Editing → ℕ
@@ -49,9 +49,9 @@ pub record CanGoOn (team : List Worker) (first end entry next made : ℕ) (e : E
   pub hands : made ≤ next + length team
   pub bound : made ≤ 2048
   pub pieces : (k : ℕ) (d : Worker) → k < made - next
-      → worker_images (worker_at team next made k d)
-      ≡ images_between e (piece_begin (entries_of e) first end (next + k))
+      → images_between e (piece_begin (entries_of e) first end (next + k))
       (piece_begin (entries_of e) first end (next + k + 1))
+      ≡ Some (worker_images (worker_at team next made k d))
 
 abbrev pub IsFilming : FilmPieces → Editing → Type 0
 IsFilming film e = CanGoOn film.team.items film.first film.end film.entry film.next film.made e

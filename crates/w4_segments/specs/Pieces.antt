@@ -1,16 +1,16 @@
 -- The pieces of a film. They are cut at the kept places, and each has the images from its cut to the next.
-use Rattle.std.specs.Prelude.{◌≡◌, ℕ, ◌+◌, ◌<◌, List, length, slice_index_or, Some, None, min, max, nat_lt, if◌then◌else◌}
+use Rattle.std.specs.Prelude.{◌≡◌, ℕ, ◌+◌, ◌<◌, List, length, slice_index_or, Option, Some, None, min, max, nat_lt, if◌then◌else◌}
 use Rattle.w4_defs.specs.KeptList.{Entry, place_at, state_at}
 use Rattle.w4_defs.specs.Run.{run_state}
 use Rattle.w4_editor.specs.Editing.{Editing, editing_setup}
 use Rattle.w4_segments.specs.declared.worker.Task.{Task}
 use Rattle.w4_segments.specs.declared.worker.Worker.{Worker}
-use Rattle.w4_segments.specs.Filming.{run_images}
+use Rattle.w4_defs.specs.Film.{run_images}
 use Rattle.w4_segments.specs.Rounds.{entries_of}
 use Rattle.w4_segments.specs.Working.{CanFilm}
 
 -- the images of so many places of an editor's run, from this place on
-abbrev pub images_of : Editing → ℕ → ℕ → List ℕ
+abbrev pub images_of : Editing → ℕ → ℕ → Option (List ℕ)
 images_of e place count = run_images (editing_setup e) e.disk e.session.current.inputs place count
 
 -- where the piece of entry I begins: at the entry's place, but within the film's first place and its end

@@ -1,7 +1,7 @@
 -- What a settling by many workers leaves: what one leaves.
-use Rattle.std.specs.Prelude.{◌≡◌, ◌-◌, length, None}
-use Rattle.w4_defs.specs.KeptList.{IsSettled}
-use Rattle.w4_editor.specs.Editing.{Editing}
+use Rattle.std.specs.Prelude.{◌≡◌, ◌-◌, ◌⊎◌, length, None}
+use Rattle.w4_defs.specs.KeptList.{IsSession, IsSettled}
+use Rattle.w4_editor.specs.Editing.{Editing, editing_setup}
 use Rattle.w4_editor.specs.Showing.{KeepsRecording, AreOfRun}
 
 -- all entries are linked and have the states of a run from reset, and no place is shown
@@ -11,3 +11,10 @@ pub record IsSettledWide (old new : Editing) : Type 0 where
   pub settled : IsSettled
       (length old.session.current.kept - 1) old.session.current.kept new.session.current.kept
   pub states : AreOfRun new
+
+-- memory ran out: recording, history and kept places are unchanged, kept states and links are true of the
+-- inputs, and the place that was shown still is, or none
+pub record IsPartlySettled (old new : Editing) : Type 0 where
+  pub recording : KeepsRecording old new
+  pub consistent : IsSession (editing_setup new) new.disk new.session
+  pub at : (new.at ≡ old.at) ⊎ (new.at ≡ None)

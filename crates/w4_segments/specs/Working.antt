@@ -8,7 +8,7 @@ use Rattle.w4_defs.specs.Run.{fold, run_state}
 use Rattle.w4_defs.specs.State.{HasGlobals}
 use Rattle.w4_segments.specs.declared.worker.Task.{Task}
 use Rattle.w4_segments.specs.declared.worker.Worker.{Worker}
-use Rattle.w4_segments.specs.Filming.{run_images}
+use Rattle.w4_defs.specs.Film.{run_images}
 
 -- the console's globals have the cart's types
 abbrev pub HasCartTypes : WasmModule → Worker → Type 0
@@ -39,9 +39,9 @@ pub record CanFilm (setup : Setup) (disk : List ℕ) (inputs : List Input) (work
   pub empty : worker.screens.items ≡ []
   pub room : (task : Task) → worker.task ≡ Some task → task.end - task.first ≤ vec_capacity worker.screens
 
--- the images of a task
-abbrev pub task_images : Setup → List ℕ → List Input → Option Task → List ℕ
-task_images setup disk inputs None = []
+-- the images of a task, where the run has a meaning
+abbrev pub task_images : Setup → List ℕ → List Input → Option Task → Option (List ℕ)
+task_images setup disk inputs None = Some []
 task_images setup disk inputs (Some task) =
     run_images setup disk inputs task.first (task.end - task.first)
 
@@ -52,7 +52,7 @@ worker_images worker = flat_map image worker.screens.items
 -- it has made the screens of them
 pub record HasFilmed (setup : Setup) (disk : List ℕ) (inputs : List Input) (old new : Worker) : Type 0 where
   pub types : HasCartTypes setup.cart new
-  pub images : worker_images new ≡ task_images setup disk inputs old.task
+  pub images : task_images setup disk inputs old.task ≡ Some (worker_images new)
 
 -- each worker of a team did so
 pub record EachDid (Did : Worker → Worker → Type 0) (old new : List Worker) : Type 0 where

@@ -1,22 +1,25 @@
 //! Films that are handed out a piece at a time, and the workers that make the pieces.
 
-ghost use Rattle.std.specs.Prelude.{◌≡◌, ◌≢◌, ℕ, ◌+◌, ◌-◌, ◌<◌, ◌≤◌, ◌++◌, [], All, IfErr, IfOk, IsFalse, IsTrue, None, OnOk, flat_map, length};
+ghost use Rattle.std.specs.Prelude.{◌≡◌, ◌≢◌, ℕ, ◌+◌, ◌-◌, ◌<◌, ◌≤◌, [], All, IfErr, IfOk, IsFalse, IsTrue, None, OnOk, Some, flat_map, length};
+ghost use Rattle.w4_defs.specs.AllThere.{joined};
 ghost use Rattle.w4_defs.specs.Image.{image};
 ghost use Rattle.w4_defs.specs.KeptList.{place_at};
 ghost use Rattle.w4_segments.specs.FilmPieces.{IsFilming, HasNext, film_cut, images_left, piece_of, pieces_left};
-ghost use Rattle.w4_segments.specs.Filming.{IsFilmRefusal, KeepsShown, film_images, film_refusal};
+ghost use Rattle.w4_defs.specs.Film.{film_refusal};
+ghost use Rattle.w4_segments.specs.Filming.{IsFilmRefusal, KeepsShown, film_images};
 ghost use Rattle.w4_segments.specs.Pieces.{AreOfRunBelow, ArePieces, IsPiece, piece_begin};
 ghost use Rattle.w4_segments.specs.Working.{HasCartTypes};
-ghost use Rattle.w4_segments.specs.declared.refusal.FilmRefusal.TheVariants.{OutOfMemory as NoMemory};
+ghost use Rattle.w4_defs.specs.declared.film_refusal.FilmRefusal.TheVariants.{OutOfMemory as NoMemory};
 
 use crate::gate::{Gate, OpenGate};
 use crate::pieces::film_all;
-use crate::refusal::FilmRefusal;
 use crate::rounds::{is_consistent, settle_rounds, unlinked};
 use crate::worker::{Task, Worker, team};
 use std::alloc::Global;
+use std::marker::Brand;
+use std::sync::ledger::{Blank, Ledger};
 use std::thread::Threads;
-use w4_defs::OutOfMemory;
+use w4_defs::{FilmRefusal, OutOfMemory, Steps};
 use w4_editor::Editor;
 use w4_image::Screen;
 
@@ -67,13 +70,13 @@ impl FilmPieces {
         if let Some(refusal) = refusal(editor, a, b) {
             return Err(refusal);
         }
-        let film = begin_there(rt, alloc, editor, a, b, workers)?;
+        let film = begin_there::<R, Brand>(rt, alloc, editor, a, b, workers, Blank::new(1))?;
         Ok(film)
     }
 
-    /// Goes to the next piece; whether there is one. Where it isn't made yet, a round of pieces is made first;
-    /// a piece passes the gate, with its number, as it is begun. Errors: OutOfMemory, and then the film is of
-    /// no more use.
+    /// Goes to the next piece; whether there is one. Where it isn't made yet, a round of pieces is made
+    /// first; a piece passes the gate, with its number, as it is begun. Errors: OutOfMemory, and then the
+    /// film is of no more use.
     pub fn next_piece<R: Threads + Sync, G: Gate + Sync>(
         &mut self,
         rt: &R,
@@ -83,10 +86,11 @@ impl FilmPieces {
         requires { IsFilming self.old editor.now }
         ensures filming { OnOk result (IsFilming self.new editor.now) }
         ensures piece { IfOk result (λ some. IsTrue some
-            → images_left self.old editor.now ≡ piece_of self.new ++ images_left self.new editor.now) }
+            → images_left self.old editor.now
+            ≡ joined (Some (piece_of self.new)) (images_left self.new editor.now)) }
         ensures fewer { IfOk result (λ some. IsTrue some
             → pieces_left self.new editor.now < pieces_left self.old editor.now) }
-        ensures over { IfOk result (λ some. IsFalse some → images_left self.old editor.now ≡ []) }
+        ensures over { IfOk result (λ some. IsFalse some → images_left self.old editor.now ≡ Some []) }
     {
         is_consistent(editor);
         if cut(editor, self.first, self.end, self.next) >= self.end {
@@ -154,19 +158,23 @@ fn refusal(editor: &Editor, a: usize, b: usize) -> Option<FilmRefusal>
     None
 }
 
-/// Begins the film of places that are there.
-fn begin_there<R: Threads + Sync>(
+/// Begins the film of places that are there. Its rounds have a counter of their own.
+fn begin_there<R: Threads + Sync, L: Ledger>(
     rt: &R,
     alloc: Global,
     editor: &mut Editor,
     a: usize,
     b: usize,
     workers: usize,
+    blank: Blank,
 ) -> Result<FilmPieces, OutOfMemory>
     requires order { a ≤ b }
     requires there { b ≤ length editor.old.session.current.inputs }
     requires some { 1 ≤ workers }
     requires few { workers ≤ 16 }
+    requires name { blank.name ≡ L.name }
+    requires parts { blank.parts ≡ L.parts }
+    requires shares { 0 < L.parts }
     ensures filming { IfOk result (λ film. IsFilming film editor.new) }
     ensures images { IfOk result (λ film. images_left film editor.new ≡ film_images editor.old a b) }
     ensures keeps { KeepsShown editor.old editor.new }
@@ -175,7 +183,16 @@ fn begin_there<R: Threads + Sync>(
     let (first, last) = (last_up_to(editor, a), last_up_to(editor, b));
     let hands = (last + 1 - first).max(unlinked(editor, last)).min(workers);
     let mut team = team(alloc, editor.cart(), hands)?;
-    settle_rounds(rt, alloc, editor, last, &OpenGate, team.as_mut_slice())?;
+    let mut rounds = Steps::<L>::new(blank);
+    settle_rounds(
+        rt,
+        alloc,
+        editor,
+        last,
+        &OpenGate,
+        team.as_mut_slice(),
+        &mut rounds,
+    )?;
     is_consistent(editor);
     Ok(FilmPieces {
         team,

@@ -1,17 +1,17 @@
 //! Films: the images of a stretch of a run, made by many workers.
 
-ghost use Rattle.std.specs.Prelude.{◌≡◌, ◌≢◌, ◌≤◌, ◌++◌, IfErr, IfOk, None, OnOk, flat_map};
+ghost use Rattle.std.specs.Prelude.{◌≡◌, ◌≢◌, ◌≤◌, ◌++◌, IfErr, IfOk, None, OnOk, Some, flat_map};
 ghost use Rattle.w4_defs.specs.Image.{image};
 ghost use Rattle.w4_segments.specs.FilmPieces.{IsFilming, images_left};
-ghost use Rattle.w4_segments.specs.Filming.{IsFilmRefusal, KeepsShown, film_images, film_refusal};
-ghost use Rattle.w4_segments.specs.declared.refusal.FilmRefusal.TheVariants.{OutOfMemory as NoMemory};
+ghost use Rattle.w4_defs.specs.Film.{film_refusal};
+ghost use Rattle.w4_segments.specs.Filming.{IsFilmRefusal, KeepsShown, film_images};
+ghost use Rattle.w4_defs.specs.declared.film_refusal.FilmRefusal.TheVariants.{OutOfMemory as NoMemory};
 
 use crate::film_pieces::FilmPieces;
 use crate::gate::Gate;
-use crate::refusal::FilmRefusal;
 use std::alloc::Global;
 use std::thread::Threads;
-use w4_defs::OutOfMemory;
+use w4_defs::{FilmRefusal, OutOfMemory};
 use w4_editor::Editor;
 use w4_image::{IMAGE_LEN, Screen, screen_into};
 
@@ -30,7 +30,7 @@ pub fn film<R: Threads + Sync, G: Gate + Sync>(
     requires order { a ≤ b }
     requires some { 1 ≤ workers }
     requires few { workers ≤ 16 }
-    ensures images { IfOk result (λ film. film.items ≡ film_images editor.old a b) }
+    ensures images { IfOk result (λ film. film_images editor.old a b ≡ Some film.items) }
     ensures refused { IfErr result (IsFilmRefusal (film_refusal a b editor.old.session.current.inputs)) }
     ensures accepted { OnOk result (film_refusal a b editor.old.session.current.inputs ≡ None) }
     ensures unchanged { IfErr result (λ refusal. refusal ≢ NoMemory → editor.new ≡ editor.old) }
@@ -50,7 +50,7 @@ fn gathered<R: Threads + Sync, G: Gate + Sync>(
     gate: &G,
 ) -> Result<Vec<u8>, OutOfMemory>
     requires { IsFilming film.old editor.now }
-    ensures { IfOk result (λ all. all.items ≡ images_left film.old editor.now) }
+    ensures { IfOk result (λ all. images_left film.old editor.now ≡ Some all.items) }
 {
     let mut picture = Box::new(alloc, [0; IMAGE_LEN])?;
     let mut all = Vec::new(alloc);

@@ -6,7 +6,7 @@ ghost use Rattle.w4_defs.specs.Board.{console_setup};
 ghost use Rattle.w4_defs.specs.Image.{image};
 ghost use Rattle.w4_defs.specs.Run.{run_state};
 ghost use Rattle.w4_defs.specs.State.{HasGlobals};
-ghost use Rattle.w4_segments.specs.Filming.{run_images};
+ghost use Rattle.w4_defs.specs.Film.{run_images};
 ghost use Rattle.w4_segments.specs.Working.{CanFilm, EachDid, HasFilmed};
 
 use crate::gate::Gate;
@@ -82,9 +82,8 @@ fn film_task(
         recording.now.frames task.place ≡ Some console.old }
     requires empty { screens.old.items ≡ [] }
     requires room { task.end - task.first ≤ vec_capacity screens.old }
-    ensures images { flat_map image screens.new.items ≡ run_images
-        (console_setup cart.now font.now recording.now.budget) recording.now.disk recording.now.frames
-        task.first (task.end - task.first) }
+    ensures images { run_images (console_setup cart.now font.now recording.now.budget) recording.now.disk
+        recording.now.frames task.first (task.end - task.first) ≡ Some (flat_map image screens.new.items) }
     ensures types { HasGlobals cart.now console.new }
 {
     play(console, cart, font, recording, task.place, task.first);

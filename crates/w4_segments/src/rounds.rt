@@ -4,6 +4,7 @@
 ghost use Rattle.std.specs.Prelude.{◌≡◌, ◌≢◌, ℕ, ◌+◌, ◌-◌, ◌<◌, ◌≤◌, ◌↔◌, All, IfOk, IsFalse, IsTrue, None, OnOk, Some, length, slice_index_or, true};
 ghost use Rattle.w4_defs.specs.Board.{console_setup};
 ghost use Rattle.w4_defs.specs.KeptList.{IsDraft, computed, linked_at};
+ghost use Rattle.w4_defs.specs.FramesRun.{RunsAtMost};
 ghost use Rattle.w4_defs.specs.State.{HasGlobals};
 ghost use Rattle.w4_editor.specs.Editing.{editing_setup};
 ghost use Rattle.w4_editor.specs.Settling.{AreLinked};
@@ -17,23 +18,26 @@ use crate::gate::Gate;
 use crate::playing::play;
 use crate::worker::{Task, Worker};
 use std::alloc::Global;
+use std::sync::ledger::Ledger;
 use std::thread;
 use std::thread::Threads;
 use w4_blit::Font;
-use w4_defs::OutOfMemory;
+use w4_defs::{OutOfMemory, Steps};
 use w4_editor::Editor;
 use w4_map::State;
 use w4_record::Recording;
 use wasm_valid::Cart;
 
-/// Links all entries up to `last`, in at most `last` rounds: each one lengthens the linked front of the list.
-pub(crate) fn settle_rounds<R: Threads + Sync, G: Gate + Sync>(
+/// Links all entries up to `last`, in at most `last` rounds, each of which is one step: each one lengthens
+/// the linked front of the list.
+pub(crate) fn settle_rounds<R: Threads + Sync, G: Gate + Sync, L: Ledger>(
     rt: &R,
     alloc: Global,
     editor: &mut Editor,
     last: usize,
     gate: &G,
     team: &mut [Worker],
+    rounds: &mut Steps<L>,
 ) -> Result<(), OutOfMemory>
     requires there { last < length editor.old.session.current.kept }
     requires some { 0 < length team.old }
@@ -42,24 +46,26 @@ pub(crate) fn settle_rounds<R: Threads + Sync, G: Gate + Sync>(
     ensures keeps { KeepsShown editor.old editor.new }
     ensures many { length team.new ≡ length team.old }
     ensures types { OnOk result (All (HasCartTypes editor.old.cart) team.new) }
+    ensures rounds { RunsAtMost rounds.old rounds.new last }
 {
     is_consistent(editor);
     for _ in 0..last {
-        if !settle_round(rt, alloc, editor, last, gate, team)? {
+        if !settle_round(rt, alloc, editor, last, gate, team, rounds)? {
             return Ok(());
         }
     }
     Ok(())
 }
 
-/// One round; whether there was anything to do.
-fn settle_round<R: Threads + Sync, G: Gate + Sync>(
+/// One round, which is one step; whether there was anything to do.
+fn settle_round<R: Threads + Sync, G: Gate + Sync, L: Ledger>(
     rt: &R,
     alloc: Global,
     editor: &mut Editor,
     last: usize,
     gate: &G,
     team: &mut [Worker],
+    rounds: &mut Steps<L>,
 ) -> Result<bool, OutOfMemory>
     requires there { last < length editor.old.session.current.kept }
     requires some { 0 < length team.old }
@@ -71,7 +77,9 @@ fn settle_round<R: Threads + Sync, G: Gate + Sync>(
     ensures keeps { KeepsShown editor.old editor.new }
     ensures many { length team.new ≡ length team.old }
     ensures types { OnOk result (All (HasCartTypes editor.old.cart) team.new) }
+    ensures round { rounds.new ≡ rounds.old + 1 }
 {
+    rounds.tick();
     is_consistent(editor);
     deal(editor, last, team);
     if is_idle(team) {

@@ -1,10 +1,11 @@
 //! Settling by many workers.
 
-ghost use Rattle.std.specs.Prelude.{◌≡◌, ◌-◌, ◌<◌, ◌≤◌, OnErr, OnOk, length};
+ghost use Rattle.std.specs.Prelude.{◌≡◌, ◌-◌, ◌<◌, ◌≤◌, ◌⊎◌, None, OnErr, OnOk, length};
+ghost use Rattle.w4_defs.specs.FramesRun.{RunsAtMost};
 ghost use Rattle.w4_editor.specs.Settling.{AreLinked};
 ghost use Rattle.w4_editor.specs.Showing.{KeepsRecording};
 ghost use Rattle.w4_segments.specs.Filming.{KeepsShown};
-ghost use Rattle.w4_segments.specs.Settling.{IsSettledWide};
+ghost use Rattle.w4_segments.specs.Settling.{IsPartlySettled, IsSettledWide};
 
 use crate::gate::Gate;
 use crate::rounds::{is_consistent, settle_rounds, unlinked};
@@ -18,7 +19,7 @@ use w4_editor::Editor;
 
 /// Brings all kept places up to date, as `Editor::settle` does, by 1 to 16 workers; a piece of a round is one
 /// segment that isn't linked. No place is shown then. Errors: OutOfMemory, and then kept states and links may
-/// be newer.
+/// be newer, and the place that was shown still is, or none is.
 pub fn settle_wide<R: Threads + Sync, G: Gate + Sync>(
     rt: &R,
     alloc: Global,
@@ -29,24 +30,93 @@ pub fn settle_wide<R: Threads + Sync, G: Gate + Sync>(
     requires some { 1 ≤ workers }
     requires few { workers ≤ 16 }
     ensures ok { OnOk result (IsSettledWide editor.old editor.new) }
-    ensures err { OnErr result (KeepsRecording editor.old editor.new) }
+    ensures err { OnErr result (IsPartlySettled editor.old editor.new) }
 {
-    link_all(rt, alloc, editor, workers, gate)?;
-    settle::<Brand>(alloc, editor, Blank::new(1))
+    settle_alone::<R, G, Brand>(rt, alloc, editor, workers, gate, Blank::new(1))
 }
 
-/// Links all entries. Takes no memory where they are linked.
-fn link_all<R: Threads + Sync, G: Gate + Sync>(
+/// The same work under a counter of its own.
+fn settle_alone<R: Threads + Sync, G: Gate + Sync, L: Ledger>(
     rt: &R,
     alloc: Global,
     editor: &mut Editor,
     workers: usize,
     gate: &G,
+    blank: Blank,
+) -> Result<(), OutOfMemory>
+    requires some { 1 ≤ workers }
+    requires few { workers ≤ 16 }
+    requires name { blank.name ≡ L.name }
+    requires parts { blank.parts ≡ L.parts }
+    requires shares { 0 < L.parts }
+    ensures ok { OnOk result (IsSettledWide editor.old editor.new) }
+    ensures err { OnErr result (IsPartlySettled editor.old editor.new) }
+{
+    settle_wide_counted(
+        rt,
+        alloc,
+        editor,
+        workers,
+        gate,
+        &mut Steps::<L>::new(blank),
+    )
+}
+
+/// The same work as `settle_wide`, where each round is one step: there are fewer rounds than kept places.
+pub fn settle_wide_counted<R: Threads + Sync, G: Gate + Sync, L: Ledger>(
+    rt: &R,
+    alloc: Global,
+    editor: &mut Editor,
+    workers: usize,
+    gate: &G,
+    rounds: &mut Steps<L>,
+) -> Result<(), OutOfMemory>
+    requires some { 1 ≤ workers }
+    requires few { workers ≤ 16 }
+    ensures ok { OnOk result (IsSettledWide editor.old editor.new) }
+    ensures err { OnErr result (IsPartlySettled editor.old editor.new) }
+    ensures rounds { RunsAtMost rounds.old rounds.new (length editor.old.session.current.kept - 1) }
+{
+    let settled = settle_by_rounds(rt, alloc, editor, workers, gate, rounds);
+    // What an editor keeps true is known by this call, which costs nothing.
+    let _shown = editor.at();
+    settled
+}
+
+/// Links all entries, and then settles.
+fn settle_by_rounds<R: Threads + Sync, G: Gate + Sync, L: Ledger>(
+    rt: &R,
+    alloc: Global,
+    editor: &mut Editor,
+    workers: usize,
+    gate: &G,
+    rounds: &mut Steps<L>,
+) -> Result<(), OutOfMemory>
+    requires some { 1 ≤ workers }
+    requires few { workers ≤ 16 }
+    ensures ok { OnOk result (IsSettledWide editor.old editor.new) }
+    ensures err { OnErr result (KeepsRecording editor.old editor.new) }
+    ensures at { OnErr result ((editor.new.at ≡ editor.old.at) ⊎ (editor.new.at ≡ None)) }
+    ensures rounds { RunsAtMost rounds.old rounds.new (length editor.old.session.current.kept - 1) }
+{
+    link_all(rt, alloc, editor, workers, gate, rounds)?;
+    settle::<Brand>(alloc, editor, Blank::new(1))
+}
+
+/// Links all entries. Takes no memory and no round where they are linked.
+fn link_all<R: Threads + Sync, G: Gate + Sync, L: Ledger>(
+    rt: &R,
+    alloc: Global,
+    editor: &mut Editor,
+    workers: usize,
+    gate: &G,
+    rounds: &mut Steps<L>,
 ) -> Result<(), OutOfMemory>
     requires some { 1 ≤ workers }
     ensures linked { OnOk result (AreLinked (length editor.old.session.current.kept - 1)
         editor.new.session.current.kept) }
     ensures keeps { KeepsShown editor.old editor.new }
+    ensures rounds { RunsAtMost rounds.old rounds.new (length editor.old.session.current.kept - 1) }
 {
     let last = last_entry(editor);
     let owed = unlinked(editor, last);
@@ -54,7 +124,7 @@ fn link_all<R: Threads + Sync, G: Gate + Sync>(
         return Ok(());
     }
     let mut team = team(alloc, editor.cart(), owed.min(workers))?;
-    settle_rounds(rt, alloc, editor, last, gate, team.as_mut_slice())
+    settle_rounds(rt, alloc, editor, last, gate, team.as_mut_slice(), rounds)
 }
 
 /// The last entry; entry 0 is always there.
@@ -73,6 +143,7 @@ fn settle<L: Ledger>(alloc: Global, editor: &mut Editor, blank: Blank) -> Result
     requires some { 0 < L.parts }
     ensures ok { OnOk result (IsSettledWide editor.old editor.new) }
     ensures err { OnErr result (KeepsRecording editor.old editor.new) }
+    ensures at { OnErr result (editor.new.at ≡ None) }
 {
     match editor.settle(alloc, &mut Steps::<L>::new(blank)) {
         Ok(()) => Ok(()),

@@ -4,6 +4,7 @@
 #![tactic(auto)]
 
 mod equality;
+pub mod laws;
 mod shared_page;
 pub mod snap;
 

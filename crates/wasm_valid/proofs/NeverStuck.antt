@@ -16,7 +16,7 @@ use Rattle.w4_defs.specs.Program.{Callee, own_function, host_function, no_functi
 use Rattle.w4_defs.specs.Control.{leave}
 use Rattle.w4_defs.specs.Evaluation.{body_env, eval, run_own, ended, enter_own, enter, run_entry}
 use Rattle.w4_defs.specs.RunLaws.{types_of}
-use Rattle.wasm_valid.specs.TypeSoundness.{AnswersByType, HasTypes, NeverStuck, KeepsGlobalTypes}
+use Rattle.w4_defs.specs.TypeSoundness.{AnswersByType, HasTypes, NeverStuck, KeepsGlobalTypes}
 use Rattle.wasm_valid.proofs.ProfileLaws.{own_globals}
 use Rattle.wasm_valid.proofs.TypedValues.{are_of_typed}
 use Rattle.wasm_valid.proofs.TypedLists.{OutcomeFits}

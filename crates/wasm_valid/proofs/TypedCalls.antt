@@ -18,7 +18,7 @@ use Rattle.w4_defs.specs.Outcome.{Store, Called, HostFunctions, Outcome, Spent, 
 use Rattle.w4_defs.specs.Control.{where_some, with_arguments, leave}
 use Rattle.w4_defs.specs.Evaluation.{Env, Evaluator, allowed, called_env, after_import, with_result, call_import, call_own, call, call_typed, call_table_element, call_indirect}
 use Rattle.w4_defs.specs.RunLaws.{types_of}
-use Rattle.wasm_valid.specs.TypeSoundness.{AnswersByType}
+use Rattle.w4_defs.specs.TypeSoundness.{AnswersByType}
 use Rattle.wasm_valid.proofs.TypeLaws.{same_signature_is}
 use Rattle.wasm_valid.proofs.TypedValues.{types_joined}
 use Rattle.wasm_valid.proofs.TypedLists.{OutcomeFits, global_values, on_i32_fits, where_some_fits, cond_fits, with_arguments_fits, leave_fits}

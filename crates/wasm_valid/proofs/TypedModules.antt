@@ -15,7 +15,7 @@ use Rattle.w4_defs.specs.Validity.{IsElementSegment, IsValid}
 use Rattle.w4_defs.specs.Program.{own_function, own_callee, own_callees, callees, zeros, constant_of, put_functions, fill_table, empty_table, program}
 use Rattle.w4_defs.specs.Outcome.{HostFunctions}
 use Rattle.w4_defs.specs.RunLaws.{types_of}
-use Rattle.wasm_valid.specs.TypeSoundness.{AnswersByType}
+use Rattle.w4_defs.specs.TypeSoundness.{AnswersByType}
 use Rattle.wasm_valid.proofs.OperandTypeLaws.{some_and_then, some_then}
 use Rattle.wasm_valid.proofs.BodyLaws.{free}
 use Rattle.wasm_valid.proofs.NoneLaws.{none_at}

@@ -1,7 +1,6 @@
 -- What the contracts of this crate cite besides the definition of typing.
 pub mod AbstractStackLaw
 pub mod Pass
-pub mod TypeSoundness
 pub mod Calls
 pub mod Carts
 pub mod Constants

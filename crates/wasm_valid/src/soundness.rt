@@ -1,7 +1,7 @@
 //! Validation is sound: a run of an accepted module always has a meaning.
 
 ghost use Rattle.w4_defs.specs.Outcome.{HostFunctions};
-ghost use Rattle.wasm_valid.specs.TypeSoundness.{AnswersByType, KeepsGlobalTypes, NeverStuck};
+ghost use Rattle.w4_defs.specs.TypeSoundness.{AnswersByType, KeepsGlobalTypes, NeverStuck};
 
 use wasm_tree::Host;
 

@@ -6,7 +6,7 @@ use Rattle.std.proofs.lemmas.List.Elements.{recursion_from_All}
 use Rattle.w4_defs.specs.BinaryText.{Texts, ◌then◌, byte, items}
 use Rattle.w4_defs.specs.BinaryNumber.{unsigned}
 use Rattle.w4_defs.specs.BinaryType.{vector, sized}
-use Rattle.wasm_write.specs.EncodeType.{vector_bytes, sized_bytes}
+use Rattle.w4_defs.specs.EncodeType.{vector_bytes, sized_bytes}
 use Rattle.wasm_write.specs.Fits.{VectorFits}
 use Rattle.wasm_write.proofs.NumberLaws.{unsigned_encodes}
 

@@ -13,9 +13,9 @@ use Rattle.w4_defs.specs.BinaryNumber.{unsigned}
 use Rattle.w4_defs.specs.BinaryType.{vector, value_type, block_type}
 use Rattle.w4_defs.specs.BinaryInstruction.{table_labels, with_labels, instruction, list, expression}
 use Rattle.w4_defs.specs.Tree.{Expr, done, plain, block, loop, if_then, if_else}
-use Rattle.wasm_write.specs.EncodeNumber.{unsigned_bytes}
-use Rattle.wasm_write.specs.EncodeType.{vector_bytes, value_type_bytes, block_type_code}
-use Rattle.wasm_write.specs.EncodeInstruction.{labels_bytes, labelled_bytes, instruction_bytes, list_bytes, expression_bytes}
+use Rattle.w4_defs.specs.EncodeNumber.{unsigned_bytes}
+use Rattle.w4_defs.specs.EncodeType.{vector_bytes, value_type_bytes, block_type_code}
+use Rattle.w4_defs.specs.EncodeInstruction.{labels_bytes, labelled_bytes, instruction_bytes, list_bytes, expression_bytes}
 use Rattle.wasm_write.specs.Fits.{IndexFits, LabelledFits, ExpressionFits}
 use Rattle.wasm_write.proofs.NumberLaws.{unsigned_encodes}
 use Rattle.wasm_write.proofs.CombineLaws.{two_in_turn, after_byte, vector_encodes}

@@ -17,10 +17,10 @@ use Rattle.w4_defs.specs.BinaryType.{vector, bytes, utf8, name, value_type, func
 use Rattle.w4_defs.specs.BinaryInstruction.{expression}
 use Rattle.w4_defs.specs.BinaryModule.{import_kind, imported, global, export_kind, exported, element, locals_run, function, body, segment}
 use Rattle.w4_defs.specs.Module.{Signature, Imported, Exported, Global, ElementSegment, DataSegment, Function}
-use Rattle.wasm_write.specs.EncodeNumber.{unsigned_bytes}
-use Rattle.wasm_write.specs.EncodeType.{vector_bytes, sized_bytes, value_type_bytes, func_type_bytes, sizes_bytes, limits_bytes, table_type_bytes, mutability_code, global_type_bytes}
-use Rattle.wasm_write.specs.EncodeInstruction.{expression_bytes}
-use Rattle.wasm_write.specs.EncodeModule.{import_kind_bytes, imported_bytes, global_bytes, export_kind_code, exported_bytes, element_bytes, locals_bytes, function_bytes, body_bytes, data_segment_bytes}
+use Rattle.w4_defs.specs.EncodeNumber.{unsigned_bytes}
+use Rattle.w4_defs.specs.EncodeType.{vector_bytes, sized_bytes, value_type_bytes, func_type_bytes, sizes_bytes, limits_bytes, table_type_bytes, mutability_code, global_type_bytes}
+use Rattle.w4_defs.specs.EncodeInstruction.{expression_bytes}
+use Rattle.w4_defs.specs.EncodeModule.{import_kind_bytes, imported_bytes, global_bytes, export_kind_code, exported_bytes, element_bytes, locals_bytes, function_bytes, body_bytes, data_segment_bytes}
 use Rattle.wasm_write.specs.Fits.{IndexFits, VectorFits, NameFits, TypeFits, LimitsFit, ImportKindFits, ImportFits, GlobalFits, ExportFits, ElementFits, FunctionFits, SegmentFits}
 use Rattle.wasm_write.proofs.NumberLaws.{unsigned_encodes}
 use Rattle.wasm_write.proofs.CombineLaws.{two_in_turn, three_in_turn, after_byte, vector_encodes, sized_encodes}

@@ -13,10 +13,10 @@ use Rattle.w4_defs.specs.Tree.{Expr, mark, sequence}
 use Rattle.w4_defs.specs.Module.{Function}
 use Rattle.w4_defs.specs.Generator.{draw, operations, chosen, small_function, step_of, byte_at, update_function, made_types, made_imports, made_module}
 use Rattle.w4_defs.proofs.GeneratorLaws.{draws_are_small, made_modules_are_accepted}
-use Rattle.wasm_write.specs.EncodeNumber.{unsigned_bytes, signed_bytes}
-use Rattle.wasm_write.specs.EncodeType.{vector_bytes, func_type_bytes, limits_bytes, table_type_bytes}
-use Rattle.wasm_write.specs.EncodeInstruction.{instruction_bytes, list_bytes, expression_bytes}
-use Rattle.wasm_write.specs.EncodeModule.{imported_bytes, global_bytes, exported_bytes, element_bytes, data_segment_bytes, locals_bytes, function_bytes, body_bytes, section_bytes, first_sections, last_sections, module_bytes}
+use Rattle.w4_defs.specs.EncodeNumber.{unsigned_bytes, signed_bytes}
+use Rattle.w4_defs.specs.EncodeType.{vector_bytes, func_type_bytes, limits_bytes, table_type_bytes}
+use Rattle.w4_defs.specs.EncodeInstruction.{instruction_bytes, list_bytes, expression_bytes}
+use Rattle.w4_defs.specs.EncodeModule.{imported_bytes, global_bytes, exported_bytes, element_bytes, data_segment_bytes, locals_bytes, function_bytes, body_bytes, section_bytes, first_sections, last_sections, module_bytes}
 use Rattle.wasm_write.specs.Fits.{IndexFits, NameFits, LabelledFits, ExpressionFits, SectionFits, TypeFits, LimitsFit, ImportFits, GlobalFits, ExportFits, ElementFits, FunctionFits, SegmentFits, ModuleFits}
 use Rattle.wasm_write.specs.Laws.{MadeModulesAreCarts}
 use Rattle.wasm_write.proofs.NumberLaws.{unsigned_encodes, signed_encodes}

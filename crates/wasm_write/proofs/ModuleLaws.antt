@@ -7,9 +7,9 @@ use Rattle.w4_defs.specs.BinaryType.{func_type, limits, table_type}
 use Rattle.w4_defs.specs.BinarySection.{contents, Part, Alone, Counted}
 use Rattle.w4_defs.specs.BinaryModule.{preamble, imported, global, exported, element, body, segment, Collects, SpellsModule}
 use Rattle.w4_defs.specs.Module.{WasmModule}
-use Rattle.wasm_write.specs.EncodeNumber.{unsigned_bytes}
-use Rattle.wasm_write.specs.EncodeType.{func_type_bytes, limits_bytes, table_type_bytes}
-use Rattle.wasm_write.specs.EncodeModule.{imported_bytes, global_bytes, exported_bytes, element_bytes, body_bytes, data_segment_bytes, part, section_bytes, first_sections, last_sections, module_bytes}
+use Rattle.w4_defs.specs.EncodeNumber.{unsigned_bytes}
+use Rattle.w4_defs.specs.EncodeType.{func_type_bytes, limits_bytes, table_type_bytes}
+use Rattle.w4_defs.specs.EncodeModule.{imported_bytes, global_bytes, exported_bytes, element_bytes, body_bytes, data_segment_bytes, part, section_bytes, first_sections, last_sections, module_bytes}
 use Rattle.wasm_write.specs.Fits.{IndexFits, SectionFits, TypeFits, LimitsFit, ImportFits, GlobalFits, ExportFits, ElementFits, FunctionFits, SegmentFits, ModuleFits}
 use Rattle.wasm_write.specs.Sections.{slots, present, held, IdsRise}
 use Rattle.wasm_write.proofs.NumberLaws.{unsigned_encodes}

@@ -4,7 +4,7 @@ use Rattle.std.proofs.lemmas.Bool.{cases_lt, lt-ltb, ltb-true, le-leb, leb-true,
 use Rattle.std.proofs.lemmas.Nat.{pow-add}
 use Rattle.std.proofs.Math.Pow.{pow_mono}
 use Rattle.w4_defs.specs.BinaryNumber.{LastSigned, unsigned, signed}
-use Rattle.wasm_write.specs.EncodeNumber.{unsigned_in, unsigned_bytes, is_last, last_byte, signed_in, signed_bytes}
+use Rattle.w4_defs.specs.EncodeNumber.{unsigned_in, unsigned_bytes, is_last, last_byte, signed_in, signed_bytes}
 
 -- ---- unsigned numbers
 

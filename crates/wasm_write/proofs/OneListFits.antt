@@ -7,10 +7,10 @@ use Rattle.w4_defs.specs.declared.instruction.Instr.{Instr, Block, Loop, If}
 use Rattle.w4_defs.specs.Module.{Function, nothing_to_nothing}
 use Rattle.w4_defs.specs.Tree.{Expr}
 use Rattle.w4_defs.specs.View.{before, expression_of}
-use Rattle.wasm_write.specs.EncodeNumber.{unsigned_bytes}
-use Rattle.wasm_write.specs.EncodeType.{func_type_bytes, limits_bytes, table_type_bytes}
-use Rattle.wasm_write.specs.EncodeInstruction.{expression_bytes}
-use Rattle.wasm_write.specs.EncodeModule.{imported_bytes, global_bytes, exported_bytes, element_bytes, body_bytes, data_segment_bytes}
+use Rattle.w4_defs.specs.EncodeNumber.{unsigned_bytes}
+use Rattle.w4_defs.specs.EncodeType.{func_type_bytes, limits_bytes, table_type_bytes}
+use Rattle.w4_defs.specs.EncodeInstruction.{expression_bytes}
+use Rattle.w4_defs.specs.EncodeModule.{imported_bytes, global_bytes, exported_bytes, element_bytes, body_bytes, data_segment_bytes}
 use Rattle.wasm_write.specs.Fits.{IndexFits, ExpressionFits, SectionFits, TypeFits, LimitsFit, ImportFits, GlobalFits, ExportFits, ElementFits, FunctionFits, SegmentFits, ModuleFits}
 use Rattle.wasm_write.proofs.MadeFits.{plain_function, plain-fits, plain-short, nothing-fits}
 use Rattle.wasm_write.proofs.PartsOfModules.{function_with, module_with}

@@ -8,7 +8,7 @@ use Rattle.wasm_write.specs.declared.expression.OpenList.{OpenList}
 use Rattle.wasm_write.specs.declared.instruction_table.Encoding.{Encoding}
 use Rattle.wasm_write.specs.declared.instruction_table.Encoding.TheVariants.{Code, One, Two, Three, Signed32, Signed64, Bits32, Bits64, Labels, Choice}
 use Rattle.wasm_write.specs.declared.instruction_table.Encoding.TheVariants as encoding
-use Rattle.wasm_write.specs.EncodeInstruction.{list_bytes}
+use Rattle.w4_defs.specs.EncodeInstruction.{list_bytes}
 use Rattle.wasm_write.specs.EncodingForms.{head_bytes}
 use Rattle.wasm_write.specs.OpenLists.{open_bytes}
 

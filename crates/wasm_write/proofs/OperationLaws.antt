@@ -7,8 +7,8 @@ use Rattle.w4_defs.specs.declared.operation.Op.TheVariants.{Block, Loop, If, Els
 use Rattle.w4_defs.specs.BinaryNumber.{unsigned, little_endian}
 use Rattle.w4_defs.specs.BinaryMemory.{immediate}
 use Rattle.w4_defs.specs.BinaryInstruction.{operation}
-use Rattle.wasm_write.specs.EncodeNumber.{unsigned_bytes, signed_bytes}
-use Rattle.wasm_write.specs.EncodeInstruction.{immediate_bytes, operation_bytes}
+use Rattle.w4_defs.specs.EncodeNumber.{unsigned_bytes, signed_bytes}
+use Rattle.w4_defs.specs.EncodeInstruction.{immediate_bytes, operation_bytes}
 use Rattle.wasm_write.specs.Fits.{ImmediateFits, OperationFits}
 use Rattle.wasm_write.proofs.NumberLaws.{unsigned_encodes, signed_encodes}
 use Rattle.wasm_write.proofs.CombineLaws.{two_in_turn}

@@ -1,7 +1,7 @@
 -- A section is there if and only if it has entries.
 use Rattle.std.proofs.Common.{◌≡◌, ◌≢◌, ℕ, List, [], ◌∷◌, length, Some, None, refl, arith}
-use Rattle.wasm_write.specs.EncodeType.{vector_bytes}
-use Rattle.wasm_write.specs.EncodeModule.{part}
+use Rattle.w4_defs.specs.EncodeType.{vector_bytes}
+use Rattle.w4_defs.specs.EncodeModule.{part}
 
 pub part-none : {A : Type 0} (encode : A → List ℕ) (xs : List A) → length xs ≡ 0 → part encode xs ≡ None
 part-none encode [] h = refl

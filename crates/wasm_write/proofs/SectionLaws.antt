@@ -6,8 +6,8 @@ use Rattle.std.proofs.lemmas.Bool.Decides.{nat_tests}
 use Rattle.w4_defs.specs.BinaryText.{items, itself}
 use Rattle.w4_defs.specs.BinaryType.{bytes}
 use Rattle.w4_defs.specs.BinarySection.{section, rank, RanksRise, contents}
-use Rattle.wasm_write.specs.EncodeType.{sized_bytes}
-use Rattle.wasm_write.specs.EncodeModule.{section_bytes}
+use Rattle.w4_defs.specs.EncodeType.{sized_bytes}
+use Rattle.w4_defs.specs.EncodeModule.{section_bytes}
 use Rattle.wasm_write.specs.Fits.{IndexFits}
 use Rattle.wasm_write.specs.Sections.{Slot, present, held, IdsRise}
 use Rattle.wasm_write.proofs.NumberLaws.{bool_cases}

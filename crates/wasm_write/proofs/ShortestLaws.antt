@@ -2,7 +2,7 @@
 use Rattle.std.proofs.Common.{◌≡◌, ℕ, ◌+◌, ◌-◌, ◌*◌, ◌/◌, ◌^◌, ◌<◌, ◌≤◌, true, inl, inr, List, [], ◌∷◌, length, ap, ◌∙◌, arith}
 use Rattle.std.proofs.lemmas.Bool.{cases_lt, lt-ltb, le-leb}
 use Rattle.w4_defs.specs.BinaryNumber.{LastSigned, unsigned, signed}
-use Rattle.wasm_write.specs.EncodeNumber.{unsigned_bytes, is_last, signed_bytes}
+use Rattle.w4_defs.specs.EncodeNumber.{unsigned_bytes, is_last, signed_bytes}
 use Rattle.wasm_write.specs.Laws.{AreBytes, UnsignedAreShortest, SignedAreShortest}
 use Rattle.wasm_write.proofs.NumberLaws.{bool_cases, is_last-low, is_last-high, rest_fits, unsigned-last, unsigned-more, unsigned_encodes, signed-last, signed-more, signed_encodes}
 

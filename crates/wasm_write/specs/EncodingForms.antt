@@ -7,9 +7,9 @@ use Rattle.w4_defs.specs.View.{before, expression_of}
 use Rattle.wasm_write.specs.declared.instruction_table.Encoding.{Encoding}
 use Rattle.wasm_write.specs.declared.instruction_table.Encoding.TheVariants.{Code, One, Two, Three, Signed32, Signed64, Bits32, Bits64, Labels, Choice}
 use Rattle.wasm_write.specs.declared.instruction_table.Encoding.TheVariants as encoding
-use Rattle.wasm_write.specs.EncodeNumber.{unsigned_bytes, signed_bytes}
-use Rattle.wasm_write.specs.EncodeType.{block_type_code}
-use Rattle.wasm_write.specs.EncodeInstruction.{list_bytes}
+use Rattle.w4_defs.specs.EncodeNumber.{unsigned_bytes, signed_bytes}
+use Rattle.w4_defs.specs.EncodeType.{block_type_code}
+use Rattle.w4_defs.specs.EncodeInstruction.{list_bytes}
 
 -- the opcode and what stands after it, up to the first list
 abbrev pub head_bytes : Encoding → List ℕ

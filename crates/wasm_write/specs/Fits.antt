@@ -13,9 +13,9 @@ use Rattle.w4_defs.specs.BinaryMemory.{IsFloatAccess}
 use Rattle.w4_defs.specs.Lookup.{local_count}
 use Rattle.w4_defs.specs.Module.{Signature, Imported, Exported, Global, ElementSegment, DataSegment, Function, WasmModule}
 use Rattle.w4_defs.specs.Tree.{Expr, done, plain, block, loop, if_then, if_else}
-use Rattle.wasm_write.specs.EncodeNumber.{unsigned_bytes}
-use Rattle.wasm_write.specs.EncodeType.{vector_bytes, func_type_bytes, limits_bytes, table_type_bytes}
-use Rattle.wasm_write.specs.EncodeModule.{imported_bytes, global_bytes, exported_bytes, element_bytes, function_bytes, body_bytes, data_segment_bytes}
+use Rattle.w4_defs.specs.EncodeNumber.{unsigned_bytes}
+use Rattle.w4_defs.specs.EncodeType.{vector_bytes, func_type_bytes, limits_bytes, table_type_bytes}
+use Rattle.w4_defs.specs.EncodeModule.{imported_bytes, global_bytes, exported_bytes, element_bytes, function_bytes, body_bytes, data_segment_bytes}
 
 -- an index, a count or a size
 abbrev pub IndexFits : ℕ → Type 0

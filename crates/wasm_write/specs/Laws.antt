@@ -6,8 +6,8 @@ use Rattle.w4_defs.specs.BinaryModule.{SpellsModule}
 use Rattle.w4_defs.specs.Cart.{IsCart}
 use Rattle.w4_defs.specs.Generator.{made_module}
 use Rattle.w4_defs.specs.Module.{WasmModule}
-use Rattle.wasm_write.specs.EncodeNumber.{unsigned_bytes, signed_bytes}
-use Rattle.wasm_write.specs.EncodeModule.{module_bytes}
+use Rattle.w4_defs.specs.EncodeNumber.{unsigned_bytes, signed_bytes}
+use Rattle.w4_defs.specs.EncodeModule.{module_bytes}
 use Rattle.wasm_write.specs.Fits.{ModuleFits}
 
 -- they encode the module, wherever the format can

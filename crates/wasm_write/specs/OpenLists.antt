@@ -3,7 +3,7 @@
 use Rattle.std.specs.Prelude.{ℕ, List, [], ◌∷◌, ◌++◌}
 use Rattle.w4_defs.specs.View.{expression_of}
 use Rattle.wasm_write.specs.declared.expression.OpenList.{OpenList}
-use Rattle.wasm_write.specs.EncodeInstruction.{list_bytes}
+use Rattle.w4_defs.specs.EncodeInstruction.{list_bytes}
 
 abbrev pub open_bytes : List OpenList → List ℕ
 open_bytes [] = []

@@ -3,8 +3,8 @@
 
 ghost use Rattle.std.specs.Prelude.{IfOk, ◌++◌, ◌∷◌, ◌≡◌};
 ghost use Rattle.w4_defs.specs.View.{expression_of};
-ghost use Rattle.wasm_write.specs.EncodeInstruction.{expression_bytes};
-ghost use Rattle.wasm_write.specs.EncodeNumber.{unsigned_bytes};
+ghost use Rattle.w4_defs.specs.EncodeInstruction.{expression_bytes};
+ghost use Rattle.w4_defs.specs.EncodeNumber.{unsigned_bytes};
 ghost use Rattle.wasm_write.specs.EncodingForms.{head_bytes, inner_bytes};
 ghost use Rattle.wasm_write.specs.OpenLists.{open_bytes};
 

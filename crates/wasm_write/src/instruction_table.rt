@@ -33,7 +33,7 @@ pub enum Encoding<'a> {
 }
 
 /// The encoding of an instruction.
-#[tactic(auto, unfolding(w4_defs::specs::View::before, crate::specs::EncodeInstruction::list_bytes))]
+#[tactic(auto, unfolding(w4_defs::specs::View::before, w4_defs::specs::EncodeInstruction::list_bytes))]
 pub fn encoding_of(instr: &Instr) -> Encoding
     ensures { IsEncodedAs instr.now result }
 {
@@ -64,7 +64,7 @@ pub fn encoding_of(instr: &Instr) -> Encoding
 }
 
 /// The encoding of a memory or a numeric instruction.
-#[tactic(auto, unfolding(w4_defs::specs::View::before, crate::specs::EncodeInstruction::list_bytes))]
+#[tactic(auto, unfolding(w4_defs::specs::View::before, w4_defs::specs::EncodeInstruction::list_bytes))]
 fn memory_encoding(instr: &Instr) -> Encoding
     requires { HasRow (instruction_row instr.now) }
     ensures { IsEncodedAs instr.now result }
@@ -98,7 +98,7 @@ fn memory_encoding(instr: &Instr) -> Encoding
 }
 
 /// The encoding of a numeric instruction, or of any of floats.
-#[tactic(auto, unfolding(w4_defs::specs::View::before, crate::specs::EncodeInstruction::list_bytes))]
+#[tactic(auto, unfolding(w4_defs::specs::View::before, w4_defs::specs::EncodeInstruction::list_bytes))]
 fn numeric_encoding(instr: &Instr) -> Encoding
     requires { IsNumeric (instruction_row instr.now) }
     ensures { IsEncodedAs instr.now result }
@@ -128,7 +128,7 @@ fn numeric_encoding(instr: &Instr) -> Encoding
 }
 
 /// The opcode of a testop, relop, unop or binop.
-#[tactic(auto, unfolding(w4_defs::specs::View::before, crate::specs::EncodeInstruction::list_bytes))]
+#[tactic(auto, unfolding(w4_defs::specs::View::before, w4_defs::specs::EncodeInstruction::list_bytes))]
 fn operator_opcode(instr: &Instr) -> u8
     requires { operator_type (instruction_row instr.now) ≢ None }
     ensures { IsOpcode instr.now result }
@@ -168,7 +168,7 @@ fn operator_opcode(instr: &Instr) -> u8
 }
 
 /// The opcode of an operator of i64.
-#[tactic(auto, unfolding(w4_defs::specs::View::before, crate::specs::EncodeInstruction::list_bytes))]
+#[tactic(auto, unfolding(w4_defs::specs::View::before, w4_defs::specs::EncodeInstruction::list_bytes))]
 fn i64_opcode(instr: &Instr) -> u8
     requires { operator_type (instruction_row instr.now) ≡ Some I64 }
     ensures { IsOpcode instr.now result }

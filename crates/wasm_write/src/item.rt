@@ -1,8 +1,8 @@
 //! Values that are encoded, vectors of them, and bytes behind their size (Core Specification, section 5.1).
 
 ghost use Rattle.std.specs.Prelude.{IfOk, flat_map, ◌++◌, ◌∷◌, ◌≡◌, []};
-ghost use Rattle.wasm_write.specs.EncodeModule.{part, section_bytes};
-ghost use Rattle.wasm_write.specs.EncodeType.{sized_bytes, vector_bytes};
+ghost use Rattle.w4_defs.specs.EncodeModule.{part, section_bytes};
+ghost use Rattle.w4_defs.specs.EncodeType.{sized_bytes, vector_bytes};
 
 use crate::number::unsigned;
 use std::alloc::Global;

@@ -8,7 +8,7 @@ ghost use Rattle.w4_defs.specs.Generator.{byte_at, chosen, draw, made_budget, ma
 ghost use Rattle.w4_defs.specs.Tree.{sequence};
 ghost use Rattle.w4_defs.specs.View.{before};
 ghost use Rattle.wasm_write.specs.Draws.{function_of_draws, input_of_draw, inputs_from};
-ghost use Rattle.wasm_write.specs.EncodeModule.{module_bytes};
+ghost use Rattle.w4_defs.specs.EncodeModule.{module_bytes};
 ghost use Rattle.wasm_write.specs.Sequences.{AppendsOperations, IsOperation};
 
 use crate::made_module::{SMALL_FUNCTIONS, module_around};

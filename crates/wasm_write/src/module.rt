@@ -2,9 +2,9 @@
 
 ghost use Rattle.std.specs.Prelude.{IfOk, flat_map, length, ◌+◌, ◌++◌, ◌≡◌, option_map};
 ghost use Rattle.w4_defs.specs.BinaryModule.{SpellsModule};
-ghost use Rattle.wasm_write.specs.EncodeModule.{first_sections, last_sections, module_bytes, part, section_bytes};
-ghost use Rattle.wasm_write.specs.EncodeNumber.{unsigned_bytes};
-ghost use Rattle.wasm_write.specs.EncodeType.{table_type_bytes};
+ghost use Rattle.w4_defs.specs.EncodeModule.{first_sections, last_sections, module_bytes, part, section_bytes};
+ghost use Rattle.w4_defs.specs.EncodeNumber.{unsigned_bytes};
+ghost use Rattle.w4_defs.specs.EncodeType.{table_type_bytes};
 ghost use Rattle.wasm_write.specs.Fits.{ModuleFits};
 
 use crate::item::{byte, bytes, section, sized};
@@ -55,7 +55,7 @@ fn start_section(alloc: Global, out: &mut Vec<u8>, start: Option<u32>) -> Result
 }
 
 /// The sections 1 to 6.
-#[tactic(auto, unfolding(crate::specs::EncodeModule::first_sections))]
+#[tactic(auto, unfolding(w4_defs::specs::EncodeModule::first_sections))]
 fn first_sections(alloc: Global, out: &mut Vec<u8>, wasm_module: &Module) -> Result<(), OutOfMemory>
     ensures { IfOk result (λ _. out.new.items ≡ out.old.items ++ first_sections wasm_module.now) }
 {
@@ -68,7 +68,7 @@ fn first_sections(alloc: Global, out: &mut Vec<u8>, wasm_module: &Module) -> Res
 }
 
 /// The sections 7 to 11.
-#[tactic(auto, unfolding(crate::specs::EncodeModule::last_sections))]
+#[tactic(auto, unfolding(w4_defs::specs::EncodeModule::last_sections))]
 fn last_sections(alloc: Global, out: &mut Vec<u8>, wasm_module: &Module) -> Result<(), OutOfMemory>
     ensures { IfOk result (λ _. out.new.items ≡ out.old.items ++ last_sections wasm_module.now) }
 {
@@ -80,7 +80,7 @@ fn last_sections(alloc: Global, out: &mut Vec<u8>, wasm_module: &Module) -> Resu
 }
 
 /// The bytes of a module, whether or not the format can encode it.
-#[tactic(auto, unfolding(crate::specs::EncodeModule::module_bytes))]
+#[tactic(auto, unfolding(w4_defs::specs::EncodeModule::module_bytes))]
 pub(crate) fn module_bytes(alloc: Global, wasm_module: &Module) -> Result<Vec<u8>, OutOfMemory>
     ensures { IfOk result (λ v. v.items ≡ module_bytes wasm_module.now) }
 {

@@ -1,7 +1,7 @@
 //! The items of sections (Core Specification, section 5.5).
 
 ghost use Rattle.std.specs.Prelude.{IfOk, ◌++◌, ◌≡◌};
-ghost use Rattle.wasm_write.specs.EncodeModule.{export_kind_code, function_bytes, import_kind_bytes};
+ghost use Rattle.w4_defs.specs.EncodeModule.{export_kind_code, function_bytes, import_kind_bytes};
 
 use crate::expression::expression;
 use crate::item::{Encode, byte, sized, vector};
@@ -37,7 +37,7 @@ fn import_kind(out: &mut Vec<u8>, kind: ImportKind) -> Result<(), OutOfMemory>
 }
 
 impl Encode for ImportEntry {
-    ghost use Rattle.wasm_write.specs.EncodeModule.{imported_bytes};
+    ghost use Rattle.w4_defs.specs.EncodeModule.{imported_bytes};
 
     ghost bytes = { imported_bytes };
 
@@ -49,7 +49,7 @@ impl Encode for ImportEntry {
 }
 
 impl Encode for Limits {
-    ghost use Rattle.wasm_write.specs.EncodeType.{limits_bytes};
+    ghost use Rattle.w4_defs.specs.EncodeType.{limits_bytes};
 
     ghost bytes = { limits_bytes };
 
@@ -59,7 +59,7 @@ impl Encode for Limits {
 }
 
 impl Encode for GlobalEntry {
-    ghost use Rattle.wasm_write.specs.EncodeModule.{global_bytes};
+    ghost use Rattle.w4_defs.specs.EncodeModule.{global_bytes};
 
     ghost bytes = { global_bytes };
 
@@ -81,7 +81,7 @@ fn export_kind_code(kind: ExportKind) -> u8
 }
 
 impl Encode for Export {
-    ghost use Rattle.wasm_write.specs.EncodeModule.{exported_bytes};
+    ghost use Rattle.w4_defs.specs.EncodeModule.{exported_bytes};
 
     ghost bytes = { exported_bytes };
 
@@ -93,7 +93,7 @@ impl Encode for Export {
 }
 
 impl Encode for Element {
-    ghost use Rattle.wasm_write.specs.EncodeModule.{element_bytes};
+    ghost use Rattle.w4_defs.specs.EncodeModule.{element_bytes};
 
     ghost bytes = { element_bytes };
 
@@ -105,7 +105,7 @@ impl Encode for Element {
 }
 
 impl Encode for Locals {
-    ghost use Rattle.wasm_write.specs.EncodeModule.{locals_bytes};
+    ghost use Rattle.w4_defs.specs.EncodeModule.{locals_bytes};
 
     ghost bytes = { locals_bytes };
 
@@ -123,7 +123,7 @@ fn function(alloc: Global, out: &mut Vec<u8>, body: &Body) -> Result<(), OutOfMe
 }
 
 impl Encode for Body {
-    ghost use Rattle.wasm_write.specs.EncodeModule.{body_bytes};
+    ghost use Rattle.w4_defs.specs.EncodeModule.{body_bytes};
 
     ghost bytes = { body_bytes };
 
@@ -135,7 +135,7 @@ impl Encode for Body {
 }
 
 impl Encode for Segment {
-    ghost use Rattle.wasm_write.specs.EncodeModule.{data_segment_bytes};
+    ghost use Rattle.w4_defs.specs.EncodeModule.{data_segment_bytes};
 
     ghost bytes = { data_segment_bytes };
 

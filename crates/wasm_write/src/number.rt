@@ -1,7 +1,7 @@
 //! Numbers in their shortest encodings (Core Specification, section 5.2.2).
 
 ghost use Rattle.std.specs.Prelude.{IfOk, true, ◌*◌, ◌+◌, ◌++◌, ◌<◌, ◌^◌, ◌≡◌, ◌≤◌};
-ghost use Rattle.wasm_write.specs.EncodeNumber.{is_last, last_byte, signed_bytes, unsigned_bytes};
+ghost use Rattle.w4_defs.specs.EncodeNumber.{is_last, last_byte, signed_bytes, unsigned_bytes};
 
 use w4_defs::OutOfMemory;
 

@@ -5,7 +5,7 @@
 ghost use Rattle.std.specs.Prelude.{IfOk, length, ℕ, ◌<◌, ◌≡◌, ◌≤◌};
 ghost use Rattle.w4_defs.specs.BinaryNumeric.{IsFloatCode};
 ghost use Rattle.w4_defs.specs.View.{expression_of};
-ghost use Rattle.wasm_write.specs.EncodeInstruction.{expression_bytes};
+ghost use Rattle.w4_defs.specs.EncodeInstruction.{expression_bytes};
 ghost use Rattle.wasm_write.specs.Fits.{ExpressionFits, ModuleFits};
 
 use crate::expression::expression;

@@ -1,7 +1,7 @@
 //! Value types, limits and the types that are made of them (Core Specification, section 5.3).
 
 ghost use Rattle.std.specs.Prelude.{IfOk, ◌++◌, ◌≡◌};
-ghost use Rattle.wasm_write.specs.EncodeType.{block_type_code, global_type_bytes, limits_bytes, table_type_bytes, value_type_code};
+ghost use Rattle.w4_defs.specs.EncodeType.{block_type_code, global_type_bytes, limits_bytes, table_type_bytes, value_type_code};
 
 use crate::item::{Encode, byte, vector};
 use crate::number::unsigned;
@@ -61,7 +61,7 @@ pub fn global_type(out: &mut Vec<u8>, global: GlobalType) -> Result<(), OutOfMem
 }
 
 impl Encode for u32 {
-    ghost use Rattle.wasm_write.specs.EncodeNumber.{unsigned_bytes};
+    ghost use Rattle.w4_defs.specs.EncodeNumber.{unsigned_bytes};
 
     ghost bytes = { unsigned_bytes };
 
@@ -71,7 +71,7 @@ impl Encode for u32 {
 }
 
 impl Encode for ValType {
-    ghost use Rattle.wasm_write.specs.EncodeType.{value_type_bytes};
+    ghost use Rattle.w4_defs.specs.EncodeType.{value_type_bytes};
 
     ghost bytes = { value_type_bytes };
 
@@ -81,7 +81,7 @@ impl Encode for ValType {
 }
 
 impl Encode for FuncType {
-    ghost use Rattle.wasm_write.specs.EncodeType.{func_type_bytes};
+    ghost use Rattle.w4_defs.specs.EncodeType.{func_type_bytes};
 
     ghost bytes = { func_type_bytes };
 

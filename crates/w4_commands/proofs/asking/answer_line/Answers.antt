@@ -1,17 +1,36 @@
-use Rattle.std.proofs.Common.{refl}
-use Rattle.w4_commands.specs.Answers.{answer_text}
+use Rattle.std.proofs.Common.{Some, refl}
+use Rattle.w4_defs.specs.Answers.{answer_text}
+use Rattle.w4_defs.specs.PlaceTexts.{as_it_stands}
 use Rattle.w4_commands.specs.Queries.{editor_pages}
-use Rattle.w4_commands.specs.RamAnswers.{watch_text}
+use Rattle.w4_defs.specs.QueryAnswers.{list_text, watch_text}
+use Rattle.w4_commands.specs.Causes.{Printed}
+use Rattle.w4_commands.proofs.AnswerLaws.{on_ok}
+use Rattle.w4_commands.proofs.OwesLaws.{there_is}
 use Rattle.w4_commands.proofs.RamLaws.{told_on_text}
+use Rattle.w4_commands.proofs.SessionLaws.{shows_none}
 use Rattle.w4_commands.proofs.asking.answer_line.Goals as goal
 
 pub returns-in-Watch-clause-told : goal.returns-in-Watch-clause-told
 returns-in-Watch-clause-told g c =
     let old = c.args.editor.now in
     let search = c.args.search.now in
-    let text = watch_text (editor_pages old) c.in-Watch.address c.in-Watch.width c.in-Watch.a c.in-Watch.b in
+    let text = watch_text as_it_stands (editor_pages old) c.in-Watch.address c.in-Watch.width c.in-Watch.a
+    c.in-Watch.b in
     rw c.in-Watch.is
     (told_on_text c.tell_watched.result (g.H.House.world c.args.house.now)
     (g.H.House.world c.tell_watched.new.house) old c.tell_watched.new.editor search text
     (answer_text search text) refl c.tell_watched.ensures.out
     c.tell_watched.ensures.shows)
+
+pub returns-in-List-clause-told : goal.returns-in-List-clause-told
+returns-in-List-clause-told g c =
+    let old = c.args.editor.now in
+    let search = c.args.search.now in
+    let before = g.H.House.world c.args.house.now in
+    let after = g.H.House.world c.list.new.house in
+    rw c.in-List.is
+    (told_on_text c.list.result before after old old search (Some (list_text search))
+    (answer_text search (Some (list_text search))) refl
+    (there_is (λ text. Printed before after c.list.result text) (Some (list_text search)) (list_text search)
+    refl c.list.ensures.out)
+    (on_ok c.list.result (shows_none old)))

@@ -1,7 +1,8 @@
 use Rattle.std.proofs.Common.{Some}
-use Rattle.w4_commands.specs.Answering.{no_frame}
+use Rattle.w4_defs.specs.PlaceTexts.{as_it_stands}
+use Rattle.w4_defs.specs.ScriptAnswers.{no_frame}
 use Rattle.w4_commands.specs.Queries.{editor_pages}
-use Rattle.w4_commands.specs.RamAnswers.{answer_start}
+use Rattle.w4_defs.specs.QueryAnswers.{answer_start}
 use Rattle.w4_commands.proofs.RamLaws.{refused_on_text, start_past, start_there, told_alone}
 use Rattle.w4_commands.proofs.SessionLaws.{only_shows, shows_same}
 use Rattle.w4_commands.proofs.asking.start.Goals as goal
@@ -10,9 +11,9 @@ pub returns-in-Ok-clause-told : goal.returns-in-Ok-clause-told
 returns-in-Ok-clause-told g c =
     let old = c.args.editor.now in
     told_alone (g.H.House.world c.args.house.now) old c.start.new.editor (Some c.in-Ok.begun)
-    (answer_start (editor_pages old) c.args.search.now c.args.width c.args.p)
-    (rw c.in-Ok.ensures.begun (start_there old c.args.search.now c.args.width c.args.p
-    c.in-Ok.ensures.accepted))
+    (answer_start as_it_stands (editor_pages old) c.args.search.now c.args.width c.args.p)
+    (start_there old c.args.search.now c.args.width c.args.p c.in-Ok.begun c.in-Ok.ensures.accepted
+    c.in-Ok.ensures.begun)
     (only_shows old c.start.new.editor c.in-Ok.ensures.shown.recording)
 
 pub returns-in-Err-clause-told : goal.returns-in-Err-clause-told
@@ -20,7 +21,7 @@ returns-in-Err-clause-told g c =
     let old = c.args.editor.now in
     refused_on_text c.refuse_place.result (g.H.House.world c.args.house.now)
     (g.H.House.world c.refuse_place.new.house) old c.start.new.editor c.args.search.now no_frame
-    (answer_start (editor_pages old) c.args.search.now c.args.width c.args.p)
+    (answer_start as_it_stands (editor_pages old) c.args.search.now c.args.width c.args.p)
     c.refuse_place.ensures.cause
     (λ other. start_past old c.args.search.now c.args.width c.args.p c.in-Err.refusal c.in-Err.ensures.refused
     other)

@@ -1,24 +1,31 @@
-use Rattle.std.proofs.Common.{ap, sym, ◌∙◌, ◌∷◌, List, ℕ}
+use Rattle.std.proofs.Common.{ap, sym, ◌∙◌, ◌∷◌, List, Some, ℕ}
 use Rattle.std.specs.Prelude.{codes}
 use Rattle.w4_defs.specs.FrameTexts.{numbered}
+use Rattle.w4_defs.specs.PlaceTexts.{as_it_stands}
 use Rattle.w4_commands.specs.Queries.{editor_pages}
-use Rattle.w4_commands.specs.RamAnswers.{outside, watch_text}
-use Rattle.w4_commands.specs.Answering.{no_frame}
+use Rattle.w4_defs.specs.QueryAnswers.{outside, watch_text}
+use Rattle.w4_defs.specs.ScriptAnswers.{no_frame}
+use Rattle.w4_commands.specs.Causes.{Printed}
 use Rattle.w4_commands.proofs.AnswerLaws.{on_ok}
-use Rattle.w4_commands.proofs.RamLaws.{printed_as, watch_told, watch_past, watch_outside}
+use Rattle.w4_commands.proofs.OwesLaws.{there_is}
+use Rattle.w4_commands.proofs.RamLaws.{watch_told, watch_past, watch_outside}
 use Rattle.w4_commands.proofs.SessionLaws.{only_shows}
 use Rattle.w4_commands.proofs.asking.tell_watched.Goals as goal
 
 pub returns-in_ok-line-in-Ok-clause-out : goal.returns-in_ok-line-in-Ok-clause-out
 returns-in_ok-line-in-Ok-clause-out g c =
     let old = c.args.editor.now in
-    let text = watch_text (editor_pages old) c.args.address c.args.width c.args.a c.args.b in
-    printed_as c.print.result (g.H.House.world c.args.house.now) (g.H.House.world c.print.new.house)
-    c.as_slice-in-Ok.result.now text
-    (watch_told old c.args.address c.args.width c.args.a c.args.b c.in-Ok.ensures.accepted
-    ∙ ap (λ (values : List ℕ). numbered (codes "watch") (c.args.address ∷ values))
-    (sym c.in-Ok.ensures.values ∙ sym c.as_slice.ensures.value)
-    ∙ sym c.in_ok-line-in-Ok.ensures ∙ sym c.as_slice-in-Ok.ensures.value)
+    let before = g.H.House.world c.args.house.now in
+    let after = g.H.House.world c.print.new.house in
+    there_is (λ text. Printed before after c.print.result text)
+    (watch_text as_it_stands (editor_pages old) c.args.address c.args.width c.args.a c.args.b)
+    c.as_slice-in-Ok.result.now
+    (watch_told old c.args.address c.args.width c.args.a c.args.b c.in-Ok.values.items
+    c.in-Ok.ensures.accepted c.in-Ok.ensures.values
+    ∙ ap (λ (line : List ℕ). Some line)
+    (ap (λ (values : List ℕ). numbered (codes "watch") (c.args.address ∷ values))
+    (sym c.as_slice.ensures.value)
+    ∙ sym c.in_ok-line-in-Ok.ensures ∙ sym c.as_slice-in-Ok.ensures.value))
     c.print.ensures.out
 
 pub returns-in_ok-line-in-Ok-clause-shows : goal.returns-in_ok-line-in-Ok-clause-shows
@@ -28,9 +35,10 @@ returns-in_ok-line-in-Ok-clause-shows g c =
 pub returns-in-Err-NoFrame-clause-out : goal.returns-in-Err-NoFrame-clause-out
 returns-in-Err-NoFrame-clause-out g c =
     let old = c.args.editor.now in
-    printed_as c.print-in-Err-NoFrame.result (g.H.House.world c.args.house.now)
-    (g.H.House.world c.print-in-Err-NoFrame.new.house) no_frame
-    (watch_text (editor_pages old) c.args.address c.args.width c.args.a c.args.b)
+    let before = g.H.House.world c.args.house.now in
+    let after = g.H.House.world c.print-in-Err-NoFrame.new.house in
+    there_is (λ text. Printed before after c.print-in-Err-NoFrame.result text)
+    (watch_text as_it_stands (editor_pages old) c.args.address c.args.width c.args.a c.args.b) no_frame
     (watch_past old c.args.address c.args.width c.args.a c.args.b c.in-Err-NoFrame.field-0
     c.in-Err-NoFrame.field-0-is c.in-Err-NoFrame.ensures.refused)
     c.print-in-Err-NoFrame.ensures.out
@@ -38,9 +46,10 @@ returns-in-Err-NoFrame-clause-out g c =
 pub returns-in-Err-Outside-clause-out : goal.returns-in-Err-Outside-clause-out
 returns-in-Err-Outside-clause-out g c =
     let old = c.args.editor.now in
-    printed_as c.print-in-Err-Outside.result (g.H.House.world c.args.house.now)
-    (g.H.House.world c.print-in-Err-Outside.new.house) outside
-    (watch_text (editor_pages old) c.args.address c.args.width c.args.a c.args.b)
+    let before = g.H.House.world c.args.house.now in
+    let after = g.H.House.world c.print-in-Err-Outside.new.house in
+    there_is (λ text. Printed before after c.print-in-Err-Outside.result text)
+    (watch_text as_it_stands (editor_pages old) c.args.address c.args.width c.args.a c.args.b) outside
     (watch_outside old c.args.address c.args.width c.args.a c.args.b c.in-Err-Outside.field-0
     c.in-Err-Outside.field-0-is c.in-Err-Outside.ensures.refused)
     c.print-in-Err-Outside.ensures.out

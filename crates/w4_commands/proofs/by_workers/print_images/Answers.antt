@@ -2,7 +2,7 @@ use Rattle.std.proofs.Common.{◌+◌, drop, flat_map, refl, subst}
 use Rattle.std.proofs.lemmas.Result.{err_from_is_err_and}
 use Rattle.w4_defs.specs.Image.{image}
 use Rattle.w4_house.proofs.WorldLaws.{printing_then}
-use Rattle.w4_commands.specs.Endings.{manner_of}
+use Rattle.w4_defs.specs.Endings.{manner_of}
 use Rattle.w4_commands.proofs.FilmLaws.{next_image, no_image}
 use Rattle.w4_commands.proofs.OwesLaws.{Owes, owes_less, owes_nothing, piece_stopped}
 use Rattle.w4_commands.proofs.by_workers.print_images.Goals as goal

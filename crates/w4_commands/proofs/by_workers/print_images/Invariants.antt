@@ -1,6 +1,6 @@
 use Rattle.std.proofs.Common.{drop, flat_map}
 use Rattle.w4_defs.specs.Image.{image}
-use Rattle.w4_house.specs.World.{LeavesPrinting}
+use Rattle.w4_defs.specs.World.{LeavesPrinting}
 use Rattle.w4_commands.proofs.OwesLaws.{Owes}
 use Rattle.w4_commands.proofs.by_workers.print_images.Given as goal
 

@@ -1,6 +1,6 @@
 use Rattle.w4_defs.specs.Recording.{encoding}
-use Rattle.w4_commands.specs.Endings.{AllWritten, manner_of}
-use Rattle.w4_commands.specs.Output.{blank_recording}
+use Rattle.w4_defs.specs.Endings.{AllWritten, manner_of}
+use Rattle.w4_defs.specs.Output.{blank_recording}
 use Rattle.w4_commands.proofs.EndLaws.{ends_printed, prints_stopped}
 use Rattle.w4_commands.proofs.commands.blank.Goals as goal
 

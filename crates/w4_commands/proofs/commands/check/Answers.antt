@@ -1,5 +1,5 @@
-use Rattle.w4_commands.specs.Endings.{AllWritten, manner_of}
-use Rattle.w4_commands.specs.Output.{checked}
+use Rattle.w4_defs.specs.Endings.{AllWritten, manner_of}
+use Rattle.w4_defs.specs.Output.{checked}
 use Rattle.w4_commands.proofs.EndLaws.{ends_printed, prints_stopped}
 use Rattle.w4_commands.proofs.commands.check.Goals as goal
 

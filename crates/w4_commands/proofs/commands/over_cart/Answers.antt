@@ -1,8 +1,14 @@
-use Rattle.w4_commands.specs.Endings.{manner_of}
-use Rattle.w4_commands.specs.Outputs.{output_of}
+use Rattle.w4_defs.specs.Endings.{manner_of}
+use Rattle.w4_defs.specs.Outputs.{output_of}
 use Rattle.w4_commands.specs.Views.{cart_view, form_view}
 use Rattle.w4_commands.proofs.EndLaws.{ends_unjudged, ends_judged}
 use Rattle.w4_commands.proofs.commands.over_cart.Goals as goal
+
+pub make-requires-clause-meaning : goal.make-requires-clause-meaning
+make-requires-clause-meaning g c =
+    let is = c.in-Ok.ensures.cart in
+    let meaning = c.accepted_runs_have_meaning.ensures is.0 c.in-Ok.file.cart is.1 in
+    λ _ _. meaning.runs
 
 pub returns-in-Ok-clause-ends : goal.returns-in-Ok-clause-ends
 returns-in-Ok-clause-ends g c =

@@ -1,3 +1,8 @@
+use Rattle.std.proofs.Common.{ℕ, List, Some, ap, sym, ◌∙◌}
+use Rattle.w4_defs.specs.PlaceTexts.{as_it_stands}
+use Rattle.w4_defs.specs.Run.{run}
+use Rattle.w4_defs.proofs.TextsOfStates.{image_of_state}
+use Rattle.w4_editor.specs.Editing.{editing_setup}
 use Rattle.w4_commands.proofs.SessionLaws.{only_shows}
 use Rattle.w4_commands.proofs.desk.show_image.Goals as goal
 
@@ -5,3 +10,11 @@ pub returns-in-Ok-clause-shows : goal.returns-in-Ok-clause-shows
 returns-in-Ok-clause-shows g c =
     let shown = rw c.in-Ok.is at c.show.follows.holds-at-none.0 in
     only_shows c.args.editor.now c.show.follows.lender-at-none shown.recording
+
+pub returns-in-Ok-clause-image : goal.returns-in-Ok-clause-image
+returns-in-Ok-clause-image g c =
+    let old = c.args.editor.now in
+    image_of_state as_it_stands c.args.place
+    (run (editing_setup old) old.disk old.session.current.inputs c.args.place) c.in-Ok.state.now
+    c.in-Ok.ensures.state
+    ∙ ap (λ (bytes : List ℕ). Some bytes) (sym c.ppm_into.ensures)

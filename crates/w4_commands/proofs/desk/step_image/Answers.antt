@@ -1,8 +1,9 @@
-use Rattle.std.proofs.Common.{◌≡◌, ◌+◌, ◌-◌, Some, sym, ◌∙◌, arith, subst}
+use Rattle.std.proofs.Common.{◌≡◌, ◌+◌, ◌-◌, ℕ, List, Some, ap, sym, ◌∙◌, arith, subst}
+use Rattle.w4_defs.specs.PlaceTexts.{as_it_stands}
 use Rattle.w4_defs.specs.Run.{run, run_state}
 use Rattle.w4_editor.specs.Editing.{editing_setup}
 use Rattle.w4_commands.proofs.SessionLaws.{shows_at, not_at_end}
-use Rattle.w4_commands.proofs.TellLaws.{image_of_state}
+use Rattle.w4_defs.proofs.TextsOfStates.{image_of_state}
 use Rattle.w4_commands.proofs.desk.step_image.Goals as goal
 
 pub returns-clause-shows : goal.returns-clause-shows
@@ -16,9 +17,9 @@ returns-clause-image g c =
     let next : c.args.place - 1 + 1 ≡ c.args.place = omega (arith, c.requires.some) in
     let state = subst (λ p. run_state (editing_setup old) old.disk old.session.current.inputs p
     ≡ Some c.in-Ok.state.now) next (c.in-Ok.ensures.state (c.args.place - 1) c.requires.at) in
-    c.ppm_into.ensures
-    ∙ sym (image_of_state c.args.place
-    (run (editing_setup old) old.disk old.session.current.inputs c.args.place) c.in-Ok.state.now state)
+    image_of_state as_it_stands c.args.place
+    (run (editing_setup old) old.disk old.session.current.inputs c.args.place) c.in-Ok.state.now state
+    ∙ ap (λ (bytes : List ℕ). Some bytes) (sym c.ppm_into.ensures)
 
 pub unreachable-requires : goal.unreachable-requires
 unreachable-requires g c =

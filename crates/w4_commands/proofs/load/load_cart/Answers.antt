@@ -1,6 +1,6 @@
 use Rattle.std.proofs.Common.{refl}
 use Rattle.std.proofs.lemmas.Result.{err_from_is_err_and}
-use Rattle.w4_commands.specs.Endings.{manner_of}
+use Rattle.w4_defs.specs.Endings.{manner_of}
 use Rattle.w4_commands.specs.Views.{cart_view}
 use Rattle.w4_commands.proofs.CartLaws.{cart_unread, cart_given, cart_file_refused}
 use Rattle.w4_commands.proofs.load.load_cart.Goals as goal
@@ -25,3 +25,6 @@ returns-in-Err-Kind-clause-gives g c =
     c.in-Err-Kind.kind c.in_ok-bytes.ensures.gives
     (rw (← c.as_slice.ensures.value)
     (c.in-Err-Kind.ensures.refused c.in-Err-Kind.kind (rw c.in-Err-Kind.field-0-is refl)))
+
+pub returns-in-Ok-clause-cart : goal.returns-in-Ok-clause-cart
+returns-in-Ok-clause-cart g c = (c.as_slice.result.now, c.in-Ok.ensures.cart)

@@ -1,6 +1,6 @@
 use Rattle.std.proofs.lemmas.Result.{err_from_is_err_and}
-use Rattle.w4_commands.specs.Endings.{manner_of}
-use Rattle.w4_commands.specs.Output.{reading, font_of, font_in}
+use Rattle.w4_defs.specs.Endings.{manner_of}
+use Rattle.w4_defs.specs.Output.{reading, font_of, font_in}
 use Rattle.w4_commands.proofs.StepLaws.{stops_first, judged_by}
 use Rattle.w4_commands.proofs.load.load_font.Goals as goal
 

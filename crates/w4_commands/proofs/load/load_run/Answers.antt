@@ -1,8 +1,8 @@
 -- Each exit: what stopped this step stops the whole, after the step that went before it.
 use Rattle.std.proofs.Common.{Ok}
 use Rattle.std.proofs.lemmas.Result.{err_from_is_err_and}
-use Rattle.w4_commands.specs.Endings.{manner_of}
-use Rattle.w4_commands.specs.Output.{◌>>=◌, recording_in, font_in, run_files}
+use Rattle.w4_defs.specs.Endings.{manner_of}
+use Rattle.w4_defs.specs.Output.{◌>>=◌, recording_in, font_in, run_files}
 use Rattle.w4_commands.proofs.StepLaws.{stops_first, stops_later}
 use Rattle.w4_commands.proofs.load.load_run.Goals as goal
 

@@ -1,9 +1,9 @@
 -- Each exit: what stopped this step stops the whole, after the steps that went before it.
 use Rattle.std.proofs.Common.{Ok, map, string_bytes}
 use Rattle.std.proofs.lemmas.Result.{err_from_is_err_and}
-use Rattle.w4_commands.specs.Endings.{manner_of}
-use Rattle.w4_commands.specs.Output.{◌>>=◌, font_in}
-use Rattle.w4_commands.specs.ToolOutputs.{batch_files, listed_files, names_in}
+use Rattle.w4_defs.specs.Endings.{manner_of}
+use Rattle.w4_defs.specs.Output.{◌>>=◌, font_in}
+use Rattle.w4_defs.specs.ToolOutputs.{batch_files, listed_files, names_in}
 use Rattle.w4_commands.proofs.StepLaws.{stops_first, stops_later}
 use Rattle.w4_commands.proofs.load_tools.load_batch.Goals as goal
 

@@ -4,8 +4,8 @@ use Rattle.std.proofs.lemmas.List.{length-append, map-append}
 use Rattle.std.proofs.lemmas.Result.{err_from_is_err_and}
 use Rattle.w4_house.proofs.WorldLaws.{reading_then}
 use Rattle.w4_commands.specs.Causes.{ResultsIn, Stops}
-use Rattle.w4_commands.specs.Endings.{manner_of}
-use Rattle.w4_commands.specs.Output.{reading}
+use Rattle.w4_defs.specs.Endings.{manner_of}
+use Rattle.w4_defs.specs.Output.{reading}
 use Rattle.w4_commands.proofs.ListedLaws.{owes_fewer, owes_no_file, owes_stops, named_item, past_all_names, within_all}
 use Rattle.w4_commands.proofs.load_tools.load_listed.Goals as goal
 

@@ -1,5 +1,5 @@
 use Rattle.std.proofs.Common.{◌≡◌, drop, length, map, string_bytes}
-use Rattle.w4_house.specs.World.{LeavesReading}
+use Rattle.w4_defs.specs.World.{LeavesReading}
 use Rattle.w4_commands.proofs.ListedLaws.{StillOwes}
 use Rattle.w4_commands.proofs.load_tools.load_listed.Given as goal
 

@@ -1,4 +1,4 @@
-use Rattle.std.proofs.Common.{ℕ, List, length, ◌∙◌, ap, arith}
+use Rattle.std.proofs.Common.{ℕ, List, Some, length, ◌∙◌, ap, sym, arith}
 use Rattle.w4_commands.specs.Scenes.{stage_moment}
 use Rattle.w4_commands.proofs.AnswerLaws.{if_ok_map}
 use Rattle.w4_commands.proofs.SummaryLaws.{summary_is}
@@ -22,4 +22,5 @@ returns c =
     c.zero_font-font.ensures c.requires.budget
     (c.as_slice.ensures.value ∙ c.requires.inputs) c.requires.shortest
     (ap (λ (items : List ℕ). length items) c.as_slice-bytes.ensures.value) c.run_to.ensures.0 in
-    if_ok_map c.summary_of.result (λ text h. h ∙ told) c.summary_of.ensures
+    if_ok_map c.summary_of.result (λ text h. told ∙ ap (λ (lines : List ℕ). Some lines) (sym h))
+    c.summary_of.ensures

@@ -1,16 +1,25 @@
 use Rattle.std.proofs.Common.{ap, drop, get_or, refl}
 use Rattle.std.proofs.lemmas.Result.{err_from_is_err_and}
 use Rattle.w4_editor.specs.Editing.{editing_setup}
-use Rattle.w4_house.proofs.WorldLaws.{front_none, printing_then}
-use Rattle.w4_commands.specs.Answers.{Answered}
-use Rattle.w4_commands.specs.Endings.{manner_of}
-use Rattle.w4_commands.specs.NetSessions.{NetSession, net_answer, net_answers}
+use Rattle.w4_house.proofs.WorldLaws.{front_none, printing_none, printing_then}
+use Rattle.w4_defs.specs.Answers.{Answered}
+use Rattle.w4_defs.specs.Endings.{manner_of}
+use Rattle.w4_defs.specs.LogAnswers.{NetSession, net_answer, net_answers}
 use Rattle.w4_commands.specs.Replicas.{net_session}
 use Rattle.w4_commands.proofs.AnswerLaws.{answers-out-step, answers-stop, answers-end}
-use Rattle.w4_commands.proofs.OwesLaws.{owes_nothing}
+use Rattle.w4_commands.proofs.OwesLaws.{there_begins, there_nothing}
 use Rattle.w4_commands.proofs.RollingLaws.{heard_at_first, net_stopped_at_first, past_log}
-use Rattle.w4_commands.proofs.SessionLaws.{rest_then}
+use Rattle.w4_commands.proofs.SessionLaws.{rest_none, rest_then}
 use Rattle.w4_commands.proofs.net.answer_orders.Goals as goal
+
+pub loop-order-init : goal.loop-order-init
+loop-order-init g c =
+    let world = g.H.House.world c.args.house.now in
+    let first = c.args.replica.now in (
+      there_begins world (net_answers (editing_setup first.editor) (net_session first) c.args.orders.now).out,
+      rest_none first.editor,
+      printing_none world,
+    )
 
 pub loop-order-preserved : goal.loop-order-preserved
 loop-order-preserved g c =
@@ -38,7 +47,7 @@ returns-clause-out g c =
     let now = c.loop-order.replica in
     let setup = editing_setup first.editor in
     let left = drop c.loop-order.order-index c.args.orders.now in
-    owes_nothing (g.H.House.world c.args.house.now) (g.H.House.world c.loop-order.house)
+    there_nothing (g.H.House.world c.args.house.now) (g.H.House.world c.loop-order.house)
     (net_answers setup (net_session now) left).out
     (net_answers setup (net_session first) c.args.orders.now).out
     (ap (λ (a : Answered NetSession). a.out)
@@ -50,10 +59,7 @@ pub returns-in_err-image-clause-out : goal.returns-in_err-image-clause-out
 returns-in_err-image-clause-out g c =
     let p = err_from_is_err_and c.from_residual.result c.from_residual.ensures.1 in
     let world = g.H.House.world c.args.house.now in
-    let first = c.args.replica.now in
-    rw (p.1, p.2)
-    (front_none world.out world.out
-    (net_answers (editing_setup first.editor) (net_session first) c.args.orders.now).out refl)
+    rw (p.1, p.2) (λ text is. front_none world.out world.out text refl)
 
 pub returns-in_err-answer_order-clause-out : goal.returns-in_err-answer_order-clause-out
 returns-in_err-answer_order-clause-out g c =

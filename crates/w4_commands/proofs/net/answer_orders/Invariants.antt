@@ -1,10 +1,10 @@
 use Rattle.std.proofs.Common.{drop}
 use Rattle.w4_editor.specs.Editing.{editing_setup}
-use Rattle.w4_house.specs.World.{LeavesPrinting}
+use Rattle.w4_defs.specs.World.{LeavesPrinting}
 use Rattle.w4_commands.specs.Editors.{KeepsRest}
-use Rattle.w4_commands.specs.NetSessions.{net_answers}
+use Rattle.w4_defs.specs.LogAnswers.{net_answers}
 use Rattle.w4_commands.specs.Replicas.{net_session}
-use Rattle.w4_commands.proofs.OwesLaws.{Owes}
+use Rattle.w4_commands.proofs.OwesLaws.{OwesThere}
 use Rattle.w4_commands.proofs.net.answer_orders.Given as goal
 
 -- what was written so far and the answers that are left make the whole
@@ -12,7 +12,7 @@ abbrev pub invariant-loop-order : goal.invariant-loop-order
 invariant-loop-order g l =
     let first = l.fn.replica in
     let setup = editing_setup first.editor in
-    Owes (g.H.House.world l.fn.house) (g.H.House.world l.house)
+    OwesThere (g.H.House.world l.fn.house) (g.H.House.world l.house)
     (net_answers setup (net_session l.replica) (drop l.order-index l.orders)).out
     (net_answers setup (net_session first) l.orders).out
     × KeepsRest first.editor l.replica.editor

@@ -2,10 +2,10 @@ use Rattle.std.proofs.Common.{sym, subst}
 use Rattle.std.specs.Prelude.{ℕ}
 use Rattle.w4_defs.specs.Session.{Session}
 use Rattle.w4_editor.specs.Editing.{editing_setup}
-use Rattle.w4_commands.specs.Answers.{Answered}
+use Rattle.w4_defs.specs.Answers.{Answered}
 use Rattle.w4_commands.specs.Editors.{GivesAnswer, place_session}
 use Rattle.w4_commands.proofs.ChangeLaws.{change_answers}
-use Rattle.w4_commands.specs.declared.place_text.PlaceText.TheVariants.{Image, DiskBytes}
+use Rattle.w4_defs.specs.declared.place_text.PlaceText.TheVariants.{Image, DiskBytes}
 use Rattle.w4_commands.proofs.TellLaws.{one_range}
 use Rattle.w4_commands.proofs.orders.answer.Goals as goal
 

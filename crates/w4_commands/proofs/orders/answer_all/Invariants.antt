@@ -1,9 +1,9 @@
 use Rattle.std.proofs.Common.{◌≡◌, drop}
 use Rattle.w4_editor.specs.Editing.{editing_setup}
-use Rattle.w4_house.specs.World.{LeavesPrinting}
-use Rattle.w4_commands.specs.Answering.{answers}
+use Rattle.w4_defs.specs.World.{LeavesPrinting}
+use Rattle.w4_defs.specs.ScriptAnswers.{answers}
 use Rattle.w4_commands.specs.Editors.{KeepsRest, place_session}
-use Rattle.w4_commands.proofs.OwesLaws.{Owes}
+use Rattle.w4_commands.proofs.OwesLaws.{OwesThere}
 use Rattle.w4_commands.proofs.orders.answer_all.Given as goal
 
 -- what was written so far and the answers that are left make the whole, and so do their sessions
@@ -13,7 +13,7 @@ invariant-loop-order g l =
     let owed = answers (editing_setup first) first.disk (place_session l.desk.editor)
     (drop l.order-index l.orders) in
     let whole = answers (editing_setup first) first.disk (place_session first) l.orders in
-    Owes (g.H.House.world l.fn.house) (g.H.House.world l.house) owed.out whole.out
+    OwesThere (g.H.House.world l.fn.house) (g.H.House.world l.house) owed.out whole.out
     × (owed.session ≡ whole.session)
     × KeepsRest first l.desk.editor
     × LeavesPrinting (g.H.House.world l.fn.house) (g.H.House.world l.house)

@@ -4,17 +4,19 @@ use Rattle.w4_defs.specs.declared.inspect.Ask.{Ask}
 use Rattle.w4_editor.specs.Editing.{Editing}
 use Rattle.w4_house.proofs.WorldLaws.{front_none}
 use Rattle.w4_commands.specs.Queries.{editor_pages}
-use Rattle.w4_commands.specs.RamAnswers.{ram_answers}
-use Rattle.w4_commands.specs.ToolOutputs.{ram_text}
+use Rattle.w4_defs.specs.QueryAnswers.{ram_answers}
+use Rattle.w4_defs.specs.ToolOutputs.{ram_text}
 use Rattle.w4_commands.specs.Views.{ram_loaded_view}
-use Rattle.w4_commands.proofs.RamLaws.{printed_as}
+use Rattle.w4_commands.specs.Causes.{Printed}
+use Rattle.w4_commands.proofs.OwesLaws.{there_as}
 use Rattle.w4_commands.proofs.ram.try_answer_query.Goals as goal
 
 pub returns-clause-out : goal.returns-clause-out
 returns-clause-out g c =
     let editor = c.in_ok-editor.editor in
-    printed_as c.answer_lines.result (g.H.House.world c.args.house.now) (g.H.House.world
-    c.answer_lines.new.house)
+    let old = g.H.House.world c.args.house.now in
+    let new = g.H.House.world c.answer_lines.new.house in
+    there_as (λ text. Printed old new c.answer_lines.result text)
     (ram_answers (editor_pages editor) None c.as_slice.result.now).out
     (ram_text c.args.cart (ram_loaded_view c.args.loaded))
     (sym (ap (λ (e : Editing). (ram_answers (editor_pages e) None c.args.loaded.lines.items).out)
@@ -27,5 +29,4 @@ pub returns-in_err-editor-clause-out : goal.returns-in_err-editor-clause-out
 returns-in_err-editor-clause-out g c =
     let p = err_from_is_err_and c.from_residual.result c.from_residual.ensures.1 in
     let world = g.H.House.world c.args.house.now in
-    rw (p.1, p.2)
-    (front_none world.out world.out (ram_text c.args.cart (ram_loaded_view c.args.loaded)) refl)
+    rw (p.1, p.2) (λ text is. front_none world.out world.out text refl)

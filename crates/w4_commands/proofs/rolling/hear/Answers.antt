@@ -1,8 +1,8 @@
 use Rattle.std.proofs.Common.{refl}
-use Rattle.w4_netplay.specs.Refusals.{packet_refusal}
+use Rattle.w4_defs.specs.Rollback.{packet_refusal}
 use Rattle.w4_netplay.specs.Replicas.{known_of}
-use Rattle.w4_commands.specs.Answering.{refused_line}
-use Rattle.w4_commands.specs.NetSessions.{answer_packet, net_words}
+use Rattle.w4_defs.specs.ScriptAnswers.{refused_line}
+use Rattle.w4_defs.specs.LogAnswers.{answer_packet, net_words}
 use Rattle.w4_commands.specs.Replicas.{net_session}
 use Rattle.w4_commands.proofs.RollingLaws.{heard_alone, heard_on_text, packet_heard, same_netplay, same_rest}
 use Rattle.w4_commands.proofs.rolling.hear.Goals as goal

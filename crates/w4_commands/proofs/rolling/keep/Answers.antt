@@ -1,7 +1,7 @@
 use Rattle.w4_defs.specs.Session.{keep_refusal, places_alone}
 use Rattle.w4_netplay.specs.Replicas.{predicted_draft}
-use Rattle.w4_commands.specs.Answering.{refused_line}
-use Rattle.w4_commands.specs.NetSessions.{answer_keep, net_words}
+use Rattle.w4_defs.specs.ScriptAnswers.{refused_line}
+use Rattle.w4_defs.specs.LogAnswers.{answer_keep, net_words}
 use Rattle.w4_commands.specs.Replicas.{net_session}
 use Rattle.w4_commands.proofs.RollingLaws.{heard_alone, net_refused_on_text, keep_refused, place_kept, rest_kept, same_netplay}
 use Rattle.w4_commands.proofs.rolling.keep.Goals as goal

@@ -1,5 +1,5 @@
-use Rattle.w4_commands.specs.Answering.{refused_line}
-use Rattle.w4_commands.specs.NetSessions.{answer_next, net_words}
+use Rattle.w4_defs.specs.ScriptAnswers.{refused_line}
+use Rattle.w4_defs.specs.LogAnswers.{answer_next, net_words}
 use Rattle.w4_commands.specs.Replicas.{net_session}
 use Rattle.w4_commands.proofs.RollingLaws.{frame_passed, full_recording_refused, heard_alone, heard_on_text, same_netplay, same_rest, same_editor}
 use Rattle.w4_commands.proofs.rolling.pass.Goals as goal

@@ -1,9 +1,9 @@
 use Rattle.std.proofs.Common.{ap, sym, ◌∙◌}
-use Rattle.std.specs.Prelude.{List, ℕ}
+use Rattle.std.specs.Prelude.{List, Option, Some, ℕ}
 use Rattle.w4_editor.specs.Editing.{editing_setup}
-use Rattle.w4_commands.specs.Answering.{refused_line}
-use Rattle.w4_commands.specs.Answers.{answer_text}
-use Rattle.w4_commands.specs.NetSessions.{if_passed, net_words, predicted_image}
+use Rattle.w4_defs.specs.ScriptAnswers.{refused_line}
+use Rattle.w4_defs.specs.Answers.{answer_text}
+use Rattle.w4_defs.specs.LogAnswers.{if_passed, net_words, predicted_image}
 use Rattle.w4_commands.specs.Replicas.{net_session}
 use Rattle.w4_commands.proofs.RollingLaws.{heard_on_text, net_refused_on_text, image_told, not_passed, passed_text, same_netplay}
 use Rattle.w4_commands.proofs.rolling.show.Goals as goal
@@ -16,10 +16,10 @@ returns-in-Ok-clause-heard g c =
     let shown = rw c.in-Ok.is at c.show.follows.holds-at-none.0 in
     heard_on_text c.print.result (g.H.House.world c.args.house.now) (g.H.House.world c.print.new.house) old
     c.show.follows.lender-at-none c.as_slice.result.now (answer_text s (if_passed s c.args.p text))
-    (ap (λ (out : List ℕ). answer_text s out)
+    (ap (λ (out : Option (List ℕ)). answer_text s out)
     (passed_text old c.args.p text c.in-Ok.ensures.accepted
     ∙ image_told old c.args.p c.in-Ok.state.now c.requires c.in-Ok.ensures.state
-    ∙ sym c.ppm_into.ensures ∙ sym c.as_slice.ensures))
+    ∙ ap (λ (out : List ℕ). Some out) (sym c.ppm_into.ensures ∙ sym c.as_slice.ensures)))
     c.print.ensures.out shown.netplay
 
 pub returns-in-Err-clause-heard : goal.returns-in-Err-clause-heard

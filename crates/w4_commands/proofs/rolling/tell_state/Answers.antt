@@ -1,12 +1,12 @@
 use Rattle.std.proofs.Common.{◌≡◌, ap, sym, ◌∙◌}
-use Rattle.std.specs.Prelude.{List, ℕ}
+use Rattle.std.specs.Prelude.{List, Option, Some, ℕ}
 use Rattle.w4_defs.specs.FrameTexts.{state_line}
 use Rattle.w4_editor.specs.Editing.{Editing, editing_setup}
 use Rattle.w4_netplay.specs.Replicas.{places_kept}
-use Rattle.w4_commands.specs.Answering.{refused_line}
-use Rattle.w4_commands.specs.Answers.{answer_text}
+use Rattle.w4_defs.specs.ScriptAnswers.{refused_line}
+use Rattle.w4_defs.specs.Answers.{answer_text}
 use Rattle.w4_commands.specs.Editors.{place_session}
-use Rattle.w4_commands.specs.NetSessions.{if_passed, net_words, predicted_state}
+use Rattle.w4_defs.specs.LogAnswers.{if_passed, net_words, predicted_state}
 use Rattle.w4_commands.specs.Replicas.{net_session}
 use Rattle.w4_commands.proofs.RollingLaws.{heard_on_text, net_refused_on_text, not_passed, passed_text, same_netplay, state_told}
 use Rattle.w4_commands.proofs.rolling.tell_state.Goals as goal
@@ -24,11 +24,11 @@ returns-in_ok-line-in-Ok-clause-heard g c =
     sym keeps.kept ∙ ap (λ (e : Editing). (place_session e).current.kept) (sym c.editor.ensures) in
     heard_on_text c.print.result (g.H.House.world c.args.house.now) (g.H.House.world c.print.new.house) old
     c.facts.new.replica c.as_slice.result.now (answer_text s (if_passed s c.args.p text))
-    (ap (λ (out : List ℕ). answer_text s out)
+    (ap (λ (out : Option (List ℕ)). answer_text s out)
     (passed_text old c.args.p text c.in-Ok.ensures.accepted
     ∙ state_told old c.args.p found.0 c.requires found.1
-    ∙ (λ i. state_line c.args.p (count i) found.0 (kept i))
-    ∙ sym line ∙ sym c.as_slice.ensures.value))
+    ∙ ap (λ (out : List ℕ). Some out)
+    ((λ i. state_line c.args.p (count i) found.0 (kept i)) ∙ sym line ∙ sym c.as_slice.ensures.value)))
     c.print.ensures.out keeps
 
 pub returns-in-Err-clause-heard : goal.returns-in-Err-clause-heard

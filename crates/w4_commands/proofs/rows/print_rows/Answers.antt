@@ -1,15 +1,25 @@
-use Rattle.std.proofs.Common.{◌≡◌, ◌<◌, [], drop, None, Option, Some, get_or, map, string_bytes, sym, subst, ◌∙◌}
+use Rattle.std.proofs.Common.{◌≡◌, ◌<◌, [], None, Option, Some, get_or, map, string_bytes, sym, subst, ◌∙◌}
 use Rattle.std.proofs.lemmas.List.{get_or-map, length-map}
 use Rattle.std.proofs.lemmas.Result.{err_from_is_err_and}
 use Rattle.w4_defs.specs.declared.batch.BatchRow.{BatchRow}
 use Rattle.w4_defs.specs.declared.batch.BatchRow.TheVariants.{Bad}
-use Rattle.w4_house.proofs.WorldLaws.{printing_then}
-use Rattle.w4_commands.specs.Endings.{manner_of}
-use Rattle.w4_commands.specs.RowTexts.{row_text, rows_text}
+use Rattle.w4_defs.specs.World.{Appends}
+use Rattle.w4_house.proofs.WorldLaws.{printing_none, printing_then}
+use Rattle.w4_defs.specs.Endings.{manner_of}
+use Rattle.w4_defs.specs.BatchRows.{row_text, rows_text}
+use Rattle.w4_commands.specs.Causes.{StopsWriting}
 use Rattle.w4_commands.proofs.ListedLaws.{named_item, past_all_names, within_all}
-use Rattle.w4_commands.proofs.OwesLaws.{owes_begun}
-use Rattle.w4_commands.proofs.RowLaws.{rows-more, rows-all, rows-stop}
+use Rattle.w4_commands.proofs.OwesLaws.{there_begins, there_begun}
+use Rattle.w4_commands.proofs.RowLaws.{lines_from, rows-more, rows-all, rows-stop}
 use Rattle.w4_commands.proofs.rows.print_rows.Goals as goal
+
+pub loop-i-init : goal.loop-i-init
+loop-i-init g c =
+    let world = g.H.House.world c.args.house.now in (
+      there_begins world
+          (rows_text (map string_bytes c.args.names.now) (map (λ row. Some row) c.args.rows.now)),
+      printing_none world,
+    )
 
 pub loop-i-preserved : goal.loop-i-preserved
 loop-i-preserved g c =
@@ -20,16 +30,18 @@ loop-i-preserved g c =
     let some : BatchRow → Option BatchRow = λ row. Some row in
     let rows = map some c.args.rows.now in
     let i = c.loop-i.i in
+    let row = get_or c.args.rows.now i Bad in
     let there = subst (λ n. i < n) (sym c.requires) c.loop-i-test.true in
     let name : get_or names i [] ≡ c.as_str.result.now =
     named_item c.args.names.now i c.index-names-i.result c.as_str.result.now c.loop-i-test.true
     c.index-names-i.is c.as_str.ensures.value in
-    let row : get_or rows i None ≡ some (get_or c.args.rows.now i Bad) =
-    get_or-map some c.args.rows.now i Bad None there in (
-      rows-more old now after names rows i c.as_slice.result.now (rows_text names rows)
+    let line : c.as_slice.result.now ≡ row_text (get_or names i []) row =
+    c.as_slice.ensures.value ∙ c.in_ok-line.ensures ∙ (λ k. row_text (sym name k) row) in (
+      rows-more old now after names rows i row (rows_text names rows)
           (within_all c.args.names.now i c.loop-i-test.true)
-          (subst (λ n. i < n) (sym (length-map c.args.rows.now some)) there) c.in_ok-print.ensures.out
-          (c.as_slice.ensures.value ∙ c.in_ok-line.ensures ∙ (λ k. row_text (sym name k) (sym row k)))
+          (subst (λ n. i < n) (sym (length-map c.args.rows.now some)) there)
+          (get_or-map some c.args.rows.now i Bad None there)
+          (subst (λ text. Appends now.out after.out text) line c.in_ok-print.ensures.out)
           c.loop-i.invariant.0,
       printing_then old now after c.loop-i.invariant.1 c.in_ok-print.ensures.rest,
     )
@@ -49,28 +61,30 @@ returns-in_err-line-clause-out g c =
     let some : BatchRow → Option BatchRow = λ row. Some row in
     let rows = map some c.args.rows.now in
     rw (p.1, p.2)
-    (owes_begun (g.H.House.world c.args.house.now) (g.H.House.world c.loop-i.house)
-    (rows_text (drop c.loop-i.i names) (drop c.loop-i.i rows)) (rows_text names rows) c.loop-i.invariant.0)
+    (there_begun (g.H.House.world c.args.house.now) (g.H.House.world c.loop-i.house)
+    (lines_from names rows c.loop-i.i) (rows_text names rows) c.loop-i.invariant.0)
 
 pub returns-in_err-print-clause-out : goal.returns-in_err-print-clause-out
 returns-in_err-print-clause-out g c =
     let p =
     err_from_is_err_and c.from_residual-in_err-print.result c.from_residual-in_err-print.ensures.1 in
+    let now = g.H.House.world c.loop-i.house in
+    let after = g.H.House.world c.print.new.house in
+    let why = manner_of c.in_err-print.field-0.0 in
     let names = map string_bytes c.args.names.now in
     let some : BatchRow → Option BatchRow = λ row. Some row in
     let rows = map some c.args.rows.now in
     let i = c.loop-i.i in
+    let row = get_or c.args.rows.now i Bad in
     let there = subst (λ n. i < n) (sym c.requires) c.loop-i-test.true in
     let name : get_or names i [] ≡ c.as_str.result.now =
     named_item c.args.names.now i c.index-names-i.result c.as_str.result.now c.loop-i-test.true
     c.index-names-i.is c.as_str.ensures.value in
-    let row : get_or rows i None ≡ some (get_or c.args.rows.now i Bad) =
-    get_or-map some c.args.rows.now i Bad None there in
-    let line : c.as_slice.result.now ≡ row_text (get_or names i []) (get_or rows i None) =
-    c.as_slice.ensures.value ∙ c.in_ok-line.ensures ∙ (λ k. row_text (sym name k) (sym row k)) in
+    let line : c.as_slice.result.now ≡ row_text (get_or names i []) row =
+    c.as_slice.ensures.value ∙ c.in_ok-line.ensures ∙ (λ k. row_text (sym name k) row) in
     rw (p.1, p.2)
-    (rows-stop (g.H.House.world c.args.house.now) (g.H.House.world c.loop-i.house)
-    (g.H.House.world c.print.new.house) (manner_of c.in_err-print.field-0.0) names rows i
-    c.as_slice.result.now (rows_text names rows) (within_all c.args.names.now i c.loop-i-test.true)
-    (subst (λ n. i < n) (sym (length-map c.args.rows.now some)) there) line c.loop-i.invariant.1.later
-    c.loop-i.invariant.0 c.in_err-print.ensures.out)
+    (rows-stop (g.H.House.world c.args.house.now) now after why names rows i row (rows_text names rows)
+    (within_all c.args.names.now i c.loop-i-test.true)
+    (subst (λ n. i < n) (sym (length-map c.args.rows.now some)) there)
+    (get_or-map some c.args.rows.now i Bad None there) c.loop-i.invariant.1.later c.loop-i.invariant.0
+    (subst (λ text. StopsWriting now after why text) line c.in_err-print.ensures.out))

@@ -1,4 +1,4 @@
-use Rattle.w4_defs.specs.WorkedSessions.{deleted-case, input-cases, refusal-cases, keep-every-cases, history-case}
+use Rattle.w4_defs.specs.WorkedSessions.{deleted-case, input-cases, refusal-cases, keep-every-cases, limit-cases, history-case}
 use Rattle.w4_defs.proofs.editing_laws.session_cases.Goals as goal
 
 pub returns-clause-deleted : goal.returns-clause-deleted
@@ -15,3 +15,6 @@ returns-clause-keep_every c = keep-every-cases
 
 pub returns-clause-history : goal.returns-clause-history
 returns-clause-history c = history-case
+
+pub returns-clause-limits : goal.returns-clause-limits
+returns-clause-limits c = limit-cases

@@ -1,4 +1,4 @@
-use Rattle.std.proofs.Common.{ℕ, ap}
+use Rattle.std.proofs.Common.{ℕ, Option, option_map, ap}
 use Rattle.w4_defs.specs.Bytes.{number_at}
 use Rattle.w4_editor.specs.Editing.{Editing}
 use Rattle.w4_inspect.specs.Watching.{value_at}
@@ -11,8 +11,8 @@ returns-clause-values g c =
     let old = c.args.editor.now in
     let shown = c.shown_value.new.editor in
     let what = c.args.what in
-    let value : Editing → ℕ → ℕ = λ e. value_at e what.address what.width in
-    let same = ap (λ pages. λ p. number_at (pages p) what.address what.width)
+    let value : Editing → ℕ → Option ℕ = λ e. value_at e what.address what.width in
+    let same = ap (λ pages. λ p. option_map (λ page. number_at page what.address what.width) (pages p))
     (same_pages old shown c.in_ok-first.ensures.shown.recording) in
     first_and_more (value old) (value shown) c.in_ok-values.values.items c.push.new.self.items
     c.add_values.new.values.items c.in_ok-first.first c.args.a c.args.b c.requires.order same

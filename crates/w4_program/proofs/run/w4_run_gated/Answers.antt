@@ -1,14 +1,15 @@
 -- Each clause is what its status says, over the worlds before the words are obeyed and after the report.
 use Rattle.std.proofs.Common.{◌≡◌, map, ◌∙◌, None, Result, string_bytes}
-use Rattle.w4_house.specs.World.{Files}
-use Rattle.w4_commands.specs.declared.status.Status.TheVariants as status
-use Rattle.w4_commands.specs.Lines.{status_line}
-use Rattle.w4_commands.specs.declared.status.Status.{Status}
-use Rattle.w4_commands.specs.Forms.{form_of}
-use Rattle.w4_commands.specs.Output.{Output}
-use Rattle.w4_commands.specs.Outputs.{Outputs}
-use Rattle.w4_program.specs.CartRuns.{CartRunsHaveMeaning}
+use Rattle.w4_defs.specs.World.{Files}
+use Rattle.w4_defs.specs.declared.status.Status.TheVariants as status
+use Rattle.w4_defs.specs.StatusLines.{status_line}
+use Rattle.w4_defs.specs.declared.status.Status.{Status}
+use Rattle.w4_defs.specs.Commands.{form_of}
+use Rattle.w4_defs.specs.Output.{Output}
+use Rattle.w4_defs.specs.Outputs.{Outputs}
+use Rattle.w4_defs.specs.CartRuns.{CartRunsHaveMeaning}
 use Rattle.w4_program.proofs.CartRunLaws.{cart_runs}
+use Rattle.w4_program.proofs.CompletenessLaws.{complete}
 use Rattle.w4_program.proofs.ReportLaws.{cut_short, ends_reported}
 use Rattle.w4_program.proofs.StatusLaws as laws
 use Rattle.w4_program.proofs.run.w4_run_gated.Goals as goal
@@ -25,6 +26,7 @@ returns g c =
     let ends =
     ends_reported old mid new c.obey-status.result result step c.report.ensures.rest
     c.report.ensures.status c.obey-status.ensures.ends in
+    let exact = laws.exact old new result step ends in
     record {
       done =
           laws.appends_when_done old new result step (λ files. CartRunsHaveMeaning words files) ends
@@ -59,5 +61,8 @@ returns g c =
           λ r.
           laws.line_reported old mid new (status_line result) c.obey-status.ensures.err
           (c.report.ensures.line r);
-      exact = laws.exact old new result step ends;
+      exact = exact;
+      complete =
+          complete old new result words c.accepted_runs_have_meaning.ensures c.made_modules_are_carts.ensures
+          c.complete_is_done.ensures c.at_most_one.ensures exact;
     }

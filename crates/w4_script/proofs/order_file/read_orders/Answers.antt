@@ -3,7 +3,8 @@ use Rattle.w4_defs.specs.Lines.{lines_of}
 use Rattle.w4_defs.specs.OrderFile.{orders_in}
 use Rattle.w4_script.specs.Left.{lines_left}
 use Rattle.w4_script.specs.LineView.{written_view}
-use Rattle.w4_script.proofs.OrderLaws.{one_order, bad_line, no_line, short_file}
+use Rattle.w4_defs.proofs.ScriptLaws.{file_limit}
+use Rattle.w4_script.proofs.OrderLaws.{one_order, bad_line, no_line}
 use Rattle.w4_script.proofs.order_file.read_orders.Goals as goal
 
 pub loop-line-preserved : goal.loop-line-preserved
@@ -18,7 +19,7 @@ loop-line-preserved g c =
 pub returns-in-None-of_words-clause-refused : goal.returns-in-None-of_words-clause-refused
 returns-in-None-of_words-clause-refused g c =
     let order_of = g.O.LineOrder.order_of in
-    short_file order_of c.args.bytes.now (omega arith)
+    (file_limit order_of c.args.bytes.now).0 (omega arith)
     ∙ bad_line order_of c.loop-line.orders.items (lines_left c.loop-line.line-iterator)
     (lines_left c.next.new.self) (written_view c.in-Some.line)
     (orders_in order_of (lines_of c.args.bytes.now)) c.in-Some.ensures.steps
@@ -27,6 +28,6 @@ returns-in-None-of_words-clause-refused g c =
 pub returns-clause-orders : goal.returns-clause-orders
 returns-clause-orders g c =
     let order_of = g.O.LineOrder.order_of in
-    short_file order_of c.args.bytes.now (omega arith)
+    (file_limit order_of c.args.bytes.now).0 (omega arith)
     ∙ no_line order_of c.loop-line.orders.items (lines_left c.loop-line.line-iterator)
     (orders_in order_of (lines_of c.args.bytes.now)) c.in-None.ensures.steps.0 c.loop-line.invariant

@@ -28,6 +28,7 @@ returns c =
     let room = c.in_ok-reserve.ensures.ok in
     busy_piece e e.disk c.args.first c.args.end c.args.entry _ c.is_consistent.ensures c.requires.order
     (omega (arith, from, to, some))
-    c.requires.within c.requires.states c.kept_restore.ensures (c.in_ok-reserve.ensures.items ∙ c.clear.ensures.items)
+    c.requires.within c.requires.states c.kept_restore.ensures
+    (c.in_ok-reserve.ensures.items ∙ c.clear.ensures.items)
     (omega (arith, room, from, to)) _ refl
     c.kept_place.ensures from to

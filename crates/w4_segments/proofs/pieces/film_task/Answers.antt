@@ -1,4 +1,4 @@
-use Rattle.std.proofs.Common.{◌≡◌, ◌+◌, [], ◌∷◌, ◌++◌, flat_map, length, ap, ◌∙◌, arith}
+use Rattle.std.proofs.Common.{◌≡◌, ◌+◌, [], ◌∷◌, ◌++◌, flat_map, length, Some, sym, ap, ◌∙◌, arith}
 use Rattle.std.proofs.lemmas.List.{length-append}
 use Rattle.w4_defs.specs.Board.{console_setup}
 use Rattle.w4_defs.specs.Image.{image}
@@ -25,8 +25,8 @@ loop-place-init c =
       c.play.ensures.globals,
       ap length items ∙ omega arith,
       omega (arith, capacity, room),
-      ap (flat_map image) items
-          ∙ first_screen setup r.disk r.frames screen first c.play.new.console here same,
+      first_screen setup r.disk r.frames screen first c.play.new.console here same
+          ∙ ap (λ xs. Some (flat_map image xs)) (sym items),
       omega arith,
     )
 
@@ -54,7 +54,7 @@ loop-place-preserved c =
       c.play-in-loop-place.ensures.globals,
       ap length items ∙ length-append screens (screen ∷ []) ∙ omega (arith, many, from),
       omega (arith, capacity, room),
-      ap (flat_map image) items
-          ∙ more_screens setup r.disk r.frames screens screen first place state from here same before.4,
+      more_screens setup r.disk r.frames screens screen first place state from here same before.4
+          ∙ ap (λ xs. Some (flat_map image xs)) (sym items),
       omega (arith, from),
     )

@@ -4,7 +4,7 @@ use Rattle.w4_defs.specs.Board.{console_setup}
 use Rattle.w4_defs.specs.Image.{image}
 use Rattle.w4_defs.specs.Run.{run_state}
 use Rattle.w4_defs.specs.State.{HasGlobals}
-use Rattle.w4_segments.specs.Filming.{run_images}
+use Rattle.w4_defs.specs.Film.{run_images}
 use Rattle.w4_segments.proofs.pieces.film_task.Given as goal
 
 abbrev pub invariant-loop-place : goal.invariant-loop-place
@@ -14,8 +14,7 @@ invariant-loop-place l =
     × HasGlobals l.cart l.console
     × (length l.screens.items ≡ l.place + 1 - l.fn.task.first)
     × (l.fn.task.end - l.fn.task.first ≤ vec_capacity l.screens)
-    × (flat_map image l.screens.items
-    ≡ run_images (console_setup l.cart l.font l.recording.budget) l.recording.disk l.recording.frames
-    l.fn.task.first
-    (l.place + 1 - l.fn.task.first))
+    × (run_images (console_setup l.cart l.font l.recording.budget) l.recording.disk l.recording.frames
+    l.fn.task.first (l.place + 1 - l.fn.task.first)
+    ≡ Some (flat_map image l.screens.items))
     × (l.fn.task.first ≤ l.place)

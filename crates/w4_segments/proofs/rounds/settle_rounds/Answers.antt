@@ -12,16 +12,20 @@ loop-init g c = (
   shown_keeps_same c.args.editor.now,
   refl,
   c.requires.types,
+  omega arith,
 )
 
 pub loop-preserved : goal.loop-preserved
 loop-preserved g c =
     let found = c.if-not-branch.false in
     let now = c.loop.editor in
-    let before = c.loop.invariant.1 in (
+    let before = c.loop.invariant.1 in
+    let so_far = c.loop.invariant.4 in
+    let counted = c.settle_round.ensures.round in (
       c.in_ok-settle_round.ensures.front found c.loop.counter c.loop-test.true c.loop.invariant.0,
       keeps_both c.args.editor.now now c.settle_round.new.editor before c.settle_round.ensures.keeps,
       c.settle_round.ensures.many ∙ c.loop.invariant.2,
       subst (λ (e : Editing). All (HasCartTypes e.cart) c.settle_round.new.team) before.recording.same
           c.in_ok-settle_round.ensures.types,
+      omega (arith, counted, so_far),
     )

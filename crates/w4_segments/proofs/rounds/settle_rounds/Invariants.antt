@@ -1,5 +1,6 @@
 use Rattle.std.proofs.Common.{◌≡◌, length}
 use Rattle.std.specs.List.{All}
+use Rattle.w4_defs.specs.FramesRun.{RunsAtMost}
 use Rattle.w4_editor.specs.Settling.{AreLinked}
 use Rattle.w4_segments.specs.declared.worker.Worker.{Worker}
 use Rattle.w4_segments.specs.Filming.{KeepsShown}
@@ -12,3 +13,4 @@ invariant-loop g l =
     × KeepsShown l.fn.editor l.editor
     × (length {A = Worker} l.team ≡ length {A = Worker} l.fn.team)
     × All (HasCartTypes l.fn.editor.cart) l.team
+    × RunsAtMost l.fn.rounds l.rounds l.counter

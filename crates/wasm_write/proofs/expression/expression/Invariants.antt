@@ -1,6 +1,6 @@
 use Rattle.std.proofs.Common.{◌≡◌, ◌++◌, length}
 use Rattle.w4_defs.specs.View.{expression_of}
-use Rattle.wasm_write.specs.EncodeInstruction.{expression_bytes}
+use Rattle.w4_defs.specs.EncodeInstruction.{expression_bytes}
 use Rattle.wasm_write.specs.OpenLists.{open_bytes}
 use Rattle.wasm_write.proofs.expression.expression.Given as goal
 

@@ -2,8 +2,8 @@
 use Rattle.std.proofs.Common.{◌++◌, ◌∷◌, ap, ◌∙◌, sym, append_assoc}
 use Rattle.w4_defs.specs.declared.instruction.Instr.{If}
 use Rattle.w4_defs.specs.View.{before, expression_of}
-use Rattle.wasm_write.specs.EncodeType.{block_type_code}
-use Rattle.wasm_write.specs.EncodeInstruction.{list_bytes}
+use Rattle.w4_defs.specs.EncodeType.{block_type_code}
+use Rattle.w4_defs.specs.EncodeInstruction.{list_bytes}
 use Rattle.wasm_write.proofs.ViewLaws.{block_before, loop_before, if_then_before, if_else_before}
 use Rattle.wasm_write.proofs.instruction_table.encoding_of.Goals as goal
 

@@ -1,8 +1,8 @@
 -- The zero bytes after these are an unsigned number each.
 use Rattle.std.proofs.Common.{ap}
 use Rattle.w4_defs.specs.View.{before}
-use Rattle.wasm_write.specs.EncodeNumber.{unsigned_bytes}
-use Rattle.wasm_write.specs.EncodeInstruction.{list_bytes}
+use Rattle.w4_defs.specs.EncodeNumber.{unsigned_bytes}
+use Rattle.w4_defs.specs.EncodeInstruction.{list_bytes}
 use Rattle.wasm_write.proofs.instruction_table.memory_encoding.Goals as goal
 
 pub returns-in-MemorySize : goal.returns-in-MemorySize

@@ -1,6 +1,6 @@
 use Rattle.std.proofs.Common.{◌≡◌, ◌++◌, take}
 use Rattle.std.specs.Prelude.{flat_map}
-use Rattle.wasm_write.specs.EncodeType.{table_type_bytes}
+use Rattle.w4_defs.specs.EncodeType.{table_type_bytes}
 use Rattle.wasm_write.proofs.module.table_types.Given as goal
 
 abbrev pub invariant-loop-limits : goal.invariant-loop-limits

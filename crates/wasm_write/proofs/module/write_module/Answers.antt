@@ -1,7 +1,7 @@
 use Rattle.std.proofs.Common.{List, ℕ, sym, subst}
 use Rattle.std.proofs.lemmas.Result.{IfOk-weaker}
 use Rattle.w4_defs.specs.BinaryModule.{SpellsModule}
-use Rattle.wasm_write.specs.EncodeModule.{module_bytes}
+use Rattle.w4_defs.specs.EncodeModule.{module_bytes}
 use Rattle.wasm_write.proofs.ModuleLaws.{module_encodes}
 use Rattle.wasm_write.proofs.module.write_module.Goals as goal
 

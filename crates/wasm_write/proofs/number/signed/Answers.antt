@@ -1,5 +1,5 @@
 use Rattle.std.proofs.Common.{◌≡◌, ◌<◌, ◌++◌, ◌-◌, ◌/◌, ◌∙◌, ap, sym, arith, true, false, [], ◌∷◌}
-use Rattle.wasm_write.specs.EncodeNumber.{is_last, signed_bytes}
+use Rattle.w4_defs.specs.EncodeNumber.{is_last, signed_bytes}
 use Rattle.wasm_write.proofs.NumberLaws.{signed-last, signed_byte, more_than_seven, rest_fits}
 use Rattle.wasm_write.proofs.number.signed.Goals as goal
 

@@ -1,5 +1,5 @@
 use Rattle.std.proofs.Common.{◌≡◌, ◌++◌, ◌<◌, ◌≤◌, ◌^◌}
-use Rattle.wasm_write.specs.EncodeNumber.{signed_bytes}
+use Rattle.w4_defs.specs.EncodeNumber.{signed_bytes}
 use Rattle.wasm_write.proofs.number.signed.Given as goal
 
 abbrev pub invariant-loop-out : goal.invariant-loop-out

@@ -1,5 +1,5 @@
 use Rattle.std.proofs.Common.{◌++◌, ◌/◌, ◌∙◌, ap, sym, arith}
-use Rattle.wasm_write.specs.EncodeNumber.{unsigned_bytes}
+use Rattle.w4_defs.specs.EncodeNumber.{unsigned_bytes}
 use Rattle.wasm_write.proofs.NumberLaws.{unsigned-last, unsigned_byte}
 use Rattle.wasm_write.proofs.number.unsigned.Goals as goal
 

@@ -1,5 +1,5 @@
 use Rattle.std.proofs.Common.{◌≡◌, ◌++◌}
-use Rattle.wasm_write.specs.EncodeNumber.{unsigned_bytes}
+use Rattle.w4_defs.specs.EncodeNumber.{unsigned_bytes}
 use Rattle.wasm_write.proofs.number.unsigned.Given as goal
 
 abbrev pub invariant-loop-left : goal.invariant-loop-left

@@ -3,7 +3,7 @@ use Rattle.std.proofs.lemmas.Result.{IfErr-at_err, IfOk-at_ok, err_from_is_err_a
 use Rattle.w4_defs.specs.declared.editing.EditRefusal.TheVariants as edit
 use Rattle.w4_defs.specs.Session.{place_refusal}
 use Rattle.w4_editor.specs.Showing.{IsShown, KeepsRecording}
-use Rattle.w4_netplay.specs.declared.refusal.NetRefusal.TheVariants.{NoFrame}
+use Rattle.w4_defs.specs.declared.net_refusal.NetRefusal.TheVariants.{NoFrame}
 use Rattle.w4_netplay.specs.Replicas.{Netplay, IsNetRefusal, predicted_draft}
 use Rattle.w4_netplay.specs.Rolling.{IsRolled}
 use Rattle.w4_netplay.proofs.ReplicaLaws.{netplay_view, keeps_same, still_keeps, shows_place, predicted_run_state, same_place_refusal, no_place, some_place, refused_for, memory_alone, memory_refused}
@@ -16,7 +16,7 @@ returns-then-p-self g c =
     let r = netplay_view c.self.inside.pads c.self.inside.frames c.self.inside.editor in (
       (refl, λ _. tt, (tt, keeps_same c.args.self.now, λ _. refl)),
       record {
-        after = tt;
+        frames_run = tt;
         state = tt;
         refused = subst (λ (r : Netplay). IsNetRefusal (place_refusal p (predicted_draft r)) NoFrame)
             c.self.view_is
@@ -34,7 +34,7 @@ returns-in_err-roll_back g c =
     let error = err_from_is_err_and c.from_residual.result c.from_residual.ensures.1 in
     rw (error.1, error.2) (
       (refl, λ _. tt, (tt, c.in_err-roll_back.ensures.err, λ other. absurd (other refl))),
-      record { after = tt; state = tt; refused = memory_refused _ free; accepted = tt },
+      record { frames_run = tt; state = tt; refused = memory_refused _ free; accepted = tt },
     )
 
 pub only_memory-requires : goal.only_memory-requires
@@ -77,7 +77,7 @@ returns g c =
               ),
             ),
             record {
-              after = tt;
+              frames_run = tt;
               state = predicted_run_state c.args.self.now mid p w.in-Ok.state.now rolled
                   w.in-Ok.ensures.state;
               refused = tt;
@@ -96,6 +96,6 @@ returns g c =
                 λ other. absurd (other refl),
               ),
             ),
-            record { after = tt; state = tt; refused = memory_refused _ free; accepted = tt },
+            record { frames_run = tt; state = tt; refused = memory_refused _ free; accepted = tt },
           )
     ]

@@ -1,6 +1,6 @@
 use Rattle.std.proofs.Common.{◌≡◌, length}
 use Rattle.w4_defs.specs.Lines.{pieces}
-use Rattle.w4_script.specs.Names.{name_lines_from}
+use Rattle.w4_defs.specs.NameLists.{name_lines_from}
 use Rattle.w4_script.proofs.name_lines.NameLinesIterator.next.Given as goal
 
 abbrev pub invariant-loop-line : goal.invariant-loop-line

@@ -1,4 +1,5 @@
-use Rattle.std.proofs.Common.{◌+◌, ◌-◌, ◌++◌, List, length, sym, ap, ◌∙◌, arith}
+use Rattle.std.proofs.Common.{◌+◌, ◌-◌, List, length, sym, ap, ◌∙◌, arith}
+use Rattle.w4_defs.specs.AllThere.{joined}
 use Rattle.w4_segments.specs.declared.worker.Worker.{Worker}
 use Rattle.w4_segments.specs.FilmPieces.{images_between}
 use Rattle.w4_segments.specs.Pieces.{piece_begin}
@@ -33,7 +34,7 @@ returns-clause-piece g c _ =
     (λ k. images_between e (piece_begin (entries_of e) (first k) (end k) (next k)) (end k))
     ∙ left_begins e now.first now.end c.is_consistent.ensures.kept.true_links.rising now.next
     ∙ ap
-    (λ xs. xs ++ images_between e (piece_begin (entries_of e) now.first now.end (now.next + 1)) now.end)
-    (sym (piece_handed_out e now.team.items now.first now.end now.entry now.next now.made has.filming has.some
+    (λ xs. joined xs (images_between e (piece_begin (entries_of e) now.first now.end (now.next + 1)) now.end))
+    (piece_handed_out e now.team.items now.first now.end now.entry now.next now.made has.filming has.some
     (length c.as_slice.result.now - (now.made - now.next))
-    (ap (λ (team : List Worker). length team - (now.made - now.next)) c.as_slice.ensures.value)))
+    (ap (λ (team : List Worker). length team - (now.made - now.next)) c.as_slice.ensures.value))

@@ -3,7 +3,7 @@ use Rattle.w4_defs.specs.Cart.{IsCart}
 use Rattle.w4_defs.specs.Module.{WasmModule}
 use Rattle.w4_defs.specs.Generator.{made_module}
 use Rattle.wasm_write.specs.Draws.{inputs_from}
-use Rattle.wasm_write.specs.EncodeModule.{module_bytes}
+use Rattle.w4_defs.specs.EncodeModule.{module_bytes}
 use Rattle.wasm_write.specs.Fits.{ModuleFits}
 use Rattle.wasm_write.proofs.DrawLaws.{later_inputs}
 use Rattle.wasm_write.proofs.MadeFits.{made_fits, made_modules_are_carts}

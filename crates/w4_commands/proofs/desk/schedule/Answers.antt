@@ -1,0 +1,30 @@
+use Rattle.std.proofs.Common.{ℕ, List, ◌++◌, Some, ap, sym, ◌∙◌}
+use Rattle.w4_defs.specs.FrameTexts.{schedule_text}
+use Rattle.w4_defs.specs.Run.{run}
+use Rattle.w4_devices.specs.Records.{record_of}
+use Rattle.w4_editor.specs.Editing.{editing_setup}
+use Rattle.w4_commands.proofs.TellLaws.{reset_record, schedule_of_record}
+use Rattle.w4_commands.proofs.desk.schedule.Goals as goal
+
+pub returns-then-place-eq0-clause-text : goal.returns-then-place-eq0-clause-text
+returns-then-place-eq0-clause-text g c =
+    let old = c.args.desk.now.editor in
+    let made = record_of c.reset_frame.result.now in
+    let text = c.in_ok-schedule_text.ensures.text
+    ∙ ap (λ (bytes : List ℕ). bytes ++ schedule_text c.args.place made) c.new-text.ensures.items in
+    schedule_of_record c.args.place
+    (run (editing_setup old) old.disk old.session.current.inputs c.args.place) made
+    (rw c.if-place-eq0.true
+    (reset_record (editing_setup old) old.disk old.session.current.inputs made c.reset_frame.ensures))
+    ∙ ap (λ (bytes : List ℕ). Some bytes) (sym text)
+
+pub returns-clause-text : goal.returns-clause-text
+returns-clause-text g c =
+    let old = c.args.desk.now.editor in
+    let made = record_of c.make_record.new.desk.made in
+    let text = c.in_ok-schedule_text-2.ensures.text
+    ∙ ap (λ (bytes : List ℕ). bytes ++ schedule_text c.args.place made) c.new-text.ensures.items in
+    schedule_of_record c.args.place
+    (run (editing_setup old) old.disk old.session.current.inputs c.args.place) made
+    c.in_ok-make_record.ensures.made
+    ∙ ap (λ (bytes : List ℕ). Some bytes) (sym text)

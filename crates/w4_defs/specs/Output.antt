@@ -1,0 +1,209 @@
+-- What the program makes of its words and of the files that it finds, or the first refusal (project rule).
+-- The words are judged first, then the cart, the recording, whether it is the cart's, the font and the
+-- script, each file before the next is read, and last the places that the words name. A file is judged by
+-- its first bytes, one more than its limit: 65,536 of a cart, 361,071 of a recording, 1,792 of a font,
+-- 1,048,576 of a script. What a cart's bytes are is a relation; all that follows is a function of the cart.
+use Rattle.std.specs.Prelude.{◌≡◌, ℕ, ◌+◌, ◌-◌, ◌==◌, nat_le, List, [], ◌∷◌, ◌++◌, codes, length, Option, Some, None, option_map, Result, Ok, Err, if◌then◌else◌}
+use Rattle.std.specs.FinMap.{insert}
+use Rattle.std.specs.Str.{bytes_eq}
+use Rattle.sha2.specs.Sha256.{sha256}
+use Rattle.w4_defs.specs.declared.order.Order.{Order}
+use Rattle.w4_defs.specs.Module.{WasmModule}
+use Rattle.w4_defs.specs.Cart.{IsCart, IsRefused}
+use Rattle.w4_defs.specs.Generator.{made_module}
+use Rattle.w4_defs.specs.MadeSummary.{made_summary}
+use Rattle.w4_defs.specs.Recording.{Recording, recording_of, encoding}
+use Rattle.w4_defs.specs.OrderFile.{ScriptFault, TooLong, BadLine}
+use Rattle.w4_defs.specs.Script.{script_of}
+use Rattle.w4_defs.specs.Board.{console_setup}
+use Rattle.w4_defs.specs.Reset.{Setup}
+use Rattle.w4_defs.specs.Run.{run}
+use Rattle.w4_defs.specs.Session.{Session}
+use Rattle.w4_defs.specs.State.{Moment}
+use Rattle.w4_defs.specs.EncodeModule.{module_bytes}
+use Rattle.w4_defs.specs.World.{Files, front_of}
+use Rattle.w4_defs.specs.declared.place_text.PlaceText.{PlaceText}
+use Rattle.w4_defs.specs.declared.place_text.PlaceText.TheVariants.{Image, DiskBytes}
+use Rattle.w4_defs.specs.declared.status.RecordingKind.TheVariants.{Bad, WrongCart}
+use Rattle.w4_defs.specs.declared.status.ScriptKind.TheVariants as script
+use Rattle.w4_defs.specs.declared.status.Status.{Status}
+use Rattle.w4_defs.specs.declared.status.Status.TheVariants.{ReadFault, CartRefused, RecordingRefused, FontRefused, ScriptRefused, FrameRefused}
+use Rattle.w4_defs.specs.Commands.{RunWords, EditWords}
+use Rattle.w4_defs.specs.PlaceTexts.{as_it_stands, place_text, place_texts}
+use Rattle.w4_defs.specs.ScriptAnswers.{script_answers}
+use Rattle.w4_defs.specs.Answers.{Answered}
+
+-- what standard output gets, the name of the file that is written, where one is, and all files afterwards
+pub record Output : Type 0 where
+  pub out : List ℕ
+  pub file : Option (List ℕ)
+  pub files : Files
+
+infixl 10 ◌>>=◌
+abbrev pub ◌>>=◌ : {A B : Type 0} → Result A Status → (A → Result B Status) → Result B Status
+(Ok x) >>= f = f x
+(Err refusal) >>= f = Err refusal
+
+abbrev pub or_refuse : {A : Type 0} → Status → Option A → Result A Status
+or_refuse refusal (Some x) = Ok x
+or_refuse refusal None = Err refusal
+
+-- the first `most` bytes of a file, or all
+abbrev pub reading : Files → List ℕ → ℕ → Result (List ℕ) Status
+reading files name most = or_refuse ReadFault (front_of files name most)
+
+-- a cart, as the module of its code, and the SHA-256 of its bytes
+pub record CartFile : Type 0 where
+  pub code : WasmModule
+  pub digest : List ℕ
+
+-- what the bytes of a cart's file are: a cart, or a refusal with the first cause that holds
+abbrev pub JudgedCart : Result (List ℕ) Status → Result CartFile Status → Type 0
+JudgedCart (Err refusal) cart = cart ≡ Err refusal
+JudgedCart (Ok bytes) (Ok cart) = IsCart bytes cart.code × (cart.digest ≡ sha256 bytes)
+JudgedCart (Ok bytes) (Err (CartRefused kind)) = IsRefused bytes kind
+JudgedCart (Ok bytes) (Err refusal) = ⊥
+
+abbrev pub CartIn : List ℕ → Files → Result CartFile Status → Type 0
+CartIn name files cart = JudgedCart (reading files name 65537) cart
+
+-- what is made of a file of at most `limit` bytes
+abbrev pub judged : {A : Type 0} → ℕ → (List ℕ → Result A Status) → Files → List ℕ → Result A Status
+judged limit judge files name = reading files name (limit + 1) >>= judge
+
+-- a recording is the cart's if and only if it has the cart's digest
+abbrev pub of_cart : List ℕ → Recording → Result Recording Status
+of_cart digest r = if bytes_eq r.digest digest then Ok r else Err (RecordingRefused WrongCart)
+
+unfoldable pub cart_recording : List ℕ → List ℕ → Result Recording Status
+cart_recording digest bytes = or_refuse (RecordingRefused Bad) (recording_of bytes) >>= of_cart digest
+
+unfoldable pub recording_in : List ℕ → Files → List ℕ → Result Recording Status
+recording_in digest = judged 361071 (cart_recording digest)
+
+abbrev pub font_of : List ℕ → Result (List ℕ) Status
+font_of bytes = if length bytes == 1792 then Ok bytes else Err FontRefused
+
+unfoldable pub font_in : Files → List ℕ → Result (List ℕ) Status
+font_in = judged 1792 font_of
+
+-- the lines of a script, a log or a query, or why it is refused
+abbrev pub or_script_refused : {A : Type 0} → Result A ScriptFault → Result A Status
+or_script_refused (Ok orders) = Ok orders
+or_script_refused (Err TooLong) = Err (ScriptRefused script.TooLong)
+or_script_refused (Err (BadLine number)) = Err (ScriptRefused (script.BadLine number))
+
+unfoldable pub orders_of : List ℕ → Result (List Order) Status
+orders_of bytes = or_script_refused (script_of bytes)
+
+unfoldable pub script_in : Files → List ℕ → Result (List Order) Status
+script_in = judged 1048576 orders_of
+
+-- what a run is made of besides the cart
+pub record Played : Type 0 where
+  pub recording : Recording
+  pub font : List ℕ
+
+unfoldable pub run_files : List ℕ → RunWords → Files → Result Played Status
+run_files digest words files = do
+  recording ← recording_in digest files words.recording
+  font ← font_in files words.font
+  Ok (record { recording = recording; font = font })
+
+-- where it has this place
+unfoldable pub run_files_to : List ℕ → RunWords → ℕ → Files → Result Played Status
+run_files_to digest words place files = do
+  p ← run_files digest words files
+  if nat_le place (length p.recording.frames) then Ok p
+      else Err (FrameRefused place (length p.recording.frames))
+
+pub record Loaded : Type 0 where
+  pub run : Played
+  pub orders : List Order
+
+unfoldable pub edit_files : List ℕ → EditWords → Files → Result Loaded Status
+edit_files digest words files = do
+  run ← run_files digest words.run files
+  orders ← script_in files words.script
+  Ok (record { run = run; orders = orders })
+
+abbrev pub run_setup : WasmModule → Played → Setup
+run_setup m p = console_setup m p.font p.recording.budget
+
+-- a place of the run
+abbrev pub moment_at : WasmModule → Played → ℕ → Option Moment
+moment_at m p place = run (run_setup m p) p.recording.disk p.recording.frames place
+
+-- what is told of places one after another
+abbrev pub place_texts_from : PlaceText → WasmModule → Played → ℕ → ℕ → Option (List ℕ)
+place_texts_from wanted m p from count =
+    place_texts (λ place. place_text as_it_stands wanted place (moment_at m p place)) from count
+
+-- the answers of all orders
+abbrev pub edit_answers : WasmModule → Loaded → Answered (Session ℕ)
+edit_answers m l = script_answers (run_setup m l.run) l.run.recording.disk l.run.recording.frames l.orders
+
+-- the recording left
+abbrev pub edited_recording : WasmModule → Loaded → Recording
+edited_recording m l = record l.run.recording { frames = (edit_answers m l).session.current.inputs }
+
+-- bytes on standard output, and no file changed
+abbrev pub only_printed : List ℕ → Files → Output
+only_printed out files = record { out = out; file = None; files = files }
+
+-- the answers on standard output, and then the recording left in the file of this name
+abbrev pub edit_result : WasmModule → Loaded → List ℕ → Files → List ℕ → Output
+edit_result m l name files out = record {
+  out = out;
+  file = Some name;
+  files = insert files name (encoding 2 (edited_recording m l));
+}
+
+-- what is made of what was read, or the first refusal; None where a run of it has no meaning
+abbrev pub making : {Y : Type 0} → Result Y Status → (Y → Option Output) → Option (Result Output Status)
+making (Ok y) make = option_map Ok (make y)
+making (Err refusal) make = Some (Err refusal)
+
+-- a text on standard output
+abbrev pub printing : {Y : Type 0} → Result Y Status → (Y → Option (List ℕ)) → Files
+    → Option (Result Output Status)
+printing read text files = making read (λ y. option_map (λ out. only_printed out files) (text y))
+
+unfoldable pub edit_output : EditWords → CartFile → Files → Option (Result Output Status)
+edit_output words cart files = making (edit_files cart.digest words files)
+    (λ l. option_map (edit_result cart.code l words.out files) (edit_answers cart.code l).out)
+
+-- the images of places FROM to TO
+unfoldable pub images_output : RunWords → ℕ → ℕ → CartFile → Files → Option (Result Output Status)
+images_output words from to cart files = printing (run_files_to cart.digest words to files)
+    (λ p. place_texts_from Image cart.code p from (to + 1 - from)) files
+
+-- the texts of all places, or the disk of one
+unfoldable pub texts_output : PlaceText → RunWords → CartFile → Files → Option (Result Output Status)
+texts_output wanted words cart files = printing (run_files cart.digest words files)
+    (λ p. place_texts_from wanted cart.code p 0 (length p.recording.frames + 1)) files
+
+unfoldable pub disk_output : RunWords → ℕ → CartFile → Files → Option (Result Output Status)
+disk_output words place cart files = printing (run_files_to cart.digest words place files)
+    (λ p. place_texts_from DiskBytes cart.code p place 1) files
+
+-- bytes that need no further file and no run
+abbrev pub written : List ℕ → Files → Option (Result Output Status)
+written out files = Some (Ok (only_printed out files))
+
+abbrev pub checked : List ℕ
+checked = codes "ok" ++ 10 ∷ []
+
+-- the recording of a cart with a budget, no disk and no frames
+abbrev pub blank_recording : List ℕ → ℕ → Recording
+blank_recording digest budget = record { digest = digest; budget = budget; disk = []; frames = [] }
+
+abbrev pub blank_output : ℕ → CartFile → Files → Option (Result Output Status)
+blank_output budget cart files = written (encoding 2 (blank_recording cart.digest budget)) files
+
+-- the five lines of the cart that a number makes
+abbrev pub made_text : ℕ → Option (List ℕ)
+made_text number = made_summary sha256 number (length (module_bytes (made_module number)))
+
+abbrev pub make_output : ℕ → Files → Option (Result Output Status)
+make_output number files = option_map (λ out. Ok (only_printed out files)) (made_text number)

@@ -1,0 +1,138 @@
+-- What `net`, `ram`, `wave` and `batch` make of their words and files (project rule). As in all commands the
+-- cart is judged first, then the files in the order of the words, each before the next is read.
+use Rattle.std.specs.Prelude.{ℕ, ◌+◌, List, [], ◌∷◌, ◌++◌, length, map, Option, None, option_map, Result, Ok, Err}
+use Rattle.std.specs.List.{range_with_len}
+use Rattle.sha2.specs.Sha256.{sha256}
+use Rattle.w4_defs.specs.declared.inspect.Ask.{Ask}
+use Rattle.w4_defs.specs.declared.netplay.NetOrder.{NetOrder}
+use Rattle.w4_defs.specs.AllThere.{all_some}
+use Rattle.w4_defs.specs.Batch.{file_rows}
+use Rattle.w4_defs.specs.Board.{console_setup}
+use Rattle.w4_defs.specs.Module.{WasmModule}
+use Rattle.w4_defs.specs.NetLog.{net_log_of}
+use Rattle.w4_defs.specs.OrderFile.{ScriptFault, TooLong, BadLine}
+use Rattle.w4_defs.specs.RamQuery.{query_of}
+use Rattle.w4_defs.specs.Sound.{samples, wav_header}
+use Rattle.w4_defs.specs.State.{Moment, FrameRecord}
+use Rattle.w4_defs.specs.World.{Files}
+use Rattle.w4_defs.specs.NameLists.{names_of}
+use Rattle.w4_defs.specs.declared.status.ScriptKind.TheVariants as script
+use Rattle.w4_defs.specs.declared.status.Status.{Status}
+use Rattle.w4_defs.specs.declared.status.Status.TheVariants.{ListRefused}
+use Rattle.w4_defs.specs.Commands.{RunWords, NetWords, BatchWords}
+use Rattle.w4_defs.specs.Output.{◌>>=◌, CartFile, Output, Played, reading, judged, font_in, or_script_refused, run_files, run_setup, moment_at, printing}
+use Rattle.w4_defs.specs.LogAnswers.{first_session, net_answers}
+use Rattle.w4_defs.specs.QueryAnswers.{pages_of, ram_answers}
+use Rattle.w4_defs.specs.BatchRows.{rows_text}
+
+-- ---- files of lines: a log or a query is refused as a script is
+
+unfoldable pub log_orders : List ℕ → Result (List NetOrder) Status
+log_orders bytes = or_script_refused (net_log_of bytes)
+
+unfoldable pub log_in : Files → List ℕ → Result (List NetOrder) Status
+log_in = judged 1048576 log_orders
+
+unfoldable pub query_lines : List ℕ → Result (List Ask) Status
+query_lines bytes = or_script_refused (query_of bytes)
+
+unfoldable pub query_in : Files → List ℕ → Result (List Ask) Status
+query_in = judged 1048576 query_lines
+
+-- ---- `net`: the answers of the log, over a cart without a disk
+
+-- what a session of rollback is made of besides the cart
+pub record NetLoaded : Type 0 where
+  pub font : List ℕ
+  pub orders : List NetOrder
+
+unfoldable pub net_files : NetWords → Files → Result NetLoaded Status
+net_files words files = do
+  font ← font_in files words.font
+  orders ← log_in files words.log
+  Ok (record { font = font; orders = orders })
+
+abbrev pub net_text : WasmModule → ℕ → NetLoaded → Option (List ℕ)
+net_text m budget l = (net_answers (console_setup m l.font budget) first_session l.orders).out
+
+unfoldable pub net_output : NetWords → CartFile → Files → Option (Result Output Status)
+net_output words cart files = printing (net_files words files) (net_text cart.code words.budget) files
+
+-- ---- `ram`: the answers of the query, over the recording
+
+-- what a query is answered over, and its lines
+pub record RamLoaded : Type 0 where
+  pub run : Played
+  pub lines : List Ask
+
+unfoldable pub ram_files : List ℕ → RunWords → List ℕ → Files → Result RamLoaded Status
+ram_files digest words query files = do
+  run ← run_files digest words files
+  lines ← query_in files query
+  Ok (record { run = run; lines = lines })
+
+abbrev pub ram_text : WasmModule → RamLoaded → Option (List ℕ)
+ram_text m l =
+    let r = l.run.recording in
+    (ram_answers (pages_of (run_setup m l.run) r.disk r.frames) None l.lines).out
+
+unfoldable pub ram_output : RunWords → List ℕ → CartFile → Files → Option (Result Output Status)
+ram_output words query cart files =
+    printing (ram_files cart.digest words query files) (ram_text cart.code) files
+
+-- ---- `wave`: the header and the samples of places 0 to n
+
+-- the records of so many places from place 0 on
+abbrev pub records_of : WasmModule → Played → ℕ → Option (List FrameRecord)
+records_of m p places =
+    all_some (map (λ place. option_map (λ (moment : Moment). moment.made) (moment_at m p place))
+    (range_with_len 0 places))
+
+abbrev pub wave_text : WasmModule → Played → Option (List ℕ)
+wave_text m p =
+    let places = length p.recording.frames + 1 in
+    option_map (λ records. wav_header places ++ samples records) (records_of m p places)
+
+unfoldable pub wave_output : RunWords → CartFile → Files → Option (Result Output Status)
+wave_output words cart files = printing (run_files cart.digest words files) (wave_text cart.code) files
+
+-- ---- `batch`: the rows of the listed recordings. How many workers there are doesn't matter
+
+-- the names of a list, or why it is refused
+abbrev pub or_list_refused : Result (List (List ℕ)) ScriptFault → Result (List (List ℕ)) Status
+or_list_refused (Ok names) = Ok names
+or_list_refused (Err TooLong) = Err (ListRefused script.TooLong)
+or_list_refused (Err (BadLine number)) = Err (ListRefused (script.BadLine number))
+
+unfoldable pub listed_names : List ℕ → Result (List (List ℕ)) Status
+listed_names bytes = or_list_refused (names_of bytes)
+
+unfoldable pub names_in : Files → List ℕ → Result (List (List ℕ)) Status
+names_in = judged 65536 listed_names
+
+-- the listed files, in order, each by its first 361,072 bytes
+unfoldable pub listed_files : List (List ℕ) → Files → Result (List (List ℕ)) Status
+listed_files [] files = Ok []
+listed_files (name ∷ names) files = do
+  bytes ← reading files name 361072
+  others ← listed_files names files
+  Ok (bytes ∷ others)
+
+-- what a batch is made of besides the cart
+pub record BatchLoaded : Type 0 where
+  pub font : List ℕ
+  pub names : List (List ℕ)
+  pub recordings : List (List ℕ)
+
+unfoldable pub batch_files : BatchWords → Files → Result BatchLoaded Status
+batch_files words files = do
+  font ← font_in files words.font
+  names ← names_in files words.list
+  recordings ← listed_files names files
+  Ok (record { font = font; names = names; recordings = recordings })
+
+abbrev pub batch_text : CartFile → BatchLoaded → Option (List ℕ)
+batch_text cart l = rows_text l.names (file_rows sha256 cart.code l.font cart.digest l.recordings)
+
+unfoldable pub batch_output : BatchWords → CartFile → Files → Option (Result Output Status)
+batch_output words cart files = printing (batch_files words files) (batch_text cart) files

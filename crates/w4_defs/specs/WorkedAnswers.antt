@@ -1,0 +1,132 @@
+-- Worked cases of answers and outputs, by computation: accepted orders that tell of places; films; kept
+-- places up to their limit; a row of a recording that was run. And a law: which refusal comes first where
+-- several hold.
+use Rattle.std.specs.Prelude.{◌≡◌, ◌<◌, ℕ, false, length, List, [], ◌∷◌, codes, replicate, Option, Some, None, Result, Ok, Err, pos, refl}
+use Rattle.std.specs.Fmt.{digits}
+use Rattle.std.specs.List.{range_with_len}
+use Rattle.w4_defs.specs.declared.batch.BatchRow.TheVariants.{Ran}
+use Rattle.w4_defs.specs.declared.console.Halt.TheVariants.{Running}
+use Rattle.w4_defs.specs.declared.console.Input.{Input}
+use Rattle.w4_defs.specs.declared.film_refusal.FilmRefusal.TheVariants as film
+use Rattle.w4_defs.specs.declared.order.Order.{Order}
+use Rattle.w4_defs.specs.declared.order.Order.TheVariants as order
+use Rattle.w4_defs.specs.declared.place_text.PlaceText.TheVariants.{Image}
+use Rattle.w4_defs.specs.declared.status.Status.{Status}
+use Rattle.w4_defs.specs.declared.status.Status.TheVariants.{FrameRefused}
+use Rattle.w4_defs.specs.AllThere.{joined}
+use Rattle.w4_defs.specs.Answers.{answers_by}
+use Rattle.w4_defs.specs.Batch.{file_row, worked_file}
+use Rattle.w4_defs.specs.Board.{console_setup}
+use Rattle.w4_defs.specs.Commands.{EditWords}
+use Rattle.w4_defs.specs.EmptyCart.{empty_module}
+use Rattle.w4_defs.specs.Evaluation.{eval, eval_within}
+use Rattle.w4_defs.specs.Film.{film_refusal, run_images}
+use Rattle.w4_defs.specs.Frame.{cleared, frame}
+use Rattle.w4_defs.specs.FrameTexts.{schedule_text, state_line, trace_text}
+use Rattle.w4_defs.specs.Output.{edit_files, font_in, recording_in, run_files, run_files_to, script_in}
+use Rattle.w4_defs.specs.PlaceTexts.{as_it_stands, place_text}
+use Rattle.w4_defs.specs.Recording.{Recording, frames_of, recording_of}
+use Rattle.w4_defs.specs.Reset.{Setup, first_page, reset, start, start_page}
+use Rattle.w4_defs.specs.Run.{run}
+use Rattle.w4_defs.specs.ScriptAnswers.{answer, script_answers}
+use Rattle.w4_defs.specs.Session.{Session}
+use Rattle.w4_defs.specs.State.{zero_page}
+use Rattle.w4_defs.specs.World.{Files}
+
+abbrev still : Input
+still = record { pads = 0 ∷ 0 ∷ 0 ∷ 0 ∷ []; mouse_x = pos 0; mouse_y = pos 0; buttons = 0; reset = false }
+
+-- ---- accepted orders, over the cart whose `update` does nothing: schedules, traces and states
+
+abbrev still_answers : List Order → Option (List ℕ)
+still_answers orders = (script_answers (console_setup empty_module [] 9) [] (replicate 2 still) orders).out
+
+abbrev pub PlaceAnswerCases : Type 0
+PlaceAnswerCases =
+    (still_answers (order.Tones 0 1 ∷ []) ≡ Some (codes "frame 0\nframe 1\n"))
+    × (still_answers (order.Traces 2 2 ∷ []) ≡ Some (codes "frame 2\n"))
+    × (still_answers (order.Keep 1 ∷ order.StateAt 2 ∷ [])
+    ≡ Some (codes "state 2 of 2 halt running disk 0 kept 0 1\n"))
+    × (still_answers (order.DiskAt 1 ∷ []) ≡ Some [])
+
+pub place-answer-cases : PlaceAnswerCases
+unfolding answers_by eval eval_within zero_page first_page start_page start reset cleared frame schedule_text
+    trace_text state_line digits
+place-answer-cases = (refl, refl, refl, refl)
+
+-- ---- images, over any cart: `show` writes that of its place, a film those of its places, one after another
+
+abbrev image_at : Setup → ℕ → Option (List ℕ)
+image_at setup p = place_text as_it_stands Image p (run setup [] (replicate 2 still) p)
+
+abbrev pub ImageAnswerCases : Type 0
+ImageAnswerCases = (setup : Setup) →
+    ((script_answers setup [] (replicate 2 still) (order.Show 1 ∷ [])).out
+    ≡ joined (image_at setup 1) (Some []))
+    × ((script_answers setup [] (replicate 2 still) (order.Film 1 2 4 ∷ [])).out
+    ≡ joined (joined (image_at setup 1) (joined (image_at setup 2) (Some []))) (Some []))
+    × (run_images setup [] (replicate 2 still) 1 2
+    ≡ joined (image_at setup 1) (joined (image_at setup 2) (Some [])))
+    × (film_refusal 1 2 (replicate 2 still) ≡ None)
+    × (film_refusal 0 3 (replicate 2 still) ≡ Some film.NoFrame)
+    × (film_refusal 0 700 (replicate 2 still) ≡ Some film.NoFrame)
+    × (film_refusal 0 599 (replicate 600 still) ≡ None)
+    × (film_refusal 0 600 (replicate 600 still) ≡ Some film.FilmTooLong)
+
+pub image-answer-cases : ImageAnswerCases
+unfolding answers_by run_images
+image-answer-cases setup = (refl, refl, refl, refl, refl, refl, refl, refl)
+
+-- ---- kept places: with 1,024 of them `keep` and `keep-every` are refused, and with 1,023 another is kept;
+-- a place
+-- that is kept, and one that isn't there, have refusals of their own
+
+abbrev crowded : ℕ → Session ℕ
+crowded many = record {
+  current = record { inputs = replicate 1100 still; kept = range_with_len 0 many };
+  older = [];
+  newer = [];
+}
+
+abbrev pub KeptAnswerCases : Type 0
+KeptAnswerCases = (setup : Setup) →
+    ((answer as_it_stands setup [] (crowded 1023) (order.Keep 1050)).out ≡ Some [])
+    × ((answer as_it_stands setup [] (crowded 1024) (order.Keep 1050)).out ≡ Some (codes "refused full\n"))
+    × ((answer as_it_stands setup [] (crowded 1024) (order.KeepEvery 1050)).out
+    ≡ Some (codes "refused full\n"))
+    × ((answer as_it_stands setup [] (crowded 1024) (order.Keep 7)).out ≡ Some (codes "refused kept\n"))
+    × ((answer as_it_stands setup [] (crowded 1024) (order.Keep 1101)).out
+    ≡ Some (codes "refused no frame\n"))
+
+pub kept-answer-cases : KeptAnswerCases
+kept-answer-cases setup = (refl, refl, refl, refl, refl)
+
+-- ---- a batch's row of a recording that was run
+
+abbrev pub RanRowCase : Type 0
+RanRowCase =
+    file_row (λ image. []) empty_module [] (replicate 32 7) worked_file ≡ Some (Ran 0 Running [] 0)
+
+pub ran-row-case : RanRowCase
+unfolding file_row recording_of frames_of eval eval_within zero_page first_page start_page start reset cleared
+    frame
+ran-row-case = refl
+
+-- ---- which refusal comes first, whatever the files: the recording's, then the font's, then the script's;
+-- and of a
+-- command that names a place, the place's last
+abbrev pub RefusalsInOrder : Type 0
+RefusalsInOrder =
+    (digest : List ℕ) (words : EditWords) (files : Files) (recording : Recording) (font : List ℕ)
+    (refusal : Status) →
+    (recording_in digest files words.run.recording ≡ Err refusal
+    → edit_files digest words files ≡ Err refusal)
+    × (recording_in digest files words.run.recording ≡ Ok recording
+    → font_in files words.run.font ≡ Err refusal → edit_files digest words files ≡ Err refusal)
+    × (recording_in digest files words.run.recording ≡ Ok recording → font_in files words.run.font ≡ Ok font
+    → script_in files words.script ≡ Err refusal → edit_files digest words files ≡ Err refusal)
+    × ((place : ℕ) → run_files digest words.run files ≡ Err refusal
+    → run_files_to digest words.run place files ≡ Err refusal)
+    × ((place : ℕ) → run_files digest words.run files ≡ Ok (record { recording = recording; font = font })
+    → length recording.frames < place
+    → run_files_to digest words.run place files ≡ Err (FrameRefused place (length recording.frames)))

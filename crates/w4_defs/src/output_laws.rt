@@ -1,0 +1,20 @@
+//! What the definition of the program's output promises, as a contract of a function that does nothing.
+
+ghost use Rattle.w4_defs.specs.OutputsThere.{CompleteIsDone, MadeOutputsAreThere, OutputsAreThere};
+ghost use Rattle.w4_defs.specs.WorkedAnswers.{RefusalsInOrder};
+
+/// What is made of words and files is there, where the runs of the cart that is named or made have a meaning.
+pub fn outputs_are_there()
+    ensures over_carts { OutputsAreThere }
+    ensures made { MadeOutputsAreThere }
+{}
+
+/// Where all is there that a command names, what is made of it is no refusal.
+pub fn complete_is_done()
+    ensures { CompleteIsDone }
+{}
+
+/// Which refusal comes first where several hold.
+pub fn refusals_in_order()
+    ensures { RefusalsInOrder }
+{}

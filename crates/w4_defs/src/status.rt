@@ -1,0 +1,102 @@
+//! How a run ends: its statuses and their numbers.
+
+ghost use Rattle.std.specs.Prelude.{◌≡◌};
+ghost use Rattle.w4_defs.specs.StatusLines.{number_of_status};
+
+use crate::memory::OutOfMemory;
+use crate::refusal::CartKind;
+use std::alloc::{AllocError, AllocFailed};
+
+/// Why a recording is refused.
+#[derive(Clone, Copy, PartialEq, Eq, Debug)]
+pub enum RecordingKind {
+    /// The bytes encode no recording.
+    Bad,
+    /// Its digest isn't the SHA-256 of the cart.
+    WrongCart,
+}
+
+/// Why a file of lines is refused: a script, a log, a query or a list.
+#[derive(Clone, Copy, PartialEq, Eq, Debug)]
+pub enum ScriptKind {
+    /// There are more than 1,048,576 bytes, or 65,536 of a list.
+    TooLong,
+    /// This line, counted from 1, is the first bad one.
+    BadLine(u32),
+}
+
+/// How a run ended.
+#[derive(Clone, Copy, PartialEq, Eq, Debug)]
+pub enum Status {
+    /// All was written.
+    Done,
+    /// The arguments match no command.
+    Usage,
+    /// The bytes of the cart's file are no cart, by the first cause that holds.
+    CartRefused(CartKind),
+    /// The bytes encode no recording, or one of another cart.
+    RecordingRefused(RecordingKind),
+    /// The font hasn't 1,792 bytes.
+    FontRefused,
+    /// The script, log or query is too long or has a bad line.
+    ScriptRefused(ScriptKind),
+    /// A file couldn't be read, or isn't there.
+    ReadFault,
+    /// Standard output or a file couldn't be written.
+    WriteFault,
+    /// Memory was refused.
+    OutOfMemory,
+    /// The words name a place past the last, `n`.
+    FrameRefused { number: u32, n: usize },
+    /// The list is too long or has a bad line.
+    ListRefused(ScriptKind),
+}
+
+impl From<OutOfMemory> for Status {
+    ghost use Rattle.w4_defs.specs.declared.status.Status.TheVariants.{OutOfMemory as MemoryRefused};
+
+    ghost from_gives = { λ _ status. status ≡ MemoryRefused };
+
+    fn from(_refusal: OutOfMemory) -> Status {
+        Status::OutOfMemory
+    }
+}
+
+impl From<AllocError> for Status {
+    ghost use Rattle.w4_defs.specs.declared.status.Status.TheVariants.{OutOfMemory as MemoryRefused};
+
+    ghost from_gives = { λ _ status. status ≡ MemoryRefused };
+
+    fn from(_refusal: AllocError) -> Status {
+        Status::OutOfMemory
+    }
+}
+
+impl<T: Drop> From<AllocFailed<T>> for Status {
+    ghost use Rattle.w4_defs.specs.declared.status.Status.TheVariants.{OutOfMemory as MemoryRefused};
+
+    ghost from_gives = { λ _ status. status ≡ MemoryRefused };
+
+    fn from(_refusal: AllocFailed<T>) -> Status {
+        Status::OutOfMemory
+    }
+}
+
+/// The exit status of the process.
+pub fn number(status: Status) -> u8
+    ensures { result ≡ number_of_status status }
+{
+    match status {
+        Status::Done => 0,
+        Status::Usage => 2,
+        Status::CartRefused(_) => 3,
+        Status::RecordingRefused(_) => 4,
+        Status::FontRefused => 5,
+        Status::ScriptRefused(_) => 6,
+        Status::ReadFault => 7,
+        Status::WriteFault => 8,
+        Status::OutOfMemory => 9,
+        Status::FrameRefused { number: _, n: _ } => 10,
+        Status::ListRefused(_) => 12,
+    }
+}

@@ -1,0 +1,5 @@
+use Rattle.w4_netplay.specs.Bound.{rollback-frame-cases}
+use Rattle.w4_netplay.proofs.laws.rollback_frame_cases.Goals as goal
+
+pub returns : goal.returns
+returns c = rollback-frame-cases
