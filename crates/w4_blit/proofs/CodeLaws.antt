@@ -9,8 +9,8 @@ use Rattle.std.proofs.lemmas.List.Sums.{take_while-cons}
 use Rattle.w4_defs.specs.declared.console.TextSource.{TextSource}
 use Rattle.w4_defs.specs.declared.console.TextSource.TheVariants.{Cstr, Utf8, Utf16}
 use Rattle.w4_defs.specs.Text.{text_codes, units}
-use Rattle.w4_blit.specs.Snapshot.{IsAtHand, bytes_read, source_start, with_copied_bytes}
-use Rattle.w4_blit.proofs.SnapshotLaws.{from_the_first, kept_own, length-dropped}
+use Rattle.w4_blit.specs.FramebufferCopy.{IsAtHand, bytes_read, source_start, with_copied_bytes}
+use Rattle.w4_blit.proofs.FramebufferCopyLaws.{from_the_first, kept_own, length-dropped}
 
 -- the bytes of a text of `len` bytes that stand in the page
 pub bytes_counted : (page : List ℕ) (ptr len n : ℕ) → length page ≡ 65536
@@ -140,6 +140,6 @@ pub kept_text : (page bytes : List ℕ) (first len count : ℕ) (source : TextSo
     → ((i : ℕ) → i < bytes_read source count → IsAtHand first len (source_start source + i))
     → text_codes (with_copied_bytes page first (take len bytes)) source ≡ text_codes page source
 kept_text page bytes first len count source full front codes there =
-    ap (λ (kept : List ℕ). text_codes (with_copied_bytes page first kept) source)
+    ap (λ (copy_bytes : List ℕ). text_codes (with_copied_bytes page first copy_bytes) source)
     (sym (from_the_first bytes len) ∙ front)
     ∙ kept_codes page first len count source full codes there

@@ -1,7 +1,9 @@
 -- Lemmas of blits and text.
 mod CodeLaws
 mod ReachLaws
-mod SnapshotLaws
+mod FramebufferCopyLaws
 mod TextLaws
 mod WalkLaws
 mod WindowLaws
+mod StripLaws
+mod SpreadLaws

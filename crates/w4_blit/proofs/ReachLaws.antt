@@ -1,15 +1,15 @@
--- A picture reads no more of the framebuffer than is kept.
+-- A sprite reads no more of the framebuffer than is kept.
 use Rattle.std.proofs.Common.{◌≡◌, ℕ, ◌+◌, ◌-◌, ◌*◌, ◌/◌, ◌%◌, ◌^◌, ◌<◌, ◌≤◌, ◌⊎◌, Bool, true, false, ◌&&◌, cond, List, length, get_or, Option, refl, ap, subst, inl, inr, arith}
 use Rattle.std.specs.Prelude.{slice_range, ℤ, pos, negsuc, ◌+ℤ◌, ◌-ℤ◌, ◌≤ℤ◌, ◌<ℤ◌, int_le, int_lt}
 use Rattle.std.proofs.lemmas.Bool.{cases_lt}
 use Rattle.std.proofs.lemmas.Int.{ints}
-use Rattle.w4_defs.specs.declared.picture.Picture.{Picture}
+use Rattle.w4_defs.specs.declared.sprite.Sprite.{Sprite}
 use Rattle.w4_defs.specs.Colours.{palette_index}
 use Rattle.w4_defs.specs.Shapes.{natural, only_if, is_inside}
 use Rattle.w4_defs.specs.Blit.{blit_painter, cell_index, has_flag, height_on_screen, landed_index, source_column, source_row, source_value, width_on_screen}
 use Rattle.w4_blit.specs.Reach.{InReach}
-use Rattle.w4_blit.specs.Snapshot.{IsAtHand, with_snapshot}
-use Rattle.w4_blit.proofs.SnapshotLaws.{kept_own}
+use Rattle.w4_blit.specs.FramebufferCopy.{IsAtHand, with_copy}
+use Rattle.w4_blit.proofs.FramebufferCopyLaws.{kept_own}
 
 there_or_behind : (len i : ℕ) → (i < 160 + len) ⊎ (6560 ≤ i) → IsAtHand 160 len i
 there_or_behind len i there = elim there [
@@ -21,7 +21,7 @@ there_or_behind len i there = elim there [
 ]
 
 get_or-with_snapshot : (page : List ℕ) (len i : ℕ) → length page ≡ 65536 → (i < 160 + len) ⊎ (6560 ≤ i)
-    → get_or (with_snapshot page (slice_range page 160 (160 + len))) i 0 ≡ get_or page i 0
+    → get_or (with_copy page (slice_range page 160 (160 + len))) i 0 ≡ get_or page i 0
 get_or-with_snapshot page len i size there = kept_own page 160 len i size (there_or_behind len i there)
 
 value_same : (two : Bool) (page other : List ℕ) (ptr q : ℕ)
@@ -34,14 +34,14 @@ value_same : (two : Bool) (page other : List ℕ) (ptr q : ℕ)
 value_same true page other ptr q two one = ap (λ (b : ℕ). b / 4 ^ (3 - q % 4) % 4) (two refl)
 value_same false page other ptr q two one = ap (λ (b : ℕ). b / 2 ^ (7 - q % 8) % 2) (one refl)
 
-kept_value : (page : List ℕ) (picture : Picture) (len q : ℕ) → length page ≡ 65536
-    → InReach picture q (160 + len)
-    → source_value (with_snapshot page (slice_range page 160 (160 + len))) picture q
-    ≡ source_value page picture q
-kept_value page picture len q size there =
-    value_same (has_flag picture 1) page (with_snapshot page (slice_range page 160 (160 + len))) picture.ptr q
-    (λ two. get_or-with_snapshot page len (picture.ptr + q / 4) size (there.0 two))
-    (λ one. get_or-with_snapshot page len (picture.ptr + q / 8) size (there.1 one))
+kept_value : (page : List ℕ) (sprite : Sprite) (len q : ℕ) → length page ≡ 65536
+    → InReach sprite q (160 + len)
+    → source_value (with_copy page (slice_range page 160 (160 + len))) sprite q
+    ≡ source_value page sprite q
+kept_value page sprite len q size there =
+    value_same (has_flag sprite 1) page (with_copy page (slice_range page 160 (160 + len))) sprite.ptr q
+    (λ two. get_or-with_snapshot page len (sprite.ptr + q / 4) size (there.0 two))
+    (λ one. get_or-with_snapshot page len (sprite.ptr + q / 8) size (there.1 one))
 
 cond_same : (b : Bool) (o p q r : Option ℕ) → (b ≡ true → o ≡ q) → (b ≡ false → p ≡ r) → cond b o p
     ≡ cond b q r
@@ -81,33 +81,34 @@ side_below x u n e =
     let there = natural_there (pos u -ℤ x) (omega (arith, ints)) in
     omega (arith, ints, there)
 
--- the same picture, from the page and what is kept of its framebuffer
-pub kept_blit : (page : List ℕ) (picture : Picture) (len : ℕ) (x y : ℤ) (u v : ℕ) → length page ≡ 65536
-    → ((i j : ℕ) → i < picture.w → j < picture.h
-    → InReach picture (source_row picture j * picture.stride + source_column picture i) (160 + len))
-    → blit_painter (with_snapshot page (slice_range page 160 (160 + len))) picture x y u v
-    ≡ blit_painter page picture x y u v
-kept_blit page picture len x y u v size reach =
-    let kept = with_snapshot page (slice_range page 160 (160 + len)) in
+-- the same sprite, from the page and what is kept of its framebuffer
+pub kept_blit : (page : List ℕ) (sprite : Sprite) (len : ℕ) (x y : ℤ) (u v : ℕ) → length page ≡ 65536
+    → ((i j : ℕ) → i < sprite.w → j < sprite.h
+    → InReach sprite (source_row sprite j * sprite.stride + source_column sprite i) (160 + len))
+    → blit_painter (with_copy page (slice_range page 160 (160 + len))) sprite x y u v
+    ≡ blit_painter page sprite x y u v
+kept_blit page sprite len x y u v size reach =
+    let copy_bytes = with_copy page (slice_range page 160 (160 + len)) in
     let right = natural (pos u -ℤ x) in
     let below = natural (pos v -ℤ y) in
-    let cell : (i j : ℕ) → i < picture.w → j < picture.h → cell_index kept picture i j
-    ≡ cell_index page picture i j =
-    λ i j hi hj. ap (λ (value : ℕ). palette_index picture.colors (value + 1))
-    (kept_value page picture len (source_row picture j * picture.stride + source_column picture i) size
+    let cell : (i j : ℕ) → i < sprite.w → j < sprite.h → cell_index copy_bytes sprite i j
+    ≡ cell_index page sprite i j =
+    λ i j hi hj. ap (λ (value : ℕ). palette_index sprite.colors (value + 1))
+    (kept_value page sprite len (source_row sprite j * sprite.stride + source_column sprite i) size
     (reach i j hi hj)) in
     shown_same
-    (is_inside x (x +ℤ pos (width_on_screen picture)) y (y +ℤ pos (height_on_screen picture)) u v)
-    (landed_index kept picture right below) (landed_index page picture right below) (λ inside.
-    let columns : right < width_on_screen picture = side_below x u (width_on_screen picture)
+    (is_inside x (x +ℤ pos (width_on_screen sprite)) y (y +ℤ pos (height_on_screen sprite)) u v)
+    (landed_index copy_bytes sprite right below) (landed_index page sprite right below) (λ inside.
+    let columns : right < width_on_screen sprite = side_below x u (width_on_screen sprite)
     (first_holds _ _ inside) in
-    let rows : below < height_on_screen picture = side_below y v (height_on_screen picture)
+    let rows : below < height_on_screen sprite = side_below y v (height_on_screen sprite)
     (second_holds _ _ inside) in
-    cond_same (has_flag picture 8) (cell_index kept picture below right) (cell_index kept picture right below)
-    (cell_index page picture below right) (cell_index page picture right below)
+    cond_same (has_flag sprite 8) (cell_index copy_bytes sprite below right)
+    (cell_index copy_bytes sprite right below)
+    (cell_index page sprite below right) (cell_index page sprite right below)
     (λ turned. cell below right
-    (subst (λ (b : Bool). below < cond b picture.w picture.h) turned rows)
-    (subst (λ (b : Bool). right < cond b picture.h picture.w) turned columns))
+    (subst (λ (b : Bool). below < cond b sprite.w sprite.h) turned rows)
+    (subst (λ (b : Bool). right < cond b sprite.h sprite.w) turned columns))
     (λ upright. cell right below
-    (subst (λ (b : Bool). right < cond b picture.h picture.w) upright columns)
-    (subst (λ (b : Bool). below < cond b picture.w picture.h) upright rows)))
+    (subst (λ (b : Bool). right < cond b sprite.h sprite.w) upright columns)
+    (subst (λ (b : Bool). below < cond b sprite.w sprite.h) upright rows)))

@@ -13,6 +13,7 @@ use Rattle.w4_defs.proofs.PaintLaws.{paint_step}
 use Rattle.w4_pixels.specs.Clipping.{clipped}
 use Rattle.w4_pixels.proofs.ClippingLaws.{away}
 use Rattle.w4_blit.specs.Unclipped.{bits_painter, eight_painter}
+use Rattle.w4_blit.proofs.WindowLaws.{natural_at}
 
 or_none : (o : Option ℕ) → option_or o None ≡ o
 or_none None = refl
@@ -116,3 +117,24 @@ below_screen font colors left x y (code ∷ codes) u v h low =
     (int_le y (pos v)) (int_lt (pos v) (y +ℤ pos 8))
     (palette_index colors (glyph_bit font code (natural (pos u -ℤ x)) (natural (pos v -ℤ y)) + 1))
     (row_below y v h low)))
+
+-- a glyph's column on the screen, from the first that is
+pub from_first : (x : ℤ) (left right n : ℕ) → left < right → x ≤ℤ pos left → pos right ≤ℤ (x +ℤ pos 8)
+    → n ≡ natural (pos left -ℤ x) → n + (right - left) ≤ 8
+from_first x left right n some from to e =
+    let near : pos (natural (pos left -ℤ x)) ≡ pos left -ℤ x =
+    natural_at (pos left -ℤ x) (omega (arith, ints)) in
+    omega (arith, ints)
+
+-- what a cell paints, by its bit as a digit
+pub by_bit : (colors bits n digit : ℕ) (o : Option ℕ) → digit ≡ 3 * (bits / 2 ^ (7 - n) % 2)
+    → (digit ≡ 0 → o ≡ palette_index colors 1) → (digit ≡ 3 → o ≡ palette_index colors 2)
+    → o ≡ (if bits / 2 ^ (7 - n) % 2 == 1 then palette_index colors 2 else palette_index colors 1)
+by_bit colors bits n digit o e first second = elim (cases_eq (bits / 2 ^ (7 - n) % 2) 1) [
+  | inl one ↦ (
+      let test : (bits / 2 ^ (7 - n) % 2 == 1) ≡ true = grind (arith, nat_tests) in
+      rw test (second (omega arith)))
+  | inr none ↦ (
+      let test : (bits / 2 ^ (7 - n) % 2 == 1) ≡ false = grind (arith, nat_tests) in
+      rw test (first (omega arith)))
+]

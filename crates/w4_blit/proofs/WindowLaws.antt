@@ -1,130 +1,249 @@
--- Four cells that read pixels which follow one another.
-use Rattle.std.proofs.Common.{◌≡◌, ℕ, ◌+◌, ◌-◌, ◌*◌, ◌/◌, ◌%◌, ◌^◌, ◌<◌, ◌≤◌, Bool, true, false, ◌&&◌, List, get_or, refl, sym, ◌∙◌, ap, inl, inr, arith}
-use Rattle.std.specs.Prelude.{ℤ, pos, negsuc, ◌-ℤ◌, ◌≤ℤ◌, nat_le, nat_lt, if◌then◌else◌}
+-- Sixteen digits from the bytes that have them, and the pixels that the cells of a row read.
+use Rattle.std.proofs.Common.{◌≡◌, ℕ, zero, suc, ◌+◌, ◌-◌, ◌*◌, ◌/◌, ◌%◌, ◌^◌, ◌<◌, ◌≤◌, ◌⊎◌, Bool, true, false, ◌&&◌, ◌||◌, List, [], ◌∷◌, get_or, Option, max, min, refl, sym, ◌∙◌, ap, inl, inr, arith}
+use Rattle.std.specs.Prelude.{ℤ, pos, negsuc, ◌-ℤ◌, ◌≤ℤ◌, if◌then◌else◌}
+use Rattle.std.specs.Option.{option_or}
 use Rattle.std.proofs.lemmas.Bool.{cases_lt}
 use Rattle.std.proofs.lemmas.Bool.Decides.{nat_tests}
 use Rattle.std.proofs.lemmas.Int.{ints}
-use Rattle.w4_defs.specs.declared.picture.Picture.{Picture}
-use Rattle.w4_defs.specs.Shapes.{natural, only_if}
+use Rattle.std.proofs.lemmas.List.{get_or_past}
+use Rattle.std.proofs.lemmas.Nat.{field_of}
+use Rattle.w4_defs.specs.declared.sprite.Sprite.{Sprite}
 use Rattle.w4_defs.specs.Blit.{has_flag, source_value}
+use Rattle.w4_defs.specs.Colours.{palette_index}
+use Rattle.w4_defs.specs.Framebuffer.{Painter}
+use Rattle.w4_defs.specs.Shapes.{natural, only_if}
 use Rattle.w4_defs.proofs.PaintLaws.{below_four}
 use Rattle.w4_pixels.specs.Clipping.{clipped}
-use Rattle.w4_blit.specs.Walks.{place_index, walk_painter, walked, window_value}
+use Rattle.w4_blit.specs.Strips.{AreInks, IsMask, ink_of, strip_index}
+use Rattle.w4_blit.specs.Walks.{walked}
+use Rattle.w4_blit.specs.declared.strips.Inks.{Inks}
 use Rattle.w4_blit.specs.declared.walks.Walk.{Walk}
+use Rattle.w4_blit.proofs.StripLaws.{below_eight, byte_digit_at, fours, mod_four, or_none, right_digit, zero_digit}
 
--- ---- two bytes, the first in the higher bits
+-- ---- digits of several bytes
 
-below_eight : (P : ℕ → Type 0) → P 0 → P 1 → P 2 → P 3 → P 4 → P 5 → P 6 → P 7
-    → (k : ℕ) → k < 8 → P k
-below_eight P a b c d e f g h k below = elim (cases_lt k 4) [
-  | inl low ↦ below_four P a b c d k low
+-- one more byte in front
+four_more : (b rest : ℕ) (bs : List ℕ) → b < 256
+    → ((t : ℕ) → rest / 4 ^ t % 4 ≡ get_or bs (t / 4) 0 / 4 ^ (t % 4) % 4)
+    → (t : ℕ) → (b + 256 * rest) / 4 ^ t % 4 ≡ get_or (b ∷ bs) (t / 4) 0 / 4 ^ (t % 4) % 4
+four_more b rest bs hb each t = elim (cases_lt t 4) [
+  | inl low ↦ (
+      let P : ℕ → Type 0 = λ t. (b + 256 * rest) / 4 ^ t % 4 ≡ b / 4 ^ t % 4 in
+      let byte : t / 4 ≡ 0 = omega arith in
+      let digit : t % 4 ≡ t = omega arith in
+      below_four P (omega arith) (omega arith) (omega arith) (omega arith) t low
+      ∙ sym (ap (λ (i : ℕ). get_or (b ∷ bs) i 0 / 4 ^ (t % 4) % 4) byte ∙ ap (λ (m : ℕ). b / 4 ^ m % 4)
+      digit))
   | inr high ↦ (
-      let Q : ℕ → Type 0 = λ j. P (4 + j) in
-      let place : 4 + (k - 4) ≡ k = omega arith in
-      rw (sym place) (below_four Q e f g h (k - 4) (omega arith)))
+      let j = t - 4 in
+      let same : 4 + j ≡ t = omega arith in
+      let whole : (b + 256 * rest) / 256 ≡ rest = omega arith in
+      let byte : t / 4 ≡ suc (j / 4) = omega arith in
+      let digit : t % 4 ≡ j % 4 = omega arith in
+      ap (λ (i : ℕ). (b + 256 * rest) / 4 ^ i % 4) (sym same) ∙ sym (right_digit (b + 256 * rest) 4 j)
+      ∙ ap (λ (n : ℕ). n / 4 ^ j % 4) whole ∙ each j
+      ∙ sym (ap (λ (i : ℕ). get_or (b ∷ bs) i 0 / 4 ^ (t % 4) % 4) byte
+      ∙ ap (λ (m : ℕ). get_or bs (j / 4) 0 / 4 ^ m % 4) digit))
 ]
 
-two_early : (a b m : ℕ) → b < 256 → m < 4
-    → (256 * a + b) / 2 ^ (14 - 2 * m) % 4 ≡ a / 4 ^ (3 - m) % 4
-two_early a b m hb hm =
-    let P : ℕ → Type 0 = λ m. (256 * a + b) / 2 ^ (14 - 2 * m) % 4 ≡ a / 4 ^ (3 - m) % 4 in
-    below_four P (omega arith) (omega arith) (omega arith) (omega arith) m hm
+four_none : (t : ℕ) → 0 / 4 ^ t % 4 ≡ get_or [] (t / 4) 0 / 4 ^ (t % 4) % 4
+four_none t =
+    let empty : List ℕ = [] in
+    zero_digit t
+    ∙ sym (ap (λ (n : ℕ). n / 4 ^ (t % 4) % 4) (get_or_past empty (t / 4) 0 (omega arith)) ∙ zero_digit (t %
+    4))
 
-two_late : (a b m : ℕ) → m < 4 → (256 * a + b) / 2 ^ (14 - 2 * (4 + m)) % 4 ≡ b / 4 ^ (3 - m) % 4
-two_late a b m hm =
-    let P : ℕ → Type 0 = λ m. (256 * a + b) / 2 ^ (14 - 2 * (4 + m)) % 4 ≡ b / 4 ^ (3 - m) % 4 in
-    below_four P (omega arith) (omega arith) (omega arith) (omega arith) m hm
+one_byte : (e : ℕ) → e < 256 → (t : ℕ) → e / 4 ^ t % 4 ≡ get_or (e ∷ []) (t / 4) 0 / 4 ^ (t % 4) % 4
+one_byte e he t =
+    let flat : e ≡ e + 256 * 0 = omega arith in
+    ap (λ (n : ℕ). n / 4 ^ t % 4) flat ∙ four_more e 0 [] he four_none t
 
-one_early : (a b m : ℕ) → b < 256 → m < 8 → (256 * a + b) / 2 ^ (15 - m) % 2 ≡ a / 2 ^ (7 - m) % 2
-one_early a b m hb hm =
-    let P : ℕ → Type 0 = λ m. (256 * a + b) / 2 ^ (15 - m) % 2 ≡ a / 2 ^ (7 - m) % 2 in
-    below_eight P (omega arith) (omega arith) (omega arith) (omega arith) (omega arith) (omega arith)
-    (omega arith) (omega arith) m hm
+pub four_bytes : (b c d e : ℕ) → b < 256 → c < 256 → d < 256 → e < 256 → (t : ℕ)
+    → (b + 256 * (c + 256 * (d + 256 * e))) / 4 ^ t % 4
+    ≡ get_or (b ∷ c ∷ d ∷ e ∷ []) (t / 4) 0 / 4 ^ (t % 4) % 4
+four_bytes b c d e hb hc hd he =
+    four_more b (c + 256 * (d + 256 * e)) (c ∷ d ∷ e ∷ []) hb
+    (four_more c (d + 256 * e) (d ∷ e ∷ []) hc (four_more d e (e ∷ []) hd (one_byte e he)))
 
-one_late : (a b m : ℕ) → m < 8 → (256 * a + b) / 2 ^ (15 - (8 + m)) % 2 ≡ b / 2 ^ (7 - m) % 2
-one_late a b m hm =
-    let P : ℕ → Type 0 = λ m. (256 * a + b) / 2 ^ (15 - (8 + m)) % 2 ≡ b / 2 ^ (7 - m) % 2 in
-    below_eight P (omega arith) (omega arith) (omega arith) (omega arith) (omega arith) (omega arith)
-    (omega arith) (omega arith) m hm
+pub five_bytes : (a b c d e : ℕ) → a < 256 → b < 256 → c < 256 → d < 256 → e < 256 → (t : ℕ)
+    → (a + 256 * (b + 256 * (c + 256 * (d + 256 * e)))) / 4 ^ t % 4
+    ≡ get_or (a ∷ b ∷ c ∷ d ∷ e ∷ []) (t / 4) 0 / 4 ^ (t % 4) % 4
+five_bytes a b c d e ha hb hc hd he =
+    four_more a (b + 256 * (c + 256 * (d + 256 * e))) (b ∷ c ∷ d ∷ e ∷ []) ha (four_bytes b c d e hb hc hd he)
 
-two_late_at : (a b s m : ℕ) → s ≡ 4 + m → m < 4
-    → (256 * a + b) / 2 ^ (14 - 2 * s) % 4 ≡ b / 4 ^ (3 - m) % 4
-two_late_at a b s m e hm = ap (λ i. (256 * a + b) / 2 ^ (14 - 2 * i) % 4) e ∙ two_late a b m hm
-
-one_late_at : (a b s m : ℕ) → s ≡ 8 + m → m < 8
-    → (256 * a + b) / 2 ^ (15 - s) % 2 ≡ b / 2 ^ (7 - m) % 2
-one_late_at a b s m e hm = ap (λ i. (256 * a + b) / 2 ^ (15 - i) % 2) e ∙ one_late a b m hm
-
--- pixel `place + k` of two bits, from the byte of `place` and the next
-two_bits : (page : List ℕ) (ptr place k a b : ℕ) → b < 256 → k < 4
-    → a ≡ get_or page (ptr + place / 4) 0
-    → b ≡ get_or page (ptr + place / 4 + 1) 0
-    → (256 * a + b) / 2 ^ (14 - 2 * (place % 4 + k)) % 4
-    ≡ get_or page (ptr + (place + k) / 4) 0 / 4 ^ (3 - (place + k) % 4) % 4
-two_bits page ptr place k a b hb hk ea eb = elim (cases_lt (place % 4 + k) 4) [
-  | inl early ↦ (
-      let byte : (place + k) / 4 ≡ place / 4 = omega arith in
-      let digit : (place + k) % 4 ≡ place % 4 + k = omega arith in
-      rw (byte, digit) (two_early a b (place % 4 + k) hb early
-      ∙ ap (λ n. n / 4 ^ (3 - (place % 4 + k)) % 4) ea))
-  | inr late ↦ (
-      let m = place % 4 + k - 4 in
-      let byte : ptr + (place + k) / 4 ≡ ptr + place / 4 + 1 = omega arith in
-      let digit : (place + k) % 4 ≡ m = omega arith in
-      let whole : place % 4 + k ≡ 4 + m = omega arith in
-      rw (byte, digit) (two_late_at a b (place % 4 + k) m whole (omega arith)
-      ∙ ap (λ n. n / 4 ^ (3 - m) % 4) eb))
+-- the same of words of eight digits
+eight_more : (b rest : ℕ) (bs : List ℕ) → b < 65536
+    → ((t : ℕ) → rest / 4 ^ t % 4 ≡ get_or bs (t / 8) 0 / 4 ^ (t % 8) % 4)
+    → (t : ℕ) → (b + 65536 * rest) / 4 ^ t % 4 ≡ get_or (b ∷ bs) (t / 8) 0 / 4 ^ (t % 8) % 4
+eight_more b rest bs hb each t = elim (cases_lt t 8) [
+  | inl low ↦ (
+      let P : ℕ → Type 0 = λ t. (b + 65536 * rest) / 4 ^ t % 4 ≡ b / 4 ^ t % 4 in
+      let byte : t / 8 ≡ 0 = omega arith in
+      let digit : t % 8 ≡ t = omega arith in
+      below_eight P (omega arith) (omega arith) (omega arith) (omega arith) (omega arith) (omega arith)
+      (omega arith) (omega arith) t low
+      ∙ sym (ap (λ (i : ℕ). get_or (b ∷ bs) i 0 / 4 ^ (t % 8) % 4) byte ∙ ap (λ (m : ℕ). b / 4 ^ m % 4)
+      digit))
+  | inr high ↦ (
+      let j = t - 8 in
+      let same : 8 + j ≡ t = omega arith in
+      let whole : (b + 65536 * rest) / 65536 ≡ rest = omega arith in
+      let byte : t / 8 ≡ suc (j / 8) = omega arith in
+      let digit : t % 8 ≡ j % 8 = omega arith in
+      ap (λ (i : ℕ). (b + 65536 * rest) / 4 ^ i % 4) (sym same) ∙ sym (right_digit (b + 65536 * rest) 8 j)
+      ∙ ap (λ (n : ℕ). n / 4 ^ j % 4) whole ∙ each j
+      ∙ sym (ap (λ (i : ℕ). get_or (b ∷ bs) i 0 / 4 ^ (t % 8) % 4) byte
+      ∙ ap (λ (m : ℕ). get_or bs (j / 8) 0 / 4 ^ m % 4) digit))
 ]
 
-one_bit : (page : List ℕ) (ptr place k a b : ℕ) → b < 256 → k < 4
-    → a ≡ get_or page (ptr + place / 8) 0
-    → b ≡ get_or page (ptr + place / 8 + 1) 0
-    → (256 * a + b) / 2 ^ (15 - (place % 8 + k)) % 2
-    ≡ get_or page (ptr + (place + k) / 8) 0 / 2 ^ (7 - (place + k) % 8) % 2
-one_bit page ptr place k a b hb hk ea eb = elim (cases_lt (place % 8 + k) 8) [
-  | inl early ↦ (
-      let byte : (place + k) / 8 ≡ place / 8 = omega arith in
-      let digit : (place + k) % 8 ≡ place % 8 + k = omega arith in
-      rw (byte, digit) (one_early a b (place % 8 + k) hb early
-      ∙ ap (λ n. n / 2 ^ (7 - (place % 8 + k)) % 2) ea))
-  | inr late ↦ (
-      let m = place % 8 + k - 8 in
-      let byte : ptr + (place + k) / 8 ≡ ptr + place / 8 + 1 = omega arith in
-      let digit : (place + k) % 8 ≡ m = omega arith in
-      let whole : place % 8 + k ≡ 8 + m = omega arith in
-      rw (byte, digit) (one_late_at a b (place % 8 + k) m whole (omega arith)
-      ∙ ap (λ n. n / 2 ^ (7 - m) % 2) eb))
+eight_none : (t : ℕ) → 0 / 4 ^ t % 4 ≡ get_or [] (t / 8) 0 / 4 ^ (t % 8) % 4
+eight_none t =
+    let empty : List ℕ = [] in
+    zero_digit t
+    ∙ sym (ap (λ (n : ℕ). n / 4 ^ (t % 8) % 4) (get_or_past empty (t / 8) 0 (omega arith)) ∙ zero_digit (t %
+    8))
+
+one_word : (e : ℕ) → e < 65536 → (t : ℕ) → e / 4 ^ t % 4 ≡ get_or (e ∷ []) (t / 8) 0 / 4 ^ (t % 8) % 4
+one_word e he t =
+    let flat : e ≡ e + 65536 * 0 = omega arith in
+    ap (λ (n : ℕ). n / 4 ^ t % 4) flat ∙ eight_more e 0 [] he eight_none t
+
+pub three_words : (a b c : ℕ) → a < 65536 → b < 65536 → c < 65536 → (t : ℕ)
+    → (a + 65536 * (b + 65536 * c)) / 4 ^ t % 4 ≡ get_or (a ∷ b ∷ c ∷ []) (t / 8) 0 / 4 ^ (t % 8) % 4
+three_words a b c ha hb hc =
+    eight_more a (b + 65536 * c) (b ∷ c ∷ []) ha (eight_more b c (c ∷ []) hb (one_word c hc))
+
+pub low_word : (n k : ℕ) → k < 16 → n % 4294967296 / 4 ^ k % 4 ≡ n / 4 ^ k % 4
+low_word n k hk =
+    let i = 30 - 2 * k in
+    let whole : (i + 2) + 2 * k ≡ 32 = omega arith in
+    ap (λ (p : ℕ). n % 4294967296 / p % 4) (fours k)
+    ∙ ap (λ (j : ℕ). n % 2 ^ j / 2 ^ (2 * k) % 4) (sym whole)
+    ∙ ap (λ (m : ℕ). m % 4) (field_of n (i + 2) (2 * k)) ∙ mod_four (n / 2 ^ (2 * k)) i
+    ∙ ap (λ (p : ℕ). n / p % 4) (sym (fours k))
+
+-- ---- the values of pixels
+
+below_five : (P : ℕ → Type 0) → P 0 → P 1 → P 2 → P 3 → P 4 → (k : ℕ) → k < 5 → P k
+below_five P a b c d e k below = elim (cases_lt k 4) [
+  | inl low ↦ below_four P a b c d k low
+  | inr high ↦ (let same : 4 ≡ k = omega arith in rw (sym same) e)
 ]
 
-either_bits : (two : Bool) (page : List ℕ) (ptr place k a b at : ℕ) → b < 256 → k < 4
-    → at ≡ (if two then ptr + place / 4 else ptr + place / 8)
-    → a ≡ get_or page at 0 → b ≡ get_or page (at + 1) 0
-    → (if two then (256 * a + b) / 2 ^ (14 - 2 * (place % 4 + k)) % 4
-    else (256 * a + b) / 2 ^ (15 - (place % 8 + k)) % 2)
-    ≡ (if two then get_or page (ptr + (place + k) / 4) 0 / 4 ^ (3 - (place + k) % 4) % 4
-    else get_or page (ptr + (place + k) / 8) 0 / 2 ^ (7 - (place + k) % 8) % 2)
-either_bits true page ptr place k a b at hb hk e ea eb =
-    two_bits page ptr place k a b hb hk (ea ∙ ap (λ i. get_or page i 0) e)
-    (eb ∙ ap (λ (i : ℕ). get_or page (i + 1) 0) e)
-either_bits false page ptr place k a b at hb hk e ea eb =
-    one_bit page ptr place k a b hb hk (ea ∙ ap (λ i. get_or page i 0) e)
-    (eb ∙ ap (λ (i : ℕ). get_or page (i + 1) 0) e)
+below_three : (P : ℕ → Type 0) → P 0 → P 1 → P 2 → (k : ℕ) → k < 3 → P k
+below_three P a b c zero below = a
+below_three P a b c (suc zero) below = b
+below_three P a b c (suc (suc zero)) below = c
+below_three P a b c (suc (suc (suc k))) below = absurd (omega arith)
 
--- the values of four pixels, by the flag
-pub window_values : (page : List ℕ) (picture : Picture) (place k a b at : ℕ) → b < 256 → k < 4
-    → at ≡ (if has_flag picture 1 then picture.ptr + place / 4 else picture.ptr + place / 8)
-    → a ≡ get_or page at 0 → b ≡ get_or page (at + 1) 0
-    → window_value picture (256 * a + b) place k ≡ source_value page picture (place + k)
-window_values page picture place k a b at hb hk e ea eb =
-    either_bits (has_flag picture 1) page picture.ptr place k a b at hb hk e ea eb
+-- four pixels of two bits a byte: g is what is asked of each
+pub of_bytes : (g : ℕ → ℕ) (page : List ℕ) (ptr pixel at k l0 l1 l2 l3 l4 : ℕ) → at ≡ ptr + pixel / 4 → k < 16
+    → ((m : ℕ) → m < 4 → l0 / 4 ^ m % 4 ≡ 3 * g (get_or page at 0 / 4 ^ (3 - m)))
+    → ((m : ℕ) → m < 4 → l1 / 4 ^ m % 4 ≡ 3 * g (get_or page (at + 1) 0 / 4 ^ (3 - m)))
+    → ((m : ℕ) → m < 4 → l2 / 4 ^ m % 4 ≡ 3 * g (get_or page (at + 2) 0 / 4 ^ (3 - m)))
+    → ((m : ℕ) → m < 4 → l3 / 4 ^ m % 4 ≡ 3 * g (get_or page (at + 3) 0 / 4 ^ (3 - m)))
+    → ((m : ℕ) → m < 4 → l4 / 4 ^ m % 4 ≡ 3 * g (get_or page (at + 4) 0 / 4 ^ (3 - m)))
+    → get_or (l0 ∷ l1 ∷ l2 ∷ l3 ∷ l4 ∷ []) ((pixel % 4 + k) / 4) 0 / 4 ^ ((pixel % 4 + k) % 4) % 4
+    ≡ 3 * g (get_or page (ptr + (pixel + k) / 4) 0 / 4 ^ (3 - (pixel + k) % 4))
+of_bytes g page ptr pixel at k l0 l1 l2 l3 l4 e hk h0 h1 h2 h3 h4 =
+    let j = (pixel % 4 + k) / 4 in
+    let m = (pixel % 4 + k) % 4 in
+    let hm : m < 4 = omega arith in
+    let hj : j < 5 = omega arith in
+    let same : m ≡ (pixel + k) % 4 = omega arith in
+    let byte : at + j ≡ ptr + (pixel + k) / 4 = omega arith in
+    let start : at ≡ at + 0 = omega arith in
+    let Q : ℕ → Type 0 = λ i. get_or (l0 ∷ l1 ∷ l2 ∷ l3 ∷ l4 ∷ []) i 0 / 4 ^ m % 4
+    ≡ 3 * g (get_or page (at + i) 0 / 4 ^ (3 - m)) in
+    below_five Q (h0 m hm ∙ ap (λ (i : ℕ). 3 * g (get_or page i 0 / 4 ^ (3 - m))) start) (h1 m hm) (h2 m hm)
+    (h3 m hm) (h4 m hm) j hj
+    ∙ ap (λ (i : ℕ). 3 * g (get_or page i 0 / 4 ^ (3 - m))) byte
+    ∙ ap (λ (d : ℕ). 3 * g (get_or page (ptr + (pixel + k) / 4) 0 / 4 ^ (3 - d))) same
+
+-- eight pixels of one bit a byte
+pub of_words : (page : List ℕ) (ptr pixel at k l0 l1 l2 : ℕ) → at ≡ ptr + pixel / 8 → k < 16
+    → ((m : ℕ) → m < 8 → l0 / 4 ^ m % 4 ≡ 3 * (get_or page at 0 / 2 ^ (7 - m) % 2))
+    → ((m : ℕ) → m < 8 → l1 / 4 ^ m % 4 ≡ 3 * (get_or page (at + 1) 0 / 2 ^ (7 - m) % 2))
+    → ((m : ℕ) → m < 8 → l2 / 4 ^ m % 4 ≡ 3 * (get_or page (at + 2) 0 / 2 ^ (7 - m) % 2))
+    → get_or (l0 ∷ l1 ∷ l2 ∷ []) ((pixel % 8 + k) / 8) 0 / 4 ^ ((pixel % 8 + k) % 8) % 4
+    ≡ 3 * (get_or page (ptr + (pixel + k) / 8) 0 / 2 ^ (7 - (pixel + k) % 8) % 2)
+of_words page ptr pixel at k l0 l1 l2 e hk h0 h1 h2 =
+    let j = (pixel % 8 + k) / 8 in
+    let m = (pixel % 8 + k) % 8 in
+    let hm : m < 8 = omega arith in
+    let hj : j < 3 = omega arith in
+    let same : m ≡ (pixel + k) % 8 = omega arith in
+    let byte : at + j ≡ ptr + (pixel + k) / 8 = omega arith in
+    let start : at ≡ at + 0 = omega arith in
+    let Q : ℕ → Type 0 = λ i. get_or (l0 ∷ l1 ∷ l2 ∷ []) i 0 / 4 ^ m % 4
+    ≡ 3 * (get_or page (at + i) 0 / 2 ^ (7 - m) % 2) in
+    below_three Q (h0 m hm ∙ ap (λ (i : ℕ). 3 * (get_or page i 0 / 2 ^ (7 - m) % 2)) start) (h1 m hm) (h2 m
+    hm)
+    j hj
+    ∙ ap (λ (i : ℕ). 3 * (get_or page i 0 / 2 ^ (7 - m) % 2)) byte
+    ∙ ap (λ (d : ℕ). 3 * (get_or page (ptr + (pixel + k) / 8) 0 / 2 ^ (7 - d) % 2)) same
+
+abbrev pub low_of : ℕ → ℕ
+low_of n = n % 2
+
+abbrev pub high_of : ℕ → ℕ
+high_of n = n / 2 % 2
+
+pub low_of_two : (n : ℕ) → 3 * low_of n ≡ 3 * (n % 4 % 2)
+low_of_two n = omega arith
+
+pub high_of_two : (n : ℕ) → 3 * high_of n ≡ 3 * (n % 4 / 2)
+high_of_two n = omega arith
+
+pub low_of_one : (n : ℕ) → 3 * (n % 2) ≡ 3 * (n % 2 % 2)
+low_of_one n = omega arith
+
+pub high_of_one : (n k : ℕ) → 0 / 4 ^ k % 4 ≡ 3 * (n % 2 / 2)
+high_of_one n k = let none : 0 ≡ 3 * (n % 2 / 2) = omega arith in zero_digit k ∙ none
+
+-- ---- a mask in the other order
+
+three_of : (n : ℕ) → (n % 4 ≡ 0) ⊎ (n % 4 ≡ 3) → 3 * (n % 2) ≡ n % 4
+three_of n h = elim h [
+  | inl none ↦ omega arith
+  | inr all ↦ omega arith
+]
+
+pub turned_digit : (mask k l0 l1 l2 l3 : ℕ) → IsMask mask → k < 16
+    → ((m : ℕ) → m < 4 → l0 / 4 ^ m % 4 ≡ 3 * (mask / 2 ^ (8 * 3) % 256 / 4 ^ (3 - m) % 2))
+    → ((m : ℕ) → m < 4 → l1 / 4 ^ m % 4 ≡ 3 * (mask / 2 ^ (8 * 2) % 256 / 4 ^ (3 - m) % 2))
+    → ((m : ℕ) → m < 4 → l2 / 4 ^ m % 4 ≡ 3 * (mask / 2 ^ (8 * 1) % 256 / 4 ^ (3 - m) % 2))
+    → ((m : ℕ) → m < 4 → l3 / 4 ^ m % 4 ≡ 3 * (mask % 256 / 4 ^ (3 - m) % 2))
+    → get_or (l0 ∷ l1 ∷ l2 ∷ l3 ∷ []) (k / 4) 0 / 4 ^ (k % 4) % 4 ≡ mask / 4 ^ (15 - k) % 4
+turned_digit mask k l0 l1 l2 l3 each hk h0 h1 h2 h3 =
+    let j = k / 4 in
+    let m = k % 4 in
+    let hm : m < 4 = omega arith in
+    let hj : j < 4 = omega arith in
+    let hd : 3 - m < 4 = omega arith in
+    let hi : 3 - j < 4 = omega arith in
+    let at : 15 - k ≡ 4 * (3 - j) + (3 - m) = omega arith in
+    let Q : ℕ → Type 0 = λ i. get_or (l0 ∷ l1 ∷ l2 ∷ l3 ∷ []) i 0 / 4 ^ m % 4
+    ≡ 3 * (mask / 2 ^ (8 * (3 - i)) % 256 / 4 ^ (3 - m) % 2) in
+    let whole_mask : mask ≡ mask / 2 ^ (8 * 0) = omega arith in
+    let digit : mask / 2 ^ (8 * (3 - j)) % 256 / 4 ^ (3 - m) % 4 ≡ mask / 4 ^ (15 - k) % 4 =
+    byte_digit_at mask (3 - j) (3 - m) (15 - k) hi hd at in
+    let whole : (mask / 2 ^ (8 * (3 - j)) % 256 / 4 ^ (3 - m) % 4 ≡ 0)
+    ⊎ (mask / 2 ^ (8 * (3 - j)) % 256 / 4 ^ (3 - m) % 4 ≡ 3) = elim (each (15 - k) (omega arith)) [
+      | inl none ↦ inl (digit ∙ none)
+      | inr all ↦ inr (digit ∙ all)
+    ] in
+    below_four Q (h0 m hm) (h1 m hm) (h2 m hm)
+    (h3 m hm ∙ ap (λ (n : ℕ). 3 * (n % 256 / 4 ^ (3 - m) % 2)) whole_mask) j hj
+    ∙ three_of (mask / 2 ^ (8 * (3 - j)) % 256 / 4 ^ (3 - m)) whole ∙ digit
 
 -- ---- the cells
 
-natural_at : (z : ℤ) → pos 0 ≤ℤ z → pos (natural z) ≡ z
+pub natural_at : (z : ℤ) → pos 0 ≤ℤ z → pos (natural z) ≡ z
 natural_at (pos n) h = refl
 natural_at (negsuc n) h = absurd (omega (arith, ints))
 
-natural_more : (x : ℤ) (u k : ℕ) → x ≤ℤ pos u
+pub natural_more : (x : ℤ) (u k : ℕ) → x ≤ℤ pos u
     → natural (pos (u + k) -ℤ x) ≡ natural (pos u -ℤ x) + k
 natural_more x u k h =
     let far : pos (natural (pos (u + k) -ℤ x)) ≡ pos (u + k) -ℤ x =
@@ -133,51 +252,47 @@ natural_more x u k h =
     natural_at (pos u -ℤ x) (omega (arith, ints)) in
     omega (arith, ints)
 
-forward_walk : (walk : Walk) (n : ℕ) → walk.pace ≡ 1 → walk.backward ≡ false
+-- how many cells a row's part has from its first on
+pub cells_left : (x : ℤ) (left right n count : ℕ) → left < right → x ≤ℤ pos left → (pos right -ℤ x) ≤ℤ pos
+    count
+    → n ≡ natural (pos left -ℤ x) → n + (right - left) ≤ count
+cells_left x left right n count some from to e =
+    let near : pos (natural (pos left -ℤ x)) ≡ pos left -ℤ x =
+    natural_at (pos left -ℤ x) (omega (arith, ints)) in
+    omega (arith, ints)
+
+pub forward_walk : (walk : Walk) (n : ℕ) → walk.pace ≡ 1 → walk.backward ≡ false
     → walked walk n ≡ walk.start + n
 forward_walk walk n pace forward = rw (pace, forward) (omega arith)
 
-backward_walk : (walk : Walk) (n : ℕ) → walk.pace ≡ 1 → walk.backward ≡ true
+pub backward_walk : (walk : Walk) (n : ℕ) → walk.pace ≡ 1 → walk.backward ≡ true
     → walked walk n ≡ walk.start + (walk.count - 1 - n)
 backward_walk walk n pace backward = rw (pace, backward) (omega arith)
 
--- a cell in the row's part, of which the place is known
-known_cell : (page : List ℕ) (picture : Picture) (walk : Walk) (x : ℤ) (left right v u place : ℕ)
-    → left ≤ u → u < right → place ≡ walked walk (natural (pos u -ℤ x))
-    → place_index page picture place ≡ clipped (walk_painter page picture walk x) left right v (v + 1) u v
-known_cell page picture walk x left right v u place hl hr e =
-    let inside : ((nat_le left u && nat_lt u right) && (nat_le v v && nat_lt v (v + 1))) ≡ true =
-    grind (arith, nat_tests) in
-    ap (place_index page picture) e
-    ∙ sym (ap (λ t. only_if t (walk_painter page picture walk x u v)) inside)
+either_small : (test : Bool) (n m : ℕ) → n < 4 → m < 4 → (if test then n else m) < 4
+either_small true n m hn hm = hn
+either_small false n m hn hm = hm
 
-pub forward_cell : (page : List ℕ) (picture : Picture) (walk : Walk) (x : ℤ)
-    (left right v q k n place u at : ℕ)
-    → left ≤ 4 * q → 4 * q + 4 ≤ right → x ≤ℤ pos (4 * q) → walk.pace ≡ 1
-    → walk.backward ≡ false → k < 4 → n ≡ natural (pos (4 * q) -ℤ x)
-    → place ≡ walked walk n → u ≡ 4 * q + k → at ≡ place + k
-    → place_index page picture at ≡ clipped (walk_painter page picture walk x) left right v (v + 1) u v
-forward_cell page picture walk x left right v q k n place u at hl hr hx pace forward hk en ep eu ea =
-    let cell : natural (pos u -ℤ x) ≡ n + k =
-    ap (λ (i : ℕ). natural (pos i -ℤ x)) eu ∙ natural_more x (4 * q) k hx
-    ∙ ap (λ i. i + k) (sym en) in
-    let first : place ≡ walk.start + n = ep ∙ forward_walk walk n pace forward in
-    let here : at ≡ walk.start + (n + k) = omega arith in
-    known_cell page picture walk x left right v u at (omega arith) (omega arith)
-    (here ∙ sym (ap (walked walk) cell ∙ forward_walk walk (n + k) pace forward))
+pub small_value : (page : List ℕ) (sprite : Sprite) (q : ℕ) → source_value page sprite q < 4
+small_value page sprite q = either_small (has_flag sprite 1) _ _ (omega arith) (omega arith)
 
-pub backward_cell : (page : List ℕ) (picture : Picture) (walk : Walk) (x : ℤ)
-    (left right v q k n place u at : ℕ)
-    → left ≤ 4 * q → 4 * q + 4 ≤ right → x ≤ℤ pos (4 * q) → walk.pace ≡ 1
-    → walk.backward ≡ true → k < 4 → n ≡ natural (pos (4 * q) -ℤ x)
-    → n + 4 ≤ walk.count → place ≡ walked walk (n + 3) → u ≡ 4 * q + k → at + k ≡ place + 3
-    → place_index page picture at ≡ clipped (walk_painter page picture walk x) left right v (v + 1) u v
-backward_cell page picture walk x left right v q k n place u at hl hr hx pace backward hk en four ep eu ea =
-    let cell : natural (pos u -ℤ x) ≡ n + k =
-    ap (λ (i : ℕ). natural (pos i -ℤ x)) eu ∙ natural_more x (4 * q) k hx
-    ∙ ap (λ i. i + k) (sym en) in
-    let lowest : place ≡ walk.start + (walk.count - 1 - (n + 3)) =
-    ep ∙ backward_walk walk (n + 3) pace backward in
-    let here : at ≡ walk.start + (walk.count - 1 - (n + k)) = omega arith in
-    known_cell page picture walk x left right v u at (omega arith) (omega arith)
-    (here ∙ sym (ap (walked walk) cell ∙ backward_walk walk (n + k) pace backward))
+pub ink_index : (inks : Inks) (colors k value : ℕ) → AreInks inks colors → k < 16 → value < 4
+    → strip_index (ink_of inks value) k ≡ palette_index colors (value + 1)
+ink_index inks colors k value are hk hv =
+    let P : ℕ → Type 0 = λ value. strip_index (ink_of inks value) k ≡ palette_index colors (value + 1) in
+    below_four P (are.0.0 k hk) (are.1.0 k hk) (are.2.0 k hk) (are.3.0 k hk) value hv
+
+-- ---- one more strip of a row
+
+joined : (first second both : Bool) (o : Option ℕ) → (first && second) ≡ false
+    → both ≡ (first || second)
+    → option_or (only_if first o) (only_if second o) ≡ only_if both o
+joined true true both o h e = absurd (cc)
+joined true false both o h e = or_none o ∙ ap (λ t. only_if t o) (sym e)
+joined false second both o h e = ap (λ t. only_if t o) (sym e)
+
+pub strips_more : (f : Painter) (left right v q a b : ℕ)
+    → option_or (clipped f (max left (4 * q)) (min right (4 * q + 16)) v (v + 1) a b)
+    (clipped f left (min right (4 * q)) v (v + 1) a b)
+    ≡ clipped f left (min right (4 * (q + 4))) v (v + 1) a b
+strips_more f left right v q a b = joined _ _ _ (f a b) (grind (arith, nat_tests)) (grind (arith, nat_tests))

@@ -1,5 +1,6 @@
 -- What the contracts of this crate cite besides the definitions of drawing.
-pub mod Snapshot
+pub mod FramebufferCopy
 pub mod Unclipped
 pub mod Walks
+pub mod Strips
 pub mod Reach

@@ -1,6 +1,6 @@
--- The pixels of a picture that the cells in a row of the screen read: they stand at even distances.
+-- The pixels of a sprite that the cells in a row of the screen read: they stand at even distances.
 use Rattle.std.specs.Prelude.{◌≡◌, ℕ, ◌+◌, ◌-◌, ◌*◌, ◌/◌, ◌%◌, ◌^◌, ◌≤◌, ◌⊎◌, List, if◌then◌else◌, Option, ℤ, pos, ◌-ℤ◌}
-use Rattle.w4_defs.specs.declared.picture.Picture.{Picture}
+use Rattle.w4_defs.specs.declared.sprite.Sprite.{Sprite}
 use Rattle.w4_defs.specs.Framebuffer.{Painter}
 use Rattle.w4_defs.specs.Colours.{palette_index}
 use Rattle.w4_defs.specs.Shapes.{natural}
@@ -12,28 +12,28 @@ abbrev pub walked : Walk → ℕ → ℕ
 walked walk n = walk.start + walk.pace * (if walk.backward then walk.count - 1 - n else n)
 
 -- the pixel that the cell so far to the right and below reads
-abbrev pub landed_place : Picture → ℕ → ℕ → ℕ
-landed_place picture right below =
-    if has_flag picture 8
-    then source_row picture right * picture.stride + source_column picture below
-    else source_row picture below * picture.stride + source_column picture right
+abbrev pub landed_pixel : Sprite → ℕ → ℕ → ℕ
+landed_pixel sprite right below =
+    if has_flag sprite 8
+    then source_row sprite right * sprite.stride + source_column sprite below
+    else source_row sprite below * sprite.stride + source_column sprite right
 
 -- the same pixel, or both behind the last that the page has room for, where all have the value 0
 abbrev pub as_good_as : ℕ → ℕ → Type 0
 as_good_as a b = (a ≡ b) ⊎ ((524288 ≤ a) × (524288 ≤ b))
 
--- what a pixel of the picture paints
-abbrev pub place_index : List ℕ → Picture → ℕ → Option ℕ
-place_index page picture place = palette_index picture.colors (source_value page picture place + 1)
+-- what a pixel of the sprite paints
+abbrev pub pixel_index : List ℕ → Sprite → ℕ → Option ℕ
+pixel_index page sprite pixel = palette_index sprite.colors (source_value page sprite pixel + 1)
 
--- the value of the pixel that stands k behind `place`, from the byte of `place` and the one after it
-abbrev pub window_value : Picture → ℕ → ℕ → ℕ → ℕ
-window_value picture window place k =
-    if has_flag picture 1
-    then window / 2 ^ (14 - 2 * (place % 4 + k)) % 4
-    else window / 2 ^ (15 - (place % 8 + k)) % 2
+-- the value of the pixel that stands k behind `pixel`, from the byte of `pixel` and the one after it
+abbrev pub window_value : Sprite → ℕ → ℕ → ℕ → ℕ
+window_value sprite window pixel k =
+    if has_flag sprite 1
+    then window / 2 ^ (14 - 2 * (pixel % 4 + k)) % 4
+    else window / 2 ^ (15 - (pixel % 8 + k)) % 2
 
 -- what the cells of a row paint at a column of the screen
-abbrev pub walk_painter : List ℕ → Picture → Walk → ℤ → Painter
-walk_painter page picture walk x u v =
-    place_index page picture (walked walk (natural (pos u -ℤ x)))
+abbrev pub walk_painter : List ℕ → Sprite → Walk → ℤ → Painter
+walk_painter page sprite walk x u v =
+    pixel_index page sprite (walked walk (natural (pos u -ℤ x)))

@@ -1,8 +1,9 @@
 //! Blits, by the cells that land on the screen.
 
 ghost use Rattle.std.specs.Option.{ForSome};
-ghost use Rattle.std.specs.Prelude.{◌*◌, ◌+◌, ◌-ℤ◌, ◌<◌, ◌≡◌, ◌≤◌, ◌≤ℤ◌, false, pos, true};
-ghost use Rattle.w4_blit.specs.Snapshot.{with_snapshot};
+ghost use Rattle.std.specs.Prelude.{◌*◌, ◌+◌, ◌-ℤ◌, ◌<◌, ◌≡◌, ◌≤◌, ◌≤ℤ◌, max, min, pos};
+ghost use Rattle.w4_blit.specs.FramebufferCopy.{with_copy};
+ghost use Rattle.w4_blit.specs.Strips.{AreInks};
 ghost use Rattle.w4_blit.specs.Unclipped.{cells_painter};
 ghost use Rattle.w4_blit.specs.Walks.{walk_painter};
 ghost use Rattle.w4_defs.specs.Blit.{blit_painter};
@@ -14,14 +15,15 @@ ghost use Rattle.w4_pixels.specs.Packed.{byte_painter};
 use crate::cells::{distance, height_on_screen, index_at, width_on_screen};
 use crate::reach::framebuffer_read;
 use crate::source::{FRAMEBUFFER, FRAMEBUFFER_END, few_bytes, many_bytes};
-use crate::walks::{Walk, place_at, walk_of};
-use crate::windows::four_from;
-use w4_defs::{PageBytes, Picture};
+use crate::strips::{Inks, inks_of, painted, part_of, put_strip};
+use crate::walks::{Walk, walk_of};
+use crate::windows::cell_bits;
+use w4_defs::{PageBytes, Sprite};
 use w4_pixels::{put_quad, screen_part};
 
-/// Paints `w` by `h` cells of the picture at `ptr`, from (`src_x`, `src_y`) of it on, with the first cell's
-/// corner at (x, y); nothing where a side is below 1. The picture's rows are `stride` pixels apart. Flags:
-/// 1 two bits per pixel, 2 flip x, 4 flip y, 8 rotate anticlockwise by 90 degrees; others have no effect.
+/// Paints `w` by `h` cells of the sprite at `ptr`, from (`src_x`, `src_y`) of it on, with the first cell's
+/// corner at (x, y); nothing where a side is below 1. The sprite's rows are `stride` pixels apart. Flags: 1
+/// two bits per pixel, 2 flip x, 4 flip y, 8 rotate anticlockwise by 90 degrees; others have no effect.
 pub fn blit_sub(
     page: &mut PageBytes,
     colors: u16,
@@ -48,7 +50,7 @@ pub fn blit_sub(
         }) x y) }
 {
     let (w, h) = (side(w), side(h));
-    let picture = Picture {
+    let sprite = Sprite {
         colors,
         ptr,
         w,
@@ -59,31 +61,31 @@ pub fn blit_sub(
         flags,
     };
     if FRAMEBUFFER_END <= ptr {
-        blit_outside(page, &picture, x, y);
+        blit_outside(page, &sprite, x, y);
     } else {
-        blit_inside(page, &picture, x, y);
+        blit_inside(page, &sprite, x, y);
     }
 }
 
-/// Blits a picture that lies behind the framebuffer.
-fn blit_outside(page: &mut PageBytes, picture: &Picture, x: i32, y: i32)
-    requires { 6560 ≤ picture.now.ptr }
-    ensures { page.new ≡ paint page.old (blit_painter page.old picture.now x y) }
+/// Blits a sprite that lies behind the framebuffer.
+fn blit_outside(page: &mut PageBytes, sprite: &Sprite, x: i32, y: i32)
+    requires { 6560 ≤ sprite.now.ptr }
+    ensures { page.new ≡ paint page.old (blit_painter page.old sprite.now x y) }
 {
-    blit_rows(page, &[], picture, x, y);
+    blit_rows(page, &[], sprite, x, y);
 }
 
-/// Blits a picture that may lie in the framebuffer. What it reads of that is kept aside.
-fn blit_inside(page: &mut PageBytes, picture: &Picture, x: i32, y: i32)
-    ensures { page.new ≡ paint page.old (blit_painter page.old picture.now x y) }
+/// Blits a sprite that may lie in the framebuffer. What it reads of that is kept aside.
+fn blit_inside(page: &mut PageBytes, sprite: &Sprite, x: i32, y: i32)
+    ensures { page.new ≡ paint page.old (blit_painter page.old sprite.now x y) }
 {
-    let len = framebuffer_read(picture);
+    let len = framebuffer_read(sprite);
     if len <= 256 {
-        let snapshot = few_bytes(page, FRAMEBUFFER, len);
-        blit_rows(page, &snapshot[..len], picture, x, y);
+        let copy = few_bytes(page, FRAMEBUFFER, len);
+        blit_rows(page, &copy[..len], sprite, x, y);
     } else {
-        let snapshot = many_bytes(page, FRAMEBUFFER, len);
-        blit_rows(page, &snapshot[..len], picture, x, y);
+        let copy = many_bytes(page, FRAMEBUFFER, len);
+        blit_rows(page, &copy[..len], sprite, x, y);
     }
 }
 
@@ -94,21 +96,23 @@ fn side(count: i32) -> u32
     count.max(0) as u32
 }
 
-fn blit_rows(page: &mut PageBytes, snapshot: &[u8], picture: &Picture, x: i32, y: i32)
-    ensures { page.new ≡ paint page.old (blit_painter (with_snapshot page.old snapshot.now) picture.now x y) }
+fn blit_rows(page: &mut PageBytes, copy: &[u8], sprite: &Sprite, x: i32, y: i32)
+    ensures { page.new ≡ paint page.old (blit_painter (with_copy page.old copy.now) sprite.now x y) }
 {
-    let (left, right) = screen_part(x, width_on_screen(picture));
-    let (top, bottom) = screen_part(y, height_on_screen(picture));
+    let inks = inks_of(sprite.colors);
+    let (left, right) = screen_part(x, width_on_screen(sprite));
+    let (top, bottom) = screen_part(y, height_on_screen(sprite));
     for v in top..bottom {
-        blit_row(page, snapshot, picture, x, y, left, right, v);
+        blit_row(page, copy, sprite, &inks, x, y, left, right, v);
     }
 }
 
 /// The cells that land in the columns from `left` up to `right` of row `v` of the screen.
 fn blit_row(
     page: &mut PageBytes,
-    snapshot: &[u8],
-    picture: &Picture,
+    copy: &[u8],
+    sprite: &Sprite,
+    inks: &Inks,
     x: i32,
     y: i32,
     left: usize,
@@ -117,11 +121,12 @@ fn blit_row(
 )
     requires columns { right ≤ 160 }
     requires row { v < 160 }
+    requires inks { AreInks inks.now sprite.now.colors }
     ensures { page.new ≡ paint page.old
-        (clipped (cells_painter (with_snapshot page.old snapshot.now) picture.now x y) left right v
+        (clipped (cells_painter (with_copy page.old copy.now) sprite.now x y) left right v
         (v + 1)) }
 {
-    let walk = walk_of(picture, distance(v, y));
+    let walk = walk_of(sprite, distance(v, y));
     let row = Row {
         walk,
         x,
@@ -129,7 +134,7 @@ fn blit_row(
         right,
         v,
     };
-    put_row(page, snapshot, picture, row);
+    put_row(page, copy, sprite, inks, row);
 }
 
 /// A part of a row of the screen, with the pixels that its cells read.
@@ -142,147 +147,117 @@ struct Row {
     v: usize,
 }
 
-fn put_row(page: &mut PageBytes, snapshot: &[u8], picture: &Picture, row: Row)
+/// Where the cells read pixels that follow one another, sixteen are painted together.
+fn put_row(page: &mut PageBytes, copy: &[u8], sprite: &Sprite, inks: &Inks, row: Row)
+    requires columns { row.right ≤ 160 }
+    requires row { row.v < 160 }
+    requires start { row.walk.start ≤ 524288 }
+    requires pace { row.walk.pace < 4294967296 }
+    requires inks { AreInks inks.now sprite.now.colors }
+    ensures { page.new ≡ paint page.old
+        (clipped (walk_painter (with_copy page.old copy.now) sprite.now row.walk row.x)
+        row.left row.right row.v (row.v + 1)) }
+{
+    if row.left < row.right
+        && row.walk.pace == 1
+        && i64::from(row.x) <= row.left as i64
+        && row.right as i64 - i64::from(row.x) <= i64::from(row.walk.count)
+    {
+        put_strips(page, copy, sprite, inks, row);
+    } else {
+        put_bytes(page, copy, sprite, row);
+    }
+}
+
+fn put_strips(page: &mut PageBytes, copy: &[u8], sprite: &Sprite, inks: &Inks, row: Row)
+    requires some { row.left < row.right }
+    requires columns { row.right ≤ 160 }
+    requires row { row.v < 160 }
+    requires start { row.walk.start ≤ 524288 }
+    requires pace { row.walk.pace ≡ 1 }
+    requires from { row.x ≤ℤ pos row.left }
+    requires to { (pos row.right -ℤ row.x) ≤ℤ pos row.walk.count }
+    requires inks { AreInks inks.now sprite.now.colors }
+    ensures { page.new ≡ paint page.old
+        (clipped (walk_painter (with_copy page.old copy.now) sprite.now row.walk row.x)
+        row.left row.right row.v (row.v + 1)) }
+{
+    let first = row.left / 4;
+    for i in 0..(row.right + 15 - 4 * first) / 16 {
+        put_sixteen(page, copy, sprite, inks, row, first + 4 * i);
+    }
+}
+
+/// Those of the cells that land in the sixteen columns from byte `q` of the row on.
+fn put_sixteen(page: &mut PageBytes, copy: &[u8], sprite: &Sprite, inks: &Inks, row: Row, q: usize)
+    requires here { 4 * q < row.right }
+    requires left { row.left < 4 * q + 4 }
+    requires some { row.left < row.right }
+    requires columns { row.right ≤ 160 }
+    requires row { row.v < 160 }
+    requires start { row.walk.start ≤ 524288 }
+    requires pace { row.walk.pace ≡ 1 }
+    requires from { row.x ≤ℤ pos row.left }
+    requires to { (pos row.right -ℤ row.x) ≤ℤ pos row.walk.count }
+    requires inks { AreInks inks.now sprite.now.colors }
+    ensures { page.new ≡ paint page.old
+        (clipped (walk_painter (with_copy page.old copy.now) sprite.now row.walk row.x)
+        (max row.left (4 * q)) (min row.right (4 * q + 16)) row.v (row.v + 1)) }
+{
+    let left = row.left.max(4 * q);
+    let right = row.right.min(4 * q + 16);
+    let base = q.min(36);
+    let low = (left - 4 * base) as u32;
+    let high = (right - 4 * base) as u32;
+    let bits = cell_bits(page, copy, sprite, row.walk, distance(left, row.x), low);
+    let strip = part_of(painted(inks, bits), low, high);
+    put_strip(page, base, row.v, strip);
+}
+
+fn put_bytes(page: &mut PageBytes, copy: &[u8], sprite: &Sprite, row: Row)
     requires columns { row.right ≤ 160 }
     requires row { row.v < 160 }
     requires start { row.walk.start ≤ 524288 }
     requires pace { row.walk.pace < 4294967296 }
     ensures { page.new ≡ paint page.old
-        (clipped (walk_painter (with_snapshot page.old snapshot.now) picture.now row.walk row.x)
+        (clipped (walk_painter (with_copy page.old copy.now) sprite.now row.walk row.x)
         row.left row.right row.v (row.v + 1)) }
 {
     if row.left < row.right {
         for q in row.left / 4..(row.right + 3) / 4 {
-            put_byte(page, snapshot, picture, row, q);
+            put_byte(page, copy, sprite, row, q);
         }
     }
 }
 
-/// Those of the cells that land in byte `q` of the row. Where all four do, and read pixels that follow one
-/// another, these are read together.
-fn put_byte(page: &mut PageBytes, snapshot: &[u8], picture: &Picture, row: Row, q: usize)
+/// Those of the cells that land in byte `q` of the row, each by itself.
+fn put_byte(page: &mut PageBytes, copy: &[u8], sprite: &Sprite, row: Row, q: usize)
     requires byte { q < 40 }
     requires row { row.v < 160 }
     requires start { row.walk.start ≤ 524288 }
     requires pace { row.walk.pace < 4294967296 }
     ensures { page.new ≡ paint page.old
-        (byte_painter (clipped (walk_painter (with_snapshot page.old snapshot.now) picture.now
+        (byte_painter (clipped (walk_painter (with_copy page.old copy.now) sprite.now
         row.walk row.x) row.left row.right row.v (row.v + 1)) q row.v) }
 {
-    if row.left <= 4 * q
-        && 4 * q + 4 <= row.right
-        && row.walk.pace == 1
-        && i64::from(row.x) <= 4 * q as i64
-    {
-        put_four(page, snapshot, picture, row, q);
-    } else {
-        put_each(page, snapshot, picture, row, q);
-    }
-}
-
-fn put_four(page: &mut PageBytes, snapshot: &[u8], picture: &Picture, row: Row, q: usize)
-    requires byte { q < 40 }
-    requires row { row.v < 160 }
-    requires start { row.walk.start ≤ 524288 }
-    requires pace { row.walk.pace ≡ 1 }
-    requires from { row.left ≤ 4 * q }
-    requires to { 4 * q + 4 ≤ row.right }
-    requires behind { row.x ≤ℤ pos (4 * q) }
-    ensures { page.new ≡ paint page.old
-        (byte_painter (clipped (walk_painter (with_snapshot page.old snapshot.now) picture.now
-        row.walk row.x) row.left row.right row.v (row.v + 1)) q row.v) }
-{
-    let n = distance(4 * q, row.x);
-    if !row.walk.backward {
-        put_forward(page, snapshot, picture, row, q);
-    } else if n + 4 <= u64::from(row.walk.count) {
-        put_backward(page, snapshot, picture, row, q);
-    } else {
-        put_each(page, snapshot, picture, row, q);
-    }
-}
-
-fn put_forward(page: &mut PageBytes, snapshot: &[u8], picture: &Picture, row: Row, q: usize)
-    requires byte { q < 40 }
-    requires row { row.v < 160 }
-    requires start { row.walk.start ≤ 524288 }
-    requires pace { row.walk.pace ≡ 1 }
-    requires from { row.left ≤ 4 * q }
-    requires to { 4 * q + 4 ≤ row.right }
-    requires behind { row.x ≤ℤ pos (4 * q) }
-    requires forward { row.walk.backward ≡ false }
-    ensures { page.new ≡ paint page.old
-        (byte_painter (clipped (walk_painter (with_snapshot page.old snapshot.now) picture.now
-        row.walk row.x) row.left row.right row.v (row.v + 1)) q row.v) }
-{
-    let place = place_at(row.walk, distance(4 * q, row.x));
-    let four = four_from(page, snapshot, picture, place);
-    put_quad(
-        page,
-        q,
-        row.v,
-        four.first,
-        four.second,
-        four.third,
-        four.fourth,
-    );
-}
-
-/// The last of the four reads the first pixel.
-fn put_backward(page: &mut PageBytes, snapshot: &[u8], picture: &Picture, row: Row, q: usize)
-    requires byte { q < 40 }
-    requires row { row.v < 160 }
-    requires start { row.walk.start ≤ 524288 }
-    requires pace { row.walk.pace ≡ 1 }
-    requires from { row.left ≤ 4 * q }
-    requires to { 4 * q + 4 ≤ row.right }
-    requires behind { row.x ≤ℤ pos (4 * q) }
-    requires backward { row.walk.backward ≡ true }
-    requires four { natural (pos (4 * q) -ℤ row.x) + 4 ≤ row.walk.count }
-    ensures { page.new ≡ paint page.old
-        (byte_painter (clipped (walk_painter (with_snapshot page.old snapshot.now) picture.now
-        row.walk row.x) row.left row.right row.v (row.v + 1)) q row.v) }
-{
-    let place = place_at(row.walk, distance(4 * q, row.x) + 3);
-    let four = four_from(page, snapshot, picture, place);
-    put_quad(
-        page,
-        q,
-        row.v,
-        four.fourth,
-        four.third,
-        four.second,
-        four.first,
-    );
-}
-
-fn put_each(page: &mut PageBytes, snapshot: &[u8], picture: &Picture, row: Row, q: usize)
-    requires byte { q < 40 }
-    requires row { row.v < 160 }
-    requires start { row.walk.start ≤ 524288 }
-    requires pace { row.walk.pace < 4294967296 }
-    ensures { page.new ≡ paint page.old
-        (byte_painter (clipped (walk_painter (with_snapshot page.old snapshot.now) picture.now
-        row.walk row.x) row.left row.right row.v (row.v + 1)) q row.v) }
-{
-    let first = index_in(page, snapshot, picture, row, 4 * q);
-    let second = index_in(page, snapshot, picture, row, 4 * q + 1);
-    let third = index_in(page, snapshot, picture, row, 4 * q + 2);
-    let fourth = index_in(page, snapshot, picture, row, 4 * q + 3);
+    let first = index_in(page, copy, sprite, row, 4 * q);
+    let second = index_in(page, copy, sprite, row, 4 * q + 1);
+    let third = index_in(page, copy, sprite, row, 4 * q + 2);
+    let fourth = index_in(page, copy, sprite, row, 4 * q + 3);
     put_quad(page, q, row.v, first, second, third, fourth);
 }
 
 /// What is painted at column `u`: nothing where it isn't of the row's part.
-fn index_in(page: &PageBytes, snapshot: &[u8], picture: &Picture, row: Row, u: usize) -> Option<u8>
+fn index_in(page: &PageBytes, copy: &[u8], sprite: &Sprite, row: Row, u: usize) -> Option<u8>
     requires column { u < 160 }
     requires start { row.walk.start ≤ 524288 }
     requires pace { row.walk.pace < 4294967296 }
-    ensures value { result ≡ clipped (walk_painter (with_snapshot page.now snapshot.now) picture.now row.walk
+    ensures value { result ≡ clipped (walk_painter (with_copy page.now copy.now) sprite.now row.walk
         row.x) row.left row.right row.v (row.v + 1) u row.v }
     ensures bound { ForSome result (λ e. e < 4) }
 {
     if row.left <= u && u < row.right {
-        index_at(page, snapshot, picture, row.walk, row.x, u)
+        index_at(page, copy, sprite, row.walk, row.x, u)
     } else {
         None
     }

@@ -2,14 +2,14 @@
 
 ghost use Rattle.std.specs.Option.{ForSome};
 ghost use Rattle.std.specs.Prelude.{◌+◌, ◌-◌, ◌-ℤ◌, ◌*◌, ◌/◌, ◌%◌, ◌<◌, ◌==◌, ◌≡◌, ◌≤◌, ◌^◌, if◌then◌else◌, pos};
-ghost use Rattle.w4_blit.specs.Snapshot.{with_snapshot};
+ghost use Rattle.w4_blit.specs.FramebufferCopy.{with_copy};
 ghost use Rattle.w4_blit.specs.Walks.{walk_painter};
 ghost use Rattle.w4_defs.specs.Blit.{has_flag, height_on_screen, source_column, source_row, source_value, width_on_screen};
 ghost use Rattle.w4_defs.specs.Shapes.{natural};
 
 use crate::source::{offset, source_byte};
-use crate::walks::{Walk, place_at};
-use w4_defs::{PageBytes, Picture};
+use crate::walks::{Walk, pixel_at};
+use w4_defs::{PageBytes, Sprite};
 use w4_pixels::entry_of;
 
 pub(crate) const TWO_BITS: u32 = 1;
@@ -24,8 +24,8 @@ pub(crate) const ROTATE: u32 = 8;
 /// painted in colour v + 1.
 pub(crate) fn index_at(
     page: &PageBytes,
-    snapshot: &[u8],
-    picture: &Picture,
+    copy: &[u8],
+    sprite: &Sprite,
     walk: Walk,
     x: i32,
     u: usize,
@@ -33,14 +33,11 @@ pub(crate) fn index_at(
     requires column { u < 160 }
     requires start { walk.start ≤ 524288 }
     requires pace { walk.pace < 4294967296 }
-    ensures value { result ≡ walk_painter (with_snapshot page.now snapshot.now) picture.now walk x u 0 }
+    ensures value { result ≡ walk_painter (with_copy page.now copy.now) sprite.now walk x u 0 }
     ensures bound { ForSome result (λ e. e < 4) }
 {
-    let place = place_at(walk, distance(u, x));
-    entry_of(
-        picture.colors,
-        source_value(page, snapshot, picture, place) + 1,
-    )
+    let pixel = pixel_at(walk, distance(u, x));
+    entry_of(sprite.colors, source_value(page, copy, sprite, pixel) + 1)
 }
 
 /// How far column or row `u` of the screen stands behind `x`; 0 where it stands before.
@@ -52,48 +49,48 @@ pub(crate) fn distance(u: usize, x: i32) -> u64
     offset(u, i64::from(x))
 }
 
-/// The value of the picture's pixel `place`: two bits or one, the first pixel in a byte's highest bits.
-fn source_value(page: &PageBytes, snapshot: &[u8], picture: &Picture, place: u64) -> u8
-    ensures value { result ≡ source_value (with_snapshot page.now snapshot.now) picture.now place }
+/// The value of the sprite's pixel `pixel`: two bits or one, the first pixel in a byte's highest bits.
+fn source_value(page: &PageBytes, copy: &[u8], sprite: &Sprite, pixel: u64) -> u8
+    ensures value { result ≡ source_value (with_copy page.now copy.now) sprite.now pixel }
     ensures bound { result < 4 }
 {
-    let ptr = u64::from(picture.ptr);
-    if has_flag(picture, TWO_BITS) {
-        (source_byte(page, snapshot, ptr + place / 4) >> (6 - 2 * (place % 4) as u32)) % 4
+    let ptr = u64::from(sprite.ptr);
+    if has_flag(sprite, TWO_BITS) {
+        (source_byte(page, copy, ptr + pixel / 4) >> (6 - 2 * (pixel % 4) as u32)) % 4
     } else {
-        (source_byte(page, snapshot, ptr + place / 8) >> (7 - (place % 8) as u32)) % 2
+        (source_byte(page, copy, ptr + pixel / 8) >> (7 - (pixel % 8) as u32)) % 2
     }
 }
 
-/// The column of the picture that the cells of column `i` read.
-pub(crate) fn column_of(picture: &Picture, i: u64) -> u64
+/// The column of the sprite that the cells of column `i` read.
+pub(crate) fn column_of(sprite: &Sprite, i: u64) -> u64
     requires { i < 4294967296 }
-    ensures value { result ≡ source_column picture.now i }
+    ensures value { result ≡ source_column sprite.now i }
     ensures bound { result < 8589934592 }
 {
-    let start = u64::from(picture.src_x);
-    if has_flag(picture, FLIP_X) == has_flag(picture, ROTATE) {
+    let start = u64::from(sprite.src_x);
+    if has_flag(sprite, FLIP_X) == has_flag(sprite, ROTATE) {
         start + i
     } else {
-        start + mirrored(picture.w, i)
+        start + mirrored(sprite.w, i)
     }
 }
 
-/// The row of the picture that the cells of row `j` read.
-pub(crate) fn row_of(picture: &Picture, j: u64) -> u64
+/// The row of the sprite that the cells of row `j` read.
+pub(crate) fn row_of(sprite: &Sprite, j: u64) -> u64
     requires { j < 4294967296 }
-    ensures value { result ≡ source_row picture.now j }
+    ensures value { result ≡ source_row sprite.now j }
     ensures bound { result < 8589934592 }
 {
-    let start = u64::from(picture.src_y);
-    if has_flag(picture, FLIP_Y) {
-        start + mirrored(picture.h, j)
+    let start = u64::from(sprite.src_y);
+    if has_flag(sprite, FLIP_Y) {
+        start + mirrored(sprite.h, j)
     } else {
         start + j
     }
 }
 
-/// The place of cell `i` of `count` from the other end.
+/// Cell `i` of `count`, counted from the other end.
 pub(crate) fn mirrored(count: u32, i: u64) -> u64
     requires { i < 4294967296 }
     ensures value { result ≡ count - 1 - i }
@@ -102,31 +99,31 @@ pub(crate) fn mirrored(count: u32, i: u64) -> u64
     u64::from(count).saturating_sub(1 + i)
 }
 
-pub(crate) fn has_flag(picture: &Picture, weight: u32) -> bool
+pub(crate) fn has_flag(sprite: &Sprite, weight: u32) -> bool
     requires { 0 < weight }
-    ensures { result ≡ has_flag picture.now weight }
+    ensures { result ≡ has_flag sprite.now weight }
 {
-    picture.flags / weight % 2 == 1
+    sprite.flags / weight % 2 == 1
 }
 
-/// How many columns of the screen a picture takes.
-pub(crate) fn width_on_screen(picture: &Picture) -> u32
-    ensures { result ≡ width_on_screen picture.now }
+/// How many columns of the screen a sprite takes.
+pub(crate) fn width_on_screen(sprite: &Sprite) -> u32
+    ensures { result ≡ width_on_screen sprite.now }
 {
-    if has_flag(picture, ROTATE) {
-        picture.h
+    if has_flag(sprite, ROTATE) {
+        sprite.h
     } else {
-        picture.w
+        sprite.w
     }
 }
 
-/// How many rows of the screen a picture takes.
-pub(crate) fn height_on_screen(picture: &Picture) -> u32
-    ensures { result ≡ height_on_screen picture.now }
+/// How many rows of the screen a sprite takes.
+pub(crate) fn height_on_screen(sprite: &Sprite) -> u32
+    ensures { result ≡ height_on_screen sprite.now }
 {
-    if has_flag(picture, ROTATE) {
-        picture.w
+    if has_flag(sprite, ROTATE) {
+        sprite.w
     } else {
-        picture.h
+        sprite.h
     }
 }

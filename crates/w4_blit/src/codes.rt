@@ -1,7 +1,7 @@
 //! The codes of a text, read from the page as it was when the call began.
 
 ghost use Rattle.std.specs.Prelude.{◌+◌, ◌-◌, ◌<◌, ◌==◌, ◌≡◌, ◌≤◌, ℕ, drop, length, min, not, slice_index, take_while};
-ghost use Rattle.w4_blit.specs.Snapshot.{IsAtHand, bytes_read, source_start, with_copied_bytes};
+ghost use Rattle.w4_blit.specs.FramebufferCopy.{IsAtHand, bytes_read, source_start, with_copied_bytes};
 ghost use Rattle.w4_defs.specs.Text.{text_codes};
 
 use crate::source::{FRAMEBUFFER, FRAMEBUFFER_END, byte_at};
@@ -63,22 +63,27 @@ fn bytes_read(source: TextSource, count: usize) -> usize
 pub(crate) fn code_at(
     page: &PageBytes,
     first: usize,
-    kept: &[u8],
+    copy_bytes: &[u8],
     source: TextSource,
     k: usize,
 ) -> u16
-    requires there { k < length (text_codes (with_copied_bytes page.now first kept.now) source) }
+    requires there { k < length (text_codes (with_copied_bytes page.now first copy_bytes.now) source) }
     requires small { k < 65536 }
-    ensures { result ≡ slice_index (text_codes (with_copied_bytes page.now first kept.now) source) k }
+    ensures { result ≡ slice_index (text_codes (with_copied_bytes page.now first copy_bytes.now) source) k }
 {
     let k = k as u64;
     match source {
-        TextSource::Cstr { ptr } => u16::from(byte_at(page, first, kept, u64::from(ptr) + k)),
-        TextSource::Utf8 { ptr, .. } => u16::from(byte_at(page, first, kept, u64::from(ptr) + k)),
+        TextSource::Cstr { ptr } => u16::from(byte_at(page, first, copy_bytes, u64::from(ptr) + k)),
+        TextSource::Utf8 { ptr, .. } => u16::from(byte_at(
+            page,
+            first,
+            copy_bytes,
+            u64::from(ptr) + k,
+        )),
         TextSource::Utf16 { ptr, .. } => {
             let at = u64::from(ptr) + 2 * k;
-            let low = byte_at(page, first, kept, at);
-            let high = byte_at(page, first, kept, at + 1);
+            let low = byte_at(page, first, copy_bytes, at);
+            let high = byte_at(page, first, copy_bytes, at + 1);
             u16::from(low) + 256 * u16::from(high)
         }
     }

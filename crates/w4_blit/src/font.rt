@@ -30,9 +30,9 @@ impl Font {
         if bytes.len() != 1792 {
             return Err(FontLength);
         }
-        let mut kept = [0; 1792];
-        kept.copy_from_slice(bytes);
-        Ok(Font { bytes: kept })
+        let mut font_bytes = [0; 1792];
+        font_bytes.copy_from_slice(bytes);
+        Ok(Font { bytes: font_bytes })
     }
 
     /// One byte; 0 past the last.

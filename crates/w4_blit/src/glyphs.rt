@@ -1,25 +1,27 @@
 //! Glyphs, by their cells that are on the screen.
 
-ghost use Rattle.std.specs.Option.{ForSome};
-ghost use Rattle.std.specs.Prelude.{◌+◌, ◌+ℤ◌, ◌-◌, ◌-ℤ◌, ◌<◌, ◌≡◌, ◌≤◌, ◌≤ℤ◌, pos};
+ghost use Rattle.std.specs.Prelude.{◌+◌, ◌+ℤ◌, ◌-ℤ◌, ◌<◌, ◌≡◌, ◌≤◌, ◌≤ℤ◌, pos};
+ghost use Rattle.w4_blit.specs.Strips.{AreInks};
 ghost use Rattle.w4_blit.specs.Unclipped.{bits_painter, eight_painter};
+ghost use Rattle.w4_defs.specs.Colours.{palette_index};
 ghost use Rattle.w4_defs.specs.Framebuffer.{paint};
-ghost use Rattle.w4_defs.specs.Shapes.{is_inside, natural, only_if};
+ghost use Rattle.w4_defs.specs.Shapes.{is_inside, only_if};
 ghost use Rattle.w4_defs.specs.Text.{glyph_painter};
 ghost use Rattle.w4_pixels.specs.Clipping.{clipped};
-ghost use Rattle.w4_pixels.specs.Packed.{byte_painter};
 
 use crate::font::Font;
 use crate::source::offset;
+use crate::spread::placed;
+use crate::strips::{Inks, either, part_of, put_strip};
 use w4_defs::PageBytes;
-use w4_pixels::{entry_of, on_screen, put_quad};
+use w4_pixels::on_screen;
 
 /// The codes that have a glyph: the first, and the end, which is left out.
 const FIRST_CODE: u16 = 32;
 
 const CODES_END: u16 = 256;
 
-/// A code with its colours and its place.
+/// A code with its colours and where it is painted.
 #[derive(Clone, Copy)]
 pub(crate) struct Glyph {
     pub colors: u16,
@@ -29,19 +31,21 @@ pub(crate) struct Glyph {
 }
 
 /// Paints the 8 by 8 cells of a code from 32 to 255; nothing for any other.
-pub(crate) fn put_glyph(page: &mut PageBytes, font: &Font, glyph: Glyph)
+pub(crate) fn put_glyph(page: &mut PageBytes, font: &Font, inks: &Inks, glyph: Glyph)
     requires column { glyph.x ≤ℤ pos 4294967296 }
     requires row { glyph.y ≤ℤ pos 4294967296 }
+    requires inks { AreInks inks.now glyph.colors }
     ensures { page.new ≡ paint page.old (glyph_painter font.now glyph.colors glyph.code glyph.x glyph.y) }
 {
     if FIRST_CODE <= glyph.code && glyph.code < CODES_END {
-        glyph_rows(page, font, glyph);
+        glyph_rows(page, font, inks, glyph);
     }
 }
 
-fn glyph_rows(page: &mut PageBytes, font: &Font, glyph: Glyph)
+fn glyph_rows(page: &mut PageBytes, font: &Font, inks: &Inks, glyph: Glyph)
     requires column { glyph.x ≤ℤ pos 4294967296 }
     requires row { glyph.y ≤ℤ pos 4294967296 }
+    requires inks { AreInks inks.now glyph.colors }
     ensures { page.new ≡ paint page.old
         (λ u v. only_if (is_inside glyph.x (glyph.x +ℤ pos 8) glyph.y (glyph.y +ℤ pos 8) u v)
         (bits_painter font.now glyph.colors glyph.code glyph.x glyph.y u v)) }
@@ -49,7 +53,7 @@ fn glyph_rows(page: &mut PageBytes, font: &Font, glyph: Glyph)
     let (left, right) = (on_screen(glyph.x), on_screen(glyph.x + 8));
     let (top, bottom) = (on_screen(glyph.y), on_screen(glyph.y + 8));
     if left < right {
-        rows_on_screen(page, font, glyph, left, right, top, bottom);
+        rows_on_screen(page, font, inks, glyph, left, right, top, bottom);
     }
 }
 
@@ -57,6 +61,7 @@ fn glyph_rows(page: &mut PageBytes, font: &Font, glyph: Glyph)
 fn rows_on_screen(
     page: &mut PageBytes,
     font: &Font,
+    inks: &Inks,
     glyph: Glyph,
     left: usize,
     right: usize,
@@ -68,126 +73,73 @@ fn rows_on_screen(
     requires rows { bottom ≤ 160 }
     requires from { glyph.x ≤ℤ pos left }
     requires to { pos right ≤ℤ (glyph.x +ℤ pos 8) }
+    requires inks { AreInks inks.now glyph.colors }
     ensures { page.new ≡ paint page.old
         (clipped (bits_painter font.now glyph.colors glyph.code glyph.x glyph.y) left right top bottom) }
 {
     for v in top..bottom {
-        glyph_row(page, font, glyph, left, right, v);
+        glyph_row(page, font, inks, glyph, left, right, v);
     }
 }
 
 /// The cells in the columns from `left` up to `right` of row `v` of the screen.
-fn glyph_row(page: &mut PageBytes, font: &Font, glyph: Glyph, left: usize, right: usize, v: usize)
+fn glyph_row(
+    page: &mut PageBytes,
+    font: &Font,
+    inks: &Inks,
+    glyph: Glyph,
+    left: usize,
+    right: usize,
+    v: usize,
+)
     requires columns { right ≤ 160 }
     requires row { v < 160 }
     requires some { left < right }
     requires from { glyph.x ≤ℤ pos left }
     requires to { pos right ≤ℤ (glyph.x +ℤ pos 8) }
+    requires inks { AreInks inks.now glyph.colors }
     ensures { page.new ≡ paint page.old
         (clipped (bits_painter font.now glyph.colors glyph.code glyph.x glyph.y) left right v (v + 1)) }
 {
     let first = 8 * u64::from(glyph.code.saturating_sub(FIRST_CODE));
     let row = Row {
         bits: font.byte(first + offset(v, glyph.y)),
-        ink: entry_of(glyph.colors, 1),
-        background: entry_of(glyph.colors, 2),
+        colors: glyph.colors,
         x: glyph.x,
         left,
         right,
         v,
     };
-    put_row(page, row);
+    put_row(page, inks, row);
 }
 
-/// A part of a row of the screen, with the eight bits that its cells read: a bit 0 is ink, a bit 1
-/// background.
+/// A part of a row of the screen, with the eight bits that its cells read: a bit 0 is painted in colour 1, a
+/// bit 1 in colour 2.
 #[derive(Clone, Copy)]
 struct Row {
     bits: u8,
-    ink: Option<u8>,
-    background: Option<u8>,
+    colors: u16,
     x: i64,
     left: usize,
     right: usize,
     v: usize,
 }
 
-fn put_row(page: &mut PageBytes, row: Row)
+fn put_row(page: &mut PageBytes, inks: &Inks, row: Row)
     requires some { row.left < row.right }
     requires columns { row.right ≤ 160 }
     requires row { row.v < 160 }
     requires from { row.x ≤ℤ pos row.left }
     requires to { pos row.right ≤ℤ (row.x +ℤ pos 8) }
-    requires ink { ForSome row.ink (λ e. e < 4) }
-    requires background { ForSome row.background (λ e. e < 4) }
+    requires inks { AreInks inks.now row.colors }
     ensures { page.new ≡ paint page.old
-        (clipped (eight_painter row.bits row.ink row.background row.x) row.left row.right row.v (row.v + 1)) }
+        (clipped (eight_painter row.bits (palette_index row.colors 1) (palette_index row.colors 2) row.x)
+        row.left row.right row.v (row.v + 1)) }
 {
-    for q in row.left / 4..(row.right + 3) / 4 {
-        put_byte(page, row, q);
-    }
-}
-
-/// Those of the cells that are in byte `q` of the row.
-fn put_byte(page: &mut PageBytes, row: Row, q: usize)
-    requires byte { q < 40 }
-    requires row { row.v < 160 }
-    requires from { row.x ≤ℤ pos row.left }
-    requires to { pos row.right ≤ℤ (row.x +ℤ pos 8) }
-    requires ink { ForSome row.ink (λ e. e < 4) }
-    requires background { ForSome row.background (λ e. e < 4) }
-    ensures { page.new ≡ paint page.old
-        (byte_painter (clipped (eight_painter row.bits row.ink row.background row.x) row.left row.right row.v
-        (row.v + 1)) q row.v) }
-{
-    let first = index_in(row, 4 * q);
-    let second = index_in(row, 4 * q + 1);
-    let third = index_in(row, 4 * q + 2);
-    let fourth = index_in(row, 4 * q + 3);
-    put_quad(page, q, row.v, first, second, third, fourth);
-}
-
-/// What is painted at column `u`: nothing where it isn't of the row's part.
-fn index_in(row: Row, u: usize) -> Option<u8>
-    requires column { u < 160 }
-    requires from { row.x ≤ℤ pos row.left }
-    requires to { pos row.right ≤ℤ (row.x +ℤ pos 8) }
-    requires ink { ForSome row.ink (λ e. e < 4) }
-    requires background { ForSome row.background (λ e. e < 4) }
-    ensures value { result ≡ clipped (eight_painter row.bits row.ink row.background row.x) row.left row.right
-        row.v (row.v + 1) u row.v }
-    ensures bound { ForSome result (λ e. e < 4) }
-{
-    if row.left <= u && u < row.right {
-        bit_index(row, u)
-    } else {
-        None
-    }
-}
-
-fn bit_index(row: Row, u: usize) -> Option<u8>
-    requires column { u < 160 }
-    requires from { row.x ≤ℤ pos u }
-    requires to { (pos u +ℤ pos 1) ≤ℤ (row.x +ℤ pos 8) }
-    requires ink { ForSome row.ink (λ e. e < 4) }
-    requires background { ForSome row.background (λ e. e < 4) }
-    ensures value { result ≡ eight_painter row.bits row.ink row.background row.x u row.v }
-    ensures bound { ForSome result (λ e. e < 4) }
-{
-    if (row.bits >> shift_of(row.x, u)) % 2 == 1 {
-        row.background
-    } else {
-        row.ink
-    }
-}
-
-/// How far the bit of column `u` stands from the lowest.
-fn shift_of(x: i64, u: usize) -> u32
-    requires column { u < 160 }
-    requires from { x ≤ℤ pos u }
-    requires to { (pos u +ℤ pos 1) ≤ℤ (x +ℤ pos 8) }
-    ensures value { result ≡ 7 - natural (pos u -ℤ x) }
-    ensures bound { result < 8 }
-{
-    (x + 7 - u as i64) as u32
+    let q = (row.left / 4).min(36);
+    let low = (row.left - 4 * q) as u32;
+    let high = (row.right - 4 * q) as u32;
+    let bits = placed(row.bits, offset(row.left, row.x) as u32, low);
+    let strip = part_of(either(bits, inks.first, inks.second), low, high);
+    put_strip(page, q, row.v, strip);
 }

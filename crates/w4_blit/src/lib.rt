@@ -11,6 +11,8 @@ pub mod font;
 mod glyphs;
 mod reach;
 mod source;
+mod spread;
+mod strips;
 pub mod texts;
 mod walks;
 mod windows;

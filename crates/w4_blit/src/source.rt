@@ -2,7 +2,7 @@
 //! they stand, those of the framebuffer from a copy of those that the call reads.
 
 ghost use Rattle.std.specs.Prelude.{◌+◌, ◌-ℤ◌, ◌<◌, ◌≡◌, ◌≤◌, pos, slice_index, slice_range};
-ghost use Rattle.w4_blit.specs.Snapshot.{with_copied_bytes, with_snapshot};
+ghost use Rattle.w4_blit.specs.FramebufferCopy.{with_copied_bytes, with_copy};
 ghost use Rattle.w4_defs.specs.Shapes.{natural};
 
 use w4_defs::PageBytes;
@@ -23,9 +23,9 @@ pub(crate) fn many_bytes(page: &PageBytes, first: usize, len: usize) -> [u8; 640
     requires there { first + len ≤ 65536 }
     ensures { slice_range result 0 len ≡ slice_range page.now first (first + len) }
 {
-    let mut kept = [0; 6400];
-    kept[..len].copy_from_slice(&page[first..first + len]);
-    kept
+    let mut copy_bytes = [0; 6400];
+    copy_bytes[..len].copy_from_slice(&page[first..first + len]);
+    copy_bytes
 }
 
 /// `len` bytes of the page from `first` on, where they are few.
@@ -34,21 +34,21 @@ pub(crate) fn few_bytes(page: &PageBytes, first: usize, len: usize) -> [u8; 256]
     requires there { first + len ≤ 65536 }
     ensures { slice_range result 0 len ≡ slice_range page.now first (first + len) }
 {
-    let mut kept = [0; 256];
-    kept[..len].copy_from_slice(&page[first..first + len]);
-    kept
+    let mut copy_bytes = [0; 256];
+    copy_bytes[..len].copy_from_slice(&page[first..first + len]);
+    copy_bytes
 }
 
-/// A byte of the page when the call began, where a snapshot has the framebuffer's from its first on.
-pub(crate) fn source_byte(page: &PageBytes, snapshot: &[u8], at: u64) -> u8
-    ensures { result ≡ slice_index (with_snapshot page.now snapshot.now) at }
+/// A byte of the page when the call began, where the copy has the framebuffer's from its first on.
+pub(crate) fn source_byte(page: &PageBytes, copy: &[u8], at: u64) -> u8
+    ensures { result ≡ slice_index (with_copy page.now copy.now) at }
 {
-    byte_at(page, FRAMEBUFFER, snapshot, at)
+    byte_at(page, FRAMEBUFFER, copy, at)
 }
 
 /// A byte of the page when the call began, where the framebuffer's are kept from `first` on; 0 past its end.
-pub(crate) fn byte_at(page: &PageBytes, first: usize, kept: &[u8], at: u64) -> u8
-    ensures { result ≡ slice_index (with_copied_bytes page.now first kept.now) at }
+pub(crate) fn byte_at(page: &PageBytes, first: usize, copy_bytes: &[u8], at: u64) -> u8
+    ensures { result ≡ slice_index (with_copied_bytes page.now first copy_bytes.now) at }
 {
     if 65536 <= at {
         PAST_THE_END
@@ -57,15 +57,15 @@ pub(crate) fn byte_at(page: &PageBytes, first: usize, kept: &[u8], at: u64) -> u
     } else if at < 160 {
         page[at as usize]
     } else {
-        kept_byte(kept, (at as usize).saturating_sub(first))
+        copied_byte(copy_bytes, (at as usize).saturating_sub(first))
     }
 }
 
-fn kept_byte(kept: &[u8], at: usize) -> u8
-    ensures { result ≡ slice_index kept.now at }
+fn copied_byte(copy_bytes: &[u8], at: usize) -> u8
+    ensures { result ≡ slice_index copy_bytes.now at }
 {
-    if at < kept.len() {
-        kept[at]
+    if at < copy_bytes.len() {
+        copy_bytes[at]
     } else {
         PAST_THE_END
     }

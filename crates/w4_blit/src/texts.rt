@@ -1,7 +1,7 @@
 //! Text, code by code.
 
 ghost use Rattle.std.specs.Prelude.{◌+ℤ◌, ◌==◌, ◌≡◌, ◌≤◌, ◌≤ℤ◌, if◌then◌else◌, length, pos};
-ghost use Rattle.w4_blit.specs.Snapshot.{source_start, with_copied_bytes};
+ghost use Rattle.w4_blit.specs.FramebufferCopy.{source_start, with_copied_bytes};
 ghost use Rattle.w4_defs.specs.Framebuffer.{paint};
 ghost use Rattle.w4_defs.specs.Text.{text_codes, text_painter};
 
@@ -9,6 +9,7 @@ use crate::codes::{code_at, code_count, part_kept, start_of};
 use crate::font::Font;
 use crate::glyphs::{Glyph, put_glyph};
 use crate::source::{FRAMEBUFFER, FRAMEBUFFER_END, few_bytes, many_bytes};
+use crate::strips::inks_of;
 use w4_defs::{PageBytes, TextSource};
 
 /// From this row on nothing is on the screen, and no code goes back up.
@@ -78,11 +79,11 @@ fn text_inside(
 {
     let (first, len) = part_kept(source, count);
     if len <= 256 {
-        let kept = few_bytes(page, first, len);
+        let copy_bytes = few_bytes(page, first, len);
         put_codes(
             page,
             first,
-            &kept[..len],
+            &copy_bytes[..len],
             font,
             colors,
             source,
@@ -91,11 +92,11 @@ fn text_inside(
             i64::from(y),
         );
     } else {
-        let kept = many_bytes(page, first, len);
+        let copy_bytes = many_bytes(page, first, len);
         put_codes(
             page,
             first,
-            &kept[..len],
+            &copy_bytes[..len],
             font,
             colors,
             source,
@@ -110,7 +111,7 @@ fn text_inside(
 fn put_codes(
     page: &mut PageBytes,
     first: usize,
-    kept: &[u8],
+    copy_bytes: &[u8],
     font: &Font,
     colors: u16,
     source: TextSource,
@@ -118,26 +119,28 @@ fn put_codes(
     x: i64,
     y: i64,
 )
-    requires count { count ≡ length (text_codes (with_copied_bytes page.old first kept.now) source) }
+    requires count { count ≡ length (text_codes (with_copied_bytes page.old first copy_bytes.now) source) }
     requires few { count ≤ 65536 }
     requires column { x ≤ℤ pos 2147483648 }
     requires row { y ≤ℤ pos 2147483648 }
     ensures { page.new ≡ paint page.old
-        (text_painter font.now colors (text_codes (with_copied_bytes page.old first kept.now) source) x y) }
+        (text_painter font.now colors (text_codes (with_copied_bytes page.old first copy_bytes.now) source) x
+        y) }
 {
+    let inks = inks_of(colors);
     let mut pen = Pen { x, y };
     for k in 0..count {
         if SCREEN_END <= pen.y {
             return;
         }
-        let code = code_at(page, first, kept, source, k);
+        let code = code_at(page, first, copy_bytes, source, k);
         let glyph = Glyph {
             colors,
             code,
             x: pen.x,
             y: pen.y,
         };
-        put_glyph(page, font, glyph);
+        put_glyph(page, font, &inks, glyph);
         pen = moved(pen, code, x);
     }
 }

@@ -1,89 +1,186 @@
-//! Four pixels of the picture that follow one another, from two bytes of the page.
+//! The values of sixteen pixels of the sprite that follow one another, from the page's bytes.
 
-ghost use Rattle.std.specs.Option.{ForSome};
-ghost use Rattle.std.specs.Prelude.{◌+◌, ◌/◌, ◌<◌, ◌≡◌, ℕ, if◌then◌else◌};
-ghost use Rattle.w4_blit.specs.Snapshot.{with_snapshot};
-ghost use Rattle.w4_blit.specs.Walks.{place_index, window_value};
-ghost use Rattle.w4_defs.specs.Blit.{has_flag, source_value};
-ghost use Rattle.w4_defs.specs.Colours.{palette_index};
+ghost use Rattle.std.specs.Prelude.{[], ◌∷◌, ◌+◌, ◌-◌, ◌*◌, ◌/◌, ◌%◌, ◌<◌, ◌≡◌, ◌≤◌, ◌^◌, ℕ, slice_index, true};
+ghost use Rattle.w4_blit.specs.FramebufferCopy.{with_copy};
+ghost use Rattle.w4_blit.specs.Strips.{AreMasks, HasValue, IsMask};
+ghost use Rattle.w4_blit.specs.Walks.{walked};
+ghost use Rattle.w4_defs.specs.Blit.{source_value};
 
 use crate::cells::{TWO_BITS, has_flag};
 use crate::source::source_byte;
-use w4_defs::{PageBytes, Picture};
-use w4_pixels::entry_of;
+use crate::spread::{high_bits, low_bits, spread};
+use crate::strips::{Bits, moved};
+use crate::walks::Walk;
+use w4_defs::{PageBytes, Sprite};
 
-/// What four pixels paint.
-#[derive(Clone, Copy)]
-pub(crate) struct Four {
-    pub first: Option<u8>,
-    pub second: Option<u8>,
-    pub third: Option<u8>,
-    pub fourth: Option<u8>,
-}
-
-/// What the pixels from `place` on paint: pixel value v is painted in colour v + 1.
-pub(crate) fn four_from(page: &PageBytes, snapshot: &[u8], picture: &Picture, place: u64) -> Four
-    ensures first { result.first ≡ place_index (with_snapshot page.now snapshot.now) picture.now place }
-    ensures second { result.second
-        ≡ place_index (with_snapshot page.now snapshot.now) picture.now (place + 1) }
-    ensures third { result.third ≡ place_index (with_snapshot page.now snapshot.now) picture.now (place + 2) }
-    ensures fourth { result.fourth
-        ≡ place_index (with_snapshot page.now snapshot.now) picture.now (place + 3) }
-    ensures first_small { ForSome result.first (λ e. e < 4) }
-    ensures second_small { ForSome result.second (λ e. e < 4) }
-    ensures third_small { ForSome result.third (λ e. e < 4) }
-    ensures fourth_small { ForSome result.fourth (λ e. e < 4) }
+/// The values that the cells from number `n` of a row on read, as far as the row has cells, the first of them
+/// as digit `low`.
+pub(crate) fn cell_bits(
+    page: &PageBytes,
+    copy: &[u8],
+    sprite: &Sprite,
+    walk: Walk,
+    n: u64,
+    low: u32,
+) -> Bits
+    requires start { walk.start ≤ 524288 }
+    requires pace { walk.pace ≡ 1 }
+    requires cell { n < walk.count }
+    requires low { low < 16 }
+    ensures values { (d : ℕ) → low + d < 16 → n + d < walk.count → HasValue result (low + d)
+        (source_value (with_copy page.now copy.now) sprite.now (walked walk (n + d))) }
+    ensures masks { AreMasks result }
 {
-    let window = window_at(page, snapshot, picture, place);
-    Four {
-        first: index_of(picture, window, place, 0),
-        second: index_of(picture, window, place, 1),
-        third: index_of(picture, window, place, 2),
-        fourth: index_of(picture, window, place, 3),
-    }
-}
-
-/// The byte that has pixel `place` and the one behind it.
-fn window_at(page: &PageBytes, snapshot: &[u8], picture: &Picture, place: u64) -> u16
-    ensures { (k : ℕ) → k < 4 → window_value picture.now result place k
-        ≡ source_value (with_snapshot page.now snapshot.now) picture.now (place + k) }
-{
-    let at = byte_of(picture, place);
-    let first = u16::from(source_byte(page, snapshot, at));
-    256 * first + u16::from(source_byte(page, snapshot, at + 1))
-}
-
-fn byte_of(picture: &Picture, place: u64) -> u64
-    ensures value { result
-        ≡ (if has_flag picture.now 1 then picture.now.ptr + place / 4 else picture.now.ptr + place / 8) }
-    ensures bound { result < 9223372036854775808 }
-{
-    let ptr = u64::from(picture.ptr);
-    if has_flag(picture, TWO_BITS) {
-        ptr + place / 4
+    if walk.backward {
+        backward_bits(page, copy, sprite, walk, n, low)
     } else {
-        ptr + place / 8
+        let bits = sixteen_from(page, copy, sprite, walk.start + n);
+        moved_bits(bits, 0, low)
     }
 }
 
-/// What the k-th of the pixels in a window paints.
-fn index_of(picture: &Picture, window: u16, place: u64, k: u32) -> Option<u8>
-    requires { k < 4 }
-    ensures value { result
-        ≡ palette_index picture.now.colors (window_value picture.now window place k + 1) }
-    ensures bound { ForSome result (λ e. e < 4) }
+/// The last of the cells reads the first pixel.
+fn backward_bits(
+    page: &PageBytes,
+    copy: &[u8],
+    sprite: &Sprite,
+    walk: Walk,
+    n: u64,
+    low: u32,
+) -> Bits
+    requires start { walk.start ≤ 524288 }
+    requires pace { walk.pace ≡ 1 }
+    requires backward { walk.backward ≡ true }
+    requires cell { n < walk.count }
+    requires low { low < 16 }
+    ensures values { (d : ℕ) → low + d < 16 → n + d < walk.count → HasValue result (low + d)
+        (source_value (with_copy page.now copy.now) sprite.now (walked walk (n + d))) }
+    ensures masks { AreMasks result }
 {
-    entry_of(picture.colors, window_value(picture, window, place, k) + 1)
+    let last = u64::from(walk.count) - 1 - n;
+    let first = last.saturating_sub(15);
+    let bits = turned_bits(sixteen_from(page, copy, sprite, walk.start + first));
+    moved_bits(bits, (15 - (last - first)) as u32, low)
 }
 
-fn window_value(picture: &Picture, window: u16, place: u64, k: u32) -> u8
-    requires { k < 4 }
-    ensures value { result ≡ window_value picture.now window place k }
-    ensures bound { result < 4 }
+/// The digits from number `from` on, the first of them as digit `to`.
+fn moved_bits(bits: Bits, from: u32, to: u32) -> Bits
+    requires from { from < 16 }
+    requires to { to < 16 }
+    requires masks { AreMasks bits }
+    ensures values { (d value : ℕ) → from + d < 16 → to + d < 16 → HasValue bits (from + d) value
+        → HasValue result (to + d) value }
+    ensures masks { AreMasks result }
 {
-    if has_flag(picture, TWO_BITS) {
-        ((window >> (14 - 2 * ((place % 4) as u32 + k))) % 4) as u8
+    Bits {
+        low: moved(bits.low, from, to),
+        high: moved(bits.high, from, to),
+    }
+}
+
+fn turned_bits(bits: Bits) -> Bits
+    requires masks { AreMasks bits }
+    ensures values { (k value : ℕ) → k < 16 → HasValue bits (15 - k) value → HasValue result k value }
+    ensures masks { AreMasks result }
+{
+    Bits {
+        low: turned(bits.low),
+        high: turned(bits.high),
+    }
+}
+
+/// The digits of a mask in the other order.
+fn turned(mask: u32) -> u32
+    requires { IsMask mask }
+    ensures digits { (k : ℕ) → k < 16 → result / 4 ^ k % 4 ≡ mask / 4 ^ (15 - k) % 4 }
+{
+    let first = u32::from(low_bits((mask / 16777216 % 256) as u8));
+    let second = u32::from(low_bits((mask / 65536 % 256) as u8));
+    let third = u32::from(low_bits((mask / 256 % 256) as u8));
+    let fourth = u32::from(low_bits((mask % 256) as u8));
+    first + 256 * (second + 256 * (third + 256 * fourth))
+}
+
+/// The values of the pixels from `pixel` on.
+fn sixteen_from(page: &PageBytes, copy: &[u8], sprite: &Sprite, pixel: u64) -> Bits
+    ensures values { (k : ℕ) → k < 16
+        → HasValue result k (source_value (with_copy page.now copy.now) sprite.now (pixel + k)) }
+    ensures masks { AreMasks result }
+{
+    let ptr = u64::from(sprite.ptr);
+    if has_flag(sprite, TWO_BITS) {
+        two_bits(page, copy, ptr, pixel)
     } else {
-        ((window >> (15 - ((place % 8) as u32 + k))) % 2) as u8
+        one_bit(page, copy, ptr, pixel)
     }
+}
+
+fn two_bits(page: &PageBytes, copy: &[u8], ptr: u64, pixel: u64) -> Bits
+    requires { ptr < 4294967296 }
+    ensures values { (k : ℕ) → k < 16 → HasValue result k
+        (slice_index (with_copy page.now copy.now) (ptr + (pixel + k) / 4) / 4 ^ (3 - (pixel + k) % 4) % 4) }
+    ensures masks { AreMasks result }
+{
+    let at = ptr + pixel / 4;
+    let a = source_byte(page, copy, at);
+    let b = source_byte(page, copy, at + 1);
+    let c = source_byte(page, copy, at + 2);
+    let d = source_byte(page, copy, at + 3);
+    let e = source_byte(page, copy, at + 4);
+    let first = (pixel % 4) as u32;
+    Bits {
+        low: digits_from(
+            low_bits(a),
+            low_bits(b),
+            low_bits(c),
+            low_bits(d),
+            low_bits(e),
+            first,
+        ),
+        high: digits_from(
+            high_bits(a),
+            high_bits(b),
+            high_bits(c),
+            high_bits(d),
+            high_bits(e),
+            first,
+        ),
+    }
+}
+
+/// Sixteen digits from number `first` on, of the twenty in five bytes.
+fn digits_from(a: u8, b: u8, c: u8, d: u8, e: u8, first: u32) -> u32
+    requires { first < 4 }
+    ensures { (k : ℕ) → k < 16 → result / 4 ^ k % 4
+        ≡ slice_index (a ∷ b ∷ c ∷ d ∷ e ∷ []) ((first + k) / 4) / 4 ^ ((first + k) % 4) % 4 }
+{
+    let (a, b, c) = (u64::from(a), u64::from(b), u64::from(c));
+    let word = a + 256 * (b + 256 * (c + 256 * (u64::from(d) + 256 * u64::from(e))));
+    ((word >> (2 * first)) % 4294967296) as u32
+}
+
+fn one_bit(page: &PageBytes, copy: &[u8], ptr: u64, pixel: u64) -> Bits
+    requires { ptr < 4294967296 }
+    ensures values { (k : ℕ) → k < 16 → HasValue result k
+        (slice_index (with_copy page.now copy.now) (ptr + (pixel + k) / 8) / 2 ^ (7 - (pixel + k) % 8) % 2) }
+    ensures masks { AreMasks result }
+{
+    let at = ptr + pixel / 8;
+    let a = spread(source_byte(page, copy, at));
+    let b = spread(source_byte(page, copy, at + 1));
+    let c = spread(source_byte(page, copy, at + 2));
+    Bits {
+        low: wide_digits_from(a, b, c, (pixel % 8) as u32),
+        high: 0,
+    }
+}
+
+/// Sixteen digits from number `first` on, of the 24 in three words.
+fn wide_digits_from(a: u16, b: u16, c: u16, first: u32) -> u32
+    requires { first < 8 }
+    ensures { (k : ℕ) → k < 16 → result / 4 ^ k % 4
+        ≡ slice_index (a ∷ b ∷ c ∷ []) ((first + k) / 8) / 4 ^ ((first + k) % 8) % 4 }
+{
+    let word = u64::from(a) + 65536 * (u64::from(b) + 65536 * u64::from(c));
+    ((word >> (2 * first)) % 4294967296) as u32
 }

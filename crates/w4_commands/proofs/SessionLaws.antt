@@ -1,10 +1,9 @@
 -- An editor's session of places, and what its runs have in common, from one call to the next.
-use Rattle.std.proofs.Common.{◌≡◌, ℕ, suc, ◌-◌, ◌≤◌, Some, inl, inr, List, [], ◌∷◌, ◌++◌, map, length, Option, refl, sym, ap, ◌∙◌, arith, subst}
+use Rattle.std.proofs.Common.{◌≡◌, ℕ, ◌-◌, ◌≤◌, Some, inl, inr, List, [], ◌++◌, length, Option, refl, sym, ap, ◌∙◌, arith, subst}
 use Rattle.std.specs.Prelude.{Result, Ok, Err, OnOk}
 use Rattle.std.specs.Option.{ForSome}
 use Rattle.std.proofs.lemmas.List.{append-nil}
-use Rattle.w4_defs.specs.KeptList.{Entry, kept_entries, place_at}
-use Rattle.w4_defs.specs.Session.{Session, draft_of_places}
+use Rattle.w4_defs.specs.Session.{Session}
 use Rattle.w4_editor.specs.Editing.{Editing, editing_setup, with_session}
 use Rattle.w4_editor.specs.Showing.{KeepsRecording, IsAtEnd}
 use Rattle.w4_defs.specs.World.{World, Appends}
@@ -12,26 +11,15 @@ use Rattle.w4_defs.specs.declared.place_text.PlaceText.{PlaceText}
 use Rattle.w4_defs.specs.ScriptAnswers.{one_text}
 use Rattle.w4_defs.specs.Answers.{answer_text}
 use Rattle.w4_defs.specs.PlaceTexts.{as_it_stands}
-use Rattle.w4_commands.specs.Causes.{Printed, StopsWriting}
-use Rattle.w4_commands.specs.Editors.{KeepsRest, OnlyShows, IsAnswered, GivesAnswer, place_session, text_by}
+use Rattle.w4_commands.specs.Causes.{Written, StopsWriting}
+use Rattle.w4_commands.specs.ScriptAnswers.{OnlyShows, IsAnswered, GivesAnswer, text_by}
+use Rattle.w4_editor.specs.PlaceSession.{KeepsRest, place_session}
 use Rattle.w4_defs.specs.Endings.{manner_of}
 use Rattle.w4_defs.specs.declared.status.Status.{Status}
 use Rattle.w4_commands.proofs.OwesLaws.{there_as, there_is}
+use Rattle.w4_editor.proofs.PlaceLaws.{rest_then, same_session}
 
 -- ---- cart, font, digest, budget and disk
-
-pub rest_none : (e : Editing) → KeepsRest e e
-rest_none e = refl
-
-pub rest_then : (first second third : Editing) → KeepsRest first second → KeepsRest second third
-    → KeepsRest first third
-rest_then first second third one next =
-    next ∙ ap (λ (e : Editing). with_session e third.session third.at) one
-
-pub rest_at : (old new : Editing) (at : Option ℕ) → new ≡ with_session old new.session at
-    → KeepsRest old new
-rest_at old new at e =
-    e ∙ ap (λ (a : Option ℕ). with_session old new.session a) (sym (ap (λ (x : Editing). x.at) e))
 
 pub same_editing_setup : (old new : Editing) → KeepsRest old new → editing_setup new ≡ editing_setup old
 same_editing_setup old new rest = ap (λ (e : Editing). editing_setup e) rest
@@ -40,27 +28,6 @@ pub same_disk : (old new : Editing) → KeepsRest old new → new.disk ≡ old.d
 same_disk old new rest = ap (λ (e : Editing). e.disk) rest
 
 -- ---- showing
-
-same_list : (old new : List Entry) → length new ≡ length old
-    → ((i : ℕ) → place_at new i ≡ place_at old i)
-    → map kept_entries.place new ≡ map kept_entries.place old
-same_list [] [] many each = refl
-same_list [] (y ∷ new) many each = absurd (omega (arith, many))
-same_list (x ∷ old) [] many each = absurd (omega (arith, many))
-same_list (x ∷ old) (y ∷ new) many each =
-    let rest = same_list old new (omega (arith, many)) (λ i. each (suc i)) in
-    ap (λ (p : ℕ). p ∷ map kept_entries.place new) (each 0)
-    ∙ ap (λ (places : List ℕ). x.place ∷ places) rest
-
-same_session : (old new : Editing) → KeepsRecording old new → place_session new ≡ place_session old
-same_session old new keeps =
-    let kept =
-    same_list old.session.current.kept new.session.current.kept keeps.places.many keeps.places.places in
-    λ i. record {
-      current = record { inputs = keeps.inputs i; kept = kept i };
-      older = map (draft_of_places kept_entries) (keeps.older i);
-      newer = map (draft_of_places kept_entries) (keeps.newer i);
-    }
 
 pub only_shows : (old new : Editing) → KeepsRecording old new → OnlyShows old new
 only_shows old new keeps = record { session = same_session old new keeps; rest = keeps.same }
@@ -111,20 +78,20 @@ pub told : (before after : World) (old new : Editing) (text : Option (List ℕ))
 told before after old new text shows written =
     record { out = written; session = shows.session; rest = shows.rest }
 
-pub told_on : {X : Type 0} (result : Result X Status) (before after : World) (old new : Editing)
+pub answered_on : {X : Type 0} (result : Result X Status) (before after : World) (old new : Editing)
     (written text : Option (List ℕ))
     → text ≡ written → OnOk result (OnlyShows old new)
-    → ForSome written (λ out. Printed before after result out)
+    → ForSome written (λ out. Written before after result out)
     → GivesAnswer before after result old new (answer_text (place_session old) text)
-told_on (Ok x) before after old new written text e shows h =
+answered_on (Ok x) before after old new written text e shows h =
     told before after old new text shows (there_as (λ out. Appends before.out after.out out) written text e h)
-told_on (Err why) before after old new written text e shows h =
+answered_on (Err why) before after old new written text e shows h =
     there_as (λ out. StopsWriting before after (manner_of why) out) written text e h
 
 -- a refusal shows nothing
 pub refused_place : {X : Type 0} (result : Result X Status) (before after : World) (e : Editing)
     (written : List ℕ) (text : Option (List ℕ))
-    → text ≡ Some written → Printed before after result written
+    → text ≡ Some written → Written before after result written
     → GivesAnswer before after result e e (answer_text (place_session e) text)
 refused_place (Ok x) before after e written text same h =
     told before after e e text (shows_none e)

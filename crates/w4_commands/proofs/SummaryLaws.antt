@@ -18,11 +18,11 @@ use Rattle.w4_defs.specs.State.{Moment}
 use Rattle.w4_defs.specs.EncodeModule.{module_bytes}
 use Rattle.w4_defs.specs.Causes.{Ends}
 use Rattle.w4_defs.specs.Endings.{Manner}
-use Rattle.w4_defs.specs.Output.{made_text, make_output, only_printed}
+use Rattle.w4_defs.specs.Output.{made_text, make_output, only_written}
 use Rattle.w4_defs.specs.World.{World}
 use Rattle.w4_defs.proofs.ThereLaws.{value_there}
-use Rattle.w4_commands.specs.Causes.{MakesOf, Prints}
-use Rattle.w4_commands.proofs.EndLaws.{ends_printed}
+use Rattle.w4_commands.specs.Causes.{MakesOf, WritesOut}
+use Rattle.w4_commands.proofs.EndLaws.{ends_written}
 
 bit_small : (b : Bool) → cond b 1 0 ≤ 1
 bit_small true = omega arith
@@ -58,10 +58,10 @@ lit_all page n lit most least counted =
     (take_all n (range_with_len 0 25600) (rw (length-range_with_len 0 25600) least))
 
 -- the run of a made cart comes to a moment, and the lines tell of its state
-lines_tell : (number : ℕ) (moment : Moment)
+lines_say : (number : ℕ) (moment : Moment)
     → run (made_setup number) [] (made_inputs number) made_frames ≡ Some moment
     → made_text number ≡ Some (summary_text sha256 (length (module_bytes (made_module number))) moment.state)
-lines_tell number moment e = rw e refl
+lines_say number moment e = rw e refl
 
 pub summary_is : (number : ℕ) (cart : WasmModule) (font : List ℕ) (budget : ℕ) (inputs : List Input)
     (bytes : List ℕ) (count : ℕ) (moment : Moment)
@@ -83,16 +83,16 @@ summary_is number cart font budget inputs bytes count moment made zeros units fr
     units with_font in
     let whole = subst (λ (x : List Input). run (made_setup number) [] x made_frames ≡ Some moment)
     frames with_budget in
-    lines_tell number moment whole
+    lines_say number moment whole
     ∙ ap (λ (n : ℕ). Some (summary_text sha256 n moment.state))
     (sym (counted ∙ ap (λ (b : List ℕ). length b) written))
 
 -- the lines are there, and so is what is made of them
 pub ends_made : (old new : World) (why : Manner) (number : ℕ) → IsSome (made_text number)
-    → new.files ≡ old.files → ForSome (made_text number) (λ out. Prints old new why out)
+    → new.files ≡ old.files → ForSome (made_text number) (λ out. WritesOut old new why out)
     → Ends old new why (MakesOf (λ files. make_output number files))
 ends_made old new why number there same h =
     let told = value_there (made_text number) there in
     subst (λ (text : Option (List ℕ)). Ends old new why (MakesOf (λ files.
-    option_map (λ out. Ok (only_printed out files)) text))) (sym told.1)
-    (ends_printed old new why told.0 same (h told.0 told.1))
+    option_map (λ out. Ok (only_written out files)) text))) (sym told.1)
+    (ends_written old new why told.0 same (h told.0 told.1))

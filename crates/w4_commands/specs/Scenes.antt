@@ -16,7 +16,7 @@ scene_setup s = console_setup s.cart.now s.font.now s.budget
 
 -- the state and the record that the stage holds
 abbrev pub stage_moment : Stage → Moment
-stage_moment stage = moment stage.console stage.made
+stage_moment stage = moment stage.console stage.frame_record
 
 abbrev pub IsAtPlace : Scene → List Input → ℕ → Stage → Type 0
 IsAtPlace scene inputs place stage =
@@ -26,7 +26,7 @@ IsAtPlace scene inputs place stage =
 -- what the frame made that leads to a place of a scene's run
 abbrev pub scene_record : Scene → List Input → ℕ → Option FrameRecord
 scene_record scene inputs place =
-    option_map (λ (m : Moment). m.made) (run (scene_setup scene) scene.disk.now inputs place)
+    option_map (λ (m : Moment). m.frame_record) (run (scene_setup scene) scene.disk.now inputs place)
 
 -- and to so many places, from place 0 on
 abbrev pub scene_records : Scene → List Input → ℕ → Option (List FrameRecord)

@@ -1,12 +1,12 @@
 -- What the program holds, as the definitions see it.
 use Rattle.std.specs.Prelude.{map, string_bytes}
-use Rattle.w4_commands.specs.declared.words.RunNames.{RunNames}
-use Rattle.w4_commands.specs.declared.words.EditNames.{EditNames}
-use Rattle.w4_commands.specs.declared.words.NetNames.{NetNames}
-use Rattle.w4_commands.specs.declared.words.BatchNames.{BatchNames}
-use Rattle.w4_commands.specs.declared.words.Form.{Form as Named}
-use Rattle.w4_commands.specs.declared.words.Form.TheVariants as named
-use Rattle.w4_commands.specs.declared.cart.CartFile.{CartFile}
+use Rattle.w4_commands.specs.declared.forms.RunNames.{RunNames}
+use Rattle.w4_commands.specs.declared.forms.EditNames.{EditNames}
+use Rattle.w4_commands.specs.declared.forms.NetNames.{NetNames}
+use Rattle.w4_commands.specs.declared.forms.BatchNames.{BatchNames}
+use Rattle.w4_commands.specs.declared.forms.Form.{Form as Named}
+use Rattle.w4_commands.specs.declared.forms.Form.TheVariants as named
+use Rattle.w4_cart.specs.declared.acceptance.CartFile.{CartFile}
 use Rattle.w4_commands.specs.declared.load.Played.{Played}
 use Rattle.w4_commands.specs.declared.load.Loaded.{Loaded}
 use Rattle.w4_commands.specs.declared.load_tools.NetLoaded.{NetLoaded}

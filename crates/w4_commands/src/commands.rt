@@ -1,34 +1,34 @@
 //! The commands, each over a cart that is judged first.
 
-ghost use Rattle.std.specs.Prelude.{◌≡◌, ◌+◌, ◌-◌, ◌≤◌, length, Some};
+ghost use Rattle.std.specs.Prelude.{◌≡◌, ◌+◌, ◌-◌, ◌≤◌, [], length, Some};
 ghost use Rattle.std.specs.Option.{ForSome};
 ghost use Rattle.w4_defs.specs.Meaning.{RunsHaveMeaning};
 ghost use Rattle.w4_defs.specs.Recording.{encoding};
-ghost use Rattle.w4_defs.specs.World.{LeavesPrinting};
+ghost use Rattle.w4_defs.specs.World.{LeavesWriting};
 ghost use Rattle.w4_defs.specs.Endings.{manner_of};
 ghost use Rattle.w4_defs.specs.Output.{blank_output, blank_recording, checked, disk_output, edit_output, images_output, texts_output, place_texts_from, written};
 ghost use Rattle.w4_defs.specs.Outputs.{OutputsForm, OverCart, output_of};
 ghost use Rattle.w4_defs.specs.Causes.{Ends, LeavesErr};
-ghost use Rattle.w4_commands.specs.Causes.{MakesOf, Printed, Prints};
+ghost use Rattle.w4_commands.specs.Causes.{MakesOf, Written, WritesOut};
 ghost use Rattle.w4_commands.specs.Views.{cart_view, edit_view, form_view, played_view, run_view};
 
+use crate::batch::run_list;
 use crate::budget::Budget;
-use crate::carry::carry_out;
-use crate::cart::CartFile;
+use crate::edit::carry_out;
+use crate::forms::{EditNames, Form, RunNames};
 use crate::load::{Played, frame_count, load_cart, load_edit, load_run, load_run_to};
-use crate::made::make_cart;
-use crate::net::net;
+use crate::make::make_cart;
+use crate::net::run_net;
 use crate::place_text::write_places;
 use crate::places::Places;
-use crate::printing::print;
-use crate::ram::ram;
-use crate::rows::run_list;
+use crate::ram::run_ram;
 use crate::scene::Scene;
-use crate::sound::wave;
 use crate::stage::new_stage;
-use crate::words::{EditNames, Form, RunNames};
+use crate::wave::run_wave;
+use crate::writing::write_bytes;
 use std::alloc::Global;
 use std::thread::Threads;
+use w4_cart::CartFile;
 use w4_console::laws::accepted_runs_have_meaning;
 use w4_defs::{PlaceText, Status};
 use w4_house::House;
@@ -45,7 +45,7 @@ pub fn run_form<R: Threads + Sync, H: House, G: Gate + Sync>(
     gate: &G,
 ) -> Status
     ensures ends { Ends (H.world house.old) (H.world house.new) (manner_of result)
-        (λ files made. OutputsForm (Some (form_view form.entry)) files made) }
+        (λ files output. OutputsForm (Some (form_view form.entry)) files output) }
     ensures formed { result ≡ Status.Usage → ⊥ }
     ensures err { LeavesErr (H.world house.old) (H.world house.new) }
 {
@@ -75,19 +75,19 @@ fn over_cart<R: Threads + Sync, H: House, G: Gate + Sync>(
     gate: &G,
 ) -> Status
     ensures ends { Ends (H.world house.old) (H.world house.new) (manner_of result)
-        (λ files made. OverCart name.now (output_of (form_view form.entry)) files made) }
+        (λ files output. OverCart name.now (output_of (form_view form.entry)) files output) }
     ensures formed { result ≡ Status.Usage → ⊥ }
     ensures err { LeavesErr (H.world house.old) (H.world house.new) }
 {
     accepted_runs_have_meaning();
     match load_cart(alloc, house, name) {
-        Ok(file) => make(rt, alloc, house, file, form, gate),
+        Ok(file) => run_on_cart(rt, alloc, house, file, form, gate),
         Err(status) => status,
     }
 }
 
 /// What a form makes of a cart, whose runs have a meaning.
-fn make<R: Threads + Sync, H: House, G: Gate + Sync>(
+fn run_on_cart<R: Threads + Sync, H: House, G: Gate + Sync>(
     rt: &R,
     alloc: Global,
     house: &mut H,
@@ -102,66 +102,66 @@ fn make<R: Threads + Sync, H: House, G: Gate + Sync>(
     ensures err { LeavesErr (H.world house.old) (H.world house.new) }
 {
     match form {
-        Form::Check(_) => check(alloc, house),
-        Form::Blank(_, budget) => blank(alloc, house, &file, budget),
-        Form::Frames(names, places) => frames(alloc, house, &file, names, places),
-        Form::Tones(names) => texts(alloc, house, &file, names, PlaceText::Schedule),
-        Form::Trace(names) => texts(alloc, house, &file, names, PlaceText::Traces),
-        Form::Disk(names, place) => disk(alloc, house, &file, names, place),
-        Form::Edit(names) => edit(rt, alloc, house, file, names, gate),
+        Form::Check(_) => run_check(alloc, house),
+        Form::Blank(_, budget) => run_blank(alloc, house, &file, budget),
+        Form::Frames(names, places) => run_frames(alloc, house, &file, names, places),
+        Form::Tones(names) => run_texts(alloc, house, &file, names, PlaceText::Schedule),
+        Form::Trace(names) => run_texts(alloc, house, &file, names, PlaceText::Traces),
+        Form::Disk(names, place) => run_disk(alloc, house, &file, names, place),
+        Form::Edit(names) => run_edit(rt, alloc, house, file, names, gate),
         Form::Make(number) => make_cart(alloc, house, number),
-        Form::Net(names) => net(alloc, house, file, names),
-        Form::Ram(names, query) => ram(alloc, house, file, names, query),
-        Form::Wave(names) => wave(alloc, house, &file, names),
+        Form::Net(names) => run_net(alloc, house, file, names),
+        Form::Ram(names, query) => run_ram(alloc, house, file, names, query),
+        Form::Wave(names) => run_wave(alloc, house, &file, names),
         Form::Batch(names) => run_list(rt, alloc, house, &file, names, gate),
     }
 }
 
 /// `check CART`, of a cart that is accepted.
-fn check<H: House>(alloc: Global, house: &mut H) -> Status
+fn run_check<H: House>(alloc: Global, house: &mut H) -> Status
     ensures ends { Ends (H.world house.old) (H.world house.new) (manner_of result)
         (MakesOf (λ files. written checked files)) }
     ensures formed { result ≡ Status.Usage → ⊥ }
     ensures err { LeavesErr (H.world house.old) (H.world house.new) }
 {
-    match print(alloc, house, b"ok\n") {
+    match write_bytes(alloc, house, b"ok\n") {
         Ok(()) => Status::Done,
         Err(status) => status,
     }
 }
 
 /// `blank CART BUDGET`: the recording of this cart with this budget, no disk and no frames.
-fn blank<H: House>(alloc: Global, house: &mut H, file: &CartFile, budget: Budget) -> Status
+fn run_blank<H: House>(alloc: Global, house: &mut H, file: &CartFile, budget: Budget) -> Status
     ensures ends { Ends (H.world house.old) (H.world house.new) (manner_of result)
         (MakesOf (λ files. blank_output budget.units (cart_view file.now) files)) }
     ensures formed { result ≡ Status.Usage → ⊥ }
     ensures err { LeavesErr (H.world house.old) (H.world house.new) }
 {
-    match print_blank(alloc, house, &file.digest, budget) {
+    match write_blank(alloc, house, &file.digest, budget) {
         Ok(()) => Status::Done,
         Err(status) => status,
     }
 }
 
-/// Writes the recording without frames, or gives the status that ends the run.
-fn print_blank<H: House>(
+/// Writes the recording without frames. Errors: the status that ends the run.
+fn write_blank<H: House>(
     alloc: Global,
     house: &mut H,
     digest: &[u8; 32],
     budget: Budget,
 ) -> Result<(), Status>
-    ensures out { Printed (H.world house.old) (H.world house.new) result
-        (encoding 2 (blank_recording digest.now budget.units)) }
-    ensures rest { LeavesPrinting (H.world house.old) (H.world house.new) }
+    ensures out { Written (H.world house.old) (H.world house.new) result
+        (encoding 2 (blank_recording digest.now budget.units [])) }
+    ensures rest { LeavesWriting (H.world house.old) (H.world house.new) }
 {
     let recording = Recording::new(*digest, budget.units, Vec::new(alloc), Vec::new(alloc));
     let bytes = write_recording(alloc, &recording)?;
-    print(alloc, house, bytes.as_slice())
+    write_bytes(alloc, house, bytes.as_slice())
 }
 
 /// `frames CART REC FONT FROM TO`.
 #[tactic(auto, unfolding(w4_defs::specs::Output::images_output))]
-fn frames<H: House>(
+fn run_frames<H: House>(
     alloc: Global,
     house: &mut H,
     file: &CartFile,
@@ -184,7 +184,7 @@ fn frames<H: House>(
 
 /// `tones CART REC FONT` or `trace CART REC FONT`.
 #[tactic(auto, unfolding(w4_defs::specs::Output::texts_output))]
-fn texts<H: House>(
+fn run_texts<H: House>(
     alloc: Global,
     house: &mut H,
     file: &CartFile,
@@ -208,7 +208,7 @@ fn texts<H: House>(
 
 /// `disk CART REC FONT PLACE`.
 #[tactic(auto, unfolding(w4_defs::specs::Output::disk_output))]
-fn disk<H: House>(
+fn run_disk<H: House>(
     alloc: Global,
     house: &mut H,
     file: &CartFile,
@@ -230,7 +230,7 @@ fn disk<H: House>(
 
 /// `edit CART REC FONT SCRIPT OUT`.
 #[tactic(auto, unfolding(w4_defs::specs::Output::edit_output))]
-fn edit<R: Threads + Sync, H: House, G: Gate + Sync>(
+fn run_edit<R: Threads + Sync, H: House, G: Gate + Sync>(
     rt: &R,
     alloc: Global,
     house: &mut H,
@@ -250,7 +250,7 @@ fn edit<R: Threads + Sync, H: House, G: Gate + Sync>(
     }
 }
 
-/// What is told of the places `from` to `to` of a run, and no more.
+/// Writes the texts of the places `from` to `to` of a run, and no more.
 fn write_run<H: House>(
     alloc: Global,
     house: &mut H,
@@ -262,9 +262,9 @@ fn write_run<H: House>(
 ) -> Status
     requires order { from ≤ to }
     requires place { to ≤ length run.now.recording.frames }
-    ensures prints { ForSome (place_texts_from wanted cart.now (played_view run.now) from (to + 1 - from))
-        (λ text. Prints (H.world house.old) (H.world house.new) (manner_of result) text) }
-    ensures rest { LeavesPrinting (H.world house.old) (H.world house.new) }
+    ensures writes_out { ForSome (place_texts_from wanted cart.now (played_view run.now) from (to + 1 - from))
+        (λ text. WritesOut (H.world house.old) (H.world house.new) (manner_of result) text) }
+    ensures rest { LeavesWriting (H.world house.old) (H.world house.new) }
 {
     match try_write_run(alloc, house, cart, run, wanted, from, to) {
         Ok(()) => Status::Done,
@@ -272,7 +272,7 @@ fn write_run<H: House>(
     }
 }
 
-/// Writes the texts of the places, or gives the status that ends the run.
+/// Writes the texts of the places. Errors: the status that ends the run.
 fn try_write_run<H: House>(
     alloc: Global,
     house: &mut H,
@@ -285,8 +285,8 @@ fn try_write_run<H: House>(
     requires order { from ≤ to }
     requires place { to ≤ length run.now.recording.frames }
     ensures out { ForSome (place_texts_from wanted cart.now (played_view run.now) from (to + 1 - from))
-        (λ text. Printed (H.world house.old) (H.world house.new) result text) }
-    ensures rest { LeavesPrinting (H.world house.old) (H.world house.new) }
+        (λ text. Written (H.world house.old) (H.world house.new) result text) }
+    ensures rest { LeavesWriting (H.world house.old) (H.world house.new) }
 {
     let mut stage = new_stage(alloc, cart)?;
     let recording = &run.recording;

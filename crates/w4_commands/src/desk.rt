@@ -7,7 +7,7 @@ ghost use Rattle.w4_defs.specs.Run.{run, run_state};
 ghost use Rattle.w4_defs.specs.State.{Moment, State};
 ghost use Rattle.w4_devices.specs.Records.{record_of};
 ghost use Rattle.w4_editor.specs.Editing.{editing_setup, new_editing};
-ghost use Rattle.w4_commands.specs.Editors.{OnlyShows, text_by};
+ghost use Rattle.w4_commands.specs.ScriptAnswers.{OnlyShows, text_by};
 ghost use Rattle.w4_defs.specs.declared.place_text.PlaceText.TheVariants.{Image, Schedule, Traces};
 
 use std::alloc::Global;
@@ -24,7 +24,7 @@ use wasm_valid::Cart;
 #[derive(Drop)]
 pub struct Desk {
     pub editor: Editor,
-    made: FrameRecord,
+    frame_record: FrameRecord,
     image: Box<[u8; IMAGE_LEN]>,
 }
 
@@ -42,18 +42,9 @@ pub fn new_desk(
     let editor = Editor::new(alloc, cart, font, recording)?;
     Ok(Desk {
         editor,
-        made: FrameRecord::new(),
+        frame_record: FrameRecord::new(),
         image,
     })
-}
-
-/// The number of the last place, which is that of the inputs.
-pub fn last_place(editor: &Editor) -> usize
-    ensures last { result ≡ length editor.now.session.current.inputs }
-    ensures few { result ≤ 36000 }
-{
-    let _shown = editor.at();
-    editor.recording().frames.len()
 }
 
 /// Whether the place before this one is shown.
@@ -124,7 +115,7 @@ fn show_image<L: Ledger>(
 /// Runs the one frame to a place from the one before it, which is shown, and makes its image.
 fn step_image<L: Ledger>(
     editor: &mut Editor,
-    made: &mut FrameRecord,
+    frame_record: &mut FrameRecord,
     image: &mut [u8; IMAGE_LEN],
     place: usize,
     steps: &mut Steps<L>,
@@ -135,7 +126,7 @@ fn step_image<L: Ledger>(
     ensures shows { OnlyShows editor.old editor.new }
     ensures image { text_by editor.old Image place ≡ Some image.new }
 {
-    match editor.step(made, steps) {
+    match editor.step(frame_record, steps) {
         Ok(state) => ppm_into(state, image),
         Err(_) => unreachable!(),
     }
@@ -144,7 +135,7 @@ fn step_image<L: Ledger>(
 /// Runs the one frame to a place from the one before it, which is shown, and makes its record.
 fn step_record<L: Ledger>(
     editor: &mut Editor,
-    made: &mut FrameRecord,
+    frame_record: &mut FrameRecord,
     place: usize,
     steps: &mut Steps<L>,
 )
@@ -152,11 +143,11 @@ fn step_record<L: Ledger>(
     requires place { place ≤ length editor.old.session.current.inputs }
     requires at { editor.old.at ≡ Some (place - 1) }
     ensures shows { OnlyShows editor.old editor.new }
-    ensures made { option_map (λ (moment : Moment). moment.made)
+    ensures frame_record { option_map (λ (moment : Moment). moment.frame_record)
         (run (editing_setup editor.old) editor.old.disk editor.old.session.current.inputs place)
-        ≡ Some (record_of made.new) }
+        ≡ Some (record_of frame_record.new) }
 {
-    match editor.step(made, steps) {
+    match editor.step(frame_record, steps) {
         Ok(_) => {}
         Err(_) => unreachable!(),
     }
@@ -175,11 +166,11 @@ pub fn make_image<L: Ledger>(
 {
     let Desk {
         editor,
-        made,
+        frame_record,
         image,
     } = desk;
     if is_next(editor, place) {
-        step_image(editor, made, image, place, steps);
+        step_image(editor, frame_record, image, place, steps);
         return Ok(());
     }
     show_image(alloc, editor, image, place, steps)
@@ -202,13 +193,13 @@ fn make_record<L: Ledger>(
     requires some { 1 ≤ place }
     requires place { place ≤ length desk.old.editor.session.current.inputs }
     ensures shows { OnOk result (OnlyShows desk.old.editor desk.new.editor) }
-    ensures made { OnOk result (option_map (λ (moment : Moment). moment.made)
+    ensures frame_record { OnOk result (option_map (λ (moment : Moment). moment.frame_record)
         (run (editing_setup desk.old.editor) desk.old.editor.disk
         desk.old.editor.session.current.inputs place)
-        ≡ Some (record_of desk.new.made)) }
+        ≡ Some (record_of desk.new.frame_record)) }
 {
     go_before(alloc, &mut desk.editor, place, steps)?;
-    step_record(&mut desk.editor, &mut desk.made, place, steps);
+    step_record(&mut desk.editor, &mut desk.frame_record, place, steps);
     Ok(())
 }
 
@@ -229,7 +220,7 @@ pub fn schedule<L: Ledger>(
         return Ok(text);
     }
     make_record(alloc, desk, place, steps)?;
-    schedule_text(alloc, place, &desk.made, &mut text)?;
+    schedule_text(alloc, place, &desk.frame_record, &mut text)?;
     Ok(text)
 }
 
@@ -250,6 +241,6 @@ pub fn traces<L: Ledger>(
         return Ok(text);
     }
     make_record(alloc, desk, place, steps)?;
-    trace_text(alloc, place, &desk.made, &mut text)?;
+    trace_text(alloc, place, &desk.frame_record, &mut text)?;
     Ok(text)
 }

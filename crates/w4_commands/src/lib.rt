@@ -3,40 +3,38 @@
 //! ending as `Outputs` has it, on `form_of_words` giving the form of the words, and on `line` for a status.
 #![tactic(auto)]
 
-mod asking;
+mod batch;
 pub mod budget;
-mod by_workers;
-mod carry;
-pub mod cart;
-mod change;
+mod change_answer;
 pub mod commands;
 mod desk;
-mod keep_every;
-pub mod line;
+mod edit;
+mod film_answer;
+pub mod forms;
+mod lines_status;
 mod load;
 mod load_tools;
-mod made;
+mod make;
 mod net;
-mod orders;
+mod net_answers;
 mod place_text;
 pub mod places;
-mod printing;
 mod ram;
+mod ram_answers;
+mod range_answer;
 mod refusal;
-mod rolling;
-mod rows;
 mod scene;
-mod sound;
+mod script_answers;
 mod stage;
 mod state_answer;
 mod state_line;
+pub mod status_line;
 mod summary;
-mod telling;
 mod text;
-pub mod words;
+mod wave;
 pub mod workers;
+mod writing;
 
-pub use cart::{CartRefusal, accept};
 pub use commands::run_form;
+pub use forms::{Form, form_of_words};
 pub use w4_defs::status::{RecordingKind, ScriptKind, Status, number};
-pub use words::{Form, form_of_words};

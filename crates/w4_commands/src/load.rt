@@ -21,14 +21,18 @@ ghost use Rattle.w4_commands.specs.Reads.{GivesValue};
 ghost use Rattle.w4_commands.specs.Causes.{ResultsIn, StepGives};
 ghost use Rattle.w4_commands.specs.Views.{cart_view, edit_view, loaded_view, played_view, run_view};
 
-use crate::cart::{CartFile, CartRefusal, accept_file};
-use crate::words::{EditNames, RunNames};
+use crate::forms::{EditNames, RunNames};
+use crate::lines_status::{LinesFile, lines_status};
 use std::alloc::Global;
 use w4_blit::{Font, FontLength};
-use w4_defs::{Order, RecordingKind, ScriptKind, Status};
+use w4_cart::{CartFile, CartRefusal, accept_file};
+use w4_defs::{Order, RecordingKind, Status};
 use w4_house::{House, HouseFault};
 use w4_record::{Recording, RecordingRefusal, read_recording};
-use w4_script::{ScriptRefusal, read_script};
+use w4_script::read_script;
+
+/// The length of a font, in bytes: 8 for each of 224 codes.
+const FONT_LEN: usize = 1_792;
 
 /// What a run is made of besides the cart.
 #[derive(Drop)]
@@ -77,7 +81,7 @@ pub fn load_cart<H: House>(alloc: Global, house: &mut H, name: &str) -> Result<C
     ensures cart { IfOk result (λ file. (bytes : List ℕ) × IsCart bytes file.cart) }
     ensures rest { LeavesReading (H.world house.old) (H.world house.new) }
 {
-    let bytes = read_file(alloc, house, name, 65_537)?;
+    let bytes = read_file(alloc, house, name, w4_cart::MOST_BYTES + 1)?;
     match accept_file(alloc, bytes.as_slice()) {
         Ok(file) => Ok(file),
         Err(CartRefusal::Kind(kind)) => Err(Status::CartRefused(kind)),
@@ -120,11 +124,7 @@ fn judge_script(alloc: Global, bytes: &[u8]) -> Result<Vec<Order>, Status>
 {
     match read_script(alloc, bytes) {
         Ok(orders) => Ok(orders),
-        Err(ScriptRefusal::TooLong) => Err(Status::ScriptRefused(ScriptKind::TooLong)),
-        Err(ScriptRefusal::BadLine(number)) => {
-            Err(Status::ScriptRefused(ScriptKind::BadLine(number)))
-        }
-        Err(ScriptRefusal::OutOfMemory) => Err(Status::OutOfMemory),
+        Err(refusal) => Err(lines_status(LinesFile::Script, refusal)),
     }
 }
 
@@ -139,7 +139,7 @@ fn load_recording<H: House>(
         (ResultsIn (λ files. recording_in digest.now files name.now)) }
     ensures rest { LeavesReading (H.world house.old) (H.world house.new) }
 {
-    let bytes = read_file(alloc, house, name, 361_072)?;
+    let bytes = read_file(alloc, house, name, w4_record::MOST_BYTES + 1)?;
     judge_recording(alloc, bytes.as_slice(), digest)
 }
 
@@ -149,7 +149,7 @@ pub fn load_font<H: House>(alloc: Global, house: &mut H, name: &str) -> Result<F
         (ResultsIn (λ files. font_in files name.now)) }
     ensures rest { LeavesReading (H.world house.old) (H.world house.new) }
 {
-    let bytes = read_file(alloc, house, name, 1793)?;
+    let bytes = read_file(alloc, house, name, FONT_LEN + 1)?;
     judge_font(bytes.as_slice())
 }
 
@@ -159,7 +159,7 @@ fn load_orders<H: House>(alloc: Global, house: &mut H, name: &str) -> Result<Vec
         (ResultsIn (λ files. script_in files name.now)) }
     ensures rest { LeavesReading (H.world house.old) (H.world house.new) }
 {
-    let bytes = read_file(alloc, house, name, 1_048_577)?;
+    let bytes = read_file(alloc, house, name, w4_script::MOST_BYTES + 1)?;
     judge_script(alloc, bytes.as_slice())
 }
 

@@ -2,7 +2,7 @@
 
 ghost use Rattle.std.specs.Prelude.{◌≡◌, All, IfOk, length, map, string_bytes};
 ghost use Rattle.w4_defs.specs.World.{LeavesReading};
-ghost use Rattle.w4_inspect.specs.Requests.{IsRequest};
+ghost use Rattle.w4_script.specs.Requests.{IsRequest};
 ghost use Rattle.w4_commands.specs.Causes.{ResultsIn, StepGives};
 ghost use Rattle.w4_commands.specs.Reads.{GivesValue};
 ghost use Rattle.w4_defs.specs.ToolOutputs.{
@@ -26,17 +26,16 @@ ghost use Rattle.w4_commands.specs.Views.{
   run_view,
 };
 
+use crate::forms::{BatchNames, NetNames, RunNames};
+use crate::lines_status::{LinesFile, lines_status};
 use crate::load::{Played, load_font, load_run, read_file};
-use crate::words::{BatchNames, NetNames, RunNames};
 use std::alloc::Global;
 use w4_blit::Font;
+use w4_defs::Status;
 use w4_defs::inspect::Ask;
 use w4_defs::netplay::NetOrder;
-use w4_defs::{ScriptKind, Status};
 use w4_house::House;
-use w4_inspect::read_query;
-use w4_netplay::read_log;
-use w4_script::{ScriptRefusal, read_names};
+use w4_script::{MOST_LIST_BYTES, read_log, read_names, read_query};
 
 /// What a session of rollback is made of besides the cart.
 #[derive(Drop)]
@@ -67,11 +66,7 @@ fn judge_log(alloc: Global, bytes: &[u8]) -> Result<Vec<NetOrder>, Status>
 {
     match read_log(alloc, bytes) {
         Ok(orders) => Ok(orders),
-        Err(ScriptRefusal::TooLong) => Err(Status::ScriptRefused(ScriptKind::TooLong)),
-        Err(ScriptRefusal::BadLine(number)) => {
-            Err(Status::ScriptRefused(ScriptKind::BadLine(number)))
-        }
-        Err(ScriptRefusal::OutOfMemory) => Err(Status::OutOfMemory),
+        Err(refusal) => Err(lines_status(LinesFile::Script, refusal)),
     }
 }
 
@@ -83,11 +78,7 @@ fn judge_query(alloc: Global, bytes: &[u8]) -> Result<Vec<Ask>, Status>
 {
     match read_query(alloc, bytes) {
         Ok(lines) => Ok(lines),
-        Err(ScriptRefusal::TooLong) => Err(Status::ScriptRefused(ScriptKind::TooLong)),
-        Err(ScriptRefusal::BadLine(number)) => {
-            Err(Status::ScriptRefused(ScriptKind::BadLine(number)))
-        }
-        Err(ScriptRefusal::OutOfMemory) => Err(Status::OutOfMemory),
+        Err(refusal) => Err(lines_status(LinesFile::Script, refusal)),
     }
 }
 
@@ -98,11 +89,7 @@ fn judge_names(alloc: Global, bytes: &[u8]) -> Result<Vec<String>, Status>
 {
     match read_names(alloc, bytes) {
         Ok(names) => Ok(names),
-        Err(ScriptRefusal::TooLong) => Err(Status::ListRefused(ScriptKind::TooLong)),
-        Err(ScriptRefusal::BadLine(number)) => {
-            Err(Status::ListRefused(ScriptKind::BadLine(number)))
-        }
-        Err(ScriptRefusal::OutOfMemory) => Err(Status::OutOfMemory),
+        Err(refusal) => Err(lines_status(LinesFile::List, refusal)),
     }
 }
 
@@ -112,7 +99,7 @@ fn load_log<H: House>(alloc: Global, house: &mut H, name: &str) -> Result<Vec<Ne
         (ResultsIn (λ files. log_in files name.now)) }
     ensures rest { LeavesReading (H.world house.old) (H.world house.new) }
 {
-    let bytes = read_file(alloc, house, name, 1_048_577)?;
+    let bytes = read_file(alloc, house, name, w4_script::MOST_BYTES + 1)?;
     judge_log(alloc, bytes.as_slice())
 }
 
@@ -123,7 +110,7 @@ fn load_query<H: House>(alloc: Global, house: &mut H, name: &str) -> Result<Vec<
     ensures fit { IfOk result (λ lines. All IsRequest lines.items) }
     ensures rest { LeavesReading (H.world house.old) (H.world house.new) }
 {
-    let bytes = read_file(alloc, house, name, 1_048_577)?;
+    let bytes = read_file(alloc, house, name, w4_script::MOST_BYTES + 1)?;
     judge_query(alloc, bytes.as_slice())
 }
 
@@ -134,7 +121,7 @@ fn load_names<H: House>(alloc: Global, house: &mut H, name: &str) -> Result<Vec<
         (ResultsIn (λ files. names_in files name.now)) }
     ensures rest { LeavesReading (H.world house.old) (H.world house.new) }
 {
-    let bytes = read_file(alloc, house, name, 65_537)?;
+    let bytes = read_file(alloc, house, name, MOST_LIST_BYTES + 1)?;
     judge_names(alloc, bytes.as_slice())
 }
 
@@ -152,7 +139,7 @@ fn load_listed<H: House>(
 {
     let mut recordings = Vec::new(alloc);
     for name in names {
-        let bytes = read_file(alloc, house, name.as_str(), 361_072)?;
+        let bytes = read_file(alloc, house, name.as_str(), w4_record::MOST_BYTES + 1)?;
         recordings.push(bytes)?;
     }
     Ok(recordings)

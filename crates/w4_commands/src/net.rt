@@ -1,26 +1,26 @@
-//! `net`: a session of rollback that a log tells of.
+//! `net`: a session of rollback that a log has.
 
 ghost use Rattle.std.specs.Prelude.{◌≡◌, ◌<◌, []};
 ghost use Rattle.std.specs.Option.{ForSome};
 ghost use Rattle.w4_defs.specs.Meaning.{RunsHaveMeaning};
 ghost use Rattle.w4_editor.specs.Editing.{editing_setup};
-ghost use Rattle.w4_defs.specs.World.{LeavesPrinting};
+ghost use Rattle.w4_defs.specs.World.{LeavesWriting};
 ghost use Rattle.w4_defs.specs.Causes.{Ends, LeavesErr};
-ghost use Rattle.w4_commands.specs.Causes.{MakesOf, Printed, Prints};
+ghost use Rattle.w4_commands.specs.Causes.{MakesOf, Written, WritesOut};
 ghost use Rattle.w4_defs.specs.Endings.{manner_of};
 ghost use Rattle.w4_defs.specs.LogAnswers.{net_answers};
-ghost use Rattle.w4_commands.specs.Replicas.{net_session};
+ghost use Rattle.w4_commands.specs.NetAnswers.{net_session};
 ghost use Rattle.w4_defs.specs.ToolOutputs.{net_output, net_text};
 ghost use Rattle.w4_commands.specs.Views.{cart_view, net_loaded_view, net_view};
 
 use crate::budget::Budget;
-use crate::cart::CartFile;
+use crate::forms::NetNames;
 use crate::load_tools::{NetLoaded, load_net};
-use crate::rolling::answer_order;
-use crate::words::NetNames;
+use crate::net_answers::answer_order;
 use std::alloc::Global;
 use std::marker::Brand;
 use std::sync::ledger::{Blank, Ledger};
+use w4_cart::CartFile;
 use w4_defs::netplay::NetOrder;
 use w4_defs::{Status, Steps};
 use w4_house::House;
@@ -30,7 +30,12 @@ use w4_record::Recording;
 
 /// `net CART FONT BUDGET LOG`.
 #[tactic(auto, unfolding(w4_defs::specs::ToolOutputs::net_output))]
-pub fn net<H: House>(alloc: Global, house: &mut H, file: CartFile, names: NetNames<'_>) -> Status
+pub fn run_net<H: House>(
+    alloc: Global,
+    house: &mut H,
+    file: CartFile,
+    names: NetNames<'_>,
+) -> Status
     requires meaning { RunsHaveMeaning file.cart }
     ensures ends { Ends (H.world house.old) (H.world house.new) (manner_of result)
         (MakesOf (λ files. net_output (net_view names.entry) (cart_view file) files)) }
@@ -43,7 +48,7 @@ pub fn net<H: House>(alloc: Global, house: &mut H, file: CartFile, names: NetNam
     }
 }
 
-/// The answers of all lines.
+/// Answers all lines of the log.
 fn answer_log<H: House>(
     alloc: Global,
     house: &mut H,
@@ -51,9 +56,9 @@ fn answer_log<H: House>(
     budget: Budget,
     loaded: NetLoaded,
 ) -> Status
-    ensures prints { ForSome (net_text file.cart budget.units (net_loaded_view loaded))
-        (λ text. Prints (H.world house.old) (H.world house.new) (manner_of result) text) }
-    ensures rest { LeavesPrinting (H.world house.old) (H.world house.new) }
+    ensures writes_out { ForSome (net_text file.cart budget.units (net_loaded_view loaded))
+        (λ text. WritesOut (H.world house.old) (H.world house.new) (manner_of result) text) }
+    ensures rest { LeavesWriting (H.world house.old) (H.world house.new) }
 {
     match try_answer_log(alloc, house, file, budget, loaded) {
         Ok(()) => Status::Done,
@@ -61,7 +66,7 @@ fn answer_log<H: House>(
     }
 }
 
-/// Writes them, or gives the status that ends the run.
+/// Begins a session without inputs, and answers all lines of the log. Errors: the status that ends the run.
 fn try_answer_log<H: House>(
     alloc: Global,
     house: &mut H,
@@ -70,8 +75,8 @@ fn try_answer_log<H: House>(
     loaded: NetLoaded,
 ) -> Result<(), Status>
     ensures out { ForSome (net_text file.cart budget.units (net_loaded_view loaded))
-        (λ text. Printed (H.world house.old) (H.world house.new) result text) }
-    ensures rest { LeavesPrinting (H.world house.old) (H.world house.new) }
+        (λ text. Written (H.world house.old) (H.world house.new) result text) }
+    ensures rest { LeavesWriting (H.world house.old) (H.world house.new) }
 {
     let NetLoaded { font, orders } = loaded;
     let CartFile { cart, digest } = file;
@@ -94,8 +99,8 @@ fn answer_orders<L: Ledger, H: House>(
     requires some { 0 < L.parts }
     ensures out { ForSome
         (net_answers (editing_setup replica.old.editor) (net_session replica.old) orders.now).out
-        (λ text. Printed (H.world house.old) (H.world house.new) result text) }
-    ensures rest { LeavesPrinting (H.world house.old) (H.world house.new) }
+        (λ text. Written (H.world house.old) (H.world house.new) result text) }
+    ensures rest { LeavesWriting (H.world house.old) (H.world house.new) }
 {
     let mut image = Box::new(alloc, [0; IMAGE_LEN])?;
     let mut steps: Steps<L> = Steps::new(blank);

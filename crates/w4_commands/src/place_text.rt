@@ -3,20 +3,20 @@
 ghost use Rattle.std.specs.Prelude.{◌≡◌, ◌+◌, ◌-◌, ◌≤◌, length};
 ghost use Rattle.std.specs.Option.{ForSome};
 ghost use Rattle.w4_defs.specs.Run.{run};
-ghost use Rattle.w4_defs.specs.World.{LeavesPrinting};
+ghost use Rattle.w4_defs.specs.World.{LeavesWriting};
 ghost use Rattle.w4_defs.specs.State.{HasGlobals};
-ghost use Rattle.w4_commands.specs.Causes.{Printed};
+ghost use Rattle.w4_commands.specs.Causes.{Written};
 ghost use Rattle.w4_commands.specs.Scenes.{scene_setup, stage_moment};
 ghost use Rattle.w4_defs.specs.PlaceTexts.{as_it_stands, moment_text, place_text, place_texts};
 
-use crate::printing::print;
 use crate::scene::Scene;
 use crate::stage::{Stage, disk, paint, painted, run_to, schedule, step, traces};
+use crate::writing::write_bytes;
 use std::alloc::Global;
 use w4_defs::{Input, PlaceText, Status};
 use w4_house::House;
 
-/// Writes what is told of the place where the stage stands.
+/// Writes the text of the place where the stage stands.
 pub fn write_place<H: House>(
     alloc: Global,
     house: &mut H,
@@ -24,30 +24,30 @@ pub fn write_place<H: House>(
     wanted: PlaceText,
     place: usize,
 ) -> Result<(), Status>
-    ensures out { Printed (H.world house.old) (H.world house.new) result
+    ensures out { Written (H.world house.old) (H.world house.new) result
         (moment_text wanted place (stage_moment stage.old)) }
     ensures console { stage.new.console ≡ stage.old.console }
-    ensures made { stage.new.made ≡ stage.old.made }
-    ensures rest { LeavesPrinting (H.world house.old) (H.world house.new) }
+    ensures frame_record { stage.new.frame_record ≡ stage.old.frame_record }
+    ensures rest { LeavesWriting (H.world house.old) (H.world house.new) }
 {
     match wanted {
         PlaceText::Image => {
             paint(stage);
-            print(alloc, house, painted(stage))
+            write_bytes(alloc, house, painted(stage))
         }
         PlaceText::Schedule => {
             let text = schedule(alloc, stage, place)?;
-            print(alloc, house, text.as_slice())
+            write_bytes(alloc, house, text.as_slice())
         }
         PlaceText::Traces => {
             let text = traces(alloc, stage, place)?;
-            print(alloc, house, text.as_slice())
+            write_bytes(alloc, house, text.as_slice())
         }
-        PlaceText::DiskBytes => print(alloc, house, disk(stage)),
+        PlaceText::DiskBytes => write_bytes(alloc, house, disk(stage)),
     }
 }
 
-/// Writes what is told of the places `from` to `to`, so that memory doesn't grow with their number.
+/// Writes the texts of the places `from` to `to`, so that memory doesn't grow with their number.
 pub fn write_places<H: House>(
     alloc: Global,
     house: &mut H,
@@ -66,8 +66,8 @@ pub fn write_places<H: House>(
     ensures out { ForSome (place_texts (λ place.
         place_text as_it_stands wanted place
         (run (scene_setup scene.now) scene.now.disk.now inputs.now place)) from (to + 1 - from))
-        (λ text. Printed (H.world house.old) (H.world house.new) result text) }
-    ensures rest { LeavesPrinting (H.world house.old) (H.world house.new) }
+        (λ text. Written (H.world house.old) (H.world house.new) result text) }
+    ensures rest { LeavesWriting (H.world house.old) (H.world house.new) }
 {
     run_to(stage, scene, inputs, from);
     write_place(alloc, house, stage, wanted, from)?;

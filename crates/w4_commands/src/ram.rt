@@ -3,24 +3,24 @@
 ghost use Rattle.std.specs.Prelude.{◌≡◌, ◌<◌, All, None};
 ghost use Rattle.std.specs.Option.{ForSome};
 ghost use Rattle.w4_defs.specs.Meaning.{RunsHaveMeaning};
-ghost use Rattle.w4_defs.specs.World.{LeavesPrinting};
-ghost use Rattle.w4_inspect.specs.Requests.{IsRequest};
+ghost use Rattle.w4_defs.specs.World.{LeavesWriting};
+ghost use Rattle.w4_script.specs.Requests.{IsRequest};
 ghost use Rattle.w4_defs.specs.Causes.{Ends, LeavesErr};
-ghost use Rattle.w4_commands.specs.Causes.{MakesOf, Printed, Prints};
+ghost use Rattle.w4_commands.specs.Causes.{MakesOf, Written, WritesOut};
 ghost use Rattle.w4_defs.specs.Endings.{manner_of};
-ghost use Rattle.w4_commands.specs.Queries.{editor_pages};
+ghost use Rattle.w4_commands.specs.RamAnswers.{editor_pages};
 ghost use Rattle.w4_defs.specs.QueryAnswers.{ram_answers};
 ghost use Rattle.w4_defs.specs.ToolOutputs.{ram_output, ram_text};
 ghost use Rattle.w4_commands.specs.Views.{cart_view, ram_loaded_view, run_view};
 
-use crate::asking::answer_line;
-use crate::cart::CartFile;
+use crate::forms::RunNames;
 use crate::load::Played;
 use crate::load_tools::{RamLoaded, load_ram};
-use crate::words::RunNames;
+use crate::ram_answers::answer_line;
 use std::alloc::Global;
 use std::marker::Brand;
 use std::sync::ledger::{Blank, Ledger};
+use w4_cart::CartFile;
 use w4_defs::inspect::Ask;
 use w4_defs::{Status, Steps};
 use w4_editor::Editor;
@@ -29,7 +29,7 @@ use wasm_valid::Cart;
 
 /// `ram CART REC FONT QUERY`.
 #[tactic(auto, unfolding(w4_defs::specs::ToolOutputs::ram_output))]
-pub fn ram<H: House>(
+pub fn run_ram<H: House>(
     alloc: Global,
     house: &mut H,
     file: CartFile,
@@ -48,12 +48,12 @@ pub fn ram<H: House>(
     }
 }
 
-/// The answers of all lines.
+/// Answers all lines of the query.
 fn answer_query<H: House>(alloc: Global, house: &mut H, cart: Cart, loaded: RamLoaded) -> Status
     requires { All IsRequest loaded.lines.items }
-    ensures prints { ForSome (ram_text cart (ram_loaded_view loaded))
-        (λ text. Prints (H.world house.old) (H.world house.new) (manner_of result) text) }
-    ensures rest { LeavesPrinting (H.world house.old) (H.world house.new) }
+    ensures writes_out { ForSome (ram_text cart (ram_loaded_view loaded))
+        (λ text. WritesOut (H.world house.old) (H.world house.new) (manner_of result) text) }
+    ensures rest { LeavesWriting (H.world house.old) (H.world house.new) }
 {
     match try_answer_query(alloc, house, cart, loaded) {
         Ok(()) => Status::Done,
@@ -61,7 +61,7 @@ fn answer_query<H: House>(alloc: Global, house: &mut H, cart: Cart, loaded: RamL
     }
 }
 
-/// Writes them, or gives the status that ends the run.
+/// Opens the recording, and answers all lines of the query. Errors: the status that ends the run.
 fn try_answer_query<H: House>(
     alloc: Global,
     house: &mut H,
@@ -70,8 +70,8 @@ fn try_answer_query<H: House>(
 ) -> Result<(), Status>
     requires { All IsRequest loaded.lines.items }
     ensures out { ForSome (ram_text cart (ram_loaded_view loaded))
-        (λ text. Printed (H.world house.old) (H.world house.new) result text) }
-    ensures rest { LeavesPrinting (H.world house.old) (H.world house.new) }
+        (λ text. Written (H.world house.old) (H.world house.new) result text) }
+    ensures rest { LeavesWriting (H.world house.old) (H.world house.new) }
 {
     let RamLoaded { run, lines } = loaded;
     let Played { recording, font } = run;
@@ -92,8 +92,8 @@ fn answer_lines<L: Ledger, H: House>(
     requires parts { blank.parts ≡ L.parts }
     requires some { 0 < L.parts }
     ensures out { ForSome (ram_answers (editor_pages editor.old) None lines.now).out
-        (λ text. Printed (H.world house.old) (H.world house.new) result text) }
-    ensures rest { LeavesPrinting (H.world house.old) (H.world house.new) }
+        (λ text. Written (H.world house.old) (H.world house.new) result text) }
+    ensures rest { LeavesWriting (H.world house.old) (H.world house.new) }
 {
     let mut steps: Steps<L> = Steps::new(blank);
     let mut search = None;

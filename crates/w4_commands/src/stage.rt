@@ -26,7 +26,7 @@ use wasm_valid::Cart;
 #[derive(Drop)]
 pub struct Stage {
     console: Console,
-    made: FrameRecord,
+    frame_record: FrameRecord,
     image: Box<[u8; IMAGE_LEN]>,
 }
 
@@ -35,30 +35,34 @@ pub fn new_stage(alloc: Global, cart: &Cart) -> Result<Stage, OutOfMemory>
     ensures { IfOk result (λ stage. HasGlobals cart.now stage.console) }
 {
     let console = Console::new(alloc, cart)?;
-    let made = FrameRecord::new();
+    let frame_record = FrameRecord::new();
     let image = Box::new(alloc, [0; IMAGE_LEN])?;
     Ok(Stage {
         console,
-        made,
+        frame_record,
         image,
     })
 }
 
 /// Starts the run anew.
-fn begin(stage: &mut Stage, scene: &Scene<'_>, inputs: &[Input])
+fn begin_run(stage: &mut Stage, scene: &Scene<'_>, inputs: &[Input])
     requires disk { length scene.now.disk.now ≤ 1024 }
     requires budget { 1 ≤ scene.now.budget }
     requires globals { HasGlobals scene.now.cart.now stage.old.console }
     ensures { IsAtPlace scene.now inputs.now 0 stage.new }
 {
-    let made = &mut stage.made;
-    stage
-        .console
-        .reset(scene.cart, scene.font, scene.disk, scene.budget, made);
+    let frame_record = &mut stage.frame_record;
+    stage.console.reset(
+        scene.cart,
+        scene.font,
+        scene.disk,
+        scene.budget,
+        frame_record,
+    );
 }
 
 /// One frame, under a count of its own.
-fn play<L: Ledger>(stage: &mut Stage, scene: &Scene<'_>, input: &Input, blank: Blank)
+fn play_frame<L: Ledger>(stage: &mut Stage, scene: &Scene<'_>, input: &Input, blank: Blank)
     requires name { blank.name ≡ L.name }
     requires parts { blank.parts ≡ L.parts }
     requires some { 0 < L.parts }
@@ -69,13 +73,13 @@ fn play<L: Ledger>(stage: &mut Stage, scene: &Scene<'_>, input: &Input, blank: B
     ensures globals { HasGlobals scene.now.cart.now stage.new.console }
 {
     let mut steps: Steps<L> = Steps::new(blank);
-    let made = &mut stage.made;
+    let frame_record = &mut stage.frame_record;
     stage.console.frame(
         scene.cart,
         scene.font,
         input,
         scene.budget,
-        made,
+        frame_record,
         &mut steps,
     );
 }
@@ -88,7 +92,7 @@ pub fn step(stage: &mut Stage, scene: &Scene<'_>, inputs: &[Input], place: usize
     ensures { IsAtPlace scene.now inputs.now (place + 1) stage.new }
 {
     runs_in_parts();
-    play::<Brand>(stage, scene, &inputs[place], Blank::new(1));
+    play_frame::<Brand>(stage, scene, &inputs[place], Blank::new(1));
 }
 
 /// Runs from a reset up to a place, in as many frames as its number.
@@ -99,7 +103,7 @@ pub fn run_to(stage: &mut Stage, scene: &Scene<'_>, inputs: &[Input], place: usi
     requires globals { HasGlobals scene.now.cart.now stage.old.console }
     ensures { IsAtPlace scene.now inputs.now place stage.new }
 {
-    begin(stage, scene, inputs);
+    begin_run(stage, scene, inputs);
     for passed in 0..place {
         step(stage, scene, inputs, passed);
     }
@@ -109,7 +113,7 @@ pub fn run_to(stage: &mut Stage, scene: &Scene<'_>, inputs: &[Input], place: usi
 pub fn paint(stage: &mut Stage)
     ensures image { stage.new.image.value ≡ image stage.old.console.page }
     ensures console { stage.new.console ≡ stage.old.console }
-    ensures made { stage.new.made ≡ stage.old.made }
+    ensures frame_record { stage.new.frame_record ≡ stage.old.frame_record }
 {
     ppm_into(stage.console.state(), &mut stage.image);
 }
@@ -144,26 +148,26 @@ pub fn lit(stage: &Stage) -> u32
 
 /// The schedule of the frame that led to this place.
 pub fn schedule(alloc: Global, stage: &Stage, place: usize) -> Result<Vec<u8>, OutOfMemory>
-    ensures { IfOk result (λ text. text.items ≡ schedule_text place (stage_moment stage.now).made) }
+    ensures { IfOk result (λ text. text.items ≡ schedule_text place (stage_moment stage.now).frame_record) }
 {
     let mut text = Vec::new(alloc);
-    schedule_text(alloc, place, &stage.made, &mut text)?;
+    schedule_text(alloc, place, &stage.frame_record, &mut text)?;
     Ok(text)
 }
 
 /// The trace lines of the frame that led to this place.
 pub fn traces(alloc: Global, stage: &Stage, place: usize) -> Result<Vec<u8>, OutOfMemory>
-    ensures { IfOk result (λ text. text.items ≡ trace_text place (stage_moment stage.now).made) }
+    ensures { IfOk result (λ text. text.items ≡ trace_text place (stage_moment stage.now).frame_record) }
 {
     let mut text = Vec::new(alloc);
-    trace_text(alloc, place, &stage.made, &mut text)?;
+    trace_text(alloc, place, &stage.frame_record, &mut text)?;
     Ok(text)
 }
 
 /// Renders the sound of the frame that led to this place.
 pub fn render(stage: &Stage, wave: &mut Wave, samples: &mut [u8; FRAME_LEN])
-    ensures samples { samples.new ≡ rendered (stage_moment stage.now).made wave.old }
-    ensures wave { wave.new ≡ after_frame (stage_moment stage.now).made wave.old }
+    ensures samples { samples.new ≡ rendered (stage_moment stage.now).frame_record wave.old }
+    ensures wave { wave.new ≡ after_frame (stage_moment stage.now).frame_record wave.old }
 {
-    wave.render(&stage.made, samples);
+    wave.render(&stage.frame_record, samples);
 }

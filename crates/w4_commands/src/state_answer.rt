@@ -4,24 +4,25 @@ ghost use Rattle.std.specs.Prelude.{◌≡◌, ◌≤◌, IfOk, OnOk, Some, leng
 ghost use Rattle.w4_defs.specs.Run.{run_state};
 ghost use Rattle.w4_defs.specs.State.{State};
 ghost use Rattle.w4_editor.specs.Editing.{editing_setup};
-ghost use Rattle.w4_defs.specs.World.{LeavesPrinting};
+ghost use Rattle.w4_defs.specs.World.{LeavesWriting};
 ghost use Rattle.w4_defs.specs.ScriptAnswers.{if_place, state_answer};
 ghost use Rattle.w4_defs.specs.Answers.{answer_text};
 ghost use Rattle.w4_defs.specs.PlaceTexts.{as_it_stands};
-ghost use Rattle.w4_commands.specs.Editors.{GivesAnswer, OnlyShows, place_session};
+ghost use Rattle.w4_commands.specs.ScriptAnswers.{GivesAnswer, OnlyShows};
+ghost use Rattle.w4_editor.specs.PlaceSession.{place_session};
 
-use crate::desk::last_place;
-use crate::printing::print;
 use crate::refusal::refuse;
 use crate::state_line::{Facts, state_line};
+use crate::writing::write_bytes;
 use std::alloc::Global;
 use std::sync::ledger::Ledger;
 use w4_defs::{EditRefusal, OutOfMemory, Status, Steps};
 use w4_editor::Editor;
+use w4_editor::places::last_place;
 use w4_house::House;
 
 /// The line of the state at a place with the kept places, or that there is no such place.
-pub fn tell_state<L: Ledger, H: House>(
+pub fn answer_state<L: Ledger, H: House>(
     alloc: Global,
     house: &mut H,
     editor: &mut Editor,
@@ -33,7 +34,7 @@ pub fn tell_state<L: Ledger, H: House>(
         (answer_text (place_session editor.old) (if_place as_it_stands (place_session editor.old) p
         (state_answer as_it_stands (editing_setup editor.old) editor.old.disk
         (place_session editor.old) p))) }
-    ensures rest { LeavesPrinting (H.world house.old) (H.world house.new) }
+    ensures rest { LeavesWriting (H.world house.old) (H.world house.new) }
 {
     let place = p as usize;
     let count = last_place(editor);
@@ -42,7 +43,7 @@ pub fn tell_state<L: Ledger, H: House>(
     }
     let facts = facts(alloc, editor, place, steps)?;
     let text = state_line(alloc, editor, place, count, facts)?;
-    print(alloc, house, text.as_slice())
+    write_bytes(alloc, house, text.as_slice())
 }
 
 /// Whether the cart still runs at a place, and how long its disk is there.

@@ -3,7 +3,7 @@
 ghost use Rattle.std.specs.Prelude.{◌≡◌, ◌++◌, flat_map, length, IfOk, OnOk};
 ghost use Rattle.w4_defs.specs.FrameTexts.{cause_words, halt_words, spaced, state_line};
 ghost use Rattle.w4_defs.specs.State.{State};
-ghost use Rattle.w4_commands.specs.Editors.{place_session};
+ghost use Rattle.w4_editor.specs.PlaceSession.{place_session};
 
 use crate::text::{add_number, add_words};
 use std::alloc::Global;
@@ -54,7 +54,7 @@ fn add_kept(text: &mut Vec<u8>, editor: &Editor) -> Result<(), OutOfMemory>
     Ok(())
 }
 
-/// What is told of a state.
+/// The line of a state.
 #[derive(Clone, Copy)]
 pub struct Facts {
     pub halt: Halt,

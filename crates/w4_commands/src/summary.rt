@@ -1,4 +1,4 @@
-//! The five lines that tell of a made cart.
+//! The five lines of a made cart.
 
 ghost use Rattle.std.specs.Prelude.{ℕ, List, ◌≡◌, ◌++◌, ◌∷◌, ◌<◌, [], IfOk, OnOk};
 ghost use Rattle.w4_defs.specs.Image.{image};
@@ -12,7 +12,7 @@ use std::alloc::Global;
 use w4_defs::{Halt, OutOfMemory, PageBytes};
 use w4_pixels::pixel;
 
-/// What is told of a made cart after its last frame.
+/// What the lines of a made cart say of its last frame.
 #[derive(Clone, Copy)]
 pub struct Summary {
     /// How many bytes the cart has.

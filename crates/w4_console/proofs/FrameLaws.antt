@@ -5,7 +5,7 @@ use Rattle.w4_defs.specs.declared.console.Input.{Input}
 use Rattle.w4_defs.specs.Frame.{before_update, frame, update}
 use Rattle.w4_defs.specs.Reset.{recorded, reset, Setup, start, with_empty_logs}
 use Rattle.w4_defs.specs.State.{empty_record, FrameRecord, Moment, State, LoggedState}
-use Rattle.w4_devices.specs.declared.frame_record.FrameRecord.{FrameRecord as Made}
+use Rattle.w4_devices.specs.declared.frame_record.FrameRecord.{FrameRecord as Record}
 use Rattle.w4_devices.specs.Records.{record_of}
 use Rattle.w4_console.specs.ConsoleCalls.{so_far}
 
@@ -25,8 +25,9 @@ unfolding reset
 was_reset setup disk next moment s r = ap (option_map recorded) s ∙ ap Some (sym r)
 
 -- an empty record is that of a start or a frame that begins
-pub frame_begins : (state first : State) (made : Made) → state ≡ first → record_of made ≡ empty_record
-    → so_far state made ≡ with_empty_logs first
-frame_begins state first made s r =
-    ap (λ (t : State). so_far t made) s
+pub frame_begins : (state first : State) (frame_record : Record) → state ≡ first → record_of frame_record
+    ≡ empty_record
+    → so_far state frame_record ≡ with_empty_logs first
+frame_begins state first frame_record s r =
+    ap (λ (t : State). so_far t frame_record) s
     ∙ ap (λ (m : FrameRecord). record { state = first; tones = m.tones; traces = m.traces }) r

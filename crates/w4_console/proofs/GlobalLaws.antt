@@ -3,7 +3,8 @@ use Rattle.std.proofs.Common.{◌≡◌, ℕ, zero, suc, List, [], ◌∷◌, ma
 use Rattle.std.specs.Prelude.{All, Some}
 use Rattle.std.proofs.lemmas.Option.{same_Some}
 use Rattle.w4_defs.specs.declared.operation.Op.{Op}
-use Rattle.w4_defs.specs.declared.operation.Op.TheVariants.{I32Const, I64Const}
+use Rattle.w4_defs.specs.declared.operation.Op.TheVariants.{Basic}
+use Rattle.w4_defs.specs.declared.basic.Basic.TheVariants.{I32Const, I64Const}
 use Rattle.w4_defs.specs.declared.value.Val.{Val}
 use Rattle.w4_defs.specs.declared.value.ValType.{ValType}
 use Rattle.w4_defs.specs.EntryPoints.{first_globals, first_value}
@@ -16,8 +17,10 @@ use Rattle.w4_defs.specs.Tree.{Expr, done, plain, block, loop, if_then, if_else}
 use Rattle.w4_defs.specs.Validity.{constant_type, IsConstant, IsValid}
 
 of_op : (op : Op) (t : ValType) (n : ℕ) → constant_type op ≡ Some t → type_of (value_of t n) ≡ t
-of_op (I32Const value) t n e = subst (λ (k : ValType). type_of (value_of k n) ≡ k) (same_Some _ _ e) refl
-of_op (I64Const value) t n e = subst (λ (k : ValType). type_of (value_of k n) ≡ k) (same_Some _ _ e) refl
+of_op (Basic (I32Const value)) t n e =
+    subst (λ (k : ValType). type_of (value_of k n) ≡ k) (same_Some _ _ e) refl
+of_op (Basic (I64Const value)) t n e =
+    subst (λ (k : ValType). type_of (value_of k n) ≡ k) (same_Some _ _ e) refl
 of_op op t n e = absurd cc
 
 of_first : (e : Expr) (t : ValType) → IsConstant t e → type_of (value_of t (constant_of e)) ≡ t

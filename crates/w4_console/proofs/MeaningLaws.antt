@@ -55,12 +55,12 @@ call_meant : (m : WasmModule) (font : List ℕ) (function : ℕ) (now : LoggedSt
     → Accepted m → signature_of m function ≡ Some nothing_to_nothing → HasGlobals m now.state
     → ((next : LoggedState) (rest : ℕ) → HasGlobals m next.state → Meant m (go next rest))
     → Meant m (then_on (run_entry m console function (store_of font now) budget) go)
-call_meant m font function now budget go ok entry globals h =
+call_meant m font function now budget go ok signature_is globals h =
     then_meant m (run_entry m console function (store_of font now) budget) go
     (never_stuck_with console answers_by_type m ok.within ok.valid ok.as_many_bodies function
-    (store_of font now) budget entry globals)
+    (store_of font now) budget signature_is globals)
     (globals_keep_types_with console answers_by_type m ok.within ok.valid ok.as_many_bodies function
-    (store_of font now) budget entry globals)
+    (store_of font now) budget signature_is globals)
     h
 
 abbrev AreFound : WasmModule → List (Option ℕ) → Type 0

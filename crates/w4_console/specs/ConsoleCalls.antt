@@ -7,18 +7,18 @@ use Rattle.w4_defs.specs.Evaluation.{run_entry}
 use Rattle.w4_defs.specs.Module.{WasmModule}
 use Rattle.w4_defs.specs.Reset.{call_all, store_of, then_on}
 use Rattle.w4_defs.specs.State.{State, Moment, LoggedState}
-use Rattle.w4_devices.specs.declared.frame_record.FrameRecord.{FrameRecord as Made}
+use Rattle.w4_devices.specs.declared.frame_record.FrameRecord.{FrameRecord as Record}
 use Rattle.w4_devices.specs.Records.{record_of}
 use Rattle.wasm_machine.specs.declared.ending.Ending.{Ending}
 use Rattle.wasm_machine.specs.declared.ending.Ending.TheVariants as ending
 
 -- the state and the logs so far
-abbrev pub so_far : State → Made → LoggedState
-so_far state made = record { state = state; tones = made.tones; traces = made.traces }
+abbrev pub so_far : State → Record → LoggedState
+so_far state frame_record = record { state = state; tones = frame_record.tones; traces = frame_record.traces }
 
 -- the state and the record at the end
-abbrev pub moment : State → Made → Moment
-moment state made = record { state = state; made = record_of made }
+abbrev pub moment : State → Record → Moment
+moment state frame_record = record { state = state; frame_record = record_of frame_record }
 
 -- whether the cart still runs after a call that ended so, and the rest of the budget where it does
 abbrev pub halt_after : Ending → Halt

@@ -27,40 +27,40 @@ pub(crate) fn call_if_there(
     font: &Font,
     function: Option<u32>,
     budget: u32,
-    made: &mut FrameRecord,
+    frame_record: &mut FrameRecord,
 ) -> Option<u32>
-    requires entry { IfSome function (λ f. signature_of cart.now f ≡ Some nothing_to_nothing) }
+    requires signature { IfSome function (λ f. signature_of cart.now f ≡ Some nothing_to_nothing) }
     requires globals { HasGlobals cart.now state.old }
     requires running { state.old.halt ≡ Running }
-    ensures called { IsCalledFirst cart.now font.now function (so_far state.old made.old) budget
-        result (so_far state.new made.new) }
+    ensures called { IsCalledFirst cart.now font.now function (so_far state.old frame_record.old) budget
+        result (so_far state.new frame_record.new) }
     ensures globals { HasGlobals cart.now state.new }
     ensures running { OnSome result (state.new.halt ≡ Running) }
 {
     match function {
         None => Some(budget),
-        Some(function) => call(machine, state, cart, font, function, budget, made),
+        Some(function) => call_function(machine, state, cart, font, function, budget, frame_record),
     }
 }
 
 /// Calls a function. The rest of the budget where it comes to its end; else None, and halt is set.
-pub(crate) fn call(
+pub(crate) fn call_function(
     machine: &mut Machine,
     state: &mut State,
     cart: &Cart,
     font: &Font,
     function: u32,
     budget: u32,
-    made: &mut FrameRecord,
+    frame_record: &mut FrameRecord,
 ) -> Option<u32>
-    requires entry { signature_of cart.now function ≡ Some nothing_to_nothing }
+    requires signature { signature_of cart.now function ≡ Some nothing_to_nothing }
     requires globals { HasGlobals cart.now state.old }
-    ensures called { IsCalled cart.now font.now function (so_far state.old made.old) budget
-        result (so_far state.new made.new) }
+    ensures called { IsCalled cart.now font.now function (so_far state.old frame_record.old) budget
+        result (so_far state.new frame_record.new) }
     ensures globals { HasGlobals cart.now state.new }
     ensures running { OnSome result (state.new.halt ≡ Running) }
 {
-    let mut board = board_of(font, state, made);
+    let mut board = board_of(font, state, frame_record);
     let ending = machine.invoke(
         cart,
         function,
@@ -69,35 +69,35 @@ pub(crate) fn call(
         &mut board,
         budget,
     );
-    put_back(state, made, board, halt_after(ending));
+    put_back(state, frame_record, board, halt_after(ending));
     rest_after(ending)
 }
 
 /// Moves the devices into a board, with the logs so far.
-fn board_of<'a>(font: &'a Font, state: &mut State, made: &mut FrameRecord) -> Board<'a>
+fn board_of<'a>(font: &'a Font, state: &mut State, frame_record: &mut FrameRecord) -> Board<'a>
     ensures { record { page = state.new.page; globals = state.new.globals; host = result }
-        ≡ store_of font.now (so_far state.old made.old) }
+        ≡ store_of font.now (so_far state.old frame_record.old) }
 {
     Board {
         font,
         channels: state.channels,
         disk: mem::replace(&mut state.disk, Disk::new(&[])),
-        tones: mem::replace(&mut made.tones, ToneLog::new()),
-        traces: mem::replace(&mut made.traces, TraceLog::new()),
+        tones: mem::replace(&mut frame_record.tones, ToneLog::new()),
+        traces: mem::replace(&mut frame_record.traces, TraceLog::new()),
     }
 }
 
 /// Moves the devices and the logs back, and sets halt.
-fn put_back(state: &mut State, made: &mut FrameRecord, board: Board<'_>, halt: Halt)
-    ensures { so_far state.new made.new
+fn put_back(state: &mut State, frame_record: &mut FrameRecord, board: Board<'_>, halt: Halt)
+    ensures { so_far state.new frame_record.new
         ≡ logged_state_after
         (record { page = state.old.page; globals = state.old.globals; host = board.entry }) halt }
 {
     state.channels = board.channels;
     state.disk = board.disk;
     state.halt = halt;
-    made.tones = board.tones;
-    made.traces = board.traces;
+    frame_record.tones = board.tones;
+    frame_record.traces = board.traces;
 }
 
 fn halt_after(ending: Ending) -> Halt

@@ -8,8 +8,8 @@ ghost use Rattle.w4_defs.specs.Reset.{reset};
 ghost use Rattle.w4_defs.specs.State.{blank_state, HasGlobals};
 ghost use Rattle.w4_console.specs.ConsoleCalls.{moment};
 
-use crate::frames::{begin, record, update};
-use crate::start::{first_globals, start};
+use crate::frames::{begin_frame, record, update};
+use crate::start::{first_globals, start_cart};
 use std::alloc::Global;
 use std::marker::Model;
 use std::sync::ledger::Ledger;
@@ -50,53 +50,53 @@ impl Console {
         })
     }
 
-    /// Starts a cart with this disk, of at most 1,024 bytes, under a budget of at least one unit. `made` gets
-    /// what the start functions left, and the sounds before the channels age.
+    /// Starts a cart with this disk, of at most 1,024 bytes, under a budget of at least one unit.
+    /// `frame_record` gets what the start functions left, and the sounds before the channels age.
     pub fn reset(
         &mut self,
         cart: &Cart,
         font: &Font,
         disk: &[u8],
         budget: u32,
-        made: &mut FrameRecord,
+        frame_record: &mut FrameRecord,
     )
         requires disk { length disk.now ≤ 1024 }
         requires budget { 1 ≤ budget }
         requires globals { HasGlobals cart.now self.old }
         ensures reset { reset (console_setup cart.now font.now budget) disk.now
-            ≡ Some (moment self.new made.new) }
+            ≡ Some (moment self.new frame_record.new) }
         ensures globals { HasGlobals cart.now self.new }
     {
         let (machine, state) = (&mut self.machine, &mut self.state);
         state.disk = Disk::new(disk);
-        start(machine, state, cart, font, budget, made);
-        record(state, made);
+        start_cart(machine, state, cart, font, budget, frame_record);
+        record(state, frame_record);
     }
 
     /// Runs one frame under a budget of at least one unit, and ticks once. An input with a reset starts the
-    /// cart anew first, with the disk that the state has. A halted console only ages its channels. `made`
-    /// gets the frame's tones and lines, and the sounds before the channels age.
+    /// cart anew first, with the disk that the state has. A halted console only ages its channels.
+    /// `frame_record` gets the frame's tones and lines, and the sounds before the channels age.
     pub fn frame<L: Ledger>(
         &mut self,
         cart: &Cart,
         font: &Font,
         input: &Input,
         budget: u32,
-        made: &mut FrameRecord,
+        frame_record: &mut FrameRecord,
         steps: &mut Steps<L>,
     )
         requires budget { 1 ≤ budget }
         requires globals { HasGlobals cart.now self.old }
         ensures frame { frame (console_setup cart.now font.now budget) self.old input.now
-            ≡ Some (moment self.new made.new) }
+            ≡ Some (moment self.new frame_record.new) }
         ensures globals { HasGlobals cart.now self.new }
         ensures ticks { steps.new ≡ steps.old + 1 }
     {
         steps.tick();
         let (machine, state) = (&mut self.machine, &mut self.state);
-        begin(machine, state, cart, font, input, budget, made);
-        update(machine, state, cart, font, input, budget, made);
-        record(state, made);
+        begin_frame(machine, state, cart, font, input, budget, frame_record);
+        update(machine, state, cart, font, input, budget, frame_record);
+        record(state, frame_record);
     }
 
     /// The state, to be read.

@@ -21,22 +21,22 @@ use wasm_machine::Machine;
 use wasm_valid::{Cart, Entry};
 
 /// Starts a cart with the state's own disk: everything else anew, then the functions that a reset calls.
-pub(crate) fn start(
+pub(crate) fn start_cart(
     machine: &mut Machine,
     state: &mut State,
     cart: &Cart,
     font: &Font,
     budget: u32,
-    made: &mut FrameRecord,
+    frame_record: &mut FrameRecord,
 )
     requires globals { HasGlobals cart.now state.old }
     ensures start { start (console_setup cart.now font.now budget) state.old.disk
-        ≡ Some (so_far state.new made.new) }
+        ≡ Some (so_far state.new frame_record.new) }
     ensures globals { HasGlobals cart.now state.new }
 {
     put_fresh(state, cart);
-    *made = FrameRecord::new();
-    call_all(machine, state, cart, font, budget, made);
+    *frame_record = FrameRecord::new();
+    call_all(machine, state, cart, font, budget, frame_record);
 }
 
 /// The state before a reset's calls; the disk stays.
@@ -69,19 +69,27 @@ fn call_all(
     cart: &Cart,
     font: &Font,
     budget: u32,
-    made: &mut FrameRecord,
+    frame_record: &mut FrameRecord,
 ) -> Option<u32>
     requires globals { HasGlobals cart.now state.old }
     requires running { state.old.halt ≡ Running }
     ensures called { call_all (console_setup cart.now font.now budget) (start_functions cart.now)
-        (so_far state.old made.old) budget ≡ Some (so_far state.new made.new) }
+        (so_far state.old frame_record.old) budget ≡ Some (so_far state.new frame_record.new) }
     ensures globals { HasGlobals cart.now state.new }
 {
-    let rest = call_if_there(machine, state, cart, font, cart.start(), budget, made)?;
+    let rest = call_if_there(
+        machine,
+        state,
+        cart,
+        font,
+        cart.start(),
+        budget,
+        frame_record,
+    )?;
     let crt_start = cart.entry(Entry::CrtStart);
-    let rest = call_if_there(machine, state, cart, font, crt_start, rest, made)?;
+    let rest = call_if_there(machine, state, cart, font, crt_start, rest, frame_record)?;
     let initialize = cart.entry(Entry::Initialize);
-    let rest = call_if_there(machine, state, cart, font, initialize, rest, made)?;
+    let rest = call_if_there(machine, state, cart, font, initialize, rest, frame_record)?;
     call_if_there(
         machine,
         state,
@@ -89,6 +97,6 @@ fn call_all(
         font,
         cart.entry(Entry::Start),
         rest,
-        made,
+        frame_record,
     )
 }

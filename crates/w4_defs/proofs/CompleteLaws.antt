@@ -12,7 +12,7 @@ use Rattle.w4_defs.specs.declared.place_text.PlaceText.{PlaceText}
 use Rattle.w4_defs.specs.declared.place_text.PlaceText.TheVariants.{Image, Schedule, Traces, DiskBytes}
 use Rattle.w4_defs.specs.declared.status.RecordingKind.TheVariants.{Bad}
 use Rattle.w4_defs.specs.declared.status.Status.{Status}
-use Rattle.w4_defs.specs.declared.status.Status.TheVariants.{ReadFault, RecordingRefused}
+use Rattle.w4_defs.specs.declared.status.Status.TheVariants.{ReadFault, RecordingRefused, ScriptRefused, ListRefused}
 use Rattle.w4_defs.specs.Cart.{IsCart}
 use Rattle.w4_defs.specs.Commands.{RunWords, EditWords, NetWords, BatchWords, Form, Check, Blank, Frames, Tones, Trace, Disk, Edit, Make, Net, Ram, Wave, Batch}
 use Rattle.w4_defs.specs.Completeness.{HasCart, HasRecording, HasFont, HasLines, HasRun, HasRest, IsCompleteOver, IsComplete}
@@ -21,14 +21,14 @@ use Rattle.w4_defs.specs.Meaning.{RunsHaveMeaning}
 use Rattle.w4_defs.specs.Module.{WasmModule}
 use Rattle.w4_defs.specs.NameLists.{names_of}
 use Rattle.w4_defs.specs.NetLog.{net_log_of}
-use Rattle.w4_defs.specs.OrderFile.{ScriptFault}
-use Rattle.w4_defs.specs.Output.{◌>>=◌, CartFile, JudgedCart, Loaded, Output, Played, cart_recording, checked, blank_recording, disk_output, edit_answers, edit_files, edit_output, edit_result, font_in, font_of, images_output, judged, made_text, make_output, making, of_cart, only_printed, or_refuse, or_script_refused, orders_of, place_texts_from, printing, reading, recording_in, run_files, run_files_to, script_in, texts_output}
+use Rattle.w4_defs.specs.declared.status.ScriptKind.{ScriptKind}
+use Rattle.w4_defs.specs.Output.{◌>>=◌, CartFile, JudgedCart, Loaded, Output, Played, cart_recording, checked, blank_recording, disk_output, edit_answers, edit_files, edit_output, edit_result, font_in, font_of, images_output, judged, made_text, make_output, making, of_cart, only_written, or_refuse, lines_or, orders_of, place_texts_from, printing, reading, recording_in, run_files, run_files_to, script_in, texts_output}
 use Rattle.w4_defs.specs.Outputs.{OverCart, cart_word, output_of}
 use Rattle.w4_defs.specs.OutputsThere.{CompleteIsDone}
 use Rattle.w4_defs.specs.RamQuery.{query_of}
 use Rattle.w4_defs.specs.Recording.{Recording, encoding, recording_of}
 use Rattle.w4_defs.specs.Script.{script_of}
-use Rattle.w4_defs.specs.ToolOutputs.{BatchLoaded, NetLoaded, RamLoaded, batch_files, batch_output, batch_text, listed_files, listed_names, log_in, log_orders, names_in, net_files, net_output, net_text, or_list_refused, query_in, query_lines, ram_files, ram_output, ram_text, wave_output, wave_text}
+use Rattle.w4_defs.specs.ToolOutputs.{BatchLoaded, NetLoaded, RamLoaded, batch_files, batch_output, batch_text, listed_files, listed_names, log_in, log_orders, names_in, net_files, net_output, net_text, query_in, query_lines, ram_files, ram_output, ram_text, wave_output, wave_text}
 use Rattle.w4_defs.specs.World.{Files, front_of}
 use Rattle.w4_defs.proofs.OutputsThereLaws.{batch_text_there, edit_answers_there, made_text_there, net_text_there, place_texts_there, ram_text_there, wave_text_there}
 use Rattle.w4_defs.proofs.ThereLaws.{value_there}
@@ -45,9 +45,9 @@ printing_done : {Y : Type 0} (read : Result Y Status) (text : Y → Option (List
     → read ≡ Ok y → IsSome (text y) → (made : Output) × (printing read text files ≡ Some (Ok made))
 printing_done read text files y is there =
     let found = value_there (text y) there in (
-      only_printed found.0 files,
-      making_done read (λ z. option_map (λ out. only_printed out files) (text z)) y
-          (only_printed found.0 files) is (ap (option_map (λ out. only_printed out files)) found.1),
+      only_written found.0 files,
+      making_done read (λ z. option_map (λ out. only_written out files) (text z)) y
+          (only_written found.0 files) is (ap (option_map (λ out. only_written out files)) found.1),
     )
 
 -- ---- files
@@ -94,25 +94,25 @@ script_there : (files : Files) (name : List ℕ) (orders : List Order)
     → HasLines files name 1048577 script_of orders → script_in files name ≡ Ok orders
 unfolding script_in orders_of
 script_there files name orders has =
-    judged_there 1048576 orders_of files name has.bytes orders has.there (ap or_script_refused has.read_as)
+    judged_there 1048576 orders_of files name has.bytes orders has.there (ap (lines_or ScriptRefused) has.read_as)
 
 log_there : (files : Files) (name : List ℕ) (orders : List NetOrder)
     → HasLines files name 1048577 net_log_of orders → log_in files name ≡ Ok orders
 unfolding log_in log_orders
 log_there files name orders has =
-    judged_there 1048576 log_orders files name has.bytes orders has.there (ap or_script_refused has.read_as)
+    judged_there 1048576 log_orders files name has.bytes orders has.there (ap (lines_or ScriptRefused) has.read_as)
 
 query_there : (files : Files) (name : List ℕ) (lines : List Ask)
     → HasLines files name 1048577 query_of lines → query_in files name ≡ Ok lines
 unfolding query_in query_lines
 query_there files name lines has =
-    judged_there 1048576 query_lines files name has.bytes lines has.there (ap or_script_refused has.read_as)
+    judged_there 1048576 query_lines files name has.bytes lines has.there (ap (lines_or ScriptRefused) has.read_as)
 
 names_there : (files : Files) (name : List ℕ) (names : List (List ℕ))
     → HasLines files name 65537 names_of names → names_in files name ≡ Ok names
 unfolding names_in listed_names
 names_there files name names has =
-    judged_there 65536 listed_names files name has.bytes names has.there (ap or_list_refused has.read_as)
+    judged_there 65536 listed_names files name has.bytes names has.there (ap (lines_or ListRefused) has.read_as)
 
 edit_there : (files : Files) (words : EditWords) (digest : List ℕ) (run : Played) (orders : List Order)
     → HasRun files words.run digest run → HasLines files words.script 1048577 script_of orders
@@ -197,9 +197,9 @@ module _ (files : Files) (cart : CartFile) (meant : RunsHaveMeaning cart.code) w
   form_done : (form : Form) → IsSome (cart_word form) → HasRest form cart.digest files
       → IsDone form cart files
   unfolding images_output disk_output edit_output net_output ram_output wave_output batch_output
-  form_done (Check name) named rest = (only_printed checked files, refl)
+  form_done (Check name) named rest = (only_written checked files, refl)
   form_done (Blank name budget) named rest =
-      (only_printed (encoding 2 (blank_recording cart.digest budget)) files, refl)
+      (only_written (encoding 2 (blank_recording cart.digest budget [])) files, refl)
   form_done (Frames words from to) named (run, has, within) =
       printing_done (run_files_to cart.digest words to files)
       (λ p. place_texts_from Image cart.code p from (to + 1 - from)) files run
@@ -251,7 +251,7 @@ made_done : (number : ℕ) (files : Files) → RunsHaveMeaning (made_module numb
     → (made : Output) × (make_output number files ≡ Some (Ok made))
 made_done number files meant =
     let found = value_there (made_text number) (made_text_there number meant) in
-    (only_printed found.0 files, ap (option_map (λ out. Ok (only_printed out files))) found.1)
+    (only_written found.0 files, ap (option_map (λ out. Ok (only_written out files))) found.1)
 
 pub complete_is_done : CompleteIsDone
 complete_is_done (Check cart) files law made all = named_done files law (Check cart) cart refl all

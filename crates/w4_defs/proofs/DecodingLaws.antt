@@ -289,9 +289,9 @@ count_parts version digest budget size disk rest after count r known small whole
     frames.1 in
     let fit = limits budget size count tested.0 in
     let are = frames_read version count after frames.0 known small tested.1 in
-    let made : Recording = record { digest = digest; budget = budget; disk = disk; frames = frames.0 } in
+    let decoded : Recording = record { digest = digest; budget = budget; disk = disk; frames = frames.0 } in
     let few : length frames.0 ≤ 36000 = subst (λ n. n ≤ 36000) (sym are.many) fit.2 in
-    subst (FromCount version digest budget size disk rest) (some_same made r frames.2) (record {
+    subst (FromCount version digest budget size disk rest) (some_same decoded r frames.2) (record {
       bytes_are = whole ∙ (λ k. to_le_bytes w32 (sym are.many k) ++ are.bytes_are k);
       digest = refl;
       budget = refl;

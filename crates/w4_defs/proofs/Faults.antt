@@ -5,6 +5,7 @@ use Rattle.w4_defs.specs.declared.value.Val.TheVariants as val
 use Rattle.w4_defs.specs.declared.value.ValType.{ValType}
 use Rattle.w4_defs.specs.declared.value.ValType.TheVariants as type
 use Rattle.w4_defs.specs.declared.operation.Op.TheVariants as op
+use Rattle.w4_defs.specs.declared.basic.Basic.TheVariants.{MemoryCopy, MemoryFill}
 use Rattle.w4_defs.specs.Outcome.{Store, Called, Outcome, Falls, Branch, Returns, Spent, Stuck}
 use Rattle.w4_defs.specs.ValueTypes.{have_types, same_value_type, integers_of}
 use Rattle.w4_defs.specs.Control.{on_i32, on_value, where_some, with_top}
@@ -94,8 +95,8 @@ faults_change_nothing prog e (op.GlobalSet i) labels env ops ls st b h =
     where_some_keeps st (slice_get st.globals i) _ (λ old. on_value_keeps st ops _ (λ v ops.
     cond_keeps st (same_value_type old v) (Falls ops ls (with_globals (slice_set st.globals i v) st) b) Stuck
     tt tt))
-faults_change_nothing prog e op.MemoryCopy labels env ops ls st b h =
-    settle_after_keeps st (further_units ops) (effect op.MemoryCopy ops ls st.page) b
-faults_change_nothing prog e op.MemoryFill labels env ops ls st b h =
-    settle_after_keeps st (further_units ops) (effect op.MemoryFill ops ls st.page) b
+faults_change_nothing prog e (op.Basic MemoryCopy) labels env ops ls st b h =
+    settle_after_keeps st (further_units ops) (effect (op.Basic MemoryCopy) ops ls st.page) b
+faults_change_nothing prog e (op.Basic MemoryFill) labels env ops ls st b h =
+    settle_after_keeps st (further_units ops) (effect (op.Basic MemoryFill) ops ls st.page) b
 faults_change_nothing prog e o labels env ops ls st b h = settle_keeps st (effect o ops ls st.page) b

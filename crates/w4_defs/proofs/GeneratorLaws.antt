@@ -8,7 +8,8 @@ use Rattle.std.proofs.lemmas.List.FromFn.{length-map-range_with_len}
 use Rattle.w4_defs.specs.declared.value.ValType.{ValType}
 use Rattle.w4_defs.specs.declared.value.ValType.TheVariants.{I32}
 use Rattle.w4_defs.specs.declared.operation.Op.{Op}
-use Rattle.w4_defs.specs.declared.operation.Op.TheVariants.{Call, I32Add}
+use Rattle.w4_defs.specs.declared.operation.Op.TheVariants.{Call, Basic}
+use Rattle.w4_defs.specs.declared.basic.Basic.TheVariants.{I32Add}
 use Rattle.w4_defs.specs.declared.refusal.ProfileRefusal.TheVariants.{Floats}
 use Rattle.w4_defs.specs.Module.{Signature, Function, WasmModule, nothing_to_nothing}
 use Rattle.w4_defs.specs.Imports.{returns_i32}
@@ -66,7 +67,8 @@ all_choices = (
 )
 
 chosen-choice : (drawn : ℕ) → IsChoice (chosen drawn)
-chosen-choice drawn = All-from_recursion IsChoice operations all_choices (drawn % 11) I32Add (omega arith)
+chosen-choice drawn =
+    All-from_recursion IsChoice operations all_choices (drawn % 11) (Basic I32Add) (omega arith)
 
 chosen-no_float : (drawn : ℕ) → is_float_operation (chosen drawn) ≡ false
 unfolding IsChoice

@@ -8,6 +8,7 @@ use Rattle.w4_defs.specs.declared.value.Cause.TheVariants as cause
 use Rattle.w4_defs.specs.declared.console.Import.{Import}
 use Rattle.w4_defs.specs.declared.operation.Op.{Op}
 use Rattle.w4_defs.specs.declared.operation.Op.TheVariants as op
+use Rattle.w4_defs.specs.declared.basic.Basic.TheVariants.{MemoryCopy, MemoryFill}
 use Rattle.w4_defs.specs.Tree.{Expr, done, plain, block, loop, if_then, if_else}
 use Rattle.w4_defs.specs.Module.{Signature}
 use Rattle.w4_defs.specs.Outcome.{Store, Called, HostFunctions, Outcome, Falls, Branch, Returns, Trap, Spent, Stuck}
@@ -200,10 +201,10 @@ module _ {H : Type 0} (types : List ValType) where
         (Trap cause.Type_ st) (call_import_has prog.host_functions t i ops ls st b h) h
     call_typed_has s no_function env ops ls st b h = tt
 
-    call_entry_has : (s : Signature) (entry : Option ℕ) (env : Env)
-        → Keeps (call_table_element prog e s entry env)
-    call_entry_has s None env ops ls st b h = h
-    call_entry_has s (Some f) env ops ls st b h =
+    call_element_has : (s : Signature) (element : Option ℕ) (env : Env)
+        → Keeps (call_table_element prog e s element env)
+    call_element_has s None env ops ls st b h = h
+    call_element_has s (Some f) env ops ls st b h =
         where_some_has Stuck (slice_get prog.functions f) (λ c. call_typed prog e s c env ops ls st b) tt
         (λ c. call_typed_has s c env ops ls st b h)
 
@@ -211,8 +212,8 @@ module _ {H : Type 0} (types : List ValType) where
     call_indirect_has t zero env ops ls st b h =
         where_some_has Stuck (slice_get prog.types t) _ tt (λ s. on_i32_has ops _ (λ i ops.
         where_some_has (Trap cause.Table st) (slice_get prog.table i)
-        (λ entry. call_table_element prog e s entry env ops ls st b) h
-        (λ entry. call_entry_has s entry env ops ls st b h)))
+        (λ element. call_table_element prog e s element env ops ls st b) h
+        (λ element. call_element_has s element env ops ls st b h)))
     call_indirect_has t (suc table) env ops ls st b h = tt
 
     simple_has : (o : Op) (labels : List ℕ) (env : Env) → Keeps (simple prog e o labels env)
@@ -233,10 +234,10 @@ module _ {H : Type 0} (types : List ValType) where
     simple_has (op.GlobalGet i) labels env ops ls st b h =
         where_some_has Stuck (slice_get st.globals i) (λ v. Falls (v ∷ ops) ls st b) tt (λ v. h)
     simple_has (op.GlobalSet i) labels env ops ls st b h = set_global_has i ops ls st b h
-    simple_has op.MemoryCopy labels env ops ls st b h =
-        settle_after_has (further_units ops) (effect op.MemoryCopy ops ls st.page) st b h
-    simple_has op.MemoryFill labels env ops ls st b h =
-        settle_after_has (further_units ops) (effect op.MemoryFill ops ls st.page) st b h
+    simple_has (op.Basic MemoryCopy) labels env ops ls st b h =
+        settle_after_has (further_units ops) (effect (op.Basic MemoryCopy) ops ls st.page) st b h
+    simple_has (op.Basic MemoryFill) labels env ops ls st b h =
+        settle_after_has (further_units ops) (effect (op.Basic MemoryFill) ops ls st.page) st b h
     simple_has o labels env ops ls st b h = settle_has (effect o ops ls st.page) st b h
 
     act_has : (body : Expr) (env : Env) → Keeps (act prog e body env)

@@ -15,7 +15,7 @@ use Rattle.w4_defs.specs.LogAnswers.{first_session, net_answer}
 use Rattle.w4_defs.specs.MadeSummary.{made_setup, summary_text}
 use Rattle.w4_defs.specs.Meaning.{RunsHaveMeaning}
 use Rattle.w4_defs.specs.Module.{WasmModule}
-use Rattle.w4_defs.specs.Output.{CartFile, Loaded, Output, Played, edit_answers, edit_files, edit_output, edit_result, disk_output, images_output, made_text, making, moment_at, only_printed, place_texts_from, printing, run_files, run_files_to, run_setup, texts_output}
+use Rattle.w4_defs.specs.Output.{CartFile, Loaded, Output, Played, edit_answers, edit_files, edit_output, edit_result, disk_output, images_output, made_text, making, moment_at, only_written, place_texts_from, printing, run_files, run_files_to, run_setup, texts_output}
 use Rattle.w4_defs.specs.Outputs.{cart_word, output_of}
 use Rattle.w4_defs.specs.OutputsThere.{MadeOutputsAreThere, OutputsAreThere}
 use Rattle.w4_defs.specs.PlaceTexts.{as_it_stands, place_text}
@@ -69,8 +69,9 @@ module _ (m : WasmModule) (meant : RunsHaveMeaning m) where
 
   pub records_there : (p : Played) (places : ℕ) → IsSome (records_of m p places)
   records_there p places =
-      values_there (λ place. option_map (λ (moment : Moment). moment.made) (moment_at m p place))
-      (λ place. mapped_there (λ (moment : Moment). moment.made) (moment_at m p place) (moment_there p place))
+      values_there (λ place. option_map (λ (moment : Moment). moment.frame_record) (moment_at m p place))
+      (λ place. mapped_there (λ (moment : Moment). moment.frame_record) (moment_at m p place)
+      (moment_there p place))
       (range_with_len 0 places)
 
   pub wave_text_there : (p : Played) → IsSome (wave_text m p)
@@ -103,12 +104,12 @@ making_there (Err refusal) make there = refl
 pub printing_there : {Y : Type 0} (read : Result Y Status) (text : Y → Option (List ℕ)) (files : Files)
     → ((y : Y) → IsSome (text y)) → IsSome (printing read text files)
 printing_there read text files there =
-    making_there read (λ y. option_map (λ out. only_printed out files) (text y))
-    (λ y. mapped_there (λ out. only_printed out files) (text y) (there y))
+    making_there read (λ y. option_map (λ out. only_written out files) (text y))
+    (λ y. mapped_there (λ out. only_written out files) (text y) (there y))
 
 pub made_outputs_are_there : MadeOutputsAreThere
 made_outputs_are_there number files meant =
-    mapped_there (λ out. Ok (only_printed out files)) (made_text number) (made_text_there number meant)
+    mapped_there (λ out. Ok (only_written out files)) (made_text number) (made_text_there number meant)
 
 module _ (cart : CartFile) (meant : RunsHaveMeaning cart.code) (files : Files) where
   texts_output_there : (wanted : PlaceText) (words : RunWords) → IsSome (texts_output wanted words cart files)

@@ -9,7 +9,6 @@ use Rattle.w4_defs.specs.declared.value.Cause.TheVariants as cause
 use Rattle.w4_defs.specs.declared.integer.Unary.{Unary}
 use Rattle.w4_defs.specs.declared.integer.Binary.{Binary}
 use Rattle.w4_defs.specs.declared.integer.Compare.{Compare}
-use Rattle.w4_defs.specs.declared.operation.Op.TheVariants as op
 use Rattle.w4_defs.specs.declared.instruction_table.IntegerType.{IntegerType}
 use Rattle.w4_defs.specs.declared.instruction_table.IntegerType.TheVariants as integer
 use Rattle.w4_defs.specs.declared.instruction_table.Signedness.{Signedness}
@@ -200,15 +199,6 @@ row_sound has shape.MemoryGrow stack_type h = where_memory has _ _ _ stack_type 
 row_sound has shape.MemoryCopy stack_type h = where_memory has _ _ _ stack_type copy_sound h
 row_sound has shape.MemoryFill stack_type h = where_memory has _ _ _ stack_type fill_sound h
 row_sound has shape.Float stack_type h = absurd (cc h)
-row_sound has shape.NoRow stack_type h = absurd (cc h)
 
--- what has an effect but no row has no type here
 pub plain_sound : PlainInstructionsAreSound
-plain_sound has op.Unreachable stack_type h = absurd (cc h)
-plain_sound has op.Nop stack_type h = absurd (cc h)
-plain_sound has op.Drop stack_type h = absurd (cc h)
-plain_sound has op.Select stack_type h = absurd (cc h)
-plain_sound has (op.LocalGet i) stack_type h = absurd (cc h)
-plain_sound has (op.LocalSet i) stack_type h = absurd (cc h)
-plain_sound has (op.LocalTee i) stack_type h = absurd (cc h)
-plain_sound has o stack_type h = row_sound has (row o) stack_type h
+plain_sound has i stack_type h = row_sound has (row i) stack_type h

@@ -14,11 +14,11 @@ leaf_read Else labels rest outer h = absurd h
 leaf_read End labels rest outer h = absurd h
 leaf_read op labels rest outer h = refl
 
--- an entry that closes a list
+-- a mark that closes a list
 abbrev Closes : Op → Type 0
 Closes close = (trees : List Expr) → read_entry close [] trees ≡ done ∷ trees
 
--- the entries of a tree are read as the tree, before what follows them
+-- the marks of a tree are read as the tree, before what follows them
 flat_read : (close : Op) → Closes close → (at : ℕ) (e : Expr) → IsProper e → (after : List Mark)
     → read_trees (flat_at close at e ++ after) ≡ e ∷ read_trees after
 flat_read close c at done h after = c (read_trees after)

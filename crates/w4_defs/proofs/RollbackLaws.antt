@@ -1,10 +1,12 @@
 -- Predictions, and packets in whatever order.
 use Rattle.std.proofs.Common.{◌≡◌, ◌⊎◌, refl, ℕ, zero, suc, inl, inr, Bool, true, false, cond, ◌&&◌, nat_lt, List, [], ◌∷◌, Option, Some, None, sym, ◌∙◌, ap, arith}
-use Rattle.std.specs.Prelude.{◌==◌, All, Contains, fold, unwrap_or, option_and_then, is_none}
+use Rattle.std.specs.Prelude.{◌==◌, All, Contains, fold, unwrap_or, option_and_then, option_map, is_none, nat_le}
 use Rattle.std.proofs.lemmas.Bool.{true≢false, cases_lt, cases_Bool, eqb-true, eq-eqb, and_parts, and_from, cond-true, cond-false, cond_both}
 use Rattle.std.proofs.lemmas.List.FromFn.{map-range_with_len_more}
 use Rattle.std.proofs.lemmas.List.Elements.{All-nil, All-cons, All-contains, Contains-append_right}
+use Rattle.w4_defs.specs.declared.net_refusal.NetRefusal.TheVariants.{NoPlayer, FrameRange, Conflict}
 use Rattle.w4_defs.specs.declared.netplay.Packet.{Packet}
+use Rattle.w4_defs.specs.Limits.{frame_limit}
 use Rattle.w4_defs.specs.Rollback.{Known, nothing_known, is_of, conflict, is_accepted, learned, received, predicted, net_input, net_inputs, accepted_from, accepted, packet_of, PredictionIsLatest, NothingPredictsZero, InputsGrow, SamePacketsSameKnown, SamePacketsSameInputs}
 
 -- where a frame isn't known, its prediction is that of the frame before
@@ -55,11 +57,32 @@ no_conflict kept pad none = elim (cases_Bool (kept == pad)) [
   | inr other ↦ absurd (true≢false (sym none ∙ ap (λ b. is_none (cond b None (Some kept))) other))
 ]
 
+-- the first test of a refusal that isn't there fails, and the others refuse nothing
+refused_by_none : {A : Type 0} (test : Bool) (why : A) (rest : Option A)
+    → is_none (cond test (Some why) rest) ≡ true → (test ≡ false) × (is_none rest ≡ true)
+refused_by_none true why rest none = absurd (true≢false (sym none))
+refused_by_none false why rest none = (refl, none)
+
+none_mapped : {A B : Type 0} (f : A → B) (found : Option A) → is_none (option_map f found) ≡ true
+    → is_none found ≡ true
+none_mapped f None none = refl
+none_mapped f (Some x) none = none
+
+-- an accepted packet is of one of the players and frames, and no other byte is known
+pub accepted_parts : (known : Known) (packet : Packet) → is_accepted known packet ≡ true
+    → (nat_le 4 packet.player ≡ false) × (nat_le frame_limit packet.frame ≡ false)
+    × (is_none (conflict known packet) ≡ true)
+accepted_parts known packet accepted =
+    let of_player = refused_by_none (nat_le 4 packet.player) NoPlayer _ accepted in
+    let of_frame = refused_by_none (nat_le frame_limit packet.frame) FrameRange _ of_player.1 in (
+      of_player.0,
+      of_frame.0,
+      none_mapped (λ kept. Conflict kept packet.pad) (conflict known packet) of_frame.1,
+    )
+
 accepted-has_none : (known : Known) (packet : Packet) → is_accepted known packet ≡ true →
     is_none (conflict known packet) ≡ true
-accepted-has_none known packet taken =
-    let of_range = nat_lt packet.player 4 && nat_lt packet.frame 36000 in
-    (and_parts of_range (is_none (conflict known packet)) taken).1
+accepted-has_none known packet accepted = (accepted_parts known packet accepted).2
 
 -- whether a packet is accepted and speaks of this frame
 takes : Known → Packet → ℕ → ℕ → Bool

@@ -4,16 +4,17 @@ use Rattle.std.specs.Prelude.{replicate}
 use Rattle.std.proofs.lemmas.Bool.{le-leb, lt-leb}
 use Rattle.std.proofs.lemmas.List.{length-replicate}
 use Rattle.w4_defs.specs.Lines.{pieces, lines_from}
-use Rattle.w4_defs.specs.OrderFile.{ScriptFault, with_order, orders_in, OrdersInParts, FirstBadLine, FileLimit}
+use Rattle.w4_defs.specs.OrderFile.{with_order, orders_in, OrdersInParts, FirstBadLine, FileLimit}
+use Rattle.w4_defs.specs.declared.status.ScriptKind.{ScriptKind}
 use Rattle.w4_defs.specs.Script.{order_of, script_of, ScriptLimit}
 
 -- the orders, or others where there are none
-orders_or : {Order : Type 0} → List Order → Result (List Order) ScriptFault → List Order
+orders_or : {Order : Type 0} → List Order → Result (List Order) ScriptKind → List Order
 orders_or others (Ok orders) = orders
 orders_or others (Err fault) = others
 
 -- a first line whose orders are read has an order, and so have the others
-read_first : {Order : Type 0} (number : ℕ) (order : Option Order) (more : Result (List Order) ScriptFault)
+read_first : {Order : Type 0} (number : ℕ) (order : Option Order) (more : Result (List Order) ScriptKind)
     (orders : List Order) → with_order number order more ≡ Ok orders →
     (first : Order) × (rest : List Order) × (order ≡ Some first) × (more ≡ Ok rest) × (orders ≡ first ∷ rest)
 unfolding orders_or

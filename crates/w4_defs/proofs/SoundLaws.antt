@@ -60,10 +60,16 @@ frames_are_counted wave =
 counted-from : (wave : Wave) (records : List FrameRecord) →
     length (samples_from wave records) ≡ samples_length (length records)
 counted-from wave [] = refl
-counted-from wave (made ∷ records) =
-    let rest : List ℕ = samples_from (after_frame made wave) records in
-    let more = counted-from (after_frame made wave) records in
-    omega (arith, length-append (rendered made wave) rest, frames_are_counted (with_record made wave), more)
+counted-from wave (frame_record ∷ records) =
+    let rest : List ℕ = samples_from (after_frame frame_record wave) records in
+    let more = counted-from (after_frame frame_record wave) records in
+    omega (
+      arith,
+      length-append (rendered frame_record wave) rest,
+      frames_are_counted
+          (with_record frame_record wave),
+      more,
+    )
 
 pub samples_are_counted : SamplesAreCounted
 unfolding samples

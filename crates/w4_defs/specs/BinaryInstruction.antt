@@ -1,13 +1,13 @@
 -- Control, parametric and variable instructions, and expressions (Core Specification, section 5.4,
 -- with the table index of call_indirect of Core 2.0). Rows stand in the order of their codes; br_table
--- stands with its labels below, and what isn't here is looked up among the memory instructions.
+-- stands with its labels below, and the brackets of lists with the lists.
 use Rattle.std.specs.Prelude.{◌≡◌, ℕ, List, [], ◌∷◌, ◌++◌}
 use Rattle.w4_defs.specs.declared.operation.Op.{Op}
-use Rattle.w4_defs.specs.declared.operation.Op.TheVariants.{Unreachable, Nop, Br, BrIf, BrTable, Return, Call, CallIndirect, Drop, Select, LocalGet, LocalSet, LocalTee, GlobalGet, GlobalSet}
-use Rattle.w4_defs.specs.BinaryText.{Texts, ◌then◌, provided, byte}
+use Rattle.w4_defs.specs.declared.operation.Op.TheVariants.{Unreachable, Nop, Br, BrIf, BrTable, Return, Call, CallIndirect, Drop, Select, LocalGet, LocalSet, LocalTee, GlobalGet, GlobalSet, Basic}
+use Rattle.w4_defs.specs.BinaryText.{Texts, ◌then◌, no_text, provided, byte}
 use Rattle.w4_defs.specs.BinaryNumber.{unsigned}
 use Rattle.w4_defs.specs.BinaryType.{vector, block_type}
-use Rattle.w4_defs.specs.BinaryMemory.{memory}
+use Rattle.w4_defs.specs.BinaryBasic.{basic}
 use Rattle.w4_defs.specs.Tree.{Mark, Expr, done, plain, block, loop, if_then, if_else}
 
 abbrev pub operation : Op → Texts
@@ -25,7 +25,8 @@ operation (LocalSet index) = byte 0x21 then unsigned 32 index
 operation (LocalTee index) = byte 0x22 then unsigned 32 index
 operation (GlobalGet index) = byte 0x23 then unsigned 32 index
 operation (GlobalSet index) = byte 0x24 then unsigned 32 index
-operation op = memory op
+operation (Basic i) = basic i
+operation _ = no_text
 
 -- the labels of a br_table: a vector, and then the default, which is the last of them
 abbrev pub table_labels : List ℕ → Texts

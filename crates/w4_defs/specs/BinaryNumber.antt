@@ -5,8 +5,8 @@ use Rattle.std.specs.Prelude.{◌≡◌, ℕ, ◌+◌, ◌-◌, ◌*◌, ◌^◌
 use Rattle.std.specs.Int.{Width, byte_len, from_le_bytes}
 use Rattle.w4_defs.specs.BinaryText.{Texts}
 
--- LEB128 of w bits: a last byte, or a byte whose low seven bits come before those of the number of w - 7 bits
--- that follows
+-- LEB128 of w bits: a last byte, or a byte whose low seven bits are the lowest, and then the number of w - 7
+-- bits above them
 abbrev pub leb : (ℕ → ℕ → ℕ → Type 0) → ℕ → ℕ → Texts
 leb Last w n [] = ⊥
 leb Last w n (b ∷ bs) =

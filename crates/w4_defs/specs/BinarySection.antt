@@ -18,7 +18,7 @@ abbrev pub BeginsWithName : List ℕ → Type 0
 BeginsWithName contents =
     (called text others : List ℕ) × (contents ≡ text ++ others) × name called text
 
--- the place of an id in the order 1 to 9, 12, 10, 11
+-- the position of an id in the order 1 to 9, 12, 10, 11
 abbrev pub rank : ℕ → ℕ
 rank id = if id == 12 then 10 else (if nat_lt 9 id then id + 1 else id)
 
@@ -34,7 +34,7 @@ abbrev pub contents : ℕ → List Section → Option (List ℕ)
 contents id [] = None
 contents id (s ∷ sections) = if s.0 == id then Some s.1 else contents id sections
 
--- a section is a vector; an absent one has no entries
+-- a section is a vector; an absent one has no items
 abbrev pub Part : {A : Type 0} → (A → Texts) → Option (List ℕ) → List A → Type 0
 Part spelled None xs = xs ≡ []
 Part spelled (Some text) xs = vector spelled xs text

@@ -6,7 +6,7 @@ use Rattle.w4_defs.specs.declared.console.Import.TheVariants as import
 use Rattle.w4_defs.specs.declared.console.TextSource.{TextSource}
 use Rattle.w4_defs.specs.declared.console.TextSource.TheVariants.{Cstr, Utf8, Utf16}
 use Rattle.w4_defs.specs.declared.console.Tone.{Tone}
-use Rattle.w4_defs.specs.declared.picture.Picture.{Picture}
+use Rattle.w4_defs.specs.declared.sprite.Sprite.{Sprite}
 use Rattle.w4_defs.specs.Words.{signed_word}
 use Rattle.w4_defs.specs.Outcome.{Called, HostFunctions}
 use Rattle.w4_defs.specs.Module.{WasmModule}
@@ -62,9 +62,9 @@ import_weight import.TraceUtf8 args page = text_weight page (utf8_source args)
 import_weight import.TraceUtf16 args page = text_weight page (utf16_source args)
 import_weight import.Tracef args page = text_weight page (cstr_source args)
 
--- the picture of `blit`: its own width is its stride. A width or height below 1 is no cell
-abbrev pub blit_picture : List ℕ → List ℕ → Picture
-blit_picture args page = record {
+-- the sprite of `blit`: its own width is its stride. A width or height below 1 is no cell
+abbrev pub blit_sprite : List ℕ → List ℕ → Sprite
+blit_sprite args page = record {
   colors = draw_colors page;
   ptr = argument args 0;
   w = natural (signed_argument args 3);
@@ -75,8 +75,8 @@ blit_picture args page = record {
   flags = argument args 5;
 }
 
-abbrev pub blit_sub_picture : List ℕ → List ℕ → Picture
-blit_sub_picture args page = record {
+abbrev pub blit_sub_sprite : List ℕ → List ℕ → Sprite
+blit_sub_sprite args page = record {
   colors = draw_colors page;
   ptr = argument args 0;
   w = natural (signed_argument args 3);
@@ -120,10 +120,10 @@ with_disk board disk = record board { disk = disk }
 unfoldable pub import_effect : Board → Import → List ℕ → List ℕ → Called Board
 import_effect board import.Blit args page =
     painting board page
-    (blit_painter page (blit_picture args page) (signed_argument args 1) (signed_argument args 2))
+    (blit_painter page (blit_sprite args page) (signed_argument args 1) (signed_argument args 2))
 import_effect board import.BlitSub args page =
     painting board page
-    (blit_painter page (blit_sub_picture args page) (signed_argument args 1) (signed_argument args 2))
+    (blit_painter page (blit_sub_sprite args page) (signed_argument args 1) (signed_argument args 2))
 import_effect board import.Line args page =
     painting board page
     (line_painter (draw_colors page) (signed_argument args 0) (signed_argument args 1)
@@ -197,8 +197,8 @@ BoardCases =
     × (put.host.disk ≡ 66 ∷ 0 ∷ 67 ∷ [])
     × (got.answer ≡ Some 2)
     × (got.page ≡ 66 ∷ 0 ∷ 0 ∷ 67 ∷ [])
-    × (traced.host.traces.kept ≡ (63 ∷ []) ∷ [])
-    × (length second.host.tones.kept ≡ 2)
+    × (traced.host.traces.items ≡ (63 ∷ []) ∷ [])
+    × (length second.host.tones.items ≡ 2)
     × (second.host.channels ≡ silent)
 
 pub board-cases : BoardCases

@@ -1,13 +1,13 @@
 -- What each status says of the world before and after, where a step on files is what the program does. A step
 -- says which results the files allow.
-use Rattle.std.specs.Prelude.{◌≡◌, ◌≢◌, ◌⊎◌, List, ℕ, Option, Some, None, Result, Ok, Err, ⊤}
+use Rattle.std.specs.Prelude.{◌≡◌, ◌≢◌, ◌⊎◌, List, ℕ, Some, Result, Ok, Err, ⊤}
 use Rattle.std.specs.Option.{ForSome}
 use Rattle.w4_defs.specs.declared.status.Status.{Status}
 use Rattle.w4_defs.specs.declared.status.Status.TheVariants as status
 use Rattle.w4_defs.specs.Endings.{Manner, AllWritten, NoCommand, ReadFailed, WriteFailed, MemoryRefused, Refused, manner_of}
 use Rattle.w4_defs.specs.Output.{Output}
 use Rattle.w4_defs.specs.StatusLines.{status_line}
-use Rattle.w4_defs.specs.World.{Files, World, Rises, Appends, AppendsFront, OpensOnly}
+use Rattle.w4_defs.specs.World.{Files, World, Rises, Appends, AppendsFront}
 
 -- a read failed, or a file whose turn came isn't among those that the house tells
 abbrev pub ReadFails : {Y : Type 0} → World → World → (Files → Result Y Status → Type 0) → Type 0
@@ -24,33 +24,28 @@ LeavesOutputs old new = (new.out ≡ old.out) × (new.files ≡ old.files)
 
 -- where told, all that was to be made has been written, and no other file has changed
 abbrev pub Writes : World → World → Output → Type 0
-Writes old new made = Appends old.out new.out made.out × (new.files ≡ Some made.files)
+Writes old new output = Appends old.out new.out output.out × (new.files ≡ Some output.files)
 
--- at most the file that was to be written has changed
-abbrev pub OpensFile : Option Files → Option Files → Option (List ℕ) → Type 0
-OpensFile old new None = ⊥
-OpensFile old new (Some name) = OpensOnly old new name
-
--- standard output has got a first part of what was to be made, and no file has changed; or it has got all of
--- it, and no file but the one that was to be written has changed
+-- standard output has got a first part of what was to be made, and no file has changed; or all that was to
+-- be made has been written
 abbrev pub WritesPart : World → World → Output → Type 0
-WritesPart old new made = (AppendsFront old.out new.out made.out × (new.files ≡ old.files))
-    ⊎ (Appends old.out new.out made.out × OpensFile old.files new.files made.file)
+WritesPart old new output = (AppendsFront old.out new.out output.out × (new.files ≡ old.files))
+    ⊎ Writes old new output
 
 -- how a whole step ended
 abbrev pub Ends : World → World → Manner → (Files → Result Output Status → Type 0) → Type 0
 Ends old new AllWritten step =
-    ForSome old.files (λ files. (made : Output) × step files (Ok made) × Writes old new made)
+    ForSome old.files (λ files. (output : Output) × step files (Ok output) × Writes old new output)
 Ends old new NoCommand step = StepRefuses old status.Usage step × LeavesOutputs old new
 Ends old new ReadFailed step = ReadFails old new step × LeavesOutputs old new
 Ends old new WriteFailed step =
     Rises old.write_faults new.write_faults
-    × ForSome old.files (λ files. (made : Output) × step files (Ok made) × WritesPart old new made)
+    × ForSome old.files (λ files. (output : Output) × step files (Ok output) × WritesPart old new output)
 Ends old new MemoryRefused step =
     (new.files ≡ old.files)
     × ((new.out ≡ old.out)
     ⊎ ForSome old.files
-    (λ files. (made : Output) × step files (Ok made) × AppendsFront old.out new.out made.out))
+    (λ files. (output : Output) × step files (Ok output) × AppendsFront old.out new.out output.out))
 Ends old new (Refused refusal) step = StepRefuses old refusal step × LeavesOutputs old new
 
 -- a refusal or a failed read, which leaves standard output and all files as they were
@@ -73,13 +68,14 @@ Reports old new line = Appends old.err new.err line
 
 -- the status of what the program makes
 abbrev pub status_of : Result Output Status → Status
-status_of (Ok made) = status.Done
+status_of (Ok output) = status.Done
 status_of (Err refusal) = refusal
 
 -- memory ran out, or the status is that of a result which the step allows
 abbrev pub IsExact : Status → (Result Output Status → Type 0) → Type 0
 IsExact result step =
-    (result ≡ status.OutOfMemory) ⊎ ((made : Result Output Status) × step made × (result ≡ status_of made))
+    (result ≡ status.OutOfMemory) ⊎ ((output : Result Output Status) × step output
+    × (result ≡ status_of output))
 
 -- nothing was written to standard error
 abbrev pub LeavesErr : World → World → Type 0

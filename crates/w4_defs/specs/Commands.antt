@@ -127,18 +127,18 @@ batch_form words = None
 -- the commands by their names, and how the words after a name are read
 abbrev pub command_rows : List (OrderRow Form)
 command_rows =
-    record { name = codes "check"; read = check_form }
-    ∷ record { name = codes "blank"; read = blank_form }
-    ∷ record { name = codes "frames"; read = frames_form }
-    ∷ record { name = codes "tones"; read = tones_form }
-    ∷ record { name = codes "trace"; read = trace_form }
-    ∷ record { name = codes "disk"; read = disk_form }
-    ∷ record { name = codes "edit"; read = edit_form }
-    ∷ record { name = codes "make"; read = make_form }
-    ∷ record { name = codes "net"; read = net_form }
-    ∷ record { name = codes "ram"; read = ram_form }
-    ∷ record { name = codes "wave"; read = wave_form }
-    ∷ record { name = codes "batch"; read = batch_form }
+    record { name = codes "check"; order_from = check_form }
+    ∷ record { name = codes "blank"; order_from = blank_form }
+    ∷ record { name = codes "frames"; order_from = frames_form }
+    ∷ record { name = codes "tones"; order_from = tones_form }
+    ∷ record { name = codes "trace"; order_from = trace_form }
+    ∷ record { name = codes "disk"; order_from = disk_form }
+    ∷ record { name = codes "edit"; order_from = edit_form }
+    ∷ record { name = codes "make"; order_from = make_form }
+    ∷ record { name = codes "net"; order_from = net_form }
+    ∷ record { name = codes "ram"; order_from = ram_form }
+    ∷ record { name = codes "wave"; order_from = wave_form }
+    ∷ record { name = codes "batch"; order_from = batch_form }
     ∷ []
 
 -- the form that the words have, or None

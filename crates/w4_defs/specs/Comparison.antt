@@ -34,11 +34,12 @@ has_same_image both = bytes_eq (image both.first.state.page) (image both.second.
 
 abbrev pub has_same_tones : Respect
 has_same_tones both =
-    bytes_eq (schedule_text both.place both.first.made) (schedule_text both.place both.second.made)
+    bytes_eq (schedule_text both.place both.first.frame_record)
+    (schedule_text both.place both.second.frame_record)
 
 abbrev pub has_same_traces : Respect
 has_same_traces both =
-    bytes_eq (trace_text both.place both.first.made) (trace_text both.place both.second.made)
+    bytes_eq (trace_text both.place both.first.frame_record) (trace_text both.place both.second.frame_record)
 
 abbrev pub has_same_disk : Respect
 has_same_disk both = bytes_eq both.first.state.disk both.second.state.disk
@@ -94,7 +95,7 @@ compared one other =
 abbrev worked_moment : List ℕ → Moment
 worked_moment disk = record {
   state = record { page = []; globals = []; channels = silent; disk = disk; halt = Running };
-  made = empty_record;
+  frame_record = empty_record;
 }
 
 abbrev worked_places : List Both

@@ -1,42 +1,43 @@
 -- What has to be there so that a command is done (project rule): each file that it names, of the right kind,
 -- and the places that it names. A file is judged by its first bytes, one more than its limit. What is listed
 -- here leaves no refusal.
-use Rattle.std.specs.Prelude.{◌≡◌, ℕ, ◌≤◌, List, IsSome, length, Option, Some, None, Result, Ok, ⊤}
+use Rattle.std.specs.Prelude.{◌≡◌, ℕ, ◌+◌, ◌≤◌, List, IsSome, length, Option, Some, None, Result, Ok, ⊤}
 use Rattle.std.specs.List.{AllByRecursion}
 use Rattle.sha2.specs.Sha256.{sha256}
 use Rattle.w4_defs.specs.Cart.{IsCart}
 use Rattle.w4_defs.specs.Commands.{RunWords, Form, Check, Blank, Frames, Tones, Trace, Disk, Edit, Make, Net, Ram, Wave, Batch}
 use Rattle.w4_defs.specs.NameLists.{names_of}
 use Rattle.w4_defs.specs.NetLog.{net_log_of}
-use Rattle.w4_defs.specs.OrderFile.{ScriptFault}
+use Rattle.w4_defs.specs.declared.status.ScriptKind.{ScriptKind}
 use Rattle.w4_defs.specs.Output.{CartFile, Played}
 use Rattle.w4_defs.specs.Outputs.{cart_word}
 use Rattle.w4_defs.specs.RamQuery.{query_of}
 use Rattle.w4_defs.specs.Recording.{Recording, recording_of}
 use Rattle.w4_defs.specs.Script.{script_of}
 use Rattle.w4_defs.specs.World.{Files, front_of}
+use Rattle.w4_defs.specs.Limits.{cart_limit, recording_limit, font_size, script_limit, name_list_limit}
 
 -- an accepted cart, and the SHA-256 of its bytes
 pub record HasCart (files : Files) (name : List ℕ) (cart : CartFile) : Type 0 where
   pub bytes : List ℕ
-  pub there : front_of files name 65537 ≡ Some bytes
+  pub there : front_of files name (cart_limit + 1) ≡ Some bytes
   pub accepted : IsCart bytes cart.code
   pub digest : cart.digest ≡ sha256 bytes
 
 -- a recording of the cart with this digest
 pub record HasRecording (files : Files) (name digest : List ℕ) (r : Recording) : Type 0 where
   pub bytes : List ℕ
-  pub there : front_of files name 361072 ≡ Some bytes
+  pub there : front_of files name (recording_limit + 1) ≡ Some bytes
   pub encoded : recording_of bytes ≡ Some r
   pub of_cart : r.digest ≡ digest
 
 pub record HasFont (files : Files) (name font : List ℕ) : Type 0 where
-  pub there : front_of files name 1793 ≡ Some font
-  pub size : length font ≡ 1792
+  pub there : front_of files name (font_size + 1) ≡ Some font
+  pub size : length font ≡ font_size
 
 -- a file of lines in the grammar: a script, a log, a query, or a list of names
 pub record HasLines {Order : Type 0} (files : Files) (name : List ℕ) (most : ℕ)
-    (read : List ℕ → Result (List Order) ScriptFault) (orders : List Order) : Type 0 where
+    (read : List ℕ → Result (List Order) ScriptKind) (orders : List Order) : Type 0 where
   pub bytes : List ℕ
   pub there : front_of files name most ≡ Some bytes
   pub read_as : read bytes ≡ Ok orders
@@ -58,19 +59,19 @@ HasRest (Disk words place) digest files =
     (run : Played) × HasRun files words digest run × (place ≤ length run.recording.frames)
 HasRest (Edit words) digest files =
     (run : Played) × HasRun files words.run digest run
-    × (orders : List _) × HasLines files words.script 1048577 script_of orders
+    × (orders : List _) × HasLines files words.script (script_limit + 1) script_of orders
 HasRest (Make number) digest files = ⊤
 HasRest (Net words) digest files =
     (font : List ℕ) × HasFont files words.font font
-    × (orders : List _) × HasLines files words.log 1048577 net_log_of orders
+    × (orders : List _) × HasLines files words.log (script_limit + 1) net_log_of orders
 HasRest (Ram words query) digest files =
     (run : Played) × HasRun files words digest run
-    × (lines : List _) × HasLines files query 1048577 query_of lines
+    × (lines : List _) × HasLines files query (script_limit + 1) query_of lines
 HasRest (Wave words) digest files = (run : Played) × HasRun files words digest run
 HasRest (Batch words) digest files =
     (font : List ℕ) × HasFont files words.font font
-    × (names : List (List ℕ)) × HasLines files words.list 65537 names_of names
-    × AllByRecursion (λ name. IsSome (front_of files name 361072)) names
+    × (names : List (List ℕ)) × HasLines files words.list (name_list_limit + 1) names_of names
+    × AllByRecursion (λ name. IsSome (front_of files name (recording_limit + 1))) names
 
 -- the cart where the form names one, and the rest
 abbrev pub IsCompleteOver : Option (List ℕ) → Form → Files → Type 0

@@ -4,13 +4,14 @@ use Rattle.std.specs.Prelude.{ℕ, Option, Some, None}
 use Rattle.w4_defs.specs.declared.value.Val.{Val}
 use Rattle.w4_defs.specs.declared.value.Val.TheVariants as val
 use Rattle.w4_defs.specs.declared.operation.Op.{Op}
-use Rattle.w4_defs.specs.declared.operation.Op.TheVariants.{I32Const, I64Const}
+use Rattle.w4_defs.specs.declared.operation.Op.TheVariants.{Basic}
+use Rattle.w4_defs.specs.declared.basic.Basic.TheVariants.{I32Const, I64Const}
 use Rattle.w4_defs.specs.Tree.{Expr, done, plain}
 
 -- the value of a constant; no other operation has one here
 abbrev pub const_value : Op → Option Val
-const_value (I32Const n) = Some (val.I32 n)
-const_value (I64Const n) = Some (val.I64 n)
+const_value (Basic (I32Const n)) = Some (val.I32 n)
+const_value (Basic (I64Const n)) = Some (val.I64 n)
 const_value _ = None
 
 -- the value of an expression that is a single constant

@@ -2,13 +2,11 @@
 -- bytes. Both calls return how many bytes they moved.
 use Rattle.std.specs.Prelude.{◌≡◌, ℕ, ◌-◌, min, List, [], ◌∷◌, length, take, drop, refl}
 use Rattle.w4_defs.specs.Bytes.{replaced}
-
-abbrev pub disk_room : ℕ
-disk_room = 1024
+use Rattle.w4_defs.specs.Limits.{disk_limit}
 
 -- the disk after a write of the bytes at ptr: as many as are asked for, fit, and stand in the page
 abbrev pub disk_write : List ℕ → ℕ → ℕ → List ℕ
-disk_write page ptr size = take (min size disk_room) (drop ptr page)
+disk_write page ptr size = take (min size disk_limit) (drop ptr page)
 
 -- how many bytes a read moves: as many as are asked for, are on the disk, and fit into the page
 abbrev pub disk_read_count : List ℕ → List ℕ → ℕ → ℕ → ℕ
@@ -20,7 +18,7 @@ disk_read disk page ptr size =
     let count = disk_read_count disk page ptr size in
     replaced page ptr count (take count disk)
 
--- worked cases over a page of four bytes: past the end of the disk or of the page nothing is moved
+-- worked cases over a page of four bytes: what would go past the end of the disk or of the page isn't moved
 abbrev pub DiskCases : Type 0
 DiskCases = let page = 1 ∷ 2 ∷ 3 ∷ 4 ∷ [] in
     (disk_write page 2 100 ≡ 3 ∷ 4 ∷ [])

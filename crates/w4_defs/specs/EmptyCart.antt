@@ -1,7 +1,8 @@
 -- Worked cases of the binary format and of typing: the smallest cart, whose `update` does nothing; the
 -- same with a longer encoding of a size; and a body whose operands nobody pushes.
 use Rattle.std.specs.Prelude.{◌≡◌, ℕ, List, [], ◌∷◌, ◌++◌, codes, None}
-use Rattle.w4_defs.specs.declared.operation.Op.TheVariants.{Unreachable, I32Add, I64Const, Drop}
+use Rattle.w4_defs.specs.declared.operation.Op.TheVariants.{Unreachable, Drop, Basic}
+use Rattle.w4_defs.specs.declared.basic.Basic.TheVariants.{I32Add, I64Const}
 use Rattle.w4_defs.specs.declared.module.ImportKind.TheVariants as imports
 use Rattle.w4_defs.specs.declared.module.ExportKind.TheVariants as exports
 use Rattle.w4_defs.specs.declared.refusal.CartKind.TheVariants.{Profile}
@@ -78,12 +79,16 @@ EmptyCartIsCart = IsCart empty_cart empty_module
 -- unreachable, i32.add, drop
 abbrev pub adds_nothing : Function
 adds_nothing =
-    record { runs = []; list = plain (mark Unreachable) (plain (mark I32Add) (plain (mark Drop) done)) }
+    record {
+      runs = [];
+      list = plain (mark Unreachable) (plain (mark (Basic I32Add)) (plain (mark Drop) done));
+    }
 
 -- unreachable, i64.const, i32.add, drop
 abbrev pub adds_mixed : Expr
 adds_mixed =
-    plain (mark Unreachable) (plain (mark (I64Const 0)) (plain (mark I32Add) (plain (mark Drop) done)))
+    plain (mark Unreachable)
+    (plain (mark (Basic (I64Const 0))) (plain (mark (Basic I32Add)) (plain (mark Drop) done)))
 
 abbrev pub UnreachableCodeHasType : Type 0
 UnreachableCodeHasType = BodyHasType empty_module 0 adds_nothing

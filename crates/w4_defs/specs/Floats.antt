@@ -5,6 +5,7 @@ use Rattle.std.specs.List.{list_any}
 use Rattle.w4_defs.specs.declared.value.ValType.{ValType}
 use Rattle.w4_defs.specs.declared.value.ValType.TheVariants.{I32, I64, F32, F64}
 use Rattle.w4_defs.specs.declared.operation.Op.{Op}
+use Rattle.w4_defs.specs.declared.operation.Op.TheVariants.{Basic}
 use Rattle.w4_defs.specs.declared.instruction_table.Row.{Row}
 use Rattle.w4_defs.specs.declared.instruction_table.Row.TheVariants.{Float}
 use Rattle.w4_defs.specs.InstructionTable.{row}
@@ -27,7 +28,8 @@ is_float_row Float = true
 is_float_row _ = false
 
 abbrev pub is_float_operation : Op → Bool
-is_float_operation op = is_float_row (row op)
+is_float_operation (Basic i) = is_float_row (row i)
+is_float_operation _ = false
 
 abbrev pub has_float : Expr → Bool
 has_float done = false

@@ -4,6 +4,7 @@ use Rattle.w4_defs.specs.declared.value.Cause.TheVariants as cause
 use Rattle.w4_defs.specs.declared.module.ImportKind.TheVariants as kind
 use Rattle.w4_defs.specs.declared.module.ExportKind.TheVariants as export
 use Rattle.w4_defs.specs.declared.operation.Op.TheVariants as op
+use Rattle.w4_defs.specs.declared.basic.Basic.TheVariants.{I32Load8U, I32Store8}
 use Rattle.w4_defs.specs.declared.console.Halt.{Halt}
 use Rattle.w4_defs.specs.declared.console.Halt.TheVariants.{Running, Trapped, Spent}
 use Rattle.w4_defs.specs.declared.console.Input.{Input}
@@ -11,6 +12,7 @@ use Rattle.w4_defs.specs.Tree.{Expr, done, plain, loop, mark}
 use Rattle.w4_defs.specs.Module.{Exported, DataSegment, WasmModule, nothing_to_nothing}
 use Rattle.w4_defs.specs.Imports.{import_module, takes_i32s}
 use Rattle.w4_defs.specs.Evaluation.{eval, eval_within}
+use Rattle.w4_defs.specs.WorkedRuns.{i32_const}
 use Rattle.w4_defs.specs.State.{Moment, zero_page}
 use Rattle.w4_defs.specs.Reset.{first_page, start_page, start, reset}
 use Rattle.w4_defs.specs.Frame.{frame, cleared}
@@ -50,16 +52,16 @@ trapping = plain (mark op.Unreachable) done
 
 -- the first gamepad into the first byte of the framebuffer
 abbrev showing : Expr
-showing = plain (mark (op.I32Const 160)) (plain (mark (op.I32Const 22))
-    (plain (mark (op.I32Load8U 0 0)) (plain (mark (op.I32Store8 0 0)) done)))
+showing = plain (mark (i32_const 160)) (plain (mark (i32_const 22))
+    (plain (mark (op.Basic (I32Load8U 0 0))) (plain (mark (op.Basic (I32Store8 0 0))) done)))
 
--- the text at 0 as a trace line, which weighs 2 and 64 and a unit for each byte
+-- the text at 0 as a trace line: two instructions, and the call's weight of 64 and a unit for each byte
 abbrev tracing : Expr
-tracing = plain (mark (op.I32Const 0)) (plain (mark (op.Call 0)) done)
+tracing = plain (mark (i32_const 0)) (plain (mark (op.Call 0)) done)
 
 abbrev bytes_at : ℕ → List ℕ → DataSegment
 bytes_at address bytes =
-    record { memory = 0; offset = plain (mark (op.I32Const address)) done; bytes = bytes }
+    record { memory = 0; offset = plain (mark (i32_const address)) done; bytes = bytes }
 
 abbrev pad : ℕ → Bool → Input
 pad bits again =
@@ -76,7 +78,7 @@ abbrev page_byte : ℕ → Option Moment → Option ℕ
 page_byte address moment = option_map (λ moment. slice_index moment.state.page address) moment
 
 abbrev lines_of : Option Moment → Option (List (List ℕ))
-lines_of moment = option_map (λ moment. moment.made.traces.kept) moment
+lines_of moment = option_map (λ moment. moment.frame_record.traces.items) moment
 
 -- three instructions want three units; an endless loop is spent at every budget
 abbrev pub BudgetCases : Type 0
@@ -172,7 +174,7 @@ started_by function rows segments = record (small_cart rows segments) { start = 
 
 -- the text at an address as a trace line
 abbrev tracing_at : ℕ → Expr
-tracing_at address = plain (mark (op.I32Const address)) (plain (mark (op.Call 0)) done)
+tracing_at address = plain (mark (i32_const address)) (plain (mark (op.Call 0)) done)
 
 abbrev pub StartCase : Type 0
 StartCase =

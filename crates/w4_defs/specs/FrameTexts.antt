@@ -27,7 +27,7 @@ numbered word numbers = word ++ flat_map spaced numbers ++ line_end
 abbrev pub frame_line : ℕ → List ℕ
 frame_line place = numbered (codes "frame") (place ∷ [])
 
--- how many entries were dropped, where any were
+-- how many items were dropped, where any were
 abbrev pub dropped_line : ℕ → List ℕ
 dropped_line dropped = if dropped == 0 then [] else numbered (codes "dropped") (dropped ∷ [])
 
@@ -50,9 +50,9 @@ sound_lines channel (sound ∷ rest) = sound_line channel sound ++ sound_lines (
 
 -- the schedule text of a place
 unfoldable pub schedule_text : ℕ → FrameRecord → List ℕ
-schedule_text place made =
-    frame_line place ++ flat_map tone_line made.tones.kept ++ dropped_line made.tones.dropped
-    ++ sound_lines 0 made.sounds
+schedule_text place frame_record =
+    frame_line place ++ flat_map tone_line frame_record.tones.items ++ dropped_line frame_record.tones.dropped
+    ++ sound_lines 0 frame_record.sounds
 
 -- a lower-case hexadecimal digit
 abbrev pub hex_digit : ℕ → ℕ
@@ -72,8 +72,9 @@ trace_text_line line = codes "trace " ++ flat_map escaped line ++ line_end
 
 -- the trace text of a place
 unfoldable pub trace_text : ℕ → FrameRecord → List ℕ
-trace_text place made =
-    frame_line place ++ flat_map trace_text_line made.traces.kept ++ dropped_line made.traces.dropped
+trace_text place frame_record =
+    frame_line place ++ flat_map trace_text_line frame_record.traces.items
+    ++ dropped_line frame_record.traces.dropped
 
 abbrev pub cause_words : Cause → List ℕ
 cause_words Unreachable = codes "unreachable"
@@ -110,8 +111,8 @@ worked_record = record {
 
 abbrev pub crowded_record : FrameRecord
 crowded_record = record {
-  tones = record { kept = []; dropped = 2 };
-  traces = record { kept = []; dropped = 10 };
+  tones = record { items = []; dropped = 2 };
+  traces = record { items = []; dropped = 10 };
   sounds = None ∷ Some (record { level = 3; frequency = 9 }) ∷ None
       ∷ Some (record { level = 0; frequency = 70 }) ∷ [];
 }

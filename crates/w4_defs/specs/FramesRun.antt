@@ -1,5 +1,4 @@
--- How many frames calls have run, or rounds of settling (project rule): a counter tells it, which each of
--- them raises by one.
+-- How many frames, or rounds of settling, have been run (project rule): each raises a counter by one.
 use Rattle.std.specs.Prelude.{ℕ, ◌+◌, ◌≤◌}
 
 -- the calls between two readings of the counter have run at most so many

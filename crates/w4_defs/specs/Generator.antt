@@ -7,7 +7,8 @@ use Rattle.std.specs.Prelude.{◌≡◌, ℕ, zero, suc, ◌+◌, ◌*◌, ◌/�
 use Rattle.std.specs.List.{range_with_len}
 use Rattle.w4_defs.specs.declared.console.Input.{Input}
 use Rattle.w4_defs.specs.declared.operation.Op.{Op}
-use Rattle.w4_defs.specs.declared.operation.Op.TheVariants.{LocalGet, I32Const, I32Load, I32Load8U, I32Store, Call, I32Add, I32Sub, I32Mul, I32And, I32Or, I32Xor, I32Shl, I32ShrS, I32ShrU, I32Rotl, I32Rotr}
+use Rattle.w4_defs.specs.declared.operation.Op.TheVariants.{LocalGet, Call, Basic}
+use Rattle.w4_defs.specs.declared.basic.Basic.TheVariants.{I32Const, I32Load, I32Load8U, I32Store, I32Add, I32Sub, I32Mul, I32And, I32Or, I32Xor, I32Shl, I32ShrS, I32ShrU, I32Rotl, I32Rotr}
 use Rattle.w4_defs.specs.declared.module.ImportKind.TheVariants as imports
 use Rattle.w4_defs.specs.declared.module.ExportKind.TheVariants as exports
 use Rattle.w4_defs.specs.Tree.{sequence}
@@ -25,11 +26,11 @@ draw number k = seed_after number (suc k) / 65536
 
 -- the operations that a draw chooses from, in the order of their codes: 6a to 6c, and 71 to 78
 abbrev pub operations : List Op
-operations =
-    I32Add ∷ I32Sub ∷ I32Mul ∷ I32And ∷ I32Or ∷ I32Xor ∷ I32Shl ∷ I32ShrS ∷ I32ShrU ∷ I32Rotl ∷ I32Rotr ∷ []
+operations = map Basic (I32Add ∷ I32Sub ∷ I32Mul ∷ I32And ∷ I32Or ∷ I32Xor ∷ I32Shl ∷ I32ShrS ∷ I32ShrU
+    ∷ I32Rotl ∷ I32Rotr ∷ [])
 
 abbrev pub chosen : ℕ → Op
-chosen drawn = slice_index_or operations (drawn % 11) I32Add
+chosen drawn = slice_index_or operations (drawn % 11) (Basic I32Add)
 
 -- how many small functions there are, and how many frames
 abbrev pub small_functions : ℕ
@@ -44,23 +45,23 @@ unfoldable pub small_function : ℕ → ℕ → Function
 small_function number g = record {
   runs = [];
   list = sequence
-      (LocalGet 0 ∷ LocalGet 1 ∷ chosen (draw number (3 * g)) ∷ I32Const (draw number (3 * g + 1))
+      (LocalGet 0 ∷ LocalGet 1 ∷ chosen (draw number (3 * g)) ∷ Basic (I32Const (draw number (3 * g + 1)))
       ∷ chosen (draw number (3 * g + 2)) ∷ []);
 }
 
 -- word g behind the framebuffer becomes function g + 1 of itself and of gamepad 1
 abbrev pub step_of : ℕ → List Op
 step_of g =
-    I32Const (6560 + 4 * g)
-    ∷ I32Const (6560 + 4 * g) ∷ I32Load 2 0
-    ∷ I32Const 22 ∷ I32Load8U 0 0
+    Basic (I32Const (6560 + 4 * g))
+    ∷ Basic (I32Const (6560 + 4 * g)) ∷ Basic (I32Load 2 0)
+    ∷ Basic (I32Const 22) ∷ Basic (I32Load8U 0 0)
     ∷ Call (g + 1)
-    ∷ I32Store 2 0
+    ∷ Basic (I32Store 2 0)
     ∷ []
 
 -- the byte at an address
 abbrev pub byte_at : ℕ → List Op
-byte_at address = I32Const address ∷ I32Load8U 0 0 ∷ []
+byte_at address = Basic (I32Const address) ∷ Basic (I32Load8U 0 0) ∷ []
 
 -- all steps, and then a rectangle whose place and size are the lowest bytes of the first four words
 unfoldable pub update_function : Function
@@ -130,18 +131,18 @@ GeneratorCases =
     (map (draw 0) (0 ∷ 1 ∷ 2 ∷ 192 ∷ []) ≡ 15470 ∷ 18256 ∷ 53708 ∷ 65044 ∷ [])
     × (small_function 0 0 ≡ record {
       runs = [];
-      list = sequence (LocalGet 0 ∷ LocalGet 1 ∷ I32Or ∷ I32Const 18256 ∷ I32Shl ∷ []);
+      list = sequence (LocalGet 0 ∷ LocalGet 1 ∷ Basic I32Or ∷ Basic (I32Const 18256) ∷ Basic I32Shl ∷ []);
     })
     × ((made_input 0 0).pads ≡ 20 ∷ 0 ∷ 0 ∷ 0 ∷ [])
     × (map (draw 4294967295) (0 ∷ 1 ∷ 2 ∷ 189 ∷ 190 ∷ 191 ∷ 192 ∷ 791 ∷ [])
     ≡ 15445 ∷ 12311 ∷ 8835 ∷ 43465 ∷ 21507 ∷ 48829 ∷ 9397 ∷ 46152 ∷ [])
     × (small_function 4294967295 0 ≡ record {
       runs = [];
-      list = sequence (LocalGet 0 ∷ LocalGet 1 ∷ I32Sub ∷ I32Const 12311 ∷ I32Mul ∷ []);
+      list = sequence (LocalGet 0 ∷ LocalGet 1 ∷ Basic I32Sub ∷ Basic (I32Const 12311) ∷ Basic I32Mul ∷ []);
     })
     × (small_function 4294967295 63 ≡ record {
       runs = [];
-      list = sequence (LocalGet 0 ∷ LocalGet 1 ∷ I32Or ∷ I32Const 21507 ∷ I32Add ∷ []);
+      list = sequence (LocalGet 0 ∷ LocalGet 1 ∷ Basic I32Or ∷ Basic (I32Const 21507) ∷ Basic I32Add ∷ []);
     })
     × ((made_input 4294967295 0).pads ≡ 181 ∷ 0 ∷ 0 ∷ 0 ∷ [])
     × ((made_input 4294967295 599).pads ≡ 72 ∷ 0 ∷ 0 ∷ 0 ∷ [])

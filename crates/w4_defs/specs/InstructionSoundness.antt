@@ -3,9 +3,10 @@
 use Rattle.std.specs.Prelude.{◌≡◌, ℕ, List, ◌++◌, Bool, Some, reverse}
 use Rattle.w4_defs.specs.declared.value.Val.{Val}
 use Rattle.w4_defs.specs.declared.value.ValType.{ValType}
-use Rattle.w4_defs.specs.declared.operation.Op.{Op}
+use Rattle.w4_defs.specs.declared.operation.Op.TheVariants as op
+use Rattle.w4_defs.specs.declared.basic.Basic.{Basic}
 use Rattle.w4_defs.specs.Effects.{Effect, Does, Traps, Lacks, Plain, effect}
-use Rattle.w4_defs.specs.OperandTypes.{StackType, memory_type}
+use Rattle.w4_defs.specs.OperandTypes.{StackType, basic_type}
 use Rattle.w4_defs.specs.RunLaws.{types_of}
 
 -- the operands' types, from the top, and the locals' afterwards; nothing is missing
@@ -20,8 +21,8 @@ pub record Sound (plain : Plain) (stack_type : StackType) : Type 0 where
       → types_of ops ≡ reverse stack_type.0 ++ under
       → Suits (reverse stack_type.1 ++ under) (types_of ls) (plain ops ls page)
 
--- with a memory or without: an instruction that has a type here has that effect
+-- with a memory or without: the effect of an instruction that has a type suits that type
 abbrev pub PlainInstructionsAreSound : Type 0
 PlainInstructionsAreSound =
-    (has_memory : Bool) (o : Op) (stack_type : StackType) → memory_type has_memory o ≡ Some stack_type
-    → Sound (effect o) stack_type
+    (has_memory : Bool) (i : Basic) (stack_type : StackType) → basic_type has_memory i ≡ Some stack_type
+    → Sound (effect (op.Basic i)) stack_type

@@ -9,6 +9,7 @@ use Rattle.w4_defs.specs.SameState.{same_state}
 use Rattle.w4_defs.specs.Reset.{Setup, reset}
 use Rattle.w4_defs.specs.Run.{fold, run_state}
 use Rattle.w4_defs.specs.Session.{Kind, ArePlaces, Draft, Session, unlink_above, with_kept, without}
+use Rattle.w4_defs.specs.Limits.{kept_limit, frame_limit}
 
 pub record Entry : Type 0 where
   pub place : ℕ
@@ -48,7 +49,7 @@ places_of kept = map (λ x. x.place) kept
 abbrev pub first_above : ℕ → List Entry → ℕ
 first_above p kept = position_or_len (λ x. nat_lt p x.place) kept
 
--- the last entry whose place is at most P
+-- the number of the last entry whose place is at most P
 abbrev pub last_up_to : ℕ → List Entry → ℕ
 last_up_to p kept = first_above p kept - 1
 
@@ -73,7 +74,7 @@ pub record HasTrueLinks (setup : Setup) (inputs : List Input) (kept : List Entry
 pub record IsConsistent (setup : Setup) (disk : List ℕ) (inputs : List Input)
     (kept : List Entry) : Type 0 where
   pub some : 0 < length kept
-  pub few : length kept ≤ 1024
+  pub few : length kept ≤ kept_limit
   pub first_place : place_at kept 0 ≡ 0
   pub first_state : option_map (λ moment. moment.state) (reset setup disk) ≡ Some (state_at kept 0)
   pub first_linked : linked_at kept 0 ≡ true
@@ -81,7 +82,7 @@ pub record IsConsistent (setup : Setup) (disk : List ℕ) (inputs : List Input)
 
 -- a draft within its limits, with a consistent kept list
 pub record IsDraft (setup : Setup) (disk : List ℕ) (draft : Draft Entry) : Type 0 where
-  pub few : length draft.inputs ≤ 36000
+  pub few : length draft.inputs ≤ frame_limit
   pub kept : IsConsistent setup disk draft.inputs draft.kept
 
 -- a session all of whose drafts are within their limits and consistent, those in the history too

@@ -5,16 +5,17 @@ pub mod Tree
 pub mod TreeCode
 pub mod Flattening
 pub mod InstructionTable
+pub mod TableParts
 pub mod Module
 pub mod View
 pub mod Constants
 pub mod Lookup
+pub mod Limits
 -- the binary format
 pub mod BinaryText
 pub mod BinaryNumber
 pub mod BinaryType
-pub mod BinaryNumeric
-pub mod BinaryMemory
+pub mod BinaryBasic
 pub mod BinaryInstruction
 pub mod BinarySection
 pub mod BinaryModule
@@ -125,7 +126,7 @@ pub mod EmptyCart
 pub mod WorkedRuns
 pub mod WorkedBodies
 pub mod WorkedCalls
-pub mod WorkedPictures
+pub mod WorkedDrawings
 pub mod RunLaws
 pub mod FrameCases
 pub mod WorkedAnswers

@@ -19,7 +19,7 @@ use Rattle.w4_defs.specs.FrameTexts.{spaced, line_end}
 use Rattle.w4_defs.specs.InputsText.{input_lines}
 use Rattle.w4_defs.specs.Lines.{is_skipped, decimal_value, number_of, decimal_byte, coordinate_of, words_of}
 use Rattle.w4_defs.specs.OrderFile.{OrderRow, order_by}
-use Rattle.w4_defs.specs.OrderWords.{no_word, one_number}
+use Rattle.w4_defs.specs.OrderWords.{no_word, one_number, range_order}
 use Rattle.w4_defs.specs.Module.{WasmModule}
 use Rattle.w4_defs.specs.Output.{Played, run_setup}
 use Rattle.w4_defs.specs.PlaceTexts.{PieceForm, place_texts}
@@ -36,25 +36,18 @@ use Rattle.w4_defs.specs.Session.{Session, new_session}
 use Rattle.w4_defs.specs.State.{State}
 use Rattle.w4_defs.specs.Units.{units_at}
 use Rattle.w4_defs.specs.World.{Files}
+use Rattle.w4_defs.specs.Limits.{live_line_limit}
 
 -- ---- lines
-
--- two places or inputs, the first at most the second
-abbrev pub two_numbers : (ℕ → ℕ → LiveOrder) → List (List ℕ) → Option LiveOrder
-two_numbers make (first ∷ last ∷ []) = do
-  a ← number_of first
-  b ← number_of last
-  if nat_le a b then Some (make a b) else None
-two_numbers make words = None
 
 -- the orders that a session alone has
 unfoldable pub own_rows : List (OrderRow LiveOrder)
 own_rows =
-    record { name = codes "page"; read = one_number live.PageAt }
-    ∷ record { name = codes "globals"; read = one_number live.GlobalsAt }
-    ∷ record { name = codes "inputs"; read = two_numbers live.Inputs }
-    ∷ record { name = codes "units"; read = two_numbers live.Units }
-    ∷ record { name = codes "save"; read = no_word live.Save }
+    record { name = codes "page"; order_from = one_number live.PageAt }
+    ∷ record { name = codes "globals"; order_from = one_number live.GlobalsAt }
+    ∷ record { name = codes "inputs"; order_from = range_order live.Inputs }
+    ∷ record { name = codes "units"; order_from = range_order live.Units }
+    ∷ record { name = codes "save"; order_from = no_word live.Save }
     ∷ []
 
 -- an order of a script, a request of a query, or one of the session's own
@@ -75,7 +68,7 @@ asked_by (Some order) = Asks order
 
 abbrev pub asked_of : List ℕ → Asked
 asked_of line =
-    if nat_lt 1024 (length line) then NoOrder else
+    if nat_lt live_line_limit (length line) then NoOrder else
     if is_skipped (words_of line) then AsksNothing else
     asked_by (live_order_of (words_of line))
 
@@ -87,8 +80,8 @@ pub record LiveSession : Type 0 where
   pub search : Option Search
 
 -- a session opens with the recording's inputs, of which place 0 is kept, and without a search
-abbrev pub opened : List Input → LiveSession
-opened inputs = record { session = new_session inputs 0; search = None }
+abbrev pub new_live_session : List Input → LiveSession
+new_live_session inputs = record { session = new_session inputs 0; search = None }
 
 abbrev pub val_number : Val → ℕ
 val_number (I32 n) = n
@@ -105,9 +98,9 @@ over_session s answered = record { out = answered.out; session = record s { sess
 abbrev pub over_search : LiveSession → Answered (Option Search) → Answered LiveSession
 over_search s answered = record { out = answered.out; session = record s { search = answered.session } }
 
--- what is told of a place of the recording as it is
-abbrev pub told_at : PieceForm → LiveSession → ℕ → Option (List ℕ) → Answered LiveSession
-told_at form s last out = answer_text s (if_place form s.session last out)
+-- what is answer_events of a place of the recording as it is
+abbrev pub answer_at : PieceForm → LiveSession → ℕ → Option (List ℕ) → Answered LiveSession
+answer_at form s last out = answer_text s (if_place form s.session last out)
 
 -- the answer of an order; what `save` does is said below, by how it ends
 abbrev pub live_answer : PieceForm → Setup → List ℕ → LiveSession → LiveOrder → Answered LiveSession
@@ -115,14 +108,14 @@ live_answer form setup disk s (live.Script order) = over_session s (answer form 
 live_answer form setup disk s (live.Query ask) =
     over_search s (ram_answer form (pages_of setup disk s.session.current.inputs) s.search ask)
 live_answer form setup disk s (live.PageAt p) =
-    told_at form s p (option_map form (run_page setup disk s.session.current.inputs p))
+    answer_at form s p (option_map form (run_page setup disk s.session.current.inputs p))
 live_answer form setup disk s (live.GlobalsAt p) =
-    told_at form s p (option_map (λ (state : State). form (globals_text state.globals))
+    answer_at form s p (option_map (λ (state : State). form (globals_text state.globals))
     (run_state setup disk s.session.current.inputs p))
 live_answer form setup disk s (live.Inputs a b) =
-    told_at form s b (Some (form (input_lines (codes "set") a (slice_range s.session.current.inputs a b))))
+    answer_at form s b (Some (form (input_lines (codes "set") a (slice_range s.session.current.inputs a b))))
 live_answer form setup disk s (live.Units a b) =
-    told_at form s b (place_texts (units_at form setup disk s.session.current.inputs) a (b - a))
+    answer_at form s b (place_texts (units_at form setup disk s.session.current.inputs) a (b - a))
 live_answer form setup disk s live.Save = carried_out s
 
 -- ---- pieces and ends of answers
@@ -157,17 +150,17 @@ files_after files (event ∷ events) = files_after files events
 -- how a `save` can end: the file is replaced; it is refused, and the file is as it was; or it is refused and
 -- the file is replaced all the same
 pub data SaveEnd : Type 0 where
-  IsReplaced : SaveEnd
-  IsRefused : SaveEnd
-  IsRefusedLate : SaveEnd
+  Replaced : SaveEnd
+  Refused : SaveEnd
+  RefusedLate : SaveEnd
 
 -- what a line does, what is edited after it, and how the later saves end
 pub record LiveStep : Type 0 where
-  pub doing : Option (List Event)
+  pub events : Option (List Event)
   pub session : LiveSession
   pub saves : List SaveEnd
 
--- what a session is opened on: a cart, a recording with a font, and the name OUT
+-- what a session is new_live_session on: a cart, a recording with a font, and the name OUT
 pub record Opened : Type 0 where
   pub cart : WasmModule
   pub run : Played
@@ -182,25 +175,25 @@ abbrev pub saving : Opened → LiveSession → List Event
 saving o s = Saved o.out (encoding 2 (recording_left o s)) ∷ []
 
 -- pieces and their end are written
-abbrev pub told : Option (List ℕ) → Option (List Event)
-told pieces = option_map (λ bytes. wrote (bytes ++ answer_end)) pieces
+abbrev pub answer_events : Option (List ℕ) → Option (List Event)
+answer_events pieces = option_map (λ bytes. wrote (bytes ++ answer_end)) pieces
 
 abbrev pub refused_save : List ℕ
 refused_save = framed (refused_line (codes "cannot write"))
 
 -- what a `save` does, by how it ends
 abbrev pub save_events : Opened → LiveSession → SaveEnd → List Event
-save_events o s IsReplaced = saving o s ++ wrote answer_end
-save_events o s IsRefused = wrote (refused_save ++ answer_end)
-save_events o s IsRefusedLate = saving o s ++ wrote (refused_save ++ answer_end)
+save_events o s Replaced = saving o s ++ wrote answer_end
+save_events o s Refused = wrote (refused_save ++ answer_end)
+save_events o s RefusedLate = saving o s ++ wrote (refused_save ++ answer_end)
 
 -- a `save` ends as the first of these says; where none is left, it is written
 abbrev pub save_step : Opened → LiveSession → List SaveEnd → LiveStep
-save_step o s [] = record { doing = Some (save_events o s IsReplaced); session = s; saves = [] }
-save_step o s (end ∷ saves) = record { doing = Some (save_events o s end); session = s; saves = saves }
+save_step o s [] = record { events = Some (save_events o s Replaced); session = s; saves = [] }
+save_step o s (end ∷ saves) = record { events = Some (save_events o s end); session = s; saves = saves }
 
 abbrev pub answer_step : List SaveEnd → Answered LiveSession → LiveStep
-answer_step saves answered = record { doing = told answered.out; session = answered.session; saves = saves }
+answer_step saves answered = record { events = answer_events answered.out; session = answered.session; saves = saves }
 
 abbrev pub order_step : Opened → LiveSession → List SaveEnd → LiveOrder → LiveStep
 order_step o s saves live.Save = save_step o s saves
@@ -214,7 +207,7 @@ line_step o s saves NoOrder =
     answer_step saves (answer_text s (Some (framed (refused_line (codes "no order")))))
 line_step o s saves (Asks order) = order_step o s saves order
 
--- what is edited after these lines, whatever was told
+-- what is edited after these lines, whatever was answer_events
 abbrev pub session_after : Opened → LiveSession → List SaveEnd → List (List ℕ) → LiveSession
 session_after o s saves [] = s
 session_after o s saves (line ∷ lines) =
@@ -226,10 +219,10 @@ unfoldable pub served_from : Opened → LiveSession → List SaveEnd → List (L
 served_from o s saves [] = Some (InputEnded ∷ saving o s)
 served_from o s saves (line ∷ lines) =
     let step = line_step o s saves (asked_of line) in
-    joined (Some (Took line ∷ [])) (joined step.doing (served_from o step.session step.saves lines))
+    joined (Some (Took line ∷ [])) (joined step.events (served_from o step.session step.saves lines))
 
 abbrev pub served : Opened → List SaveEnd → List (List ℕ) → Option (List Event)
-served o saves lines = served_from o (opened o.run.recording.frames) saves lines
+served o saves lines = served_from o (new_live_session o.run.recording.frames) saves lines
 
 -- ---- worked cases, over any cart and a recording of two inputs
 
@@ -280,12 +273,12 @@ LiveEventCases = (cart : WasmModule) →
     let left = encoding 2 o.run.recording in
     (served o [] (codes "#" ∷ []) ≡ Some (Took (codes "#") ∷ Wrote 48 ∷ Wrote 10 ∷ InputEnded
     ∷ Saved (codes "o") left ∷ []))
-    × (served o (IsReplaced ∷ []) (codes "save" ∷ [])
+    × (served o (Replaced ∷ []) (codes "save" ∷ [])
     ≡ Some (Took (codes "save") ∷ Saved (codes "o") left ∷ Wrote 48 ∷ Wrote 10 ∷ InputEnded
     ∷ Saved (codes "o") left ∷ []))
-    × ((session_after o (opened o.run.recording.frames) []
+    × ((session_after o (new_live_session o.run.recording.frames) []
     (codes "delete 0" ∷ codes "what" ∷ [])).session.current.inputs ≡ worked_input 9 ∷ [])
-    × (answers_to cart (IsRefused ∷ IsRefusedLate ∷ []) (codes "save" ∷ codes "save" ∷ codes "save" ∷ [])
+    × (answers_to cart (Refused ∷ RefusedLate ∷ []) (codes "save" ∷ codes "save" ∷ codes "save" ∷ [])
     ≡ Some (codes "21\nrefused cannot write\n0\n21\nrefused cannot write\n0\n0\n"))
 
 pub live-event-cases : LiveEventCases

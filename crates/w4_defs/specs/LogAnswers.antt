@@ -20,6 +20,7 @@ use Rattle.w4_defs.specs.declared.place_text.PlaceText.TheVariants.{Image}
 use Rattle.w4_defs.specs.PlaceTexts.{as_it_stands, place_text, state_text}
 use Rattle.w4_defs.specs.Answers.{Answered, answer_text, carried_out, answers_by}
 use Rattle.w4_defs.specs.ScriptAnswers.{refused_line, refusal_words, no_frame}
+use Rattle.w4_defs.specs.Limits.{frame_limit}
 
 pub record NetSession : Type 0 where
   pub known : Known
@@ -45,7 +46,7 @@ answer_packet session packet (Some refusal) = answer_text session (Some (refused
 answer_packet session packet None = carried_out (record session { known = learned session.known packet })
 
 abbrev pub answer_next : NetSession → Answered NetSession
-answer_next session = if nat_lt session.frames 36000
+answer_next session = if nat_lt session.frames frame_limit
     then carried_out (record session { frames = session.frames + 1 })
     else answer_text session (Some (refused_line (refusal_words FullRecording)))
 

@@ -5,6 +5,7 @@
 use Rattle.std.specs.Prelude.{◌≡◌, ℕ, ◌/◌, ◌%◌, ◌==◌, not, count_by, List, [], ◌∷◌, ◌++◌, flat_map, replicate, codes, Option, option_map, refl}
 use Rattle.std.specs.Fmt.{digits}
 use Rattle.std.specs.List.{range_with_len}
+use Rattle.w4_defs.specs.Limits.{font_size}
 use Rattle.w4_defs.specs.declared.console.Halt.TheVariants.{Running}
 use Rattle.w4_defs.specs.Framebuffer.{pixel}
 use Rattle.w4_defs.specs.Image.{image}
@@ -35,7 +36,7 @@ summary_text digest cart_length state =
 
 -- a made cart on the console
 abbrev pub made_setup : ℕ → Setup
-made_setup number = console_setup (made_module number) (replicate 1792 0) made_budget
+made_setup number = console_setup (made_module number) (replicate font_size 0) made_budget
 
 -- the summary of a number, whose cart has so many bytes
 abbrev pub made_summary : (List ℕ → List ℕ) → ℕ → ℕ → Option (List ℕ)

@@ -6,7 +6,10 @@ use Rattle.std.specs.Prelude.{◌≡◌, ℕ, ◌+◌, ◌&&◌, nat_lt, nat_le,
 use Rattle.std.specs.Str.{is_utf8}
 use Rattle.std.specs.Io.BufRead.{strip_last}
 use Rattle.w4_defs.specs.Lines.{pieces}
-use Rattle.w4_defs.specs.OrderFile.{ScriptFault, TooLong, BadLine, with_order}
+use Rattle.w4_defs.specs.OrderFile.{with_order}
+use Rattle.w4_defs.specs.declared.status.ScriptKind.{ScriptKind}
+use Rattle.w4_defs.specs.declared.status.ScriptKind.TheVariants.{TooLong, BadLine}
+use Rattle.w4_defs.specs.Limits.{name_list_limit}
 
 -- a line that isn't empty
 pub record NameLine : Type 0 where
@@ -30,14 +33,14 @@ name_after count line =
     if nat_lt count 256 && nat_le (length line) 255 && is_utf8 line then Some line else None
 
 -- the names of these lines, after so many others, or the first line that is none
-unfoldable pub names_after : ℕ → List NameLine → Result (List (List ℕ)) ScriptFault
+unfoldable pub names_after : ℕ → List NameLine → Result (List (List ℕ)) ScriptKind
 names_after count [] = Ok []
 names_after count (line ∷ lines) =
     with_order line.number (name_after count line.name) (names_after (count + 1) lines)
 
 -- the names of a list
-unfoldable pub names_of : List ℕ → Result (List (List ℕ)) ScriptFault
-names_of bytes = if nat_le (length bytes) 65536 then names_after 0 (name_lines bytes) else Err TooLong
+unfoldable pub names_of : List ℕ → Result (List (List ℕ)) ScriptKind
+names_of bytes = if nat_le (length bytes) name_list_limit then names_after 0 (name_lines bytes) else Err TooLong
 
 -- Worked cases: a list with an empty line, a byte 13 and no byte 10 at its end; no name at all; 256 bytes
 -- after an empty line; the 256th name, and the 257th.

@@ -9,7 +9,9 @@ use Rattle.w4_defs.specs.declared.netplay.NetOrder.TheVariants.{Pad, Next, Keep,
 use Rattle.w4_defs.specs.Reading.{◌>>=◌}
 use Rattle.w4_defs.specs.Lines.{lines_from, decimal_value, number_of, decimal_byte}
 use Rattle.w4_defs.specs.OrderWords.{no_word, one_number}
-use Rattle.w4_defs.specs.OrderFile.{ScriptFault, BadLine, OrderRow, order_by, orders_in, file_of}
+use Rattle.w4_defs.specs.OrderFile.{OrderRow, order_by, orders_in, file_of}
+use Rattle.w4_defs.specs.declared.status.ScriptKind.{ScriptKind}
+use Rattle.w4_defs.specs.declared.status.ScriptKind.TheVariants.{BadLine}
 
 -- a packet of three words
 abbrev pub packet_words : List (List ℕ) → Option NetOrder
@@ -23,11 +25,11 @@ packet_words words = None
 -- what each name says of the words after it
 unfoldable pub log_rows : List (OrderRow NetOrder)
 log_rows =
-    record { name = codes "pad"; read = packet_words }
-    ∷ record { name = codes "next"; read = no_word Next }
-    ∷ record { name = codes "keep"; read = one_number Keep }
-    ∷ record { name = codes "show"; read = one_number Show }
-    ∷ record { name = codes "state"; read = one_number StateAt }
+    record { name = codes "pad"; order_from = packet_words }
+    ∷ record { name = codes "next"; order_from = no_word Next }
+    ∷ record { name = codes "keep"; order_from = one_number Keep }
+    ∷ record { name = codes "show"; order_from = one_number Show }
+    ∷ record { name = codes "state"; order_from = one_number StateAt }
     ∷ []
 
 -- the order of a line's words
@@ -35,7 +37,7 @@ abbrev pub net_order_of : List (List ℕ) → Option NetOrder
 net_order_of words = order_by log_rows words
 
 -- the orders of a log
-unfoldable pub net_log_of : List ℕ → Result (List NetOrder) ScriptFault
+unfoldable pub net_log_of : List ℕ → Result (List NetOrder) ScriptKind
 net_log_of bytes = file_of net_order_of bytes
 
 -- Worked cases: each kind of line, ways to be bad, and a log whose third line is bad

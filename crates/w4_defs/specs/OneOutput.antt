@@ -7,5 +7,5 @@ use Rattle.w4_defs.specs.Output.{Output}
 use Rattle.w4_defs.specs.Outputs.{Outputs}
 
 abbrev pub AtMostOneOutput : Type 0
-AtMostOneOutput = (words : List (List ℕ)) (files : Files) (made other : Result Output Status)
-    → Outputs words files made → Outputs words files other → made ≡ other
+AtMostOneOutput = (words : List (List ℕ)) (files : Files) (output other : Result Output Status)
+    → Outputs words files output → Outputs words files other → output ≡ other

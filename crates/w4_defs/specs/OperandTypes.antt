@@ -4,7 +4,7 @@
 use Rattle.std.specs.Prelude.{ℕ, ◌^◌, Bool, true, false, ◌&&◌, nat_le, List, [], ◌∷◌, Option, Some, None}
 use Rattle.w4_defs.specs.declared.value.ValType.{ValType}
 use Rattle.w4_defs.specs.declared.value.ValType.TheVariants.{I32, I64}
-use Rattle.w4_defs.specs.declared.operation.Op.{Op}
+use Rattle.w4_defs.specs.declared.basic.Basic.{Basic}
 use Rattle.w4_defs.specs.declared.instruction_table.Row.{Row}
 use Rattle.w4_defs.specs.declared.instruction_table.Row.TheVariants as shape
 use Rattle.w4_defs.specs.InstructionTable.{value_type_of, row}
@@ -61,7 +61,6 @@ row_type has_memory shape.MemoryGrow = stack_type_if has_memory (I32 ∷ []) (I3
 row_type has_memory shape.MemoryCopy = stack_type_if has_memory (I32 ∷ I32 ∷ I32 ∷ []) []
 row_type has_memory shape.MemoryFill = stack_type_if has_memory (I32 ∷ I32 ∷ I32 ∷ []) []
 row_type has_memory shape.Float = None
-row_type has_memory shape.NoRow = None
 
-abbrev pub memory_type : Bool → Op → Option StackType
-memory_type has_memory op = row_type has_memory (row op)
+abbrev pub basic_type : Bool → Basic → Option StackType
+basic_type has_memory i = row_type has_memory (row i)

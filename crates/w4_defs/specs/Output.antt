@@ -13,7 +13,7 @@ use Rattle.w4_defs.specs.Cart.{IsCart, IsRefused}
 use Rattle.w4_defs.specs.Generator.{made_module}
 use Rattle.w4_defs.specs.MadeSummary.{made_summary}
 use Rattle.w4_defs.specs.Recording.{Recording, recording_of, encoding}
-use Rattle.w4_defs.specs.OrderFile.{ScriptFault, TooLong, BadLine}
+use Rattle.w4_defs.specs.declared.status.ScriptKind.{ScriptKind}
 use Rattle.w4_defs.specs.Script.{script_of}
 use Rattle.w4_defs.specs.Board.{console_setup}
 use Rattle.w4_defs.specs.Reset.{Setup}
@@ -25,18 +25,17 @@ use Rattle.w4_defs.specs.World.{Files, front_of}
 use Rattle.w4_defs.specs.declared.place_text.PlaceText.{PlaceText}
 use Rattle.w4_defs.specs.declared.place_text.PlaceText.TheVariants.{Image, DiskBytes}
 use Rattle.w4_defs.specs.declared.status.RecordingKind.TheVariants.{Bad, WrongCart}
-use Rattle.w4_defs.specs.declared.status.ScriptKind.TheVariants as script
 use Rattle.w4_defs.specs.declared.status.Status.{Status}
 use Rattle.w4_defs.specs.declared.status.Status.TheVariants.{ReadFault, CartRefused, RecordingRefused, FontRefused, ScriptRefused, FrameRefused}
 use Rattle.w4_defs.specs.Commands.{RunWords, EditWords}
-use Rattle.w4_defs.specs.PlaceTexts.{as_it_stands, place_text, place_texts}
+use Rattle.w4_defs.specs.PlaceTexts.{as_it_stands, run_texts}
 use Rattle.w4_defs.specs.ScriptAnswers.{script_answers}
 use Rattle.w4_defs.specs.Answers.{Answered}
+use Rattle.w4_defs.specs.Limits.{cart_limit, recording_limit, font_size, script_limit}
 
--- what standard output gets, the name of the file that is written, where one is, and all files afterwards
+-- what standard output gets, and all files afterwards
 pub record Output : Type 0 where
   pub out : List ℕ
-  pub file : Option (List ℕ)
   pub files : Files
 
 infixl 10 ◌>>=◌
@@ -65,9 +64,9 @@ JudgedCart (Ok bytes) (Err (CartRefused kind)) = IsRefused bytes kind
 JudgedCart (Ok bytes) (Err refusal) = ⊥
 
 abbrev pub CartIn : List ℕ → Files → Result CartFile Status → Type 0
-CartIn name files cart = JudgedCart (reading files name 65537) cart
+CartIn name files cart = JudgedCart (reading files name (cart_limit + 1)) cart
 
--- what is made of a file of at most `limit` bytes
+-- what a judge makes of a file by its first bytes, one more than its limit
 abbrev pub judged : {A : Type 0} → ℕ → (List ℕ → Result A Status) → Files → List ℕ → Result A Status
 judged limit judge files name = reading files name (limit + 1) >>= judge
 
@@ -75,29 +74,32 @@ judged limit judge files name = reading files name (limit + 1) >>= judge
 abbrev pub of_cart : List ℕ → Recording → Result Recording Status
 of_cart digest r = if bytes_eq r.digest digest then Ok r else Err (RecordingRefused WrongCart)
 
+-- a recording of any cart, or none
+abbrev pub any_recording : List ℕ → Result Recording Status
+any_recording bytes = or_refuse (RecordingRefused Bad) (recording_of bytes)
+
 unfoldable pub cart_recording : List ℕ → List ℕ → Result Recording Status
-cart_recording digest bytes = or_refuse (RecordingRefused Bad) (recording_of bytes) >>= of_cart digest
+cart_recording digest bytes = any_recording bytes >>= of_cart digest
 
 unfoldable pub recording_in : List ℕ → Files → List ℕ → Result Recording Status
-recording_in digest = judged 361071 (cart_recording digest)
+recording_in digest = judged recording_limit (cart_recording digest)
 
 abbrev pub font_of : List ℕ → Result (List ℕ) Status
-font_of bytes = if length bytes == 1792 then Ok bytes else Err FontRefused
+font_of bytes = if length bytes == font_size then Ok bytes else Err FontRefused
 
 unfoldable pub font_in : Files → List ℕ → Result (List ℕ) Status
-font_in = judged 1792 font_of
+font_in = judged font_size font_of
 
--- the lines of a script, a log or a query, or why it is refused
-abbrev pub or_script_refused : {A : Type 0} → Result A ScriptFault → Result A Status
-or_script_refused (Ok orders) = Ok orders
-or_script_refused (Err TooLong) = Err (ScriptRefused script.TooLong)
-or_script_refused (Err (BadLine number)) = Err (ScriptRefused (script.BadLine number))
+-- the lines of a file, or the refusal of this kind of file
+abbrev pub lines_or : {A : Type 0} → (ScriptKind → Status) → Result A ScriptKind → Result A Status
+lines_or refused (Ok lines) = Ok lines
+lines_or refused (Err kind) = Err (refused kind)
 
 unfoldable pub orders_of : List ℕ → Result (List Order) Status
-orders_of bytes = or_script_refused (script_of bytes)
+orders_of bytes = lines_or ScriptRefused (script_of bytes)
 
 unfoldable pub script_in : Files → List ℕ → Result (List Order) Status
-script_in = judged 1048576 orders_of
+script_in = judged script_limit orders_of
 
 -- what a run is made of besides the cart
 pub record Played : Type 0 where
@@ -137,7 +139,7 @@ moment_at m p place = run (run_setup m p) p.recording.disk p.recording.frames pl
 -- what is told of places one after another
 abbrev pub place_texts_from : PlaceText → WasmModule → Played → ℕ → ℕ → Option (List ℕ)
 place_texts_from wanted m p from count =
-    place_texts (λ place. place_text as_it_stands wanted place (moment_at m p place)) from count
+    run_texts as_it_stands wanted (run_setup m p) p.recording.disk p.recording.frames from count
 
 -- the answers of all orders
 abbrev pub edit_answers : WasmModule → Loaded → Answered (Session ℕ)
@@ -148,14 +150,13 @@ abbrev pub edited_recording : WasmModule → Loaded → Recording
 edited_recording m l = record l.run.recording { frames = (edit_answers m l).session.current.inputs }
 
 -- bytes on standard output, and no file changed
-abbrev pub only_printed : List ℕ → Files → Output
-only_printed out files = record { out = out; file = None; files = files }
+abbrev pub only_written : List ℕ → Files → Output
+only_written out files = record { out = out; files = files }
 
 -- the answers on standard output, and then the recording left in the file of this name
 abbrev pub edit_result : WasmModule → Loaded → List ℕ → Files → List ℕ → Output
 edit_result m l name files out = record {
   out = out;
-  file = Some name;
   files = insert files name (encoding 2 (edited_recording m l));
 }
 
@@ -167,7 +168,7 @@ making (Err refusal) make = Some (Err refusal)
 -- a text on standard output
 abbrev pub printing : {Y : Type 0} → Result Y Status → (Y → Option (List ℕ)) → Files
     → Option (Result Output Status)
-printing read text files = making read (λ y. option_map (λ out. only_printed out files) (text y))
+printing read text files = making read (λ y. option_map (λ out. only_written out files) (text y))
 
 unfoldable pub edit_output : EditWords → CartFile → Files → Option (Result Output Status)
 edit_output words cart files = making (edit_files cart.digest words files)
@@ -189,21 +190,22 @@ disk_output words place cart files = printing (run_files_to cart.digest words pl
 
 -- bytes that need no further file and no run
 abbrev pub written : List ℕ → Files → Option (Result Output Status)
-written out files = Some (Ok (only_printed out files))
+written out files = Some (Ok (only_written out files))
 
 abbrev pub checked : List ℕ
 checked = codes "ok" ++ 10 ∷ []
 
--- the recording of a cart with a budget, no disk and no frames
-abbrev pub blank_recording : List ℕ → ℕ → Recording
-blank_recording digest budget = record { digest = digest; budget = budget; disk = []; frames = [] }
+-- the recording of a cart with a budget and a disk, and no frames
+abbrev pub blank_recording : List ℕ → ℕ → List ℕ → Recording
+blank_recording digest budget disk =
+    record { digest = digest; budget = budget; disk = disk; frames = [] }
 
 abbrev pub blank_output : ℕ → CartFile → Files → Option (Result Output Status)
-blank_output budget cart files = written (encoding 2 (blank_recording cart.digest budget)) files
+blank_output budget cart files = written (encoding 2 (blank_recording cart.digest budget [])) files
 
 -- the five lines of the cart that a number makes
 abbrev pub made_text : ℕ → Option (List ℕ)
 made_text number = made_summary sha256 number (length (module_bytes (made_module number)))
 
 abbrev pub make_output : ℕ → Files → Option (Result Output Status)
-make_output number files = option_map (λ out. Ok (only_printed out files)) (made_text number)
+make_output number files = option_map (λ out. Ok (only_written out files)) (made_text number)

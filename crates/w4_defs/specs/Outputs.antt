@@ -41,8 +41,8 @@ output_of (Batch words) cart files = batch_output words cart files
 
 -- what is made by a form that names no cart, which is `make` alone
 abbrev pub OutputsAlone : Form → Files → Result Output Status → Type 0
-OutputsAlone (Make number) files made = make_output number files ≡ Some made
-OutputsAlone form files made = ⊥
+OutputsAlone (Make number) files output = make_output number files ≡ Some output
+OutputsAlone form files output = ⊥
 
 -- what is made over a cart, or why there is none
 abbrev pub over_cart : (CartFile → Files → Option (Result Output Status)) → Files → Result CartFile Status
@@ -53,17 +53,17 @@ over_cart make files (Err refusal) = Some (Err refusal)
 -- the cart is judged, and then the rest
 abbrev pub OverCart : List ℕ → (CartFile → Files → Option (Result Output Status)) → Files
     → Result Output Status → Type 0
-OverCart name make files made =
-    (cart : Result CartFile Status) × CartIn name files cart × (over_cart make files cart ≡ Some made)
+OverCart name make files output =
+    (cart : Result CartFile Status) × CartIn name files cart × (over_cart make files cart ≡ Some output)
 
 abbrev pub OverFile : Option (List ℕ) → Form → Files → Result Output Status → Type 0
-OverFile (Some name) form files made = OverCart name (output_of form) files made
-OverFile None form files made = OutputsAlone form files made
+OverFile (Some name) form files output = OverCart name (output_of form) files output
+OverFile None form files output = OutputsAlone form files output
 
 abbrev pub OutputsForm : Option Form → Files → Result Output Status → Type 0
-OutputsForm None files made = made ≡ Err Usage
-OutputsForm (Some form) files made = OverFile (cart_word form) form files made
+OutputsForm None files output = output ≡ Err Usage
+OutputsForm (Some form) files output = OverFile (cart_word form) form files output
 
 -- what the program makes of these words and files
 abbrev pub Outputs : List (List ℕ) → Files → Result Output Status → Type 0
-Outputs words files made = OutputsForm (form_of words) files made
+Outputs words files output = OutputsForm (form_of words) files output

@@ -26,4 +26,4 @@ abbrev pub CompleteIsDone : Type 0
 CompleteIsDone = (form : Form) (files : Files)
     → ((bytes : List ℕ) (m : WasmModule) → IsCart bytes m → RunsHaveMeaning m)
     → ((number : ℕ) → RunsHaveMeaning (made_module number))
-    → IsComplete form files → (made : Output) × OutputsForm (Some form) files (Ok made)
+    → IsComplete form files → (frame_record : Output) × OutputsForm (Some form) files (Ok frame_record)

@@ -8,6 +8,9 @@ use Rattle.w4_defs.specs.AllThere.{all_joined}
 use Rattle.w4_defs.specs.Image.{image}
 use Rattle.w4_defs.specs.FrameTexts.{schedule_text, trace_text, state_line}
 use Rattle.w4_defs.specs.State.{Moment}
+use Rattle.w4_defs.specs.declared.console.Input.{Input}
+use Rattle.w4_defs.specs.Reset.{Setup}
+use Rattle.w4_defs.specs.Run.{run}
 
 -- how a piece of an answer is written: as it stands, or with its length before it
 abbrev pub PieceForm : Type 0
@@ -23,8 +26,8 @@ state_text form place count moment kept =
 
 abbrev pub moment_text : PlaceText → ℕ → Moment → List ℕ
 moment_text Image place moment = image moment.state.page
-moment_text Schedule place moment = schedule_text place moment.made
-moment_text Traces place moment = trace_text place moment.made
+moment_text Schedule place moment = schedule_text place moment.frame_record
+moment_text Traces place moment = trace_text place moment.frame_record
 moment_text DiskBytes place moment = moment.state.disk
 
 abbrev pub place_text : PieceForm → PlaceText → ℕ → Option Moment → Option (List ℕ)
@@ -33,3 +36,8 @@ place_text form wanted place moment = option_map (λ m. form (moment_text wanted
 -- the texts of so many places, one after another
 abbrev pub place_texts : (ℕ → Option (List ℕ)) → ℕ → ℕ → Option (List ℕ)
 place_texts text from count = all_joined (map text (range_with_len from count))
+
+-- those of so many places of a run
+abbrev pub run_texts : PieceForm → PlaceText → Setup → List ℕ → List Input → ℕ → ℕ → Option (List ℕ)
+run_texts form wanted setup disk inputs from count =
+    place_texts (λ place. place_text form wanted place (run setup disk inputs place)) from count

@@ -44,15 +44,16 @@ pub record KeepsPromise (old new : World) (words : List (List ℕ)) (result : St
       → StepRefuses old (ListRefused kind) (Outputs words)
   -- A read failed, or a file whose turn came is absent.
   pub read_fault : result ≡ ReadFault → ReadFails old new (Outputs words)
-  -- A write failed only where the definition asks for one. Standard output has got a first part of its
-  -- bytes, and no file has changed; or it has got all of them, and no file but OUT has changed.
+  -- It comes only where a write failed, and the definition makes an output. Standard output has got a first part of its
+  -- bytes, and no file has changed; or it has got all of them, and the files are the definition's: OUT has
+  -- all its bytes, and no other file has changed.
   pub write_fault : result ≡ WriteFault → Rises old.write_faults new.write_faults
   pub write_fault_made : result ≡ WriteFault → ForSome old.files (λ files. (made : Output)
       × Outputs words files (Ok made) × WritesPart old new made)
   -- Memory ran out in the work, or while its status was reported: what stands is what that status says, and
   -- standard error has got a first part of its line.
   pub out_of_memory : result ≡ OutOfMemory → IsCutShort old new (form_of words ≡ None) (Outputs words)
-  -- A refusal leaves standard output and all files.
+  -- A refusal or a failed read leaves standard output and all files.
   pub refused_out : ChangesNothing result → new.out ≡ old.out
   pub refused_files : ChangesNothing result → new.files ≡ old.files
   -- Standard error gets the status's line, or a first part of it where a write to it failed.

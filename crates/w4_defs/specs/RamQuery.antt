@@ -13,7 +13,9 @@ use Rattle.w4_defs.specs.declared.inspect.Test.TheVariants.{Is, Same, Changed, M
 use Rattle.w4_defs.specs.Reading.{◌>>=◌}
 use Rattle.w4_defs.specs.Lines.{lines_from, decimal_value, number_of}
 use Rattle.w4_defs.specs.OrderWords.{no_word, one_number}
-use Rattle.w4_defs.specs.OrderFile.{ScriptFault, BadLine, OrderRow, order_by, orders_in, file_of}
+use Rattle.w4_defs.specs.OrderFile.{OrderRow, order_by, orders_in, file_of}
+use Rattle.w4_defs.specs.declared.status.ScriptKind.{ScriptKind}
+use Rattle.w4_defs.specs.declared.status.ScriptKind.TheVariants.{BadLine}
 
 -- a width
 abbrev pub decimal_width : List ℕ → Option ℕ
@@ -49,14 +51,14 @@ test_words test words = one_number (λ p. ask.Narrow p test) words
 -- what each name says of the words after it
 unfoldable pub query_rows : List (OrderRow Ask)
 query_rows =
-    record { name = codes "watch"; read = watch_words }
-    ∷ record { name = codes "start"; read = start_words }
-    ∷ record { name = codes "is"; read = is_words }
-    ∷ record { name = codes "same"; read = test_words Same }
-    ∷ record { name = codes "changed"; read = test_words Changed }
-    ∷ record { name = codes "more"; read = test_words More }
-    ∷ record { name = codes "less"; read = test_words Less }
-    ∷ record { name = codes "list"; read = no_word ask.List }
+    record { name = codes "watch"; order_from = watch_words }
+    ∷ record { name = codes "start"; order_from = start_words }
+    ∷ record { name = codes "is"; order_from = is_words }
+    ∷ record { name = codes "same"; order_from = test_words Same }
+    ∷ record { name = codes "changed"; order_from = test_words Changed }
+    ∷ record { name = codes "more"; order_from = test_words More }
+    ∷ record { name = codes "less"; order_from = test_words Less }
+    ∷ record { name = codes "list"; order_from = no_word ask.List }
     ∷ []
 
 -- the request of a line's words
@@ -64,7 +66,7 @@ abbrev pub ask_of : List (List ℕ) → Option Ask
 ask_of words = order_by query_rows words
 
 -- the requests of a query
-unfoldable pub query_of : List ℕ → Result (List Ask) ScriptFault
+unfoldable pub query_of : List ℕ → Result (List Ask) ScriptKind
 query_of bytes = file_of ask_of bytes
 
 -- Worked cases: each kind of line, ways to be bad, and a query whose second line is bad

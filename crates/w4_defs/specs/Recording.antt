@@ -11,6 +11,7 @@ use Rattle.std.specs.Int.{w16, w32, to_le_bytes, cast_signed}
 use Rattle.w4_defs.specs.declared.console.Input.{Input}
 use Rattle.w4_defs.specs.MemoryMap.{input_bytes}
 use Rattle.w4_defs.specs.Reading.{◌>>=◌, IsBytes, front_at, little_endian_at}
+use Rattle.w4_defs.specs.Limits.{disk_limit, frame_limit, recording_limit}
 
 pub record Recording : Type 0 where
   pub digest : List ℕ
@@ -34,9 +35,9 @@ pub record IsRecording (r : Recording) : Type 0 where
   pub digest : IsBytes r.digest
   pub some_budget : 1 ≤ r.budget
   pub budget : r.budget < 2 ^ 32
-  pub small_disk : length r.disk ≤ 1024
+  pub small_disk : length r.disk ≤ disk_limit
   pub disk : IsBytes r.disk
-  pub few_frames : length r.frames ≤ 36000
+  pub few_frames : length r.frames ≤ frame_limit
   pub frames : AllByRecursion IsInput r.frames
 
 -- ---- encoding
@@ -108,7 +109,7 @@ frames_of version (suc count) bytes = do
 
 -- whether a budget, the length of a disk and a number of frames are within the limits
 abbrev pub is_within_limits : ℕ → ℕ → ℕ → Bool
-is_within_limits budget size count = nat_le 1 budget && nat_le size 1024 && nat_le count 36000
+is_within_limits budget size count = nat_le 1 budget && nat_le size disk_limit && nat_le count frame_limit
 
 -- the recording that the bytes encode; None where they encode none
 unfoldable pub recording_of : List ℕ → Option Recording
@@ -156,9 +157,10 @@ EncodingLength = (r : Recording) → IsRecording r →
     × (length (encoding 2 r) ≡ 47 + length r.disk + 10 * length r.frames)
 
 abbrev pub LongestEncoding : Type 0
-LongestEncoding = (r : Recording) (bytes : List ℕ) → IsEncoded r bytes → length bytes ≤ 361071
+LongestEncoding = (r : Recording) (bytes : List ℕ) → IsEncoded r bytes → length bytes ≤ recording_limit
 
--- ---- worked cases: frames with pad 1 down and the mouse at (-1, 2), of a budget of 256
+-- ---- worked cases: frames with button 2 of gamepad 1 down and the mouse at (-1, 2) with its left button, of a
+-- budget of 256
 
 abbrev case_input : Bool → Input
 case_input reset =

@@ -8,10 +8,11 @@ use Rattle.w4_defs.specs.Commands.{RunWords}
 use Rattle.w4_defs.specs.Comparison.{Compared, Side, compared}
 use Rattle.w4_defs.specs.InputsText.{inputs_text}
 use Rattle.w4_defs.specs.Module.{WasmModule}
-use Rattle.w4_defs.specs.Output.{◌>>=◌, CartFile, CartIn, Output, Played, judged, or_refuse, font_in, recording_in, run_files, run_setup, only_printed, printing}
-use Rattle.w4_defs.specs.Recording.{Recording, recording_of, encoding}
+use Rattle.w4_defs.specs.Output.{◌>>=◌, CartFile, CartIn, Output, Played, any_recording, blank_recording, judged, font_in, recording_in, run_files, run_setup, only_written, printing}
+use Rattle.w4_defs.specs.Recording.{Recording, encoding}
 use Rattle.w4_defs.specs.Units.{units_text}
 use Rattle.w4_defs.specs.World.{Files}
+use Rattle.w4_defs.specs.Limits.{disk_limit, recording_limit}
 
 -- ---- `units CART REC FONT`
 
@@ -23,18 +24,14 @@ units_output words cart files = printing (run_files cart.digest words files) (ru
 
 -- ---- recordings alone
 
--- a recording of any cart, or none
-abbrev pub any_recording : List ℕ → Result Recording Status
-any_recording bytes = or_refuse (RecordingRefused Bad) (recording_of bytes)
-
 unfoldable pub any_recording_in : Files → List ℕ → Result Recording Status
-any_recording_in = judged 361071 any_recording
+any_recording_in = judged recording_limit any_recording
 
 -- `inputs REC`
 unfoldable pub inputs_output : List ℕ → Files → Result Output Status
 inputs_output name files = do
   r ← any_recording_in files name
-  Ok (only_printed (inputs_text r) files)
+  Ok (only_written (inputs_text r) files)
 
 -- `rebind CART REC`: all the same but the digest, in version 2
 abbrev pub rebound : List ℕ → Recording → Recording
@@ -43,20 +40,19 @@ rebound digest r = record r { digest = digest }
 unfoldable pub rebind_output : List ℕ → CartFile → Files → Result Output Status
 rebind_output name cart files = do
   r ← any_recording_in files name
-  Ok (only_printed (encoding 2 (rebound cart.digest r)) files)
+  Ok (only_written (encoding 2 (rebound cart.digest r)) files)
 
 -- `blank CART BUDGET DISK`: at most 1,024 bytes, without frames
 abbrev pub disk_of : List ℕ → Result (List ℕ) Status
-disk_of bytes = if nat_le (length bytes) 1024 then Ok bytes else Err (RecordingRefused Bad)
+disk_of bytes = if nat_le (length bytes) disk_limit then Ok bytes else Err (RecordingRefused Bad)
 
 unfoldable pub disk_in : Files → List ℕ → Result (List ℕ) Status
-disk_in = judged 1024 disk_of
+disk_in = judged disk_limit disk_of
 
 unfoldable pub blank_disk_output : ℕ → List ℕ → CartFile → Files → Result Output Status
 blank_disk_output budget name cart files = do
   disk ← disk_in files name
-  let r : Recording = record { digest = cart.digest; budget = budget; disk = disk; frames = [] } in
-      Ok (only_printed (encoding 2 r) files)
+  Ok (only_written (encoding 2 (blank_recording cart.digest budget disk)) files)
 
 -- ---- `compare CART REC CART2 REC2 FONT`
 

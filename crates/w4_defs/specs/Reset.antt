@@ -50,7 +50,7 @@ with_segments page (segment ∷ segments) =
 unfoldable pub start_page : WasmModule → List ℕ
 start_page cart = with_segments first_page cart.segments
 
--- the logs of a frame that is under way begin empty
+-- a state with empty logs, as a reset or a frame begins
 abbrev pub with_empty_logs : State → LoggedState
 with_empty_logs state = record { state = state; tones = empty_log; traces = empty_log }
 
@@ -119,7 +119,7 @@ with_channels state channels = record state { channels = channels }
 abbrev pub recorded : LoggedState → Moment
 recorded now = record {
   state = with_channels now.state (all_aged now.state.channels);
-  made = record { tones = now.tones; traces = now.traces; sounds = sounds_at 0 now.state.channels };
+  frame_record = record { tones = now.tones; traces = now.traces; sounds = sounds_at 0 now.state.channels };
 }
 
 -- a reset with the disk that is passed: the state and the record at place 0

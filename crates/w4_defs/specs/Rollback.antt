@@ -6,6 +6,7 @@ use Rattle.w4_defs.specs.declared.console.Input.{Input}
 use Rattle.w4_defs.specs.declared.net_refusal.NetRefusal.{NetRefusal}
 use Rattle.w4_defs.specs.declared.net_refusal.NetRefusal.TheVariants.{NoPlayer, FrameRange, Conflict}
 use Rattle.w4_defs.specs.declared.netplay.Packet.{Packet}
+use Rattle.w4_defs.specs.Limits.{frame_limit}
 
 -- what is known of a player's pad in a frame
 abbrev pub Known : Type 0
@@ -23,18 +24,16 @@ conflict known packet =
     option_and_then (λ kept. if kept == packet.pad then None else Some kept)
     (known packet.player packet.frame)
 
--- a packet is accepted where it is of one of four players and of one of 36,000 frames, and no other byte is
--- known
-abbrev pub is_accepted : Known → Packet → Bool
-is_accepted known packet =
-    nat_lt packet.player 4 && nat_lt packet.frame 36000 && is_none (conflict known packet)
-
 -- why a packet is refused: for its player, its frame or another byte that is known, in this order
 abbrev pub packet_refusal : Known → Packet → Option NetRefusal
 packet_refusal known packet =
     if nat_le 4 packet.player then Some NoPlayer else
-    if nat_le 36000 packet.frame then Some FrameRange else
+    if nat_le frame_limit packet.frame then Some FrameRange else
     option_map (λ kept. Conflict kept packet.pad) (conflict known packet)
+
+-- a packet is accepted where nothing refuses it
+abbrev pub is_accepted : Known → Packet → Bool
+is_accepted known packet = is_none (packet_refusal known packet)
 
 -- an accepted packet is known from then on; any other changes nothing
 abbrev pub learned : Known → Packet → Known

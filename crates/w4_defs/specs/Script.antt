@@ -17,8 +17,10 @@ use Rattle.w4_defs.specs.declared.order.Order.{Order}
 use Rattle.w4_defs.specs.declared.order.Order.TheVariants.{Set, Insert, Delete, Undo, Redo, Keep, KeepEvery, DropKept, Settle, Show, Film, Tones, Traces, DiskAt, StateAt}
 use Rattle.w4_defs.specs.Reading.{◌>>=◌}
 use Rattle.w4_defs.specs.Lines.{words_of, lines_of, lines_from, decimal_value, number_of, decimal_byte, coordinate_of}
-use Rattle.w4_defs.specs.OrderWords.{no_word, one_number}
-use Rattle.w4_defs.specs.OrderFile.{ScriptFault, TooLong, BadLine, OrderRow, order_by, orders_in, file_of}
+use Rattle.w4_defs.specs.OrderWords.{no_word, one_number, range_order}
+use Rattle.w4_defs.specs.OrderFile.{OrderRow, order_by, orders_in, file_of}
+use Rattle.w4_defs.specs.declared.status.ScriptKind.{ScriptKind}
+use Rattle.w4_defs.specs.declared.status.ScriptKind.TheVariants.{TooLong, BadLine}
 
 -- ---- the words after an order's name
 
@@ -28,14 +30,6 @@ number_order make least most (word ∷ []) = do
   n ← number_of word
   if nat_le least n && nat_le n most then Some (make n) else None
 number_order make least most words = None
-
--- two places, the first at most the second
-abbrev pub range_order : (ℕ → ℕ → Order) → List (List ℕ) → Option Order
-range_order make (first ∷ last ∷ []) = do
-  a ← number_of first
-  b ← number_of last
-  if nat_le a b then Some (make a b) else None
-range_order make words = None
 
 -- two places, the first at most the second, and a number of workers
 abbrev pub film_order : List (List ℕ) → Option Order
@@ -78,21 +72,21 @@ frame_order make words = None
 -- what each name says of the words after it
 unfoldable pub script_rows : List (OrderRow Order)
 script_rows =
-    record { name = codes "set"; read = frame_order Set }
-    ∷ record { name = codes "insert"; read = frame_order Insert }
-    ∷ record { name = codes "delete"; read = one_number Delete }
-    ∷ record { name = codes "undo"; read = no_word Undo }
-    ∷ record { name = codes "redo"; read = no_word Redo }
-    ∷ record { name = codes "keep"; read = one_number Keep }
-    ∷ record { name = codes "keep-every"; read = number_order KeepEvery 1 4294967295 }
-    ∷ record { name = codes "drop"; read = one_number DropKept }
-    ∷ record { name = codes "settle"; read = number_order Settle 1 16 }
-    ∷ record { name = codes "show"; read = one_number Show }
-    ∷ record { name = codes "film"; read = film_order }
-    ∷ record { name = codes "tones"; read = range_order Tones }
-    ∷ record { name = codes "traces"; read = range_order Traces }
-    ∷ record { name = codes "disk"; read = one_number DiskAt }
-    ∷ record { name = codes "state"; read = one_number StateAt }
+    record { name = codes "set"; order_from = frame_order Set }
+    ∷ record { name = codes "insert"; order_from = frame_order Insert }
+    ∷ record { name = codes "delete"; order_from = one_number Delete }
+    ∷ record { name = codes "undo"; order_from = no_word Undo }
+    ∷ record { name = codes "redo"; order_from = no_word Redo }
+    ∷ record { name = codes "keep"; order_from = one_number Keep }
+    ∷ record { name = codes "keep-every"; order_from = number_order KeepEvery 1 4294967295 }
+    ∷ record { name = codes "drop"; order_from = one_number DropKept }
+    ∷ record { name = codes "settle"; order_from = number_order Settle 1 16 }
+    ∷ record { name = codes "show"; order_from = one_number Show }
+    ∷ record { name = codes "film"; order_from = film_order }
+    ∷ record { name = codes "tones"; order_from = range_order Tones }
+    ∷ record { name = codes "traces"; order_from = range_order Traces }
+    ∷ record { name = codes "disk"; order_from = one_number DiskAt }
+    ∷ record { name = codes "state"; order_from = one_number StateAt }
     ∷ []
 
 -- the order of a line's words
@@ -100,7 +94,7 @@ abbrev pub order_of : List (List ℕ) → Option Order
 order_of words = order_by script_rows words
 
 -- the orders of a script
-unfoldable pub script_of : List ℕ → Result (List Order) ScriptFault
+unfoldable pub script_of : List ℕ → Result (List Order) ScriptKind
 script_of bytes = file_of order_of bytes
 
 -- a script of 1,048,576 bytes is read, and one byte more is too much: any bytes, and empty lines
@@ -114,8 +108,8 @@ ScriptLimit =
 -- ---- worked cases
 
 -- the order of a line
-abbrev read : List ℕ → Option Order
-read line = order_of (words_of line)
+abbrev order_of_line : List ℕ → Option Order
+order_of_line line = order_of (words_of line)
 
 abbrev case_input : Bool → Input
 case_input reset =
@@ -124,54 +118,54 @@ case_input reset =
 -- each kind of line
 abbrev pub OrderCases : Type 0
 OrderCases =
-    (read (codes "set 0 27 0 0 255 -5 -0 4") ≡ Some (Set 0 (case_input false)))
-    × (read (codes "set 0 27 0 0 255 -5 -0 4 reset") ≡ Some (Set 0 (case_input true)))
-    × (read (codes "insert 7 27 0 0 255 -00005 0 4") ≡ Some (Insert 7 (case_input false)))
-    × (read (codes "insert 7 27 0 0 255 -5 0 4 reset") ≡ Some (Insert 7 (case_input true)))
-    × (read (codes "delete 3") ≡ Some (Delete 3))
-    × (read (codes "undo") ≡ Some Undo)
-    × (read (codes "redo") ≡ Some Redo)
-    × (read (codes "keep 4294967295") ≡ Some (Keep 4294967295))
-    × (read (codes "keep-every 60") ≡ Some (KeepEvery 60))
-    × (read (codes "drop 0") ≡ Some (DropKept 0))
-    × (read (codes "settle 16") ≡ Some (Settle 16))
-    × (read (codes "show 01") ≡ Some (Show 1))
-    × (read (codes "film 2 2 1") ≡ Some (Film 2 2 1))
-    × (read (codes "tones 0 9") ≡ Some (Tones 0 9))
-    × (read (codes "traces 9 9") ≡ Some (Traces 9 9))
-    × (read (codes "disk 5") ≡ Some (DiskAt 5))
-    × (read (codes "  state   5 ") ≡ Some (StateAt 5))
+    (order_of_line (codes "set 0 27 0 0 255 -5 -0 4") ≡ Some (Set 0 (case_input false)))
+    × (order_of_line (codes "set 0 27 0 0 255 -5 -0 4 reset") ≡ Some (Set 0 (case_input true)))
+    × (order_of_line (codes "insert 7 27 0 0 255 -00005 0 4") ≡ Some (Insert 7 (case_input false)))
+    × (order_of_line (codes "insert 7 27 0 0 255 -5 0 4 reset") ≡ Some (Insert 7 (case_input true)))
+    × (order_of_line (codes "delete 3") ≡ Some (Delete 3))
+    × (order_of_line (codes "undo") ≡ Some Undo)
+    × (order_of_line (codes "redo") ≡ Some Redo)
+    × (order_of_line (codes "keep 4294967295") ≡ Some (Keep 4294967295))
+    × (order_of_line (codes "keep-every 60") ≡ Some (KeepEvery 60))
+    × (order_of_line (codes "drop 0") ≡ Some (DropKept 0))
+    × (order_of_line (codes "settle 16") ≡ Some (Settle 16))
+    × (order_of_line (codes "show 01") ≡ Some (Show 1))
+    × (order_of_line (codes "film 2 2 1") ≡ Some (Film 2 2 1))
+    × (order_of_line (codes "tones 0 9") ≡ Some (Tones 0 9))
+    × (order_of_line (codes "traces 9 9") ≡ Some (Traces 9 9))
+    × (order_of_line (codes "disk 5") ≡ Some (DiskAt 5))
+    × (order_of_line (codes "  state   5 ") ≡ Some (StateAt 5))
 
 -- each way in which a line is bad
 abbrev pub BadOrderCases : Type 0
 BadOrderCases =
-    (read (codes "Show 1") ≡ None)
-    × (read (codes "shows 1") ≡ None)
-    × (read (codes "show") ≡ None)
-    × (read (codes "show 1 2") ≡ None)
-    × (read (codes "show -1") ≡ None)
-    × (read (codes "show 4294967296") ≡ None)
-    × (read (codes "undo 1") ≡ None)
-    × (read (codes "redo reset") ≡ None)
-    × (read (codes "set 0 256 0 0 0 0 0 0") ≡ None)
-    × (read (codes "set 0 0 0 0 0 -32769 0 0") ≡ None)
-    × (read (codes "set 0 0 0 0 0 0 32768 0") ≡ None)
-    × (read (codes "set 0 0 0 0 0 0 0 256") ≡ None)
-    × (read (codes "set 0 -0 0 0 0 0 0 0") ≡ None)
-    × (read (codes "set 0 0 0 0 0 0 0") ≡ None)
-    × (read (codes "set 0 0 0 0 0 0 0 0 Reset") ≡ None)
-    × (read (codes "insert 0 0 0 0 0 0 0 0 reset reset") ≡ None)
-    × (read (codes "insert -1 0 0 0 0 0 0 0") ≡ None)
-    × (read (codes "delete") ≡ None)
-    × (read (codes "keep-every 0") ≡ None)
-    × (read (codes "settle 0") ≡ None)
-    × (read (codes "settle 17") ≡ None)
-    × (read (codes "film 3 2 1") ≡ None)
-    × (read (codes "film 2 3 0") ≡ None)
-    × (read (codes "film 2 3 17") ≡ None)
-    × (read (codes "film 2 3") ≡ None)
-    × (read (codes "tones 1 0") ≡ None)
-    × (read (codes "traces 1") ≡ None)
+    (order_of_line (codes "Show 1") ≡ None)
+    × (order_of_line (codes "shows 1") ≡ None)
+    × (order_of_line (codes "show") ≡ None)
+    × (order_of_line (codes "show 1 2") ≡ None)
+    × (order_of_line (codes "show -1") ≡ None)
+    × (order_of_line (codes "show 4294967296") ≡ None)
+    × (order_of_line (codes "undo 1") ≡ None)
+    × (order_of_line (codes "redo reset") ≡ None)
+    × (order_of_line (codes "set 0 256 0 0 0 0 0 0") ≡ None)
+    × (order_of_line (codes "set 0 0 0 0 0 -32769 0 0") ≡ None)
+    × (order_of_line (codes "set 0 0 0 0 0 0 32768 0") ≡ None)
+    × (order_of_line (codes "set 0 0 0 0 0 0 0 256") ≡ None)
+    × (order_of_line (codes "set 0 -0 0 0 0 0 0 0") ≡ None)
+    × (order_of_line (codes "set 0 0 0 0 0 0 0") ≡ None)
+    × (order_of_line (codes "set 0 0 0 0 0 0 0 0 Reset") ≡ None)
+    × (order_of_line (codes "insert 0 0 0 0 0 0 0 0 reset reset") ≡ None)
+    × (order_of_line (codes "insert -1 0 0 0 0 0 0 0") ≡ None)
+    × (order_of_line (codes "delete") ≡ None)
+    × (order_of_line (codes "keep-every 0") ≡ None)
+    × (order_of_line (codes "settle 0") ≡ None)
+    × (order_of_line (codes "settle 17") ≡ None)
+    × (order_of_line (codes "film 3 2 1") ≡ None)
+    × (order_of_line (codes "film 2 3 0") ≡ None)
+    × (order_of_line (codes "film 2 3 17") ≡ None)
+    × (order_of_line (codes "film 2 3") ≡ None)
+    × (order_of_line (codes "tones 1 0") ≡ None)
+    × (order_of_line (codes "traces 1") ≡ None)
 
 -- skipped lines are counted, and the first bad line is named
 abbrev pub ScriptCases : Type 0

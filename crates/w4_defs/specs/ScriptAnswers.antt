@@ -18,7 +18,7 @@ use Rattle.w4_defs.specs.Session.{Session, places_alone, new_session, set_input,
 use Rattle.w4_defs.specs.declared.place_text.PlaceText.{PlaceText}
 use Rattle.w4_defs.specs.declared.place_text.PlaceText.TheVariants.{Image, Schedule, Traces, DiskBytes}
 use Rattle.w4_defs.specs.Answers.{Answered, answer_text, carried_out, answers_by}
-use Rattle.w4_defs.specs.PlaceTexts.{PieceForm, as_it_stands, state_text, place_text, place_texts}
+use Rattle.w4_defs.specs.PlaceTexts.{PieceForm, as_it_stands, state_text, place_text, run_texts}
 
 -- ---- refusals
 
@@ -64,7 +64,7 @@ one_text form setup disk session wanted p =
 
 abbrev pub range_text : PieceForm → Setup → List ℕ → Session ℕ → PlaceText → ℕ → ℕ → Option (List ℕ)
 range_text form setup disk session wanted a b =
-    place_texts (one_text form setup disk session wanted) a (b + 1 - a)
+    run_texts form wanted setup disk session.current.inputs a (b + 1 - a)
 
 -- the images of a film, or the line that refuses it
 abbrev pub film_or_refused : PieceForm → Option (List ℕ) → Option FilmRefusal → Option (List ℕ)

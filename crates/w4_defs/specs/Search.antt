@@ -13,16 +13,17 @@ abbrev pub addresses : ℕ → List ℕ
 addresses width = range_with_len 0 (65537 - width)
 
 -- whether a test holds between the new value and the old one
-abbrev pub holds : Test → ℕ → ℕ → Bool
-holds (Is value) new old = new == value
-holds Same new old = new == old
-holds Changed new old = not (new == old)
-holds More new old = nat_lt old new
-holds Less new old = nat_lt new old
+abbrev pub test_holds : Test → ℕ → ℕ → Bool
+test_holds (Is value) new old = new == value
+test_holds Same new old = new == old
+test_holds Changed new old = not (new == old)
+test_holds More new old = nat_lt old new
+test_holds Less new old = nat_lt new old
 
 -- whether it holds at an address, between a new page and the last one
-abbrev pub holds_at : ℕ → Test → List ℕ → List ℕ → ℕ → Bool
-holds_at width test new last address = holds test (number_at new address width) (number_at last address width)
+abbrev pub test_holds_at : ℕ → Test → List ℕ → List ℕ → ℕ → Bool
+test_holds_at width test new last address = test_holds test (number_at new address width)
+    (number_at last address width)
 
 -- a search: how many bytes a value has, the last page, and the addresses that are left, rising
 pub record Search : Type 0 where
@@ -40,14 +41,14 @@ Step = List ℕ × Test
 abbrev pub narrow : Search → Step → Search
 narrow search step = record search {
   page = step.0;
-  candidates = filter (holds_at search.width step.1 step.0 search.page) search.candidates;
+  candidates = filter (test_holds_at search.width step.1 step.0 search.page) search.candidates;
 }
 
 -- whether each test holds at an address between its page and the one before it, the first page being this
 abbrev pub holds_throughout : ℕ → List ℕ → List Step → ℕ → Bool
 holds_throughout width page [] address = true
 holds_throughout width page (step ∷ steps) address =
-    holds_at width step.1 step.0 page address && holds_throughout width step.0 steps address
+    test_holds_at width step.1 step.0 page address && holds_throughout width step.0 steps address
 
 -- the addresses at which all tests hold, rising
 abbrev pub remaining : ℕ → List ℕ → List Step → List ℕ

@@ -9,6 +9,7 @@ use Rattle.std.specs.List.{filter, list_any, range_with_len}
 use Rattle.w4_defs.specs.declared.console.Input.{Input}
 use Rattle.w4_defs.specs.declared.editing.EditRefusal.{EditRefusal}
 use Rattle.w4_defs.specs.declared.editing.EditRefusal.TheVariants.{NoFrame, FullRecording, NothingToUndo, NothingToRedo, Kept, NotKept, FullSnapshots}
+use Rattle.w4_defs.specs.Limits.{frame_limit, kept_limit}
 
 -- ---- kept things
 
@@ -36,7 +37,7 @@ Rise from n (p ∷ places) = (from < p) × Rise p n places
 -- the kept places of a recording of n inputs: they rise from place 0, and there are at most 1,024
 abbrev pub ArePlaces : ℕ → List ℕ → Type 0
 ArePlaces n [] = ⊥
-ArePlaces n (p ∷ places) = (p ≡ 0) × Rise 0 n places × (length places < 1024)
+ArePlaces n (p ∷ places) = (p ≡ 0) × Rise 0 n places × (length places < kept_limit)
 
 abbrev pub is_kept : {A : Type 0} → Kind A → ℕ → List A → Bool
 is_kept kind p kept = list_any (λ x. kind.place x == p) kept
@@ -166,7 +167,7 @@ set_refusal k draft = if nat_lt k (length draft.inputs) then None else Some NoFr
 abbrev pub insert_refusal : {A : Type 0} → ℕ → Draft A → Option EditRefusal
 insert_refusal k draft =
     if nat_lt (length draft.inputs) k then Some NoFrame else
-    if nat_lt (length draft.inputs) 36000 then None else
+    if nat_lt (length draft.inputs) frame_limit then None else
     Some FullRecording
 
 abbrev pub delete_refusal : {A : Type 0} → ℕ → Draft A → Option EditRefusal
@@ -179,7 +180,7 @@ abbrev pub keep_refusal : {A : Type 0} → Kind A → ℕ → Draft A → Option
 keep_refusal kind p draft =
     if nat_lt (length draft.inputs) p then Some NoFrame else
     if is_kept kind p draft.kept then Some Kept else
-    if nat_lt (length draft.kept) 1024 then None else
+    if nat_lt (length draft.kept) kept_limit then None else
     Some FullSnapshots
 
 abbrev pub drop_refusal : {A : Type 0} → Kind A → ℕ → Draft A → Option EditRefusal
@@ -235,7 +236,7 @@ all_kept (p ∷ places) kept = all_kept places
 abbrev pub keep_every : ℕ → Session ℕ → Result (Session ℕ) EditRefusal
 keep_every every session =
     let kept = all_kept (multiples every (length session.current.inputs)) session.current.kept in
-    unless (if nat_le (length kept) 1024 then None else Some FullSnapshots) (with_list session kept)
+    unless (if nat_le (length kept) kept_limit then None else Some FullSnapshots) (with_list session kept)
 
 -- ---- laws
 
@@ -317,14 +318,14 @@ KeepLimit {A} kind = (x : A) (session : Session A) → kind.place x ≤ length s
     → is_kept kind (kind.place x) session.current.kept ≡ false →
     (length session.current.kept ≤ 1023
     → keep kind x session ≡ Ok (with_list session (with_kept kind x session.current.kept)))
-    × (1024 ≤ length session.current.kept → keep kind x session ≡ Err FullSnapshots)
+    × (kept_limit ≤ length session.current.kept → keep kind x session ≡ Err FullSnapshots)
 
 -- places are kept at once where 1,024 would be kept then, and refused where 1,025 would be
 abbrev pub KeepEveryLimit : Type 0
 KeepEveryLimit = (every : ℕ) (session : Session ℕ) →
     let kept = all_kept (multiples every (length session.current.inputs)) session.current.kept in
-    (length kept ≤ 1024 → keep_every every session ≡ Ok (with_list session kept))
-    × (1025 ≤ length kept → keep_every every session ≡ Err FullSnapshots)
+    (length kept ≤ kept_limit → keep_every every session ≡ Ok (with_list session kept))
+    × (kept_limit < length kept → keep_every every session ≡ Err FullSnapshots)
 
 -- an accepted edit, keep or drop leaves places of the recording as it then is
 abbrev pub PlacesStayRight : Type 0
@@ -332,6 +333,6 @@ PlacesStayRight = (n k : ℕ) (places : List ℕ) → ArePlaces n places →
     ArePlaces n (kept_after_set places_alone k places)
     × (k ≤ n → ArePlaces (n + 1) (kept_after_insert places_alone k places))
     × (k < n → ArePlaces (n - 1) (kept_after_delete places_alone k places))
-    × (k ≤ n → is_kept places_alone k places ≡ false → length places < 1024
+    × (k ≤ n → is_kept places_alone k places ≡ false → length places < kept_limit
     → ArePlaces n (with_kept places_alone k places))
     × (k ≢ 0 → ArePlaces n (without places_alone k places))

@@ -133,10 +133,10 @@ wave_with_channels wave channels = record wave { channels = channels }
 
 -- a frame before its first tick: a tone that the log dropped isn't played
 abbrev pub with_record : FrameRecord → Wave → Wave
-with_record made wave =
+with_record frame_record wave =
     wave_with_channels wave
     (map (λ pair. silenced pair.0 pair.1)
-    (zip (fold channels_after_tone wave.channels made.tones.kept) made.sounds))
+    (zip (fold channels_after_tone wave.channels frame_record.tones.items) frame_record.sounds))
 
 -- the bytes of a frame: 735 samples of 4 bytes
 unfoldable pub frame_samples : Wave → List ℕ
@@ -144,18 +144,19 @@ frame_samples wave =
     flat_map (λ tick. sample_bytes tick (after_ticks wave tick)) (range_with_len 0 ticks_a_frame)
 
 abbrev pub rendered : FrameRecord → Wave → List ℕ
-rendered made wave = frame_samples (with_record made wave)
+rendered frame_record wave = frame_samples (with_record frame_record wave)
 
 -- after a frame, when its channels have aged
 abbrev pub after_frame : FrameRecord → Wave → Wave
-after_frame made wave =
-    let last = after_ticks (with_record made wave) ticks_a_frame in
+after_frame frame_record wave =
+    let last = after_ticks (with_record frame_record wave) ticks_a_frame in
     wave_with_channels last (all_aged last.channels)
 
 -- the samples of records, one after another
 abbrev pub samples_from : Wave → List FrameRecord → List ℕ
 samples_from wave [] = []
-samples_from wave (made ∷ records) = rendered made wave ++ samples_from (after_frame made wave) records
+samples_from wave (frame_record ∷ records) = rendered frame_record wave
+    ++ samples_from (after_frame frame_record wave) records
 
 unfoldable pub samples : List FrameRecord → List ℕ
 samples records = samples_from first_wave records

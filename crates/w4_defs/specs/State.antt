@@ -48,7 +48,7 @@ empty_record = record { tones = empty_log; traces = empty_log; sounds = replicat
 -- a state and the record of the frame that led there
 pub record Moment : Type 0 where
   pub state : State
-  pub made : FrameRecord
+  pub frame_record : FrameRecord
 
 -- what a cart's imports work on besides the page: the font's bytes, channels, disk, and the frame's logs
 pub record Board : Type 0 where

@@ -10,34 +10,33 @@ use Rattle.w4_defs.specs.Batch.{file_rows}
 use Rattle.w4_defs.specs.Board.{console_setup}
 use Rattle.w4_defs.specs.Module.{WasmModule}
 use Rattle.w4_defs.specs.NetLog.{net_log_of}
-use Rattle.w4_defs.specs.OrderFile.{ScriptFault, TooLong, BadLine}
 use Rattle.w4_defs.specs.RamQuery.{query_of}
 use Rattle.w4_defs.specs.Sound.{samples, wav_header}
 use Rattle.w4_defs.specs.State.{Moment, FrameRecord}
 use Rattle.w4_defs.specs.World.{Files}
 use Rattle.w4_defs.specs.NameLists.{names_of}
-use Rattle.w4_defs.specs.declared.status.ScriptKind.TheVariants as script
 use Rattle.w4_defs.specs.declared.status.Status.{Status}
-use Rattle.w4_defs.specs.declared.status.Status.TheVariants.{ListRefused}
+use Rattle.w4_defs.specs.declared.status.Status.TheVariants.{ListRefused, ScriptRefused}
 use Rattle.w4_defs.specs.Commands.{RunWords, NetWords, BatchWords}
-use Rattle.w4_defs.specs.Output.{◌>>=◌, CartFile, Output, Played, reading, judged, font_in, or_script_refused, run_files, run_setup, moment_at, printing}
+use Rattle.w4_defs.specs.Output.{◌>>=◌, CartFile, Output, Played, reading, judged, font_in, lines_or, run_files, run_setup, moment_at, printing}
 use Rattle.w4_defs.specs.LogAnswers.{first_session, net_answers}
 use Rattle.w4_defs.specs.QueryAnswers.{pages_of, ram_answers}
 use Rattle.w4_defs.specs.BatchRows.{rows_text}
+use Rattle.w4_defs.specs.Limits.{script_limit, name_list_limit, recording_limit}
 
 -- ---- files of lines: a log or a query is refused as a script is
 
 unfoldable pub log_orders : List ℕ → Result (List NetOrder) Status
-log_orders bytes = or_script_refused (net_log_of bytes)
+log_orders bytes = lines_or ScriptRefused (net_log_of bytes)
 
 unfoldable pub log_in : Files → List ℕ → Result (List NetOrder) Status
-log_in = judged 1048576 log_orders
+log_in = judged script_limit log_orders
 
 unfoldable pub query_lines : List ℕ → Result (List Ask) Status
-query_lines bytes = or_script_refused (query_of bytes)
+query_lines bytes = lines_or ScriptRefused (query_of bytes)
 
 unfoldable pub query_in : Files → List ℕ → Result (List Ask) Status
-query_in = judged 1048576 query_lines
+query_in = judged script_limit query_lines
 
 -- ---- `net`: the answers of the log, over a cart without a disk
 
@@ -85,7 +84,7 @@ ram_output words query cart files =
 -- the records of so many places from place 0 on
 abbrev pub records_of : WasmModule → Played → ℕ → Option (List FrameRecord)
 records_of m p places =
-    all_some (map (λ place. option_map (λ (moment : Moment). moment.made) (moment_at m p place))
+    all_some (map (λ place. option_map (λ (moment : Moment). moment.frame_record) (moment_at m p place))
     (range_with_len 0 places))
 
 abbrev pub wave_text : WasmModule → Played → Option (List ℕ)
@@ -99,22 +98,17 @@ wave_output words cart files = printing (run_files cart.digest words files) (wav
 -- ---- `batch`: the rows of the listed recordings. How many workers there are doesn't matter
 
 -- the names of a list, or why it is refused
-abbrev pub or_list_refused : Result (List (List ℕ)) ScriptFault → Result (List (List ℕ)) Status
-or_list_refused (Ok names) = Ok names
-or_list_refused (Err TooLong) = Err (ListRefused script.TooLong)
-or_list_refused (Err (BadLine number)) = Err (ListRefused (script.BadLine number))
-
 unfoldable pub listed_names : List ℕ → Result (List (List ℕ)) Status
-listed_names bytes = or_list_refused (names_of bytes)
+listed_names bytes = lines_or ListRefused (names_of bytes)
 
 unfoldable pub names_in : Files → List ℕ → Result (List (List ℕ)) Status
-names_in = judged 65536 listed_names
+names_in = judged name_list_limit listed_names
 
 -- the listed files, in order, each by its first 361,072 bytes
 unfoldable pub listed_files : List (List ℕ) → Files → Result (List (List ℕ)) Status
 listed_files [] files = Ok []
 listed_files (name ∷ names) files = do
-  bytes ← reading files name 361072
+  bytes ← reading files name (recording_limit + 1)
   others ← listed_files names files
   Ok (bytes ∷ others)
 

@@ -8,7 +8,7 @@ use Rattle.w4_defs.specs.contracts.value.ValType as value_type
 use Rattle.w4_defs.specs.contracts.operation.Op as operation
 use Rattle.w4_defs.specs.Tree.{Mark, Expr, done, plain, block, loop, if_then, if_else}
 
--- what an instruction that holds lists is
+-- what an instruction is that holds lists, and the end of a list
 pub data Head : Type 0 where
   ends : Head
   blocks : Head

@@ -5,12 +5,12 @@ use Rattle.w4_defs.specs.declared.value.ValType.{ValType}
 use Rattle.w4_defs.specs.declared.value.ValType.TheVariants.{I32, I64, F32, F64}
 use Rattle.w4_defs.specs.declared.value.GlobalType.{GlobalType}
 use Rattle.w4_defs.specs.declared.operation.Op.{Op}
-use Rattle.w4_defs.specs.declared.operation.Op.TheVariants.{Unreachable, Nop, Br, BrIf, BrTable, Return, Call, CallIndirect, Drop, Select, LocalGet, LocalSet, LocalTee, GlobalGet, GlobalSet}
+use Rattle.w4_defs.specs.declared.operation.Op.TheVariants.{Unreachable, Nop, Br, BrIf, BrTable, Return, Call, CallIndirect, Drop, Select, LocalGet, LocalSet, LocalTee, GlobalGet, GlobalSet, Basic}
 use Rattle.w4_defs.specs.Tree.{Mark, Expr, done, plain, block, loop, if_then, if_else}
 use Rattle.w4_defs.specs.Module.{Signature, Function, WasmModule}
 use Rattle.w4_defs.specs.Lookup.{signature_of, global_types, tables_of, memories_of, local_types}
 use Rattle.w4_defs.specs.ValueTypes.{result_types}
-use Rattle.w4_defs.specs.OperandTypes.{StackType, stack_type_if, gives, unary_type, memory_type}
+use Rattle.w4_defs.specs.OperandTypes.{StackType, stack_type_if, gives, unary_type, basic_type}
 
 -- what a list stands in: its module, the types of the locals, of the enclosing labels, the innermost
 -- first, and of the function's results
@@ -51,7 +51,8 @@ only_type c (LocalSet index) = option_and_then consumes (slice_get c.locals inde
 only_type c (LocalTee index) = option_and_then unary_type (slice_get c.locals index)
 only_type c (GlobalGet index) = option_and_then (λ g. gives g.value) (slice_get (global_types c.within) index)
 only_type c (GlobalSet index) = option_and_then sets (slice_get (global_types c.within) index)
-only_type c op = memory_type (nat_lt 0 (length (memories_of c.within))) op
+only_type c (Basic i) = basic_type (nat_lt 0 (length (memories_of c.within))) i
+only_type c _ = None
 
 -- a type that a typing may choose
 abbrev pub IsInt : ValType → Type 0

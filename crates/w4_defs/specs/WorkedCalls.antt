@@ -6,16 +6,17 @@ use Rattle.w4_defs.specs.declared.value.Val.TheVariants as val
 use Rattle.w4_defs.specs.declared.value.ValType.TheVariants as type
 use Rattle.w4_defs.specs.declared.module.ImportKind.TheVariants.{Func}
 use Rattle.w4_defs.specs.declared.operation.Op.TheVariants as op
+use Rattle.w4_defs.specs.declared.basic.Basic.TheVariants.{I32Sub, I32Store8, I32Add}
 use Rattle.w4_defs.specs.Tree.{Expr, mark, done, plain, block, sequence}
 use Rattle.w4_defs.specs.Module.{WasmModule, nothing_to_nothing}
 use Rattle.w4_defs.specs.Imports.{import_module, returns_i32, takes_i32s}
 use Rattle.w4_defs.specs.Outcome.{Store, Ended, RunDone, RunSpent}
 use Rattle.w4_defs.specs.Program.{Own}
 use Rattle.w4_defs.specs.Evaluation.{Env, allowed, run_entry, eval, eval_within}
-use Rattle.w4_defs.specs.WorkedRuns.{marking}
+use Rattle.w4_defs.specs.WorkedRuns.{i32_const, marking}
 
--- function 0 is the import `trace`, which a table of one entry holds too; function 1 takes nothing; function
--- 2 takes two numbers and answers their difference; there is one global
+-- function 0 is the import `trace`, which a table of one element holds too; function 1 takes nothing;
+-- function 2 takes two numbers and answers their difference; there is one global
 abbrev pub two_functions : Expr → WasmModule
 two_functions body = record {
   types =
@@ -28,14 +29,14 @@ two_functions body = record {
   memories = [];
   globals = record {
     global = record { value = type.I32; mutable = true };
-    first = sequence (op.I32Const 5 ∷ []);
+    first = sequence (i32_const 5 ∷ []);
   } ∷ [];
   exports = [];
   start = None;
-  elements = record { table = 0; offset = sequence (op.I32Const 0 ∷ []); functions = 0 ∷ [] } ∷ [];
+  elements = record { table = 0; offset = sequence (i32_const 0 ∷ []); functions = 0 ∷ [] } ∷ [];
   bodies =
       record { runs = []; list = body }
-      ∷ record { runs = []; list = sequence (op.LocalGet 0 ∷ op.LocalGet 1 ∷ op.I32Sub ∷ []) } ∷ [];
+      ∷ record { runs = []; list = sequence (op.LocalGet 0 ∷ op.LocalGet 1 ∷ op.Basic I32Sub ∷ []) } ∷ [];
   segments = [];
 }
 
@@ -48,7 +49,7 @@ run_first body budget = run_entry (two_functions body) marking 1 (stored (0 ∷ 
 
 -- 7 less 2: the first argument is the one that was pushed first
 abbrev pub subtracting : Expr
-subtracting = sequence (op.I32Const 0 ∷ op.I32Const 7 ∷ op.I32Const 2 ∷ op.Call 2 ∷ op.I32Store8 0 0 ∷ [])
+subtracting = sequence (i32_const 0 ∷ i32_const 7 ∷ i32_const 2 ∷ op.Call 2 ∷ op.Basic (I32Store8 0 0) ∷ [])
 
 abbrev pub ArgumentsAreInOrder : Type 0
 ArgumentsAreInOrder =
@@ -63,8 +64,8 @@ arguments_are_in_order = (refl, refl)
 abbrev pub GlobalIsSet : Type 0
 GlobalIsSet =
     run_first
-    (sequence (op.I32Const 0 ∷ op.GlobalGet 0 ∷ op.I32Const 1 ∷ op.I32Add ∷ op.GlobalSet 0 ∷ op.GlobalGet 0
-    ∷ op.I32Store8 0 0 ∷ []))
+    (sequence (i32_const 0 ∷ op.GlobalGet 0 ∷ i32_const 1 ∷ op.Basic I32Add ∷ op.GlobalSet 0 ∷ op.GlobalGet 0
+    ∷ op.Basic (I32Store8 0 0) ∷ []))
     7 ≡ RunDone (stored (6 ∷ []) 6) 0
 
 pub global_is_set : GlobalIsSet
@@ -75,11 +76,11 @@ global_is_set = refl
 abbrev pub keeping : ℕ → Expr
 keeping condition =
     plain
-    (mark (op.I32Const 0))
+    (mark (i32_const 0))
     (block
     (Some type.I32)
-    (sequence (op.I32Const 9 ∷ op.I32Const condition ∷ op.BrIf 0 ∷ op.I32Const 4 ∷ op.I32Add ∷ []))
-    (sequence (op.I32Store8 0 0 ∷ [])))
+    (sequence (i32_const 9 ∷ i32_const condition ∷ op.BrIf 0 ∷ i32_const 4 ∷ op.Basic I32Add ∷ []))
+    (sequence (op.Basic (I32Store8 0 0) ∷ [])))
 
 abbrev pub BranchKeepsValue : Type 0
 BranchKeepsValue =
@@ -92,7 +93,7 @@ branch_keeps_value = (refl, refl)
 
 -- an import that a table holds has its weight, 256, and its effect
 abbrev pub tracing : Expr
-tracing = sequence (op.I32Const 77 ∷ op.I32Const 0 ∷ op.CallIndirect 1 0 ∷ [])
+tracing = sequence (i32_const 77 ∷ i32_const 0 ∷ op.CallIndirect 1 0 ∷ [])
 
 abbrev pub ImportIsCalledIndirectly : Type 0
 ImportIsCalledIndirectly =

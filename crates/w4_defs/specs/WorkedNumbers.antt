@@ -7,6 +7,7 @@ use Rattle.w4_defs.specs.declared.integer.Unary.TheVariants.{Clz, Ctz, Popcnt}
 use Rattle.w4_defs.specs.declared.integer.Binary.TheVariants.{Add, Sub, Mul, DivS, DivU, RemS, RemU, Shl, ShrS, ShrU, Rotl, Rotr}
 use Rattle.w4_defs.specs.declared.integer.Compare.TheVariants.{LtS, LtU, GeS, GeU}
 use Rattle.w4_defs.specs.declared.operation.Op.TheVariants as op
+use Rattle.w4_defs.specs.declared.basic.Basic.TheVariants.{I32Extend8S, I32Extend16S, I64Extend32S, I64ExtendI32S, I64ExtendI32U, I32WrapI64}
 use Rattle.w4_defs.specs.Integers.{unary, binary, compare, binary_digits}
 use Rattle.w4_defs.specs.Effects.{effect, Does}
 
@@ -87,12 +88,14 @@ signs_are_compared = (refl, refl, refl, refl)
 -- the low 8, 16 or 32 digits as a signed number
 abbrev pub SignsAreExtended : Type 0
 SignsAreExtended =
-    (effect op.I32Extend8S (val.I32 0x80 ∷ []) [] [] ≡ Does (val.I32 0xffffff80 ∷ []) [] [])
-    × (effect op.I32Extend16S (val.I32 0x17fff ∷ []) [] [] ≡ Does (val.I32 0x7fff ∷ []) [] [])
-    × (effect op.I64Extend32S (val.I64 0x180000000 ∷ []) [] [] ≡ Does (val.I64 0xffffffff80000000 ∷ []) [] [])
-    × (effect op.I64ExtendI32S (val.I32 0x80000000 ∷ []) [] [] ≡ Does (val.I64 0xffffffff80000000 ∷ []) [] [])
-    × (effect op.I64ExtendI32U (val.I32 0x80000000 ∷ []) [] [] ≡ Does (val.I64 0x80000000 ∷ []) [] [])
-    × (effect op.I32WrapI64 (val.I64 0x180000001 ∷ []) [] [] ≡ Does (val.I32 0x80000001 ∷ []) [] [])
+    (effect (op.Basic I32Extend8S) (val.I32 0x80 ∷ []) [] [] ≡ Does (val.I32 0xffffff80 ∷ []) [] [])
+    × (effect (op.Basic I32Extend16S) (val.I32 0x17fff ∷ []) [] [] ≡ Does (val.I32 0x7fff ∷ []) [] [])
+    × (effect (op.Basic I64Extend32S) (val.I64 0x180000000 ∷ []) [] []
+    ≡ Does (val.I64 0xffffffff80000000 ∷ []) [] [])
+    × (effect (op.Basic I64ExtendI32S) (val.I32 0x80000000 ∷ []) [] []
+    ≡ Does (val.I64 0xffffffff80000000 ∷ []) [] [])
+    × (effect (op.Basic I64ExtendI32U) (val.I32 0x80000000 ∷ []) [] [] ≡ Does (val.I64 0x80000000 ∷ []) [] [])
+    × (effect (op.Basic I32WrapI64) (val.I64 0x180000001 ∷ []) [] [] ≡ Does (val.I32 0x80000001 ∷ []) [] [])
 
 pub signs_are_extended : SignsAreExtended
 signs_are_extended = (refl, refl, refl, refl, refl, refl)

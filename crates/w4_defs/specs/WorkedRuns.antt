@@ -4,13 +4,18 @@ use Rattle.w4_defs.specs.declared.value.ValType.TheVariants as type
 use Rattle.w4_defs.specs.declared.value.Cause.TheVariants as cause
 use Rattle.w4_defs.specs.declared.value.Limits.{Limits}
 use Rattle.w4_defs.specs.declared.module.ImportKind.TheVariants.{Func}
+use Rattle.w4_defs.specs.declared.operation.Op.{Op}
 use Rattle.w4_defs.specs.declared.operation.Op.TheVariants as op
+use Rattle.w4_defs.specs.declared.basic.Basic.TheVariants.{I32Const, I32Load8U, I32Add, I32Store8, I32LtU, I32Load, I32Store, I32Store16, MemoryCopy, MemoryFill, MemorySize, MemoryGrow}
 use Rattle.w4_defs.specs.Tree.{Expr, done, block, loop, if_else, sequence}
 use Rattle.w4_defs.specs.Module.{Signature, WasmModule, nothing_to_nothing}
 use Rattle.w4_defs.specs.Imports.{import_module, returns_i32, takes_i32s}
 use Rattle.w4_defs.specs.Outcome.{Store, HostFunctions, Ended, RunDone, RunTrap, RunSpent}
 use Rattle.w4_defs.specs.Program.{reserve_of}
 use Rattle.w4_defs.specs.Evaluation.{run_entry, eval, eval_within}
+
+abbrev pub i32_const : ℕ → Op
+i32_const n = op.Basic (I32Const n)
 
 -- a module with these types and tables, an import `trace`, and one own function, number 1, with this body
 abbrev pub worked_module : List Signature → List Limits → Expr → WasmModule
@@ -23,7 +28,7 @@ worked_module types tables body = record {
   globals = [];
   exports = [];
   start = None;
-  elements = record { table = 0; offset = sequence (op.I32Const 0 ∷ []); functions = 1 ∷ [] } ∷ [];
+  elements = record { table = 0; offset = sequence (i32_const 0 ∷ []); functions = 1 ∷ [] } ∷ [];
   bodies = record { runs = []; list = body } ∷ [];
   segments = [];
 }
@@ -76,9 +81,9 @@ endless_loop_is_spent = refl
 -- take 34 units
 abbrev pub counting : Expr
 counting =
-    loop None (sequence (op.I32Const 0 ∷ op.I32Const 0 ∷ op.I32Load8U 0 0 ∷ op.I32Const 1 ∷ op.I32Add
-    ∷ op.I32Store8 0 0
-    ∷ op.I32Const 0 ∷ op.I32Load8U 0 0 ∷ op.I32Const 3 ∷ op.I32LtU ∷ op.BrIf 0 ∷ [])) done
+    loop None (sequence (i32_const 0 ∷ i32_const 0 ∷ op.Basic (I32Load8U 0 0) ∷ i32_const 1 ∷ op.Basic I32Add
+    ∷ op.Basic (I32Store8 0 0)
+    ∷ i32_const 0 ∷ op.Basic (I32Load8U 0 0) ∷ i32_const 3 ∷ op.Basic I32LtU ∷ op.BrIf 0 ∷ [])) done
 
 abbrev pub LoopIsChargedOnce : Type 0
 LoopIsChargedOnce =
@@ -92,8 +97,8 @@ loop_is_charged_once = (refl, refl)
 -- an import's weight is taken besides its unit, and before its effect
 abbrev pub ImportTakesWeight : Type 0
 ImportTakesWeight =
-    (worked_run (sequence (op.I32Const 8 ∷ op.Call 0 ∷ [])) [] 258 ≡ RunDone (worked_store (8 ∷ [])) 0)
-    × (worked_run (sequence (op.I32Const 8 ∷ op.Call 0 ∷ [])) [] 257 ≡ RunSpent (worked_store []))
+    (worked_run (sequence (i32_const 8 ∷ op.Call 0 ∷ [])) [] 258 ≡ RunDone (worked_store (8 ∷ [])) 0)
+    × (worked_run (sequence (i32_const 8 ∷ op.Call 0 ∷ [])) [] 257 ≡ RunSpent (worked_store []))
 
 pub import_takes_weight : ImportTakesWeight
 unfolding eval eval_within
@@ -104,12 +109,12 @@ import_takes_weight = (refl, refl)
 -- a load or a store past the end traps, and a store that traps changes nothing
 abbrev pub PastTheEndTraps : Type 0
 PastTheEndTraps =
-    (worked_run (sequence (op.I32Const 65535 ∷ op.I32Load 2 0 ∷ op.Drop ∷ [])) [] 9
+    (worked_run (sequence (i32_const 65535 ∷ op.Basic (I32Load 2 0) ∷ op.Drop ∷ [])) [] 9
     ≡ RunTrap cause.Memory (worked_store []))
-    × (worked_run (sequence (op.I32Const 4294967295 ∷ op.I32Load8U 0 1 ∷ op.Drop ∷ [])) [] 9
+    × (worked_run (sequence (i32_const 4294967295 ∷ op.Basic (I32Load8U 0 1) ∷ op.Drop ∷ [])) [] 9
     ≡ RunTrap cause.Memory (worked_store []))
-    × (worked_run (sequence (op.I32Const 0 ∷ op.I32Const 5 ∷ op.I32Store8 0 0 ∷ op.I32Const 65533
-    ∷ op.I32Const 4294967295 ∷ op.I32Store 2 0 ∷ []))
+    × (worked_run (sequence (i32_const 0 ∷ i32_const 5 ∷ op.Basic (I32Store8 0 0) ∷ i32_const 65533
+    ∷ i32_const 4294967295 ∷ op.Basic (I32Store 2 0) ∷ []))
     (9 ∷ (9 ∷ [])) 9 ≡ RunTrap cause.Memory (worked_store (5 ∷ (9 ∷ []))))
 
 pub past_the_end_traps : PastTheEndTraps
@@ -119,7 +124,7 @@ past_the_end_traps = (refl, refl, refl)
 -- numbers are little-endian, and a narrow store keeps the low bytes
 abbrev pub StoresAreLittleEndian : Type 0
 StoresAreLittleEndian =
-    worked_run (sequence (op.I32Const 1 ∷ op.I32Const 0x12345678 ∷ op.I32Store16 1 0 ∷ []))
+    worked_run (sequence (i32_const 1 ∷ i32_const 0x12345678 ∷ op.Basic (I32Store16 1 0) ∷ []))
     (0 ∷ (0 ∷ (0 ∷ (0 ∷ [])))) 3
     ≡ RunDone (worked_store (0 ∷ (0x78 ∷ (0x56 ∷ (0 ∷ []))))) 0
 
@@ -130,10 +135,10 @@ stores_are_little_endian = refl
 -- a copy onto itself: the bytes become those that stood
 abbrev pub CopyTakesOldBytes : Type 0
 CopyTakesOldBytes =
-    (worked_run (sequence (op.I32Const 1 ∷ op.I32Const 0 ∷ op.I32Const 5 ∷ op.MemoryCopy ∷ []))
+    (worked_run (sequence (i32_const 1 ∷ i32_const 0 ∷ i32_const 5 ∷ op.Basic MemoryCopy ∷ []))
     (0 ∷ (1 ∷ (2 ∷ (3 ∷ (4 ∷ (5 ∷ (6 ∷ []))))))) 4
     ≡ RunDone (worked_store (0 ∷ (0 ∷ (1 ∷ (2 ∷ (3 ∷ (4 ∷ (6 ∷ [])))))))) 0)
-    × (worked_run (sequence (op.I32Const 0 ∷ op.I32Const 1 ∷ op.I32Const 5 ∷ op.MemoryCopy ∷ []))
+    × (worked_run (sequence (i32_const 0 ∷ i32_const 1 ∷ i32_const 5 ∷ op.Basic MemoryCopy ∷ []))
     (0 ∷ (1 ∷ (2 ∷ (3 ∷ (4 ∷ (5 ∷ (6 ∷ []))))))) 4
     ≡ RunDone (worked_store (1 ∷ (2 ∷ (3 ∷ (4 ∷ (5 ∷ (5 ∷ (6 ∷ [])))))))) 0)
 
@@ -144,7 +149,7 @@ copy_takes_old_bytes = (refl, refl)
 -- a fill of n bytes with the value's low byte takes floor(n / 64) further units, and has no effect where
 -- fewer are left
 abbrev pub filling : ℕ → Expr
-filling n = sequence (op.I32Const 0 ∷ op.I32Const 0x107 ∷ op.I32Const n ∷ op.MemoryFill ∷ [])
+filling n = sequence (i32_const 0 ∷ i32_const 0x107 ∷ i32_const n ∷ op.Basic MemoryFill ∷ [])
 
 abbrev pub FillTakesFurtherUnits : Type 0
 FillTakesFurtherUnits =
@@ -163,7 +168,7 @@ fill_takes_further_units = (refl, refl, refl, refl, refl)
 -- one that runs past the end traps whatever is left, and takes no further units
 abbrev pub FillPastTheEndTraps : Type 0
 FillPastTheEndTraps =
-    worked_run (sequence (op.I32Const 65500 ∷ op.I32Const 7 ∷ op.I32Const 64 ∷ op.MemoryFill ∷ [])) (0 ∷ []) 4
+    worked_run (sequence (i32_const 65500 ∷ i32_const 7 ∷ i32_const 64 ∷ op.Basic MemoryFill ∷ [])) (0 ∷ []) 4
     ≡ RunTrap cause.Memory (worked_store (0 ∷ []))
 
 pub fill_past_the_end_traps : FillPastTheEndTraps
@@ -173,9 +178,9 @@ fill_past_the_end_traps = refl
 -- there is one page, and no more is granted
 abbrev pub MemoryIsOnePage : Type 0
 MemoryIsOnePage =
-    worked_run (sequence (op.I32Const 0 ∷ op.MemorySize ∷ op.I32Store8 0 0 ∷ op.I32Const 1 ∷ op.I32Const 0
-    ∷ op.MemoryGrow ∷ op.I32Store8 0 0
-    ∷ op.I32Const 2 ∷ op.I32Const 1 ∷ op.MemoryGrow ∷ op.I32Store 0 0 ∷ []))
+    worked_run (sequence (i32_const 0 ∷ op.Basic MemorySize ∷ op.Basic (I32Store8 0 0)
+    ∷ i32_const 1 ∷ i32_const 0 ∷ op.Basic MemoryGrow ∷ op.Basic (I32Store8 0 0)
+    ∷ i32_const 2 ∷ i32_const 1 ∷ op.Basic MemoryGrow ∷ op.Basic (I32Store 0 0) ∷ []))
     (0 ∷ (0 ∷ (0 ∷ (0 ∷ (0 ∷ (0 ∷ [])))))) 11
     ≡ RunDone (worked_store (1 ∷ (1 ∷ (255 ∷ (255 ∷ (255 ∷ (255 ∷ []))))))) 0
 
@@ -195,11 +200,11 @@ pub depth_is_bounded : DepthIsBounded
 unfolding eval eval_within
 depth_is_bounded = (refl, refl)
 
--- a table of two entries, of which the first holds function 1, of type 0
+-- a table of two elements, of which the first holds function 1, of type 0
 abbrev pub run_indirect : ℕ → ℕ → ℕ → Ended (Unit {0})
 run_indirect t index budget = run_entry
     (worked_module (returns_i32 0 ∷ []) (record { least = 2; greatest = None } ∷ [])
-    (sequence (op.I32Const index ∷ op.CallIndirect t 0 ∷ []))) marking 1 (worked_store []) budget
+    (sequence (i32_const index ∷ op.CallIndirect t 0 ∷ []))) marking 1 (worked_store []) budget
 
 abbrev pub IndirectCallsAreJudged : Type 0
 IndirectCallsAreJudged =

@@ -130,12 +130,12 @@ redos (suc n) session = redos n session then redo
 
 abbrev pub HistoryCase : Type 0
 HistoryCase =
-    let made = edits 33 (Ok (still 1)) in
-    (pads_of (undos 32 made) ≡ pads_of (Ok (new_session (pad 1 ∷ []) 0)))
-    × (undos 33 made ≡ Err NothingToUndo)
-    × (redos 32 (undos 32 made) ≡ made)
-    × (redos 33 (undos 32 made) ≡ Err NothingToRedo)
-    × ((undos 2 made then set_input places_alone 0 (pad 7) then redo) ≡ Err NothingToRedo)
+    let after_edits = edits 33 (Ok (still 1)) in
+    (pads_of (undos 32 after_edits) ≡ pads_of (Ok (new_session (pad 1 ∷ []) 0)))
+    × (undos 33 after_edits ≡ Err NothingToUndo)
+    × (redos 32 (undos 32 after_edits) ≡ after_edits)
+    × (redos 33 (undos 32 after_edits) ≡ Err NothingToRedo)
+    × ((undos 2 after_edits then set_input places_alone 0 (pad 7) then redo) ≡ Err NothingToRedo)
 
 pub history-case : HistoryCase
 history-case = (refl, refl, refl, refl, refl)

@@ -1,6 +1,7 @@
 -- What stands outside the program: its files, what it has written, and how often a call has failed (project
--- rule). A part that a house doesn't tell is None; a house that tells its files tells all of them.
-use Rattle.std.specs.Prelude.{◌≡◌, ◌≢◌, ℕ, ◌+◌, ◌-◌, ◌^◌, ◌≤◌, min, List, ◌++◌, take, Option, Some, None, option_map}
+-- rule). A part that a house doesn't tell is None; a house that tells its files tells all of them, but for
+-- those that it makes for itself beside a file while it replaces it.
+use Rattle.std.specs.Prelude.{◌≡◌, ◌⊎◌, ℕ, ◌+◌, ◌-◌, ◌^◌, ◌≤◌, min, List, ◌++◌, take, Option, Some, None, option_map}
 use Rattle.std.specs.Option.{ForSome}
 use Rattle.std.specs.FinMap.{FinMap, get, insert}
 use Rattle.std.specs.Cmp.Lexicographic.{slice_cmp}
@@ -48,10 +49,10 @@ AppendsFront old new bytes = (count : ℕ) × Appends old new (take count bytes)
 abbrev pub Puts : Option Files → Option Files → List ℕ → List ℕ → Type 0
 Puts old new name bytes = ForSome old (λ files. new ≡ Some (insert files name bytes))
 
--- Where told, all files but the one of this name are unchanged.
-abbrev pub OpensOnly : Option Files → Option Files → List ℕ → Type 0
-OpensOnly old new name = ForSome old (λ files. (now : Files) × (new ≡ Some now)
-    × ((other : List ℕ) → other ≢ name → get now other ≡ get files other))
+-- No file has changed, and one that wasn't there still isn't; or the file of this name has just these bytes,
+-- and all other files are unchanged.
+abbrev pub PutsOrLeaves : Option Files → Option Files → List ℕ → List ℕ → Type 0
+PutsOrLeaves old new name bytes = (new ≡ old) ⊎ Puts old new name bytes
 
 -- What a read leaves: all but the count of reads, which doesn't fall.
 pub record LeavesReading (old new : World) : Type 0 where
@@ -63,7 +64,7 @@ pub record LeavesReading (old new : World) : Type 0 where
   pub errs : new.err_faults ≡ old.err_faults
 
 -- What a write to standard output leaves: all but this output and the count of writes, which doesn't fall.
-pub record LeavesPrinting (old new : World) : Type 0 where
+pub record LeavesWriting (old new : World) : Type 0 where
   pub files : new.files ≡ old.files
   pub err : new.err ≡ old.err
   pub reads : new.read_faults ≡ old.read_faults

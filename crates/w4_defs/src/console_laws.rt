@@ -57,7 +57,7 @@ pub fn tone_ends(tone: Tone, frames: u16)
     ensures ends { tone_frames tone ≤ frames → aged_often frames (started tone) ≡ None }
 {}
 
-/// A log keeps the first entries up to its bound and counts the others up to 2^64 - 1.
+/// A log keeps the first items up to its bound and counts the others up to 2^64 - 1.
 pub fn logs_in_order()
     ensures tones { LogsInOrder ATone }
     ensures lines { LogsInOrder (List ℕ) }

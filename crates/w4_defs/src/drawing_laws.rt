@@ -7,7 +7,7 @@ ghost use Rattle.w4_defs.specs.Image.{ImageLength};
 ghost use Rattle.w4_defs.specs.MemoryMap.{InputIsPut, PaintLeavesRegisters};
 ghost use Rattle.w4_defs.specs.Shapes.{LineCase, MinorStepIsCeiling, OvalCase, RectCase};
 ghost use Rattle.w4_defs.specs.Text.{SourceCase, TextCase};
-ghost use Rattle.w4_defs.specs.WorkedPictures.{CutPicture, OblongOvals, OneSidedGlyph, SteepAndLeftLines, TurnedPictures};
+ghost use Rattle.w4_defs.specs.WorkedDrawings.{CutSprite, OblongOvals, OneSidedGlyph, SteepAndLeftLines, TurnedSprites};
 
 /// Painting gives the one page whose pixels are the painter's where it gives a palette index and unchanged
 /// where it gives none, with all bytes outside the framebuffer unchanged.
@@ -47,7 +47,7 @@ pub fn drawing_cases()
     ensures source { SourceCase }
     ensures ovals { OblongOvals }
     ensures lines { SteepAndLeftLines }
-    ensures pictures { TurnedPictures }
-    ensures cut { CutPicture }
+    ensures sprites { TurnedSprites }
+    ensures cut { CutSprite }
     ensures glyph { OneSidedGlyph }
 {}

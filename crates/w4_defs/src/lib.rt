@@ -3,6 +3,7 @@
 //! the rule is this project's. The definitions themselves are in `specs/`, one file a subject.
 #![tactic(auto)]
 
+pub mod basic;
 pub mod batch;
 pub mod console;
 pub mod console_laws;
@@ -26,14 +27,15 @@ pub mod operation;
 pub mod order;
 pub mod output_laws;
 pub mod page;
-pub mod picture;
 pub mod place_text;
 pub mod refusal;
+pub mod sprite;
 pub mod status;
 pub mod steps;
 pub mod tool_laws;
 pub mod value;
 
+pub use basic::Basic;
 pub use console::{Halt, Import, Input, Sound, TextSource, Tone, Voice};
 pub use editing::EditRefusal;
 pub use film_refusal::FilmRefusal;
@@ -50,9 +52,9 @@ pub use net_refusal::NetRefusal;
 pub use operation::Op;
 pub use order::Order;
 pub use page::PageBytes;
-pub use picture::Picture;
 pub use place_text::PlaceText;
 pub use refusal::{CartKind, ProfileRefusal};
+pub use sprite::Sprite;
 pub use status::{RecordingKind, ScriptKind, Status};
 pub use steps::Steps;
 pub use value::{Cause, GlobalType, Limits, Val, ValType};

@@ -19,6 +19,6 @@ pub enum NetOrder {
     Keep { p: u32 },
     /// The frame at place `p` is shown.
     Show { p: u32 },
-    /// The state at place `p` is told in one line.
+    /// The state at place `p` is written in one line.
     StateAt { p: u32 },
 }

@@ -27,12 +27,12 @@ pub enum Order {
     Show { p: u32 },
     /// The frames of places `a` to `b` are shown, made by 1 to 16 workers.
     Film { a: u32, b: u32, workers: u32 },
-    /// The tones of places `a` to `b` are told.
+    /// The tones of places `a` to `b` are written.
     Tones { a: u32, b: u32 },
-    /// The trace lines of places `a` to `b` are told.
+    /// The trace lines of places `a` to `b` are written.
     Traces { a: u32, b: u32 },
-    /// The disk's bytes at place `p` are told.
+    /// The disk's bytes at place `p` are written.
     DiskAt { p: u32 },
-    /// The state at place `p` is told in one line.
+    /// The state at place `p` is written in one line.
     StateAt { p: u32 },
 }

@@ -16,7 +16,7 @@ pub enum Val {
     I64(u64),
 }
 
-/// The least size and, where there is one, the greatest: in entries of a table or pages of a memory.
+/// The least size and, where there is one, the greatest: in elements of a table or pages of a memory.
 #[derive(Clone, Copy, PartialEq, Eq, Debug)]
 pub struct Limits {
     pub least: u32,
@@ -43,7 +43,7 @@ pub enum Cause {
     Memory,
     /// An index at or past the table's size.
     Table,
-    /// A table entry that holds no function.
+    /// A table element that holds no function.
     EmptyEntry,
     /// A function whose type isn't the one named at the indirect call.
     Type_,

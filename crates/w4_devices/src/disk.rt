@@ -32,9 +32,9 @@ impl Disk {
         requires { length bytes.now ≤ 1024 }
         ensures { result ≡ bytes.now }
     {
-        let mut kept = ArrayVec::new();
-        append(&mut kept, bytes);
-        Disk { bytes: kept }
+        let mut list = ArrayVec::new();
+        append(&mut list, bytes);
+        Disk { bytes: list }
     }
 
     /// `diskr`: copies the disk's first bytes into the page at `ptr`, and returns how many were copied: as

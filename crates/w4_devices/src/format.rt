@@ -40,7 +40,7 @@ fn formatted_line(page: &PageBytes, format: &[u8], args: usize) -> Line
         if i < format.len() {
             let letter = format[i];
             i += 1;
-            show(&mut line, page, letter, at);
+            add_argument(&mut line, page, letter, at);
             at += argument_len(letter);
         }
     }
@@ -48,7 +48,7 @@ fn formatted_line(page: &PageBytes, format: &[u8], args: usize) -> Line
 }
 
 /// Adds what `%` and a letter stand for, whose argument stands at `at`.
-fn show(line: &mut Line, page: &PageBytes, letter: u8, at: usize)
+fn add_argument(line: &mut Line, page: &PageBytes, letter: u8, at: usize)
     requires { at < 2 ^ 40 }
     ensures { line.new ≡ line_of (line.old ++ argument_text page.now letter at) }
 {

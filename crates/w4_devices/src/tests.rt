@@ -150,9 +150,9 @@ const TONE: Tone = Tone {
 
 #[test]
 fn a_schedule_lists_tones_and_sounds(rt: HostRuntime) -> Result<(), Fail> {
-    let mut made = FrameRecord::new();
-    made.tones.add(TONE);
-    made.tones.add(Tone {
+    let mut frame_record = FrameRecord::new();
+    frame_record.tones.add(TONE);
+    frame_record.tones.add(Tone {
         channel: 3,
         duty: 3,
         pan: 3,
@@ -163,17 +163,17 @@ fn a_schedule_lists_tones_and_sounds(rt: HostRuntime) -> Result<(), Fail> {
         level: 7,
         frequency: 65535,
     };
-    made.sounds = [None, None, None, Some(sound)];
+    frame_record.sounds = [None, None, None, Some(sound)];
     let mut out = Vec::from_slice(rt.alloc(), b"before\n")?;
-    schedule_text(rt.alloc(), 36000, &made, &mut out)?;
+    schedule_text(rt.alloc(), 36000, &frame_record, &mut out)?;
     let want = b"before\nframe 36000\ntone 0 440 220 4 0 2 4 100 50 0 0 0\n\
         tone 3 440 220 4 0 2 4 100 50 3 3 1\nsound 3 7 65535\n";
     assert_eq!(rt; out.as_slice(), want.as_slice());
     for _ in 0..64 {
-        made.tones.add(TONE);
+        frame_record.tones.add(TONE);
     }
     out.clear();
-    schedule_text(rt.alloc(), 1, &made, &mut out)?;
+    schedule_text(rt.alloc(), 1, &frame_record, &mut out)?;
     assert!(rt;
         out.ends_with(b"0 0 0\ndropped 2\nsound 3 7 65535\n"),
         "64 of 66 tones"
@@ -185,17 +185,19 @@ fn a_schedule_lists_tones_and_sounds(rt: HostRuntime) -> Result<(), Fail> {
 fn a_trace_text_lists_lines(rt: HostRuntime) -> Result<(), Fail> {
     let mut page = Box::new(rt.alloc(), [0u8; 65536])?;
     put(&mut page, 0, &[31, 32, 65, 91, 92, 93, 126, 127, 255]);
-    let mut made = FrameRecord::new();
-    made.traces.trace(&page, TextSource::Cstr { ptr: 0 });
+    let mut frame_record = FrameRecord::new();
+    frame_record
+        .traces
+        .trace(&page, TextSource::Cstr { ptr: 0 });
     let mut out = Vec::from_slice(rt.alloc(), b"before\n")?;
-    trace_text(rt.alloc(), 0, &made, &mut out)?;
+    trace_text(rt.alloc(), 0, &frame_record, &mut out)?;
     let want = b"before\nframe 0\ntrace \\x1f A[\\x5c]~\\x7f\\xff\n";
     assert_eq!(rt; out.as_slice(), want.as_slice());
     for _ in 0..32 {
-        made.traces.tracef(&page, 20, 0);
+        frame_record.traces.tracef(&page, 20, 0);
     }
     out.clear();
-    trace_text(rt.alloc(), 1, &made, &mut out)?;
+    trace_text(rt.alloc(), 1, &frame_record, &mut out)?;
     assert!(rt;
         out.ends_with(b"\ntrace \ntrace \ndropped 1\n"),
         "32 of 33 lines"

@@ -16,14 +16,15 @@ use w4_defs::{OutOfMemory, Sound, Tone};
 pub fn schedule_text(
     alloc: Global,
     place: usize,
-    made: &FrameRecord,
+    frame_record: &FrameRecord,
     out: &mut Vec<u8>,
 ) -> Result<(), OutOfMemory>
-    ensures text { OnOk result (out.new.items ≡ out.old.items ++ schedule_text place (record_of made.now)) }
+    ensures text { OnOk result (out.new.items ≡ out.old.items
+        ++ schedule_text place (record_of frame_record.now)) }
     ensures unchanged { OnErr result (out.new.items ≡ out.old.items) }
 {
     let mut text = Vec::new(alloc);
-    add_schedule(&mut text, place, made)?;
+    add_schedule(&mut text, place, frame_record)?;
     out.extend_from_slice(&text)?;
     Ok(())
 }
@@ -33,35 +34,45 @@ pub fn schedule_text(
 pub fn trace_text(
     alloc: Global,
     place: usize,
-    made: &FrameRecord,
+    frame_record: &FrameRecord,
     out: &mut Vec<u8>,
 ) -> Result<(), OutOfMemory>
-    ensures text { OnOk result (out.new.items ≡ out.old.items ++ trace_text place (record_of made.now)) }
+    ensures text { OnOk result (out.new.items ≡ out.old.items
+        ++ trace_text place (record_of frame_record.now)) }
     ensures unchanged { OnErr result (out.new.items ≡ out.old.items) }
 {
     let mut text = Vec::new(alloc);
-    add_traces(&mut text, place, made)?;
+    add_traces(&mut text, place, frame_record)?;
     out.extend_from_slice(&text)?;
     Ok(())
 }
 
 #[tactic(auto, unfolding(w4_defs::specs::FrameTexts::schedule_text))]
-fn add_schedule(text: &mut Vec<u8>, place: usize, made: &FrameRecord) -> Result<(), OutOfMemory>
-    ensures { OnOk result (text.new.items ≡ text.old.items ++ schedule_text place (record_of made.now)) }
+fn add_schedule(
+    text: &mut Vec<u8>,
+    place: usize,
+    frame_record: &FrameRecord,
+) -> Result<(), OutOfMemory>
+    ensures { OnOk result (text.new.items ≡ text.old.items
+        ++ schedule_text place (record_of frame_record.now)) }
 {
     add_numbered(text, b"frame", &[place as u64])?;
-    add_tones(text, made.tones.kept())?;
-    add_dropped(text, made.tones.dropped())?;
-    add_sounds(text, &made.sounds)
+    add_tones(text, frame_record.tones.kept())?;
+    add_dropped(text, frame_record.tones.dropped())?;
+    add_sounds(text, &frame_record.sounds)
 }
 
 #[tactic(auto, unfolding(w4_defs::specs::FrameTexts::trace_text))]
-fn add_traces(text: &mut Vec<u8>, place: usize, made: &FrameRecord) -> Result<(), OutOfMemory>
-    ensures { OnOk result (text.new.items ≡ text.old.items ++ trace_text place (record_of made.now)) }
+fn add_traces(
+    text: &mut Vec<u8>,
+    place: usize,
+    frame_record: &FrameRecord,
+) -> Result<(), OutOfMemory>
+    ensures { OnOk result (text.new.items ≡ text.old.items ++ trace_text place (record_of frame_record.now)) }
 {
     add_numbered(text, b"frame", &[place as u64])?;
-    add_lines(text, made.traces.lines())?;
-    add_dropped(text, made.traces.dropped())
+    add_lines(text, frame_record.traces.lines())?;
+    add_dropped(text, frame_record.traces.dropped())
 }
 
 /// Adds a line of a word and numbers, each after a space.
@@ -84,7 +95,7 @@ fn add_number(text: &mut Vec<u8>, number: u64) -> Result<(), OutOfMemory>
     Ok(())
 }
 
-/// Adds how many entries were dropped, where any were.
+/// Adds how many items were dropped, where any were.
 fn add_dropped(text: &mut Vec<u8>, dropped: u64) -> Result<(), OutOfMemory>
     ensures { OnOk result (text.new.items ≡ text.old.items ++ dropped_line dropped) }
 {

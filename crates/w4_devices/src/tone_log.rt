@@ -43,7 +43,7 @@ impl Model for ToneLog {
 
     ghost Value = { Log Tone };
 
-    ghost view = { λ log. record { kept = take log.count log.tones; dropped = log.dropped } };
+    ghost view = { λ log. record { items = take log.count log.tones; dropped = log.dropped } };
 
     ghost invariant = { λ log. (log.count ≤ 64) × All IsTone (take log.count log.tones) };
 }
@@ -75,8 +75,8 @@ impl ToneLog {
 
     /// The tones that were kept, in order. Each is in the ranges of a tone.
     pub fn kept(&self) -> &[Tone]
-        ensures tones { result.now ≡ self.now.kept }
-        ensures ranges { All IsTone self.now.kept }
+        ensures tones { result.now ≡ self.now.items }
+        ensures ranges { All IsTone self.now.items }
     {
         &self.tones[..self.count]
     }

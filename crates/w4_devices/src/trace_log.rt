@@ -28,7 +28,7 @@ impl Model for TraceLog {
 
     ghost Value = { Log (List ℕ) };
 
-    ghost view = { λ log. record { kept = log.lines.items; dropped = log.dropped } };
+    ghost view = { λ log. record { items = log.lines.items; dropped = log.dropped } };
 }
 
 impl TraceLog {
@@ -68,7 +68,7 @@ impl TraceLog {
 
     /// The lines that were kept, in order.
     pub(crate) fn lines(&self) -> &[Line]
-        ensures { result.now ≡ self.now.kept }
+        ensures { result.now ≡ self.now.items }
     {
         self.lines.as_slice()
     }

@@ -16,7 +16,7 @@ use Rattle.w4_defs.specs.State.{State, Moment, FrameRecord, HasGlobals}
 use Rattle.w4_defs.specs.KeptList.{Entry, kept_entries, place_at, state_at, first_above, last_up_to}
 use Rattle.w4_defs.specs.KeptList.{IsConsistent, IsSettled}
 use Rattle.w4_defs.proofs.KeptListLaws.{linked_is_run}
-use Rattle.w4_devices.specs.declared.frame_record.FrameRecord.{FrameRecord as Made}
+use Rattle.w4_devices.specs.declared.frame_record.FrameRecord.{FrameRecord as Record}
 use Rattle.w4_editor.specs.Playing.{Player, setup_of, in_state}
 use Rattle.w4_editor.specs.Settling.{AreLinked, linked_entry}
 use Rattle.w4_editor.specs.Editing.{Editing, IsEditor, IsShownAt, editing_setup, session_of}
@@ -88,8 +88,8 @@ view player r kept olds news place = record {
 }
 
 module _ (player : Player) (r : Recording) (kept : List Entry) (olds news : Buffer (Draft Entry))
-    (place : Option ℕ) (made : Made)
-    (e : IsEditor player r kept olds news place made) where
+    (place : Option ℕ) (frame_record : Record)
+    (e : IsEditor player r kept olds news place frame_record) where
   pub is_consistent : IsConsistent (setup_of player) r.disk r.frames kept
   is_consistent = e.session.current.kept
 
@@ -97,8 +97,8 @@ module _ (player : Player) (r : Recording) (kept : List Entry) (olds news : Buff
   pub stays : (next : Player) (new : List Entry) (at : Option ℕ) → next ≡ in_state player next.state
       → IsConsistent (setup_of player) r.disk r.frames new
       → IsShownAt (setup_of player) r.disk (session_of r new olds.items news.items) at next.state
-      → IsEditor next r new olds news at made
-  stays next new at same consistent shown = subst (λ (p : Player). IsEditor p r new olds news at made)
+      → IsEditor next r new olds news at frame_record
+  stays next new at same consistent shown = subst (λ (p : Player). IsEditor p r new olds news at frame_record)
       (sym same) (record {
         budget = e.budget;
         session = record {
@@ -156,7 +156,8 @@ module _ (player : Player) (r : Recording) (kept : List Entry) (olds news : Buff
   pub is_stepped : (next : Player) → next ≡ in_state player next.state → (p : ℕ) → place ≡ Some p
       → p < length r.frames
       → (record_made : FrameRecord)
-      → option_map (λ (m : Moment). m.made) (run (setup_of player) r.disk r.frames (p + 1)) ≡ Some record_made
+      → option_map (λ (m : Moment). m.frame_record) (run (setup_of player) r.disk r.frames (p + 1))
+      ≡ Some record_made
       → IsStepped record_made (view player r kept olds news place) (view next r kept olds news (Some (p + 1)))
   is_stepped next same p at below record_made made_is = record {
     place = p;
@@ -213,12 +214,13 @@ globals_as_many cart state is =
     sym (types_as_many state.globals) ∙ ap length is ∙ length-map cart.globals (λ g. g.global.value)
 
 -- the state of the next place
-pub next_state : (made : FrameRecord) (old new : Editing) (state : State) → IsStepped made old new
+pub next_state : (frame_record : FrameRecord) (old new : Editing) (state : State)
+    → IsStepped frame_record old new
     → ((q : ℕ) → new.at ≡ Some q
     → run_state (editing_setup new) new.disk new.session.current.inputs q ≡ Some state)
     → (p : ℕ) → old.at ≡ Some p
     → run_state (editing_setup old) old.disk old.session.current.inputs (p + 1) ≡ Some state
-next_state made old new state step here p at =
+next_state frame_record old new state step here p at =
     let same : step.place ≡ p = same_Some step.place p (sym step.at ∙ at) in
     let there = here (step.place + 1) (ap (λ (x : Editing). x.at) step.same) in
     subst (λ n. run_state (editing_setup old) old.disk old.session.current.inputs (n + 1) ≡ Some state) same

@@ -15,13 +15,15 @@ use Rattle.w4_defs.specs.KeptList.{Entry, kept_entries, nowhere, IsDraft}
 use Rattle.w4_defs.specs.Reset.{Setup, reset}
 use Rattle.w4_defs.specs.Run.{played_on, run_state}
 use Rattle.w4_defs.specs.State.{State, Moment, HasGlobals}
-use Rattle.w4_devices.specs.declared.frame_record.FrameRecord.{FrameRecord as Made}
+use Rattle.w4_devices.specs.declared.frame_record.FrameRecord.{FrameRecord as Record}
 use Rattle.w4_devices.specs.Records.{record_of}
 use Rattle.w4_defs.specs.declared.console.Input.{Input}
 use Rattle.w4_editor.specs.Playing.{Player, setup_of}
 use Rattle.w4_editor.specs.Editing.{IsEditor}
 use Rattle.w4_editor.proofs.ChainLaws.{consistent_from}
+use Rattle.w4_editor.specs.Overwriting.{overwrite_draft}
 use Rattle.w4_editor.proofs.EditLaws.{set_consistent, insert_consistent, delete_consistent}
+use Rattle.w4_editor.proofs.OverwriteLaws.{length_overwritten, overwrite_consistent}
 
 no_place : {A : Type 0} (p : ℕ) → None ≡ Some p → A
 no_place p e = absurd cc
@@ -34,8 +36,8 @@ abbrev pub current_draft : Recording → List Entry → Draft Entry
 current_draft r kept = record { inputs = r.frames; kept = kept }
 
 module _ (player : Player) (r : Recording) (kept : List Entry) (olds news : Buffer (Draft Entry))
-    (place : Option ℕ) (made : Made)
-    (e : IsEditor player r kept olds news place made) where
+    (place : Option ℕ) (frame_record : Record)
+    (e : IsEditor player r kept olds news place frame_record) where
   abbrev good : Draft Entry → Type 0
   good draft = IsDraft (setup_of player) r.disk draft
 
@@ -62,7 +64,7 @@ module _ (player : Player) (r : Recording) (kept : List Entry) (olds news : Buff
       → good draft → r' ≡ with_frames r draft → kept' ≡ draft.kept
       → olds' ≡ buffer (keep_last olds.capacity (olds.items ++ now ∷ [])) olds.capacity
       → news' ≡ buffer [] news.capacity
-      → IsEditor player r' kept' olds' news' None made
+      → IsEditor player r' kept' olds' news' None frame_record
   edit_leaves draft r' kept' olds' news' is r_is kept_is olds_is news_is =
       let more : List (Draft Entry) = olds.items ++ now ∷ [] in
       let long = length-drop (length more - olds.capacity) more in
@@ -93,7 +95,7 @@ module _ (player : Player) (r : Recording) (kept : List Entry) (olds news : Buff
       → last_item olds.items ≡ Some draft → r' ≡ with_frames r draft → kept' ≡ draft.kept
       → olds' ≡ buffer (take (length olds.items - 1) olds.items) olds.capacity
       → news' ≡ buffer (keep_last news.capacity (news.items ++ now ∷ [])) news.capacity
-      → IsEditor player r' kept' olds' news' None made
+      → IsEditor player r' kept' olds' news' None frame_record
   undo_leaves draft r' kept' olds' news' found r_is kept_is olds_is news_is =
       let more : List (Draft Entry) = news.items ++ now ∷ [] in
       let few = e.session.few in
@@ -120,7 +122,7 @@ module _ (player : Player) (r : Recording) (kept : List Entry) (olds news : Buff
       → last_item news.items ≡ Some draft → r' ≡ with_frames r draft → kept' ≡ draft.kept
       → olds' ≡ buffer (keep_last olds.capacity (olds.items ++ now ∷ [])) olds.capacity
       → news' ≡ buffer (take (length news.items - 1) news.items) news.capacity
-      → IsEditor player r' kept' olds' news' None made
+      → IsEditor player r' kept' olds' news' None frame_record
   redo_leaves draft r' kept' olds' news' found r_is kept_is olds_is news_is =
       let more : List (Draft Entry) = olds.items ++ now ∷ [] in
       let few = e.session.few in
@@ -144,7 +146,7 @@ module _ (player : Player) (r : Recording) (kept : List Entry) (olds news : Buff
 
   -- a change of the current kept list, where the place that is shown stays
   pub kept_leaves : (kept' : List Entry) → good (current_draft r kept')
-      → IsEditor player r kept' olds news place made
+      → IsEditor player r kept' olds news place frame_record
   kept_leaves kept' is = record {
     budget = e.budget;
     session = record {
@@ -162,8 +164,9 @@ module _ (player : Player) (r : Recording) (kept : List Entry) (olds news : Buff
 -- ---- the draft that an edit makes
 
 module _ (player : Player) (r : Recording) (kept : List Entry) (olds news : Buffer (Draft Entry))
-    (place : Option ℕ) (made : Made)
-    (e : IsEditor player r kept olds news place made) (k : ℕ) (inputs : List Input) (entries : List Entry)
+    (place : Option ℕ) (frame_record : Record)
+    (e : IsEditor player r kept olds news place frame_record) (k : ℕ) (inputs : List Input)
+    (entries : List Entry)
     (draft : Draft Entry)
     (inputs_are : inputs ≡ r.frames) (entries_are : entries ≡ kept) where
   abbrev is_good : Draft Entry → Type 0
@@ -182,6 +185,16 @@ module _ (player : Player) (r : Recording) (kept : List Entry) (olds news : Buff
       rw draft_is (record {
         few = omega (arith, few, long);
         kept = set_consistent (setup_of player) r.disk inputs entries k input was_good.kept;
+      })
+
+  pub overwrite_is_good : (written : List Input) → k ≤ length inputs → k + length written ≤ 36000
+      → draft ≡ overwrite_draft k written before → is_good draft
+  overwrite_is_good written le room draft_is =
+      let few = was_good.few in
+      let long = length_overwritten k written inputs le in
+      rw draft_is (record {
+        few = omega (arith, few, room, long, le);
+        kept = overwrite_consistent (setup_of player) r.disk inputs entries k written le was_good.kept;
       })
 
   pub insert_is_good : (input : Input) → k ≤ length inputs → length inputs < 36000
@@ -227,12 +240,16 @@ reset_is_shown setup disk inputs moment is p at =
     )
 
 pub opens : (player : Player) (r : Recording) (kept : List Entry) (olds news : Buffer (Draft Entry))
-    (made : Made)
+    (frame_record : Record)
     → r.budget ≡ player.budget → length r.frames ≤ 36000 → HasGlobals player.cart player.state
-    → reset (setup_of player) r.disk ≡ Some (record { state = player.state; made = record_of made })
+    → reset (setup_of player) r.disk ≡ Some (record {
+      state = player.state;
+      frame_record = record_of
+          frame_record;
+    })
     → kept ≡ first_entry player.state ∷ [] → olds ≡ buffer [] 32 → news ≡ buffer [] 32
-    → IsEditor player r kept olds news (Some 0) made
-opens player r kept olds news made budget few globals is kept_is olds_is news_is =
+    → IsEditor player r kept olds news (Some 0) frame_record
+opens player r kept olds news frame_record budget few globals is kept_is olds_is news_is =
     rw (kept_is, olds_is, news_is) (record {
       budget = budget;
       session = record {
@@ -253,7 +270,7 @@ opens player r kept olds news made budget few globals is kept_is olds_is news_is
       };
       room_older = refl;
       room_newer = refl;
-      reset_frame = ap (option_map (λ (m : Moment). m.made)) is;
+      reset_frame = ap (option_map (λ (m : Moment). m.frame_record)) is;
       shown = reset_is_shown (setup_of player) r.disk r.frames
-          (record { state = player.state; made = record_of made }) is;
+          (record { state = player.state; frame_record = record_of frame_record }) is;
     })

@@ -3,6 +3,7 @@ pub mod ListLaws
 pub mod SliceLaws
 pub mod ChainLaws
 pub mod EditLaws
+pub mod OverwriteLaws
 pub mod PlayLaws
 pub mod SettleLaws
 pub mod KeepLaws
@@ -10,3 +11,6 @@ pub mod ShowLaws
 pub mod HistoryLaws
 pub mod EditorLaws
 pub mod TypeLaws
+pub mod PlaceLaws
+pub mod BitLaws
+pub mod KeepEveryLaws

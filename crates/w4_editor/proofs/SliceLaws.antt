@@ -1,7 +1,8 @@
--- Stretches of inputs, in two parts and where one input is changed, inserted or removed.
-use Rattle.std.proofs.Common.{◌≡◌, ℕ, suc, ◌+◌, ◌-◌, ◌<◌, ◌≤◌, List, ◌∷◌, ◌++◌, length, take, drop, set, refl}
-use Rattle.std.proofs.Common.{sym, ap, ◌∙◌, arith, length-take-le}
-use Rattle.std.specs.List.{slice_range, insert, remove}
+-- Stretches of inputs, in two parts and where one input is changed, inserted or removed, or several are
+-- written.
+use Rattle.std.proofs.Common.{◌≡◌, ℕ, suc, ◌+◌, ◌-◌, ◌<◌, ◌≤◌, List, [], ◌∷◌, ◌++◌, length, take, drop, set, refl}
+use Rattle.std.proofs.Common.{sym, ap, ◌∙◌, arith, length-take-le, take-append-drop}
+use Rattle.std.specs.List.{slice_range, insert, remove, splice}
 use Rattle.std.proofs.Math.Seq.{take-add}
 use Rattle.std.proofs.lemmas.List.{drop-drop, drop_at, drop-set-lt, take-set-le, take-append-le, take-take}
 use Rattle.std.proofs.lemmas.Slice.{between_is}
@@ -76,3 +77,30 @@ after_remove xs k p q within lt le =
     ∙ drop_past (take k xs) (drop (suc k) xs) k (p - 1 - k) (length-take-le k xs within)
     ∙ drop-drop (p - 1 - k) (suc k) xs ∙ ap (λ n. drop n xs) back)
     (omega arith)
+
+-- inputs that are written from k on
+pub before_splice : {A : Type 0} (xs : List A) (k p q : ℕ) (ys : List A) → k ≤ length xs → q ≤ k
+    → slice_range (splice xs k (k + length ys) ys) p q ≡ slice_range xs p q
+before_splice xs k p q ys within le =
+    same_front (splice xs k (k + length ys) ys) xs p q
+    (front_stays xs (ys ++ drop (k + length ys) xs) k q within le)
+
+pub after_splice : {A : Type 0} (xs : List A) (k p q : ℕ) (ys : List A) → k ≤ length xs
+    → k + length ys ≤ p → slice_range (splice xs k (k + length ys) ys) p q ≡ slice_range xs p q
+after_splice xs k p q ys within le =
+    let end : ℕ = k + length ys in
+    let there : p ≡ k + (length ys + (p - end)) = omega (arith, le) in
+    let back : end + (p - end) ≡ p = omega (arith, le) in
+    same_rest (splice xs k end ys) xs p q p q
+    (ap (λ n. drop n (splice xs k end ys)) there
+    ∙ drop_past (take k xs) (ys ++ drop end xs) k (length ys + (p - end)) (length-take-le k xs within)
+    ∙ drop_past ys (drop end xs) (length ys) (p - end) refl
+    ∙ drop-drop (p - end) end xs ∙ ap (λ n. drop n xs) back)
+    refl
+
+pub nothing_spliced : {A : Type 0} (xs : List A) (k : ℕ) (ys : List A) → length ys ≤ 0
+    → splice xs k (k + length ys) ys ≡ xs
+nothing_spliced xs k [] none =
+    let same : k + 0 ≡ k = omega arith in
+    ap (λ n. take k xs ++ drop n xs) same ∙ take-append-drop k xs
+nothing_spliced xs k (y ∷ ys) none = absurd (omega (arith, none))

@@ -13,7 +13,7 @@ use Rattle.w4_defs.specs.Run.{run_state}
 use Rattle.w4_defs.specs.Session.{Draft, Session, new_session}
 use Rattle.w4_defs.specs.State.{State, Moment}
 use Rattle.w4_defs.specs.KeptList.{Entry, IsSession}
-use Rattle.w4_devices.specs.declared.frame_record.FrameRecord.{FrameRecord as Made}
+use Rattle.w4_devices.specs.declared.frame_record.FrameRecord.{FrameRecord as Record}
 use Rattle.w4_devices.specs.Records.{record_of}
 use Rattle.w4_editor.specs.Playing.{Player, setup_of}
 
@@ -63,13 +63,14 @@ IsShownAt setup disk session at state = (p : ℕ) → at ≡ Some p →
 -- what holds of an editor's parts between two calls
 pub record IsEditor (player : Player) (recording : Recording) (kept : List Entry)
     (olds news : Buffer (Draft Entry))
-    (place : Option ℕ) (made : Made) : Type 0 where
+    (place : Option ℕ) (frame_record : Record) : Type 0 where
   pub budget : recording.budget ≡ player.budget
   pub session : IsSession (setup_of player) recording.disk (session_of recording kept olds.items news.items)
   pub room_older : olds.capacity ≡ 32
   pub room_newer : news.capacity ≡ 32
-  pub reset_frame : option_map (λ (moment : Moment). moment.made) (reset (setup_of player) recording.disk)
-      ≡ Some (record_of made)
+  pub reset_frame : option_map (λ (moment : Moment). moment.frame_record)
+      (reset (setup_of player) recording.disk)
+      ≡ Some (record_of frame_record)
   pub shown : IsShownAt (setup_of player) recording.disk
       (session_of recording kept olds.items news.items) place
       player.state

@@ -21,6 +21,6 @@ LendsShown p ticks_before ticks_after editor result = Rests the_row editor (λ n
 
 -- one place on, with the record of the run; a refusal changes nothing
 abbrev pub LendsStepped : {A : Type 0} → FrameRecord → MutBor Editing → Result A EditRefusal → Fml
-LendsStepped made editor result = Rests the_row editor (λ now.
-    OnOk result (IsStepped made editor.now now)
+LendsStepped frame_record editor result = Rests the_row editor (λ now.
+    OnOk result (IsStepped frame_record editor.now now)
     × OnErr result (now ≡ editor.now))

@@ -2,5 +2,7 @@
 pub mod Playing
 pub mod Settling
 pub mod Editing
+pub mod Overwriting
 pub mod Showing
+pub mod PlaceSession
 pub mod Lending

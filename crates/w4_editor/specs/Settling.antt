@@ -1,6 +1,6 @@
 -- One turn of settling, and what is shown. These words speak of no disk, so that what they say holds for
 -- every disk at the reset.
-use Rattle.std.specs.Prelude.{◌≡◌, ◌≢◌, ℕ, ◌+◌, ◌≤◌, ◌<◌, true, List, length, slice_range, Some}
+use Rattle.std.specs.Prelude.{◌≡◌, ◌≢◌, ℕ, ◌+◌, ◌≤◌, true, List, slice_range, Some}
 use Rattle.w4_defs.specs.declared.console.Input.{Input}
 use Rattle.w4_defs.specs.State.{State, Moment, HasGlobals}
 use Rattle.w4_defs.specs.Reset.{Setup}

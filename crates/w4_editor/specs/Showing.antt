@@ -38,13 +38,13 @@ abbrev pub IsAtEnd : Editing → Type 0
 IsAtEnd e = (e.at ≡ None) ⊎ (e.at ≡ Some (length e.session.current.inputs))
 
 -- one place on: the session stays, and the record is that of the run
-pub record IsStepped (made : FrameRecord) (old new : Editing) : Type 0 where
+pub record IsStepped (frame_record : FrameRecord) (old new : Editing) : Type 0 where
   pub place : ℕ
   pub at : old.at ≡ Some place
   pub within : place < length old.session.current.inputs
   pub same : new ≡ with_session old old.session (Some (place + 1))
-  pub record_is : option_map (λ (moment : Moment). moment.made)
-      (run (editing_setup old) old.disk old.session.current.inputs (place + 1)) ≡ Some made
+  pub record_is : option_map (λ (moment : Moment). moment.frame_record)
+      (run (editing_setup old) old.disk old.session.current.inputs (place + 1)) ≡ Some frame_record
 
 -- all entries are linked. The frames that were run are those that had to be
 pub record IsAllSettled (ticks_before ticks_after : ℕ) (old new : Editing) : Type 0 where

@@ -1,11 +1,14 @@
 //! Drafts: the inputs of a recording with a kept list, and what an edit makes of one.
 
-ghost use Rattle.std.specs.Prelude.{◌≡◌, ◌<◌, ◌≤◌, All, IfOk, length};
+ghost use Rattle.std.specs.Prelude.{◌≡◌, ◌+◌, ◌<◌, ◌≤◌, All, IfOk, length};
 ghost use Rattle.w4_defs.specs.KeptList.{kept_entries};
 ghost use Rattle.w4_defs.specs.Session.{delete_draft, insert_draft, set_draft};
+ghost use Rattle.w4_editor.specs.Overwriting.{inputs_after_overwrite, overwrite_draft};
 
 use crate::kept::Kept;
-use crate::kept_list::{drop_double, move_down_above, move_up_above, share_all, unlink_above};
+use crate::kept_list::{
+    drop_double, move_down_above, move_up_above, share_all, unlink_above, unlink_between,
+};
 use std::alloc::{AllocError, Global};
 use std::marker::Model;
 use std::mem;
@@ -45,6 +48,44 @@ pub(crate) fn set_draft(
     let mut kept = share_all(alloc, kept)?;
     unlink_above(kept.as_mut_slice(), k);
     Ok(Draft { inputs, kept })
+}
+
+/// The draft with these inputs from input `k` on.
+pub(crate) fn overwrite_draft(
+    alloc: Global,
+    inputs: &[Input],
+    kept: &[Kept],
+    k: usize,
+    written: &[Input],
+) -> Result<Draft, AllocError>
+    requires start { k ≤ length inputs.now }
+    requires few { k + length written.now ≤ 36000 }
+    ensures { IfOk result (λ draft. draft
+        ≡ overwrite_draft k written.now (record { inputs = inputs.now; kept = kept.now })) }
+{
+    let inputs = overwritten(alloc, inputs, k, written)?;
+    let mut kept = share_all(alloc, kept)?;
+    unlink_between(kept.as_mut_slice(), k, k + written.len());
+    Ok(Draft { inputs, kept })
+}
+
+/// The inputs with these from input `k` on.
+fn overwritten(
+    alloc: Global,
+    inputs: &[Input],
+    k: usize,
+    written: &[Input],
+) -> Result<Vec<Input>, AllocError>
+    requires start { k ≤ length inputs.now }
+    requires few { k + length written.now ≤ 36000 }
+    ensures { IfOk result (λ all. all.items ≡ inputs_after_overwrite k written.now inputs.now) }
+{
+    let end = k + written.len();
+    let mut all = Vec::with_capacity(alloc, end.max(inputs.len()))?;
+    all.extend_from_slice(&inputs[..k])?;
+    all.extend_from_slice(written)?;
+    all.extend_from_slice(&inputs[end.min(inputs.len())..])?;
+    Ok(all)
 }
 
 /// The draft with an input before input `k`.

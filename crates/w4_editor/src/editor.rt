@@ -104,7 +104,8 @@ impl Editor {
 
     /// The record of the reset.
     pub fn reset_frame(&self) -> &FrameRecord
-        ensures { option_map (λ (moment : Moment). moment.made) (reset (editing_setup self.now) self.now.disk)
+        ensures { option_map (λ (moment : Moment). moment.frame_record)
+            (reset (editing_setup self.now) self.now.disk)
             ≡ Some (record_of result.now) }
     {
         &self.reset_frame

@@ -5,14 +5,13 @@ ghost use Rattle.std.specs.Prelude.{◌≡◌, IfErr, None, OnErr, OnOk, Ok};
 ghost use Rattle.w4_defs.specs.KeptList.{IsDraft, kept_entries};
 ghost use Rattle.w4_defs.specs.Session.{delete_input, edited, insert_input, set_input};
 ghost use Rattle.w4_editor.specs.Editing.{IsErrorOrMemory, editing_setup, with_session};
+ghost use Rattle.w4_editor.specs.Overwriting.{overwrite_inputs};
 
-use crate::draft::{Draft, delete_draft, exchange, insert_draft, set_draft};
+use crate::draft::{Draft, delete_draft, exchange, insert_draft, overwrite_draft, set_draft};
 use crate::editor::Editor;
 use std::alloc::Global;
 use w4_defs::{EditRefusal, Input};
-
-/// How many inputs a recording may have.
-const MOST_INPUTS: usize = 36_000;
+use w4_record::MOST_FRAMES;
 
 impl Editor {
     /// Replaces input `k`. No place is shown then. Errors: NoFrame where there is no input `k`; OutOfMemory.
@@ -32,6 +31,34 @@ impl Editor {
         Ok(())
     }
 
+    /// Makes these the inputs from `k` on: over those that are there, and then behind the last. Only kept
+    /// places with one of them between and the place before lose their link. No place is shown then. Errors:
+    /// NoFrame where `k` is past the end; FullRecording where there would be more than 36,000 inputs;
+    /// OutOfMemory. After each of them nothing has changed.
+    pub fn overwrite(
+        &mut self,
+        alloc: Global,
+        k: usize,
+        inputs: &[Input],
+    ) -> Result<(), EditRefusal>
+        ensures ok { OnOk result (overwrite_inputs k inputs.now self.old.session ≡ Ok self.new.session) }
+        ensures others { OnOk result (self.new ≡ with_session self.old self.new.session None) }
+        ensures refused { IfErr result
+            (IsErrorOrMemory (overwrite_inputs k inputs.now self.old.session)) }
+        ensures unchanged { OnErr result (self.new ≡ self.old) }
+    {
+        let frames = self.recording.frames.as_slice();
+        if k > frames.len() {
+            return Err(EditRefusal::NoFrame);
+        }
+        if inputs.len() > MOST_FRAMES - k {
+            return Err(EditRefusal::FullRecording);
+        }
+        let draft = overwrite_draft(alloc, frames, self.kept.as_slice(), k, inputs)?;
+        self.accept(draft);
+        Ok(())
+    }
+
     /// Puts an input before input `k`, or after the last one. No place is shown then. Errors: NoFrame where
     /// `k` is past the end; FullRecording where there are 36,000 inputs; OutOfMemory. After each of them
     /// nothing has changed.
@@ -46,7 +73,7 @@ impl Editor {
         if k > inputs.len() {
             return Err(EditRefusal::NoFrame);
         }
-        if inputs.len() >= MOST_INPUTS {
+        if inputs.len() >= MOST_FRAMES {
             return Err(EditRefusal::FullRecording);
         }
         let draft = insert_draft(alloc, inputs, self.kept.as_slice(), k, input)?;

@@ -1,7 +1,20 @@
 //! Kept lists: what an edit, a keep, a drop and a showing do to their entries.
 
 ghost use Rattle.std.specs.List.{filter, position};
-ghost use Rattle.std.specs.Prelude.{◌≡◌, ◌==◌, ◌<◌, All, IfOk, OnErr, OnOk, length, map, nat_lt, not};
+ghost use Rattle.std.specs.Prelude.{
+  ◌≡◌,
+  ◌==◌,
+  ◌<◌,
+  All,
+  IfOk,
+  OnErr,
+  OnOk,
+  if◌then◌else◌,
+  length,
+  map,
+  nat_lt,
+  not,
+};
 ghost use Rattle.w4_defs.specs.KeptList.{
   first_above,
   kept_entries,
@@ -19,6 +32,7 @@ ghost use Rattle.w4_defs.specs.Session.{
   with_kept,
   without,
 };
+ghost use Rattle.w4_editor.specs.Overwriting.{is_between, unlink_between};
 
 use crate::kept::Kept;
 use std::alloc::{AllocError, Global};
@@ -59,7 +73,7 @@ pub(crate) fn is_kept(kept: &[Kept], p: usize) -> bool
     kept.iter().any(|entry| entry.place() == p)
 }
 
-/// The same entries again. They share their snapshots: no page is copied.
+/// Copies of the entries, which share their snapshots: no page is copied.
 pub(crate) fn share_all(alloc: Global, kept: &[Kept]) -> Result<Vec<Kept>, AllocError>
     ensures { IfOk result (λ all. all.items ≡ kept.now) }
 {
@@ -104,6 +118,28 @@ pub(crate) fn unlink_above(kept: &mut [Kept], k: usize)
     unlink_at(kept, first);
 }
 
+/// Unlinks each entry that has one of the inputs `k` to `end - 1` between it and the entry before.
+pub(crate) fn unlink_between(kept: &mut [Kept], k: usize, end: usize)
+    ensures { kept.new ≡ unlink_between k end 0 kept.old }
+{
+    let mut from = 0;
+    for entry in kept.iter_mut() {
+        let place = entry.place();
+        unlink_after(entry, from, k, end);
+        from = place;
+    }
+}
+
+/// Unlinks an entry that has one of the inputs `k` to `end - 1` between it and place `from`.
+fn unlink_after(entry: &mut Kept, from: usize, k: usize, end: usize)
+    ensures { entry.new
+        ≡ (if is_between k end from entry.old.place then kept_entries.unlinked entry.old else entry.old) }
+{
+    if k.max(from) < end.min(entry.place()) {
+        entry.unlink();
+    }
+}
+
 /// Moves the entries above place `k` up, as the insertion of input `k` does.
 pub(crate) fn move_up_above(kept: &mut [Kept], k: usize)
     requires { All (λ x. x.place < usize.MAX) kept.old }
@@ -140,7 +176,7 @@ fn drop_all_at(kept: &mut Vec<Kept>, p: usize)
 }
 
 /// Puts an entry before the first above its place.
-pub(crate) fn put(kept: &mut Vec<Kept>, entry: Kept) -> Result<(), AllocError>
+pub(crate) fn insert_entry(kept: &mut Vec<Kept>, entry: Kept) -> Result<(), AllocError>
     ensures ok { OnOk result (kept.new.items ≡ with_kept kept_entries entry kept.old.items) }
     ensures err { OnErr result (kept.new.items ≡ kept.old.items) }
 {

@@ -7,12 +7,15 @@ pub mod draft;
 pub mod editor;
 pub mod edits;
 pub mod history;
+pub mod keep_every;
 pub mod kept;
 pub mod kept_list;
+pub mod places;
 pub mod player;
 pub mod playing;
 pub mod settling;
 pub mod showing;
 
 pub use editor::Editor;
+pub use showing::MOST_KEPT;
 pub use w4_defs::EditRefusal;

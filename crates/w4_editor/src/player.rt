@@ -67,31 +67,37 @@ impl Player {
     }
 
     /// Starts the cart with this disk.
-    pub(crate) fn reset(&mut self, disk: &[u8], made: &mut FrameRecord)
+    pub(crate) fn reset(&mut self, disk: &[u8], frame_record: &mut FrameRecord)
         requires { length disk.now ≤ 1024 }
-        ensures reset { reset (setup_of self.old) disk.now ≡ Some (moment self.new.state made.new) }
+        ensures reset { reset (setup_of self.old) disk.now ≡ Some (moment self.new.state frame_record.new) }
         ensures same { self.new ≡ in_state self.old self.new.state }
         ensures globals { HasGlobals self.new.cart self.new.state }
     {
         self.console
-            .reset(&self.cart, &self.font, disk, self.budget, made);
+            .reset(&self.cart, &self.font, disk, self.budget, frame_record);
     }
 
     /// Plays one frame, and ticks once.
     pub(crate) fn frame<L: Ledger>(
         &mut self,
         input: &Input,
-        made: &mut FrameRecord,
+        frame_record: &mut FrameRecord,
         steps: &mut Steps<L>,
     )
         ensures frame { frame (setup_of self.old) self.old.state input.now
-            ≡ Some (moment self.new.state made.new) }
+            ≡ Some (moment self.new.state frame_record.new) }
         ensures same { self.new ≡ in_state self.old self.new.state }
         ensures globals { HasGlobals self.new.cart self.new.state }
         ensures ticks { steps.new ≡ steps.old + 1 }
     {
-        self.console
-            .frame(&self.cart, &self.font, input, self.budget, made, steps);
+        self.console.frame(
+            &self.cart,
+            &self.font,
+            input,
+            self.budget,
+            frame_record,
+            steps,
+        );
     }
 
     /// Plays these frames, one after another; each is one tick.
@@ -102,9 +108,9 @@ impl Player {
         ensures globals { HasGlobals self.new.cart self.new.state }
         ensures ticks { steps.new ≡ steps.old + length inputs.now }
     {
-        let mut made = FrameRecord::new();
+        let mut frame_record = FrameRecord::new();
         for input in inputs {
-            self.frame(input, &mut made, steps);
+            self.frame(input, &mut frame_record, steps);
         }
     }
 

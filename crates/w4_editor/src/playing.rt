@@ -104,42 +104,42 @@ impl Editor {
         self.player.state()
     }
 
-    /// The state at the place after the one that is shown, and in `made` its record. That place is shown
-    /// then. Runs one frame, and takes no memory. Errors: NoFrame where no place is shown, or the last one,
-    /// and then nothing has changed.
+    /// The state at the place after the one that is shown, and in `frame_record` its record. That place is
+    /// shown then. Runs one frame, and takes no memory. Errors: NoFrame where no place is shown, or the last
+    /// one, and then nothing has changed.
     pub fn step<L: Ledger>(
         &mut self,
-        made: &mut FrameRecord,
+        frame_record: &mut FrameRecord,
         steps: &mut Steps<L>,
     ) -> Result<&State, EditRefusal>
-        ensures* stepped { sem 𝓛 (LendsStepped (record_of made.new) self.entry result) }
+        ensures* stepped { sem 𝓛 (LendsStepped (record_of frame_record.new) self.entry result) }
         ensures state { IfOk result (λ state. (p : ℕ) → self.old.at ≡ Some p
             → run_state (editing_setup self.old) self.old.disk self.old.session.current.inputs (p + 1)
             ≡ Some state.now) }
         ensures ticks { OnOk result (steps.new ≡ steps.old + 1) }
-        ensures idle { OnErr result ((steps.new ≡ steps.old) × (made.new ≡ made.old)) }
+        ensures idle { OnErr result ((steps.new ≡ steps.old) × (frame_record.new ≡ frame_record.old)) }
         ensures refused { IfErr result (λ refusal. (refusal ≡ NoFrame) × IsAtEnd self.old) }
     {
-        self.go_on(made, steps)?;
+        self.go_on(frame_record, steps)?;
         Ok(self.state())
     }
 
     /// Goes one place on. Errors: NoFrame where no place is shown, or the last one.
     fn go_on<L: Ledger>(
         &mut self,
-        made: &mut FrameRecord,
+        frame_record: &mut FrameRecord,
         steps: &mut Steps<L>,
     ) -> Result<(), EditRefusal>
-        ensures ok { OnOk result (IsStepped (record_of made.new) self.old self.new) }
+        ensures ok { OnOk result (IsStepped (record_of frame_record.new) self.old self.new) }
         ensures ticks { OnOk result (steps.new ≡ steps.old + 1) }
-        ensures idle { OnErr result ((steps.new ≡ steps.old) × (made.new ≡ made.old)) }
+        ensures idle { OnErr result ((steps.new ≡ steps.old) × (frame_record.new ≡ frame_record.old)) }
         ensures refused { IfErr result (λ refusal. (refusal ≡ NoFrame) × IsAtEnd self.old) }
         ensures unchanged { OnErr result (self.new ≡ self.old) }
     {
         let Some(p) = shown_before_end(self.at, &self.recording) else {
             return Err(EditRefusal::NoFrame);
         };
-        move_on(&mut self.player, &self.recording, p, made, steps);
+        move_on(&mut self.player, &self.recording, p, frame_record, steps);
         self.at = Some(p + 1);
         Ok(())
     }

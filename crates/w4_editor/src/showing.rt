@@ -14,7 +14,7 @@ ghost use Rattle.w4_editor.specs.Settling.{AreLinked, IsOfRun, MovesOn, ShowsFro
 ghost use Rattle.w4_editor.specs.Settling.{StaysConsistent, linked_entry};
 
 use crate::kept::Kept;
-use crate::kept_list::{entry_at, first_above, is_kept, link_at, put, replace_at};
+use crate::kept_list::{entry_at, first_above, insert_entry, is_kept, link_at, replace_at};
 use crate::player::{Player, capture_alone};
 use crate::settling::settle;
 use std::alloc::Global;
@@ -25,7 +25,7 @@ use w4_map::State;
 use w4_record::Recording;
 
 /// How many places may be kept, place 0 among them.
-const MOST_KEPT: usize = 1_024;
+pub const MOST_KEPT: usize = 1_024;
 
 /// Puts the state at place `p`, from the last kept place up to it, which is brought up to date first.
 pub(crate) fn show<L: Ledger>(
@@ -143,16 +143,16 @@ pub(crate) fn move_on<L: Ledger>(
     player: &mut Player,
     recording: &Recording,
     p: usize,
-    made: &mut FrameRecord,
+    frame_record: &mut FrameRecord,
     steps: &mut Steps<L>,
 )
     requires { p < length recording.now.frames }
     ensures moment { MovesOn (setup_of player.old) recording.now.frames p
-        player.old.state (moment player.new.state made.new) }
+        player.old.state (moment player.new.state frame_record.new) }
     ensures same { player.new ≡ in_state player.old player.new.state }
     ensures ticks { steps.new ≡ steps.old + 1 }
 {
-    player.frame(&recording.frames[p], made, steps);
+    player.frame(&recording.frames[p], frame_record, steps);
 }
 
 /// Why place `p` may not be kept.
@@ -188,7 +188,7 @@ pub(crate) fn keep(
     let last = last_up_to(kept.as_slice(), p);
     let before = entry_at(kept.as_slice(), last);
     let snap = player.capture(alloc, Some(before.snap()))?;
-    put(kept, Kept::new(p, snap))?;
+    insert_entry(kept, Kept::new(p, snap))?;
     Ok(())
 }
 

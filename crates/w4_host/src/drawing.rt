@@ -1,7 +1,7 @@
 //! The imports that draw, in the colours that DRAW_COLORS has at the call.
 
 ghost use Rattle.std.specs.Prelude.{◌+◌, ◌≡◌, ◌≤◌, length};
-ghost use Rattle.w4_defs.specs.Board.{blit_picture, blit_sub_picture, signed_argument};
+ghost use Rattle.w4_defs.specs.Board.{blit_sprite, blit_sub_sprite, signed_argument};
 ghost use Rattle.w4_defs.specs.Blit.{blit_painter};
 ghost use Rattle.w4_defs.specs.Framebuffer.{paint};
 ghost use Rattle.w4_defs.specs.MemoryMap.{draw_colors};
@@ -13,11 +13,11 @@ use w4_blit::{Font, blit_sub};
 use w4_defs::{PageBytes, TextSource};
 use w4_map::draw_colors;
 
-/// `blit`: the picture's own width is its stride.
+/// `blit`: the sprite's own width is its stride.
 pub(crate) fn blit(args: &[u32], page: &mut PageBytes)
     requires { length args.now ≡ 6 }
     ensures { page.new ≡ paint page.old
-        (blit_painter page.old (blit_picture args.now page.old) (signed_argument args.now 1)
+        (blit_painter page.old (blit_sprite args.now page.old) (signed_argument args.now 1)
         (signed_argument args.now 2)) }
 {
     blit_sub(
@@ -35,11 +35,11 @@ pub(crate) fn blit(args: &[u32], page: &mut PageBytes)
     );
 }
 
-/// `blitSub`: a part of a picture.
+/// `blitSub`: a part of a sprite.
 pub(crate) fn blit_part(args: &[u32], page: &mut PageBytes)
     requires { length args.now ≡ 9 }
     ensures { page.new ≡ paint page.old
-        (blit_painter page.old (blit_sub_picture args.now page.old) (signed_argument args.now 1)
+        (blit_painter page.old (blit_sub_sprite args.now page.old) (signed_argument args.now 1)
         (signed_argument args.now 2)) }
 {
     blit_sub(

@@ -2,11 +2,7 @@
 use Rattle.std.proofs.Common.{◌≡◌, ◌≤◌, ℕ, ◌+◌, List, ◌++◌, take, length, Option, Some, refl, sym, ◌∙◌, ap, append_assoc, append-nil, drop, arith}
 use Rattle.std.proofs.Math.Seq.{take-append-add, take-append_seam, take-length}
 use Rattle.std.proofs.lemmas.List.{take-append-drop}
-use Rattle.w4_defs.specs.World.{Files, World, Rises, Appends, AppendsFront, OpensOnly, LeavesReading, LeavesPrinting, LeavesReporting, LeavesSaving}
-
--- Where the files are unchanged, all but one are.
-pub opens_none : (old new : Option Files) (name : List ℕ) → new ≡ old → OpensOnly old new name
-opens_none old new name same files told = (files, same ∙ told, λ other _. refl)
+use Rattle.w4_defs.specs.World.{World, Rises, Appends, AppendsFront, LeavesReading, LeavesWriting, LeavesReporting, LeavesSaving}
 
 -- A count that rose stays risen while it doesn't fall, and one that rises later has risen from before.
 pub rises_on : (first second third : ℕ) → Rises first second → second ≤ third → Rises first third
@@ -20,8 +16,8 @@ pub reading_none : (world : World) → LeavesReading world world
 reading_none world =
     record { files = refl; out = refl; err = refl; later = omega arith; writes = refl; errs = refl }
 
-pub printing_none : (world : World) → LeavesPrinting world world
-printing_none world = record { files = refl; err = refl; reads = refl; later = omega arith; errs = refl }
+pub writing_none : (world : World) → LeavesWriting world world
+writing_none world = record { files = refl; err = refl; reads = refl; later = omega arith; errs = refl }
 
 -- What each of two calls leaves, both leave.
 pub reading_then : (first second third : World) → LeavesReading first second → LeavesReading second third
@@ -35,9 +31,9 @@ reading_then first second third one next = record {
   errs = next.errs ∙ one.errs;
 }
 
-pub printing_then : (first second third : World) → LeavesPrinting first second → LeavesPrinting second third
-    → LeavesPrinting first third
-printing_then first second third one next = record {
+pub writing_then : (first second third : World) → LeavesWriting first second → LeavesWriting second third
+    → LeavesWriting first third
+writing_then first second third one next = record {
   files = next.files ∙ one.files;
   err = next.err ∙ one.err;
   reads = next.reads ∙ one.reads;

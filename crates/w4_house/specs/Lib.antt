@@ -1,4 +1,3 @@
 pub mod Stored
 pub mod InMemory
 pub mod Edge
-pub mod Given

@@ -11,9 +11,9 @@ ghost use Rattle.w4_defs.specs.World.{
   Appends,
   AppendsFront,
   Puts,
-  OpensOnly,
+  PutsOrLeaves,
   LeavesReading,
-  LeavesPrinting,
+  LeavesWriting,
   LeavesReporting,
   LeavesSaving,
 };
@@ -104,7 +104,7 @@ pub trait House {
         ensures front { OnErr result (AppendsFront (world self.old).out (world self.new).out bytes.now) }
         ensures failed { IsErrOf result WriteRefusal.Failed
             → Rises (world self.old).write_faults (world self.new).write_faults }
-        ensures rest { LeavesPrinting (world self.old) (world self.new) };
+        ensures rest { LeavesWriting (world self.old) (world self.new) };
 
     /// Writes to standard error. After a refusal it has got a first part of the bytes.
     fn write_err(&mut self, alloc: Global, bytes: &[u8]) -> Result<(), WriteRefusal>
@@ -114,11 +114,12 @@ pub trait House {
             → Rises (world self.old).err_faults (world self.new).err_faults }
         ensures rest { LeavesReporting (world self.old) (world self.new) };
 
-    /// Makes a file of just these bytes. After a failure any bytes may stand in this one file; when memory
-    /// runs out, it is unchanged.
+    /// Makes a file of just these bytes. After a failure it has the bytes that it had, or is absent as it
+    /// was, or has just these; when memory runs out, it is unchanged. Every other file is unchanged.
     fn write_file(&mut self, alloc: Global, name: &str, bytes: &[u8]) -> Result<(), WriteRefusal>
         ensures whole { OnOk result (Puts (world self.old).files (world self.new).files name.now bytes.now) }
-        ensures others { OnErr result (OpensOnly (world self.old).files (world self.new).files name.now) }
+        ensures old_or_new { OnErr result
+            (PutsOrLeaves (world self.old).files (world self.new).files name.now bytes.now) }
         ensures failed { IsErrOf result WriteRefusal.Failed
             → Rises (world self.old).write_faults (world self.new).write_faults }
         ensures out_of_memory { IsErrOf result WriteRefusal.OutOfMemory

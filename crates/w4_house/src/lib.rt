@@ -7,6 +7,7 @@ pub mod calls;
 pub mod memory;
 mod put;
 pub mod real;
+mod replace;
 pub mod sure;
 
 pub use calls::{House, HouseFault, WriteRefusal};

@@ -130,9 +130,9 @@ impl House for MemoryHouse {
       Appends,
       AppendsFront,
       Puts,
-      OpensOnly,
+      PutsOrLeaves,
       LeavesReading,
-      LeavesPrinting,
+      LeavesWriting,
       LeavesReporting,
       LeavesSaving,
     };
@@ -172,7 +172,7 @@ impl House for MemoryHouse {
             (AppendsFront (memory_world self.old).out (memory_world self.new).out bytes.now) }
         ensures failed { IsErrOf result WriteRefusal.Failed
             → Rises (memory_world self.old).write_faults (memory_world self.new).write_faults }
-        ensures rest { LeavesPrinting (memory_world self.old) (memory_world self.new) }
+        ensures rest { LeavesWriting (memory_world self.old) (memory_world self.new) }
         ensures fails { IsTrue (fails_next self.old) → IsErrOf result WriteRefusal.Failed }
         ensures fails_only { IsErrOf result WriteRefusal.Failed → IsTrue (fails_next self.old) }
         ensures count { (memory_world self.new).write_faults ≡ count_after self.old
@@ -214,8 +214,8 @@ impl House for MemoryHouse {
     fn write_file(&mut self, alloc: Global, name: &str, bytes: &[u8]) -> Result<(), WriteRefusal>
         ensures whole { OnOk result
             (Puts (memory_world self.old).files (memory_world self.new).files name.now bytes.now) }
-        ensures others { OnErr result
-            (OpensOnly (memory_world self.old).files (memory_world self.new).files name.now) }
+        ensures old_or_new { OnErr result
+            (PutsOrLeaves (memory_world self.old).files (memory_world self.new).files name.now bytes.now) }
         ensures failed { IsErrOf result WriteRefusal.Failed
             → Rises (memory_world self.old).write_faults (memory_world self.new).write_faults }
         ensures out_of_memory { IsErrOf result WriteRefusal.OutOfMemory
@@ -230,6 +230,7 @@ impl House for MemoryHouse {
             → (memory_world self.new).files ≡ (memory_world self.old).files }
     {
         if is_failing(&mut self.calls, &self.failing) {
+            // The file keeps what it had.
             self.write_faults = self.write_faults.saturating_add(1);
             return Err(WriteRefusal::Failed);
         }

@@ -18,17 +18,13 @@ ghost use Rattle.std.specs.Prelude.{
   if◌then◌else◌,
 };
 ghost use Rattle.std.specs.Option.{ForSome};
-ghost use Rattle.std.specs.Io.KnownBytes.{IsAtEnd};
-ghost use Rattle.w4_house.specs.Given.{Gives};
 
 use crate::calls::{House, HouseFault, WriteRefusal};
+use crate::replace::replace;
 use std::alloc::Global;
 use std::fs;
-use std::io::{self, Read, Write};
+use std::io::{self, ErrorKind, Read, Write};
 use std::rt::Files;
-
-/// How many bytes are asked of a file at once.
-const PIECE: usize = 4096;
 
 /// Over the files of a runtime and two writers, in the program its standard streams.
 ///
@@ -66,42 +62,26 @@ impl<'a, R: Files, O: Write + Drop, E: Write + Drop> RealHouse<'a, R, O, E> {
     }
 }
 
-/// One read of at most `room` bytes, which are appended. Ok 0 is the end of a reader, where there is room.
-fn read_piece<F: Read>(file: &mut F, bytes: &mut Vec<u8>, room: usize) -> Result<usize, HouseFault>
-    ensures within { IfOk result (λ count. count ≤ room) }
-    ensures grown { IfOk result (λ count. length bytes.new.items ≡ length bytes.old.items + count) }
-    ensures given { OnOk result
-        (Gives (F.remaining file.old) (F.remaining file.new) bytes.old.items bytes.new.items) }
-    ensures end { result ≡ Ok 0 → 0 < room → IsAtEnd (F.remaining file.new) }
-    ensures never_absent { IsErrOf result HouseFault.Absent → ⊥ }
-{
-    let mut piece = [0u8; PIECE];
-    let part = &mut piece[..PIECE.min(room)];
-    match file.read(part) {
-        Ok(count) => {
-            bytes.extend_from_slice(&part[..count])?;
-            Ok(count)
-        }
-        Err(_) => Err(HouseFault::Failed),
-    }
-}
-
-/// The first `most` bytes that a reader gives, or all. Each turn takes a byte at least, or is the last.
-fn read_some<F: Read>(alloc: Global, file: &mut F, most: usize) -> Result<Vec<u8>, HouseFault>
+/// The first `most` bytes that a reader gives, or all. A read that a signal interrupts is made again.
+fn read_some<F: Read + Drop>(alloc: Global, file: F, most: usize) -> Result<Vec<u8>, HouseFault>
     ensures bytes { IfOk result
-        (λ bytes. ForSome (F.remaining file.old) (λ left. bytes.items ≡ take most left)) }
+        (λ bytes. ForSome (F.remaining file) (λ left. bytes.items ≡ take most left)) }
     ensures most { IfOk result (λ bytes. length bytes.items ≤ most) }
     ensures never_absent { IsErrOf result HouseFault.Absent → ⊥ }
 {
     let mut bytes = Vec::new(alloc);
-    while bytes.len() < most {
-        let room = most - bytes.len();
-        let count = read_piece(file, &mut bytes, room)?;
-        if count == 0 {
-            return Ok(bytes);
+    match file.take(most as u64).read_to_end(&mut bytes) {
+        Ok(_) => {
+            bytes.truncate(most);
+            Ok(bytes)
+        }
+        Err(error) => {
+            if error.kind() == ErrorKind::OutOfMemory {
+                return Err(HouseFault::OutOfMemory);
+            }
+            Err(HouseFault::Failed)
         }
     }
-    Ok(bytes)
 }
 
 /// The first bytes of the file of this name.
@@ -115,8 +95,26 @@ fn read_file<R: Files>(
     ensures never_absent { IsErrOf result HouseFault.Absent → ⊥ }
 {
     match fs::open(runtime, name) {
-        Ok(mut file) => read_some(alloc, &mut file, most),
+        Ok(file) => read_some(alloc, file, most),
         Err(_) => Err(HouseFault::Failed),
+    }
+}
+
+/// The file of this name, replaced. Where memory ran out, it is unchanged.
+fn write_whole<R: Files>(
+    alloc: Global,
+    runtime: &R,
+    name: &str,
+    bytes: &[u8],
+) -> Result<(), WriteRefusal> {
+    match replace(alloc, runtime, name, bytes) {
+        Ok(()) => Ok(()),
+        Err(error) => {
+            if error.kind() == ErrorKind::OutOfMemory {
+                return Err(WriteRefusal::OutOfMemory);
+            }
+            Err(WriteRefusal::Failed)
+        }
     }
 }
 
@@ -129,9 +127,9 @@ impl<'a, R: Files, O: Write + Drop, E: Write + Drop> House for RealHouse<'a, R, 
       Appends,
       AppendsFront,
       Puts,
-      OpensOnly,
+      PutsOrLeaves,
       LeavesReading,
-      LeavesPrinting,
+      LeavesWriting,
       LeavesReporting,
       LeavesSaving,
     };
@@ -167,7 +165,7 @@ impl<'a, R: Files, O: Write + Drop, E: Write + Drop> House for RealHouse<'a, R, 
             (AppendsFront (real_world self.old).out (real_world self.new).out bytes.now) }
         ensures failed { IsErrOf result WriteRefusal.Failed
             → Rises (real_world self.old).write_faults (real_world self.new).write_faults }
-        ensures rest { LeavesPrinting (real_world self.old) (real_world self.new) }
+        ensures rest { LeavesWriting (real_world self.old) (real_world self.new) }
         ensures sent { OnOk result
             (known.Appends (O.contents self.old.out) (O.contents self.new.out) bytes.now) }
         ensures never_out_of_memory { IsErrOf result WriteRefusal.OutOfMemory → ⊥ }
@@ -203,25 +201,24 @@ impl<'a, R: Files, O: Write + Drop, E: Write + Drop> House for RealHouse<'a, R, 
         Err(WriteRefusal::Failed)
     }
 
-    fn write_file(&mut self, _alloc: Global, name: &str, bytes: &[u8]) -> Result<(), WriteRefusal>
+    fn write_file(&mut self, alloc: Global, name: &str, bytes: &[u8]) -> Result<(), WriteRefusal>
         ensures whole { OnOk result
             (Puts (real_world self.old).files (real_world self.new).files name.now bytes.now) }
-        ensures others { OnErr result
-            (OpensOnly (real_world self.old).files (real_world self.new).files name.now) }
+        ensures old_or_new { OnErr result
+            (PutsOrLeaves (real_world self.old).files (real_world self.new).files name.now bytes.now) }
         ensures failed { IsErrOf result WriteRefusal.Failed
             → Rises (real_world self.old).write_faults (real_world self.new).write_faults }
         ensures out_of_memory { IsErrOf result WriteRefusal.OutOfMemory
             → (real_world self.new).files ≡ (real_world self.old).files }
         ensures rest { LeavesSaving (real_world self.old) (real_world self.new) }
-        ensures never_out_of_memory { IsErrOf result WriteRefusal.OutOfMemory → ⊥ }
         ensures count { (real_world self.new).write_faults ≡ count_since result
             (real_world self.old).write_faults }
     {
-        if fs::write(self.runtime, name, bytes).is_ok() {
-            return Ok(());
+        let answer = write_whole(alloc, self.runtime, name, bytes);
+        if answer.is_err() {
+            self.write_faults = self.write_faults.saturating_add(1);
         }
-        self.write_faults = self.write_faults.saturating_add(1);
-        Err(WriteRefusal::Failed)
+        answer
     }
 }
 

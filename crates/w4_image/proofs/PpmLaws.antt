@@ -24,9 +24,9 @@ picked page index h =
 pixel_in_byte : (page : List ℕ) (q k : ℕ) → k < 4
     → pixel page ((4 * q + k) % 160) ((4 * q + k) / 160) ≡ get_or page (160 + q) 0 / 4 ^ k % 4
 pixel_in_byte page q k h =
-    let place : (160 * ((4 * q + k) / 160) + (4 * q + k) % 160) / 4 ≡ q = omega arith in
+    let byte_is : (160 * ((4 * q + k) / 160) + (4 * q + k) % 160) / 4 ≡ q = omega arith in
     let digit : (4 * q + k) % 160 % 4 ≡ k = omega arith in
-    rw (place, digit) refl
+    rw (byte_is, digit) refl
 
 colour_in_byte : (page : List ℕ) (q k n index : ℕ) → k < 4 → n ≡ 4 * q + k
     → index ≡ get_or page (160 + q) 0 / 4 ^ k % 4
@@ -127,7 +127,8 @@ module _ (page : List ℕ) where
   screen_palette : (index : ℕ) → index < 4 → palette screen index ≡ palette page index
   screen_palette index h =
       let at = 4 + 4 * index in
-      (λ k. get_or-take 6560 page (at + 2) 0 (omega arith) k ∷ get_or-take 6560 page (at + 1) 0 (omega arith) k
+      (λ k. get_or-take 6560 page (at + 2) 0 (omega arith) k
+      ∷ get_or-take 6560 page (at + 1) 0 (omega arith) k
       ∷ get_or-take 6560 page at 0 (omega arith) k ∷ [])
 
   screen_pixel : (n : ℕ) → n < 25600 → pixel screen (n % 160) (n / 160) ≡ pixel page (n % 160) (n / 160)

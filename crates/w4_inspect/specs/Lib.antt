@@ -2,6 +2,5 @@
 pub mod Narrowings
 pub mod Pages
 pub mod Refusals
-pub mod Requests
 pub mod Watching
 pub mod Widths

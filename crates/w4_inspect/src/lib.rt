@@ -1,19 +1,16 @@
 //! Watching and searching memory (project rule, as cheat finders of emulators do it): values of the page over
-//! places of a recording, searches by how a value changed, and queries. The layers above rely on each value
-//! being that of a run from reset, and on a search having just the addresses at which all its tests held.
+//! places of a recording, and searches by how a value changed. The layers above rely on each value being that
+//! of a run from reset, and on a search having just the addresses at which all its tests held.
 #![tactic(auto)]
 
 pub mod laws;
-mod places;
-pub mod query;
 pub mod refusal;
 pub mod search;
 pub mod searching;
 mod values;
 pub mod watching;
 
-pub use query::read_query;
 pub use refusal::RamRefusal;
 pub use search::Search;
-pub use w4_defs::inspect::{Ask, Test};
+pub use w4_defs::inspect::Test;
 pub use watching::watch;

@@ -1,10 +1,10 @@
 //! A search: a width, the last page, and the addresses that are left.
 
 ghost use Rattle.std.specs.Prelude.{◌≡◌, ◌≤◌, filter, IfOk, length, take};
-ghost use Rattle.w4_defs.specs.Search.{addresses, begin, holds_at, narrow};
+ghost use Rattle.w4_defs.specs.Search.{addresses, begin, test_holds_at, narrow};
 ghost use Rattle.w4_inspect.specs.Widths.{AreWithin, IsWidth};
 
-use crate::values::{holds, value_at};
+use crate::values::{test_holds, value_at};
 use std::alloc::Global;
 use std::marker::Model;
 use w4_defs::inspect::Test;
@@ -89,7 +89,7 @@ fn retain(candidates: &mut Vec<u32>, width: u32, test: Test, page: &PageBytes, l
     requires width { IsWidth width }
     requires within { AreWithin width candidates.old.items }
     ensures { candidates.new.items
-        ≡ filter (holds_at width test page.now last.now) candidates.old.items }
+        ≡ filter (test_holds_at width test page.now last.now) candidates.old.items }
 {
     let kept = keep_first(candidates.as_mut_slice(), width, test, page, last);
     candidates.truncate(kept);
@@ -106,7 +106,7 @@ fn keep_first(
     requires width { IsWidth width }
     requires within { AreWithin width candidates.old }
     ensures kept { take result candidates.new
-        ≡ filter (holds_at width test page.now last.now) candidates.old }
+        ≡ filter (test_holds_at width test page.now last.now) candidates.old }
     ensures few { result ≤ length candidates.old }
 {
     let mut kept = 0;
@@ -114,7 +114,7 @@ fn keep_first(
         let address = candidates[i];
         let new = value_at(page, address, width);
         let old = value_at(last, address, width);
-        if holds(test, new, old) {
+        if test_holds(test, new, old) {
             candidates[kept] = address;
             kept += 1;
         }

@@ -8,7 +8,6 @@ ghost use Rattle.w4_inspect.specs.Refusals.{IsRefusal, no_frame_refusal};
 ghost use Rattle.w4_inspect.specs.Widths.{IsWidth};
 ghost use Rattle.w4_inspect.specs.declared.refusal.RamRefusal.TheVariants.{OutOfMemory as NoMemory};
 
-use crate::places::last_place;
 use crate::refusal::RamRefusal;
 use crate::search::Search;
 use std::alloc::Global;
@@ -16,6 +15,7 @@ use std::sync::ledger::Ledger;
 use w4_defs::inspect::Test;
 use w4_defs::{OutOfMemory, Steps};
 use w4_editor::Editor;
+use w4_editor::places::last_place;
 
 impl Search {
     /// A search for values of `width` bytes, 1, 2 or 4, that begins with the page at place `p` and all

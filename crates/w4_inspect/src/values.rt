@@ -2,7 +2,7 @@
 
 ghost use Rattle.std.specs.Prelude.{◌≡◌, ◌+◌, ◌≤◌};
 ghost use Rattle.w4_defs.specs.Bytes.{number_at};
-ghost use Rattle.w4_defs.specs.Search.{holds};
+ghost use Rattle.w4_defs.specs.Search.{test_holds};
 ghost use Rattle.w4_inspect.specs.Widths.{IsWidth};
 
 use w4_defs::PageBytes;
@@ -37,8 +37,8 @@ pub fn value_at(page: &PageBytes, address: u32, width: u32) -> u32
 }
 
 /// Whether a test holds between the new value and the old one.
-pub fn holds(test: Test, new: u32, old: u32) -> bool
-    ensures { result ≡ holds test new old }
+pub fn test_holds(test: Test, new: u32, old: u32) -> bool
+    ensures { result ≡ test_holds test new old }
 {
     match test {
         Test::Is { value } => new == value,

@@ -11,7 +11,6 @@ ghost use Rattle.w4_inspect.specs.Refusals.{IsRefusal, watch_refusal};
 ghost use Rattle.w4_inspect.specs.Watching.{IsWatched, value_at, watched};
 ghost use Rattle.w4_inspect.specs.declared.refusal.RamRefusal.TheVariants.{OutOfMemory as NoMemory};
 
-use crate::places::last_place;
 use crate::refusal::RamRefusal;
 use crate::values::value_at;
 use std::alloc::Global;
@@ -19,6 +18,7 @@ use std::sync::ledger::Ledger;
 use w4_defs::{OutOfMemory, Steps};
 use w4_devices::FrameRecord;
 use w4_editor::Editor;
+use w4_editor::places::last_place;
 use w4_map::State;
 
 /// How many bytes the page has.
@@ -109,9 +109,9 @@ fn add_values<L: Ledger>(
     ensures ticks { OnOk result (steps.new ≡ steps.old + (b - a)) }
     ensures err { OnErr result (KeepsRecording editor.old editor.new) }
 {
-    let mut made = FrameRecord::new();
+    let mut frame_record = FrameRecord::new();
     for p in a..b {
-        let value = next_value(editor, &mut made, what, p, steps);
+        let value = next_value(editor, &mut frame_record, what, p, steps);
         values.push(value)?;
     }
     Ok(())
@@ -140,7 +140,7 @@ fn shown_value<L: Ledger>(
 /// Goes on to the place after `p`, which is shown, and reads the value there.
 fn next_value<L: Ledger>(
     editor: &mut Editor,
-    made: &mut FrameRecord,
+    frame_record: &mut FrameRecord,
     what: Watched,
     p: usize,
     steps: &mut Steps<L>,
@@ -152,7 +152,7 @@ fn next_value<L: Ledger>(
     ensures same { editor.new ≡ with_session editor.old editor.old.session (Some (p + 1)) }
     ensures ticks { steps.new ≡ steps.old + 1 }
 {
-    match editor.step(made, steps) {
+    match editor.step(frame_record, steps) {
         Ok(state) => value_in(state, what),
         Err(_) => unreachable!(),
     }

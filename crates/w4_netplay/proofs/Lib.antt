@@ -1,6 +1,5 @@
--- What is known and predicted, what rolling back leaves, and the lines of a log.
+-- What is known and predicted, and what rolling back leaves.
 pub mod PadLaws
-pub mod LogLaws
 pub mod LinkLaws
 pub mod BoundLaws
 pub mod RollLaws

@@ -1,8 +1,8 @@
--- Which links are kept where inputs are set one after another.
-use Rattle.std.proofs.Common.{◌≡◌, ℕ, zero, suc, ◌+◌, ◌<◌, ◌≤◌, Bool, true, false, cond, ltb, List, [], ◌∷◌, map, length, refl, sym, ap, ◌∙◌, subst, inl, inr, arith}
-use Rattle.std.proofs.lemmas.Bool.{cases_lt, lt-ltb, le-ltb}
+-- Which links are kept where inputs are written.
+use Rattle.std.proofs.Common.{◌≡◌, ℕ, zero, suc, ◌+◌, ◌<◌, ◌≤◌, Bool, true, false, cond, List, [], ◌∷◌, length, min, max, refl, sym, ap, ◌∙◌, subst, inl, inr, arith}
+use Rattle.std.proofs.lemmas.Bool.{cases_lt, le-ltb}
 use Rattle.w4_defs.specs.KeptList.{Entry, SamePlaces, kept_entries, places_of, place_at, state_at, linked_at}
-use Rattle.w4_defs.specs.Session.{unlink_above, moved_up, kept_after_insert}
+use Rattle.w4_editor.specs.Overwriting.{is_between, unlink_between}
 use Rattle.w4_netplay.specs.Rolling.{KeepsLinks}
 
 -- ---- the same places
@@ -18,77 +18,67 @@ listed (x ∷ old) (y ∷ new) long same =
 pub same_places : (old new : List Entry) → SamePlaces old new → places_of new ≡ places_of old
 same_places old new same = listed old new same.many same.places
 
--- ---- what is unlinked above a place
+-- ---- which entries lose their link
 
--- the first entry above the place is unlinked, and nothing else
-unlinked-place : (k : ℕ) (kept : List Entry) (i : ℕ)
-    → place_at (unlink_above kept_entries k kept) i ≡ place_at kept i
-unlinked-place k [] i = refl
-unlinked-place k (x ∷ kept) zero = elim (ltb k x.place) as (λ t. place_at (cond t
-    (kept_entries.unlinked x ∷ kept) (x ∷ unlink_above kept_entries k kept)) 0 ≡ x.place) [
-      | true ↦ refl
-      | false ↦ refl
-    ]
-unlinked-place k (x ∷ kept) (suc i) = elim (ltb k x.place) as (λ t. place_at (cond t
-    (kept_entries.unlinked x ∷ kept) (x ∷ unlink_above kept_entries k kept)) (suc i) ≡ place_at kept i) [
-      | true ↦ refl
-      | false ↦ unlinked-place k kept i
-    ]
+module _ (k end : ℕ) where
+  between-place : (from : ℕ) (kept : List Entry) (i : ℕ)
+      → place_at (unlink_between k end from kept) i ≡ place_at kept i
+  between-place from [] i = refl
+  between-place from (x ∷ kept) zero = elim (is_between k end from x.place) as (λ t.
+      place_at (cond t (kept_entries.unlinked x) x ∷ unlink_between k end x.place kept) 0 ≡ x.place) [
+        | true ↦ refl
+        | false ↦ refl
+      ]
+  between-place from (x ∷ kept) (suc i) = between-place x.place kept i
 
-unlinked-state : (k : ℕ) (kept : List Entry) (i : ℕ)
-    → state_at (unlink_above kept_entries k kept) i ≡ state_at kept i
-unlinked-state k [] i = refl
-unlinked-state k (x ∷ kept) zero = elim (ltb k x.place) as (λ t. state_at (cond t
-    (kept_entries.unlinked x ∷ kept) (x ∷ unlink_above kept_entries k kept)) 0 ≡ x.state) [
-      | true ↦ refl
-      | false ↦ refl
-    ]
-unlinked-state k (x ∷ kept) (suc i) = elim (ltb k x.place) as (λ t. state_at (cond t
-    (kept_entries.unlinked x ∷ kept) (x ∷ unlink_above kept_entries k kept)) (suc i) ≡ state_at kept i) [
-      | true ↦ refl
-      | false ↦ unlinked-state k kept i
-    ]
+  between-state : (from : ℕ) (kept : List Entry) (i : ℕ)
+      → state_at (unlink_between k end from kept) i ≡ state_at kept i
+  between-state from [] i = refl
+  between-state from (x ∷ kept) zero = elim (is_between k end from x.place) as (λ t.
+      state_at (cond t (kept_entries.unlinked x) x ∷ unlink_between k end x.place kept) 0 ≡ x.state) [
+        | true ↦ refl
+        | false ↦ refl
+      ]
+  between-state from (x ∷ kept) (suc i) = between-state x.place kept i
 
-unlinked-length : (k : ℕ) (kept : List Entry) → length (unlink_above kept_entries k kept) ≡ length kept
-unlinked-length k [] = refl
-unlinked-length k (x ∷ kept) = elim (ltb k x.place) as (λ t. length (cond t
-    (kept_entries.unlinked x ∷ kept) (x ∷ unlink_above kept_entries k kept)) ≡ length (x ∷ kept)) [
-      | true ↦ refl
-      | false ↦ ap suc (unlinked-length k kept)
-    ]
+  between-length : (from : ℕ) (kept : List Entry) → length (unlink_between k end from kept) ≡ length kept
+  between-length from [] = refl
+  between-length from (x ∷ kept) = ap suc (between-length x.place kept)
 
-first-stays : (k : ℕ) (kept : List Entry) → linked_at kept 0 ≡ true → (k < place_at kept 0 → ⊥)
-    → linked_at (unlink_above kept_entries k kept) 0 ≡ true
-first-stays k [] linked apart = linked
-first-stays k (x ∷ kept) linked apart =
-    let goal : Bool → Type 0 = λ t. linked_at (cond t (kept_entries.unlinked x ∷ kept)
-    (x ∷ unlink_above kept_entries k kept)) 0 ≡ true in
-    elim (cases_lt k x.place) [
-      | inl before ↦ absurd (apart before)
-      | inr from ↦ subst goal (sym (le-ltb k x.place from)) linked
-    ]
+  nowhere-linked : (t : Bool) → false ≡ cond t false false
+  nowhere-linked true = refl
+  nowhere-linked false = refl
 
--- an entry stays linked where the place isn't between it and the entry before
-stays-linked : (k : ℕ) (kept : List Entry) (i : ℕ) → linked_at kept (suc i) ≡ true
-    → (place_at kept i ≤ k → k < place_at kept (suc i) → ⊥)
-    → linked_at (unlink_above kept_entries k kept) (suc i) ≡ true
-stays-linked k [] i linked apart = linked
-stays-linked k (x ∷ kept) zero linked apart =
-    let goal : Bool → Type 0 = λ t. linked_at (cond t (kept_entries.unlinked x ∷ kept)
-    (x ∷ unlink_above kept_entries k kept)) 1 ≡ true in
-    elim (cases_lt k x.place) [
-      | inl before ↦ subst goal (sym (lt-ltb k x.place before)) linked
-      | inr from ↦ subst goal (sym (le-ltb k x.place from)) (first-stays k kept linked (apart from))
-    ]
-stays-linked k (x ∷ kept) (suc i) linked apart =
-    let goal : Bool → Type 0 = λ t. linked_at (cond t (kept_entries.unlinked x ∷ kept)
-    (x ∷ unlink_above kept_entries k kept)) (suc (suc i)) ≡ true in
-    elim (cases_lt k x.place) [
-      | inl before ↦ subst goal (sym (lt-ltb k x.place before)) linked
-      | inr from ↦ subst goal (sym (le-ltb k x.place from)) (stays-linked k kept i linked apart)
-    ]
+  first-linked : (from : ℕ) (kept : List Entry) → linked_at (unlink_between k end from kept) 0
+      ≡ cond (is_between k end from (place_at kept 0)) false (linked_at kept 0)
+  first-linked from [] = nowhere-linked (is_between k end from 0)
+  first-linked from (x ∷ kept) = elim (is_between k end from x.place) as (λ t.
+      linked_at (cond t (kept_entries.unlinked x) x ∷ unlink_between k end x.place kept) 0
+      ≡ cond t false x.linked) [
+        | true ↦ refl
+        | false ↦ refl
+      ]
 
--- ---- one input after another
+  between-linked : (from : ℕ) (kept : List Entry) (i : ℕ)
+      → linked_at (unlink_between k end from kept) (suc i)
+      ≡ cond (is_between k end (place_at kept i) (place_at kept (suc i))) false (linked_at kept (suc i))
+  between-linked from [] i = nowhere-linked (is_between k end 0 0)
+  between-linked from (x ∷ kept) zero = first-linked x.place kept
+  between-linked from (x ∷ kept) (suc i) = between-linked x.place kept i
+
+  -- an entry stays linked where none of the inputs is between it and the entry before
+  stays-linked : (kept : List Entry) (i p q : ℕ) → place_at kept i ≡ p → place_at kept (suc i) ≡ q
+      → min end q ≤ max k p → linked_at kept (suc i) ≡ true
+      → linked_at (unlink_between k end 0 kept) (suc i) ≡ true
+  stays-linked kept i p q here there apart linked =
+      let past : min end (place_at kept (suc i)) ≤ max k (place_at kept i) =
+      omega (arith, here, there, apart) in
+      between-linked 0 kept i
+      ∙ ap (λ t. cond t false (linked_at kept (suc i)))
+      (le-ltb (max k (place_at kept i)) (min end (place_at kept (suc i))) past)
+      ∙ linked
+
+-- ---- written inputs
 
 pub links_all : (right : ℕ → Type 0) (kept : List Entry) → KeepsLinks right kept kept
 links_all right kept = record {
@@ -106,37 +96,26 @@ links_fewer right fewer old new over is = record {
   links = λ i linked all. is.links i linked (λ k from below. over k (all k from below));
 }
 
--- an input that wasn't right is set
-pub links_set : (right : ℕ → Type 0) (k : ℕ) (old now : List Entry) → (right k → ⊥)
-    → KeepsLinks right old now → KeepsLinks right old (unlink_above kept_entries k now)
-links_set right k old now wrong is = record {
+-- inputs are written, none of which was right
+pub links_between : (right : ℕ → Type 0) (k end : ℕ) (old now : List Entry)
+    → ((j : ℕ) → k ≤ j → j < end → right j → ⊥)
+    → KeepsLinks right old now → KeepsLinks right old (unlink_between k end 0 now)
+links_between right k end old now wrong is = record {
   places = record {
-    many = unlinked-length k now ∙ is.places.many;
-    places = λ i. unlinked-place k now i ∙ is.places.places i;
+    many = between-length k end 0 now ∙ is.places.many;
+    places = λ i. between-place k end 0 now i ∙ is.places.places i;
   };
-  states = λ i. unlinked-state k now i ∙ is.states i;
+  states = λ i. between-state k end 0 now i ∙ is.states i;
   links = λ i linked all.
       let next : i + 1 ≡ suc i = omega arith in
-      let here = is.places.places i in
-      let there = is.places.places (i + 1) in
-      subst (λ j. linked_at (unlink_above kept_entries k now) j ≡ true) (sym next)
-      (stays-linked k now i (subst (λ j. linked_at now j ≡ true) next (is.links i linked all))
-      (λ from below. wrong (all k (omega (arith, here, from))
-      (subst (λ j. k < place_at old j) (sym next)
-      (subst (λ p. k < p) (subst (λ j. place_at now j ≡ place_at old j) next there) below)))));
+      let p = place_at old i in
+      let q = place_at old (i + 1) in
+      let there = subst (λ j. place_at now j ≡ q) next (is.places.places (i + 1)) in
+      let still = subst (λ j. linked_at now j ≡ true) next (is.links i linked all) in
+      elim (cases_lt (max k p) (min end q)) [
+        | inl meet ↦ absurd (wrong (max k p) (omega arith) (omega (arith, meet))
+            (all (max k p) (omega arith) (omega (arith, meet))))
+        | inr apart ↦ subst (λ j. linked_at (unlink_between k end 0 now) j ≡ true) (sym next)
+            (stays-linked k end now i p q (is.places.places i) there apart still)
+      ];
 }
-
--- ---- an input after the last
-
-stays-below : (n : ℕ) (x : Entry) → x.place ≤ n → moved_up kept_entries n x ≡ x
-stays-below n x low =
-    ap (λ t. kept_entries.at (cond t (x.place + 1) x.place) x) (le-ltb n x.place low)
-
-pub inserted_last : (n : ℕ) (kept : List Entry) → ((i : ℕ) → i < length kept → place_at kept i ≤ n)
-    → kept_after_insert kept_entries n kept ≡ kept
-inserted_last n [] within = refl
-inserted_last n (x ∷ kept) within =
-    let low : x.place ≤ n = within 0 (omega arith) in
-    ap (λ t. map (moved_up kept_entries n) (cond t (kept_entries.unlinked x ∷ kept)
-    (x ∷ unlink_above kept_entries n kept))) (le-ltb n x.place low)
-    ∙ (λ j. stays-below n x low j ∷ inserted_last n kept (λ i lt. within (suc i) (omega (arith, lt))) j)

@@ -1,12 +1,13 @@
 -- What is known after a packet is learned, and the pads that are predicted from it.
-use Rattle.std.proofs.Common.{◌≡◌, ◌≢◌, ℕ, zero, suc, ◌<◌, Bool, true, false, cond, ◌&&◌, eqb, ltb, List, [], ◌∷◌, length, set, get_or, replicate, Option, Some, None, pos, ◌+◌, add-one, refl, sym, ap, ◌∙◌, subst, inl, inr, arith}
-use Rattle.std.specs.Option.{option_and_then, is_none}
+use Rattle.std.proofs.Common.{◌≡◌, ◌≢◌, ℕ, zero, suc, ◌<◌, Bool, true, false, cond, ◌&&◌, eqb, List, [], ◌∷◌, length, set, get_or, replicate, Option, Some, None, pos, ◌+◌, add-one, refl, sym, ap, ◌∙◌, subst, inl, inr, arith}
+use Rattle.std.specs.Option.{option_and_then}
 use Rattle.std.specs.Array.{AllZipBelow}
 use Rattle.std.specs.List.{AllZip, slice_get}
-use Rattle.std.proofs.lemmas.Bool.{cases_eq, eq-eqb, ne_eqb, and_parts, ltb-true}
+use Rattle.std.proofs.lemmas.Bool.{cases_eq, eq-eqb, ne_eqb, leb-false}
 use Rattle.std.proofs.lemmas.Option.{slice_get-get_or}
 use Rattle.w4_defs.specs.declared.netplay.Packet.{Packet}
-use Rattle.w4_defs.specs.Rollback.{Known, nothing_known, is_of, conflict, is_accepted, learned, net_input}
+use Rattle.w4_defs.specs.Rollback.{Known, nothing_known, is_of, is_accepted, learned, net_input}
+use Rattle.w4_defs.proofs.RollbackLaws.{accepted_parts}
 use Rattle.w4_netplay.specs.Pads.{known_in, pads_before}
 
 -- ---- nothing is known
@@ -173,7 +174,5 @@ pad_held frames frame player pads lt read =
 pub in_range : (known : Known) (packet : Packet) → is_accepted known packet ≡ true
     → (packet.player < 4) × (packet.frame < 36000)
 in_range known packet accepted =
-    let parts = and_parts (ltb packet.player 4 && ltb packet.frame 36000) (is_none (conflict known packet))
-    accepted in
-    let ranges = and_parts (ltb packet.player 4) (ltb packet.frame 36000) parts.0 in
-    (ltb-true packet.player 4 ranges.0, ltb-true packet.frame 36000 ranges.1)
+    let parts = accepted_parts known packet accepted in
+    (leb-false 4 packet.player parts.0, leb-false 36000 packet.frame parts.1)

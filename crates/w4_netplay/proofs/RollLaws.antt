@@ -1,99 +1,26 @@
--- Rolling back an editor, one input after another.
-use Rattle.std.proofs.Common.{◌≡◌, ◌≢◌, ℕ, zero, suc, ◌+◌, ◌-◌, ◌<◌, ◌≤◌, Bool, false, cond, ltb, List, [], ◌∷◌, ◌++◌, length, take, drop, set, get_or, Option, Some, None, Ok, refl, sym, ap, ◌∙◌, subst, inl, inr, arith, append_assoc, append-nil, length-append, length-drop, add-one}
+-- Rolling back an editor, one run of wrong inputs after another.
+use Rattle.std.proofs.Common.{◌≡◌, ◌≢◌, ℕ, zero, suc, ◌+◌, ◌-◌, ◌<◌, ◌≤◌, Bool, false, List, [], ◌∷◌, ◌++◌, length, take, drop, get_or, Some, None, refl, sym, ap, ◌∙◌, subst, inl, inr, arith, append_assoc, append-nil, length-append, length-drop}
 use Rattle.std.specs.Bool.{Decides}
 use Rattle.std.specs.List.{slice_get}
-use Rattle.std.proofs.lemmas.Bool.{lt-ltb, le-ltb}
-use Rattle.std.proofs.lemmas.List.{set_split, take-append-le, drop_all}
+use Rattle.std.proofs.lemmas.Bool.{cases_lt}
+use Rattle.std.proofs.lemmas.List.{take-append-le, drop_all}
 use Rattle.std.proofs.lemmas.List.FromFn.{length-map-range_with_len}
 use Rattle.std.proofs.lemmas.Option.{same_Some, slice_get-get_or, slice_get_past}
 use Rattle.std.proofs.lemmas.Slice.{drop-append-drop}
 use Rattle.std.proofs.Math.Seq.{take-length}
 use Rattle.w4_defs.specs.declared.console.Input.{Input}
-use Rattle.w4_defs.specs.declared.editing.EditRefusal.{EditRefusal}
-use Rattle.w4_defs.specs.declared.editing.EditRefusal.TheVariants.{NoFrame, FullRecording}
-use Rattle.w4_defs.specs.KeptList.{Entry, IsConsistent, kept_entries}
-use Rattle.w4_defs.specs.Reset.{Setup}
+use Rattle.w4_defs.specs.KeptList.{Entry}
 use Rattle.w4_defs.specs.Rollback.{Known, net_input, net_inputs}
-use Rattle.w4_defs.specs.Session.{Session, edited, unless, set_draft, insert_draft, set_input, insert_input, set_refusal, insert_refusal}
+use Rattle.w4_defs.specs.Session.{Draft}
 use Rattle.w4_defs.proofs.RollbackLaws.{inputs_grow}
 use Rattle.w4_editor.specs.Editing.{Editing, with_session}
-use Rattle.w4_netplay.specs.Rolling.{IsPutAt, IsRight, IsRolledTo, KeepsLinks}
+use Rattle.w4_editor.specs.Overwriting.{overwrite_draft}
+use Rattle.w4_netplay.specs.Rolling.{IsPartlyRolled, IsRight, IsRolledTo, IsWritten, KeepsLinks}
 use Rattle.w4_netplay.proofs.BoundLaws.{get_dropped, input_decides}
 use Rattle.w4_netplay.specs.Bound.{same_input}
-use Rattle.w4_netplay.proofs.LinkLaws.{links_all, links_fewer, links_set, inserted_last}
+use Rattle.w4_netplay.proofs.LinkLaws.{links_all, links_fewer, links_between}
 
--- ---- an editor with one other input
-
-rest_at : (old new : Editing) (at : Option ℕ) → new ≡ with_session old new.session at
-    → new ≡ with_session old new.session new.at
-rest_at old new at is = is ∙ ap (with_session old new.session) (sym (ap (λ (e : Editing). e.at) is))
-
--- the session that an edit makes, where it isn't refused
-accepted_session : (refusal : Option EditRefusal) (after new : Session Entry) → unless refusal after ≡ Ok new
-    → refusal ≡ None → new ≡ after
-accepted_session None after new is free = cc
-accepted_session (Some refusal) after new is free = absurd cc
-
--- a list around one element
-parted_around : {A : Type 0} (xs : List A) (k : ℕ) (x : A) → slice_get xs k ≡ Some x
-    → xs ≡ take k xs ++ x ∷ drop (k + 1) xs
-parted_around [] k x is = absurd cc
-parted_around (y ∷ xs) zero x is = λ i. same_Some y x is i ∷ xs
-parted_around (y ∷ xs) (suc k) x is =
-    let next : suc (k + 1) ≡ suc k + 1 = omega arith in
-    ap (λ zs. y ∷ zs) (parted_around xs k x is) ∙ ap (λ n. y ∷ (take k xs ++ x ∷ drop n (y ∷ xs))) next
-
-pub put_same : (k : ℕ) (input : Input) (editor : Editing)
-    → slice_get editor.session.current.inputs k ≡ Some input → IsPutAt k input editor editor
-put_same k input editor there = record {
-  rest = refl;
-  inputs = parted_around editor.session.current.inputs k input there;
-  kept = inl refl;
-}
-
-pub put_set : (k : ℕ) (input : Input) (old new : Editing)
-    → set_input kept_entries k input old.session ≡ Ok new.session → new ≡ with_session old new.session None
-    → k < length old.session.current.inputs → slice_get old.session.current.inputs k ≢ Some input
-    → IsPutAt k input old new
-put_set k input old new made rest there other =
-    let free = ap (λ t. cond t None (Some NoFrame)) (lt-ltb k (length old.session.current.inputs) there) in
-    let after = set_draft kept_entries k input old.session.current in
-    let is =
-    accepted_session (set_refusal k old.session.current) (edited old.session after) new.session made free in
-    record {
-      rest = rest_at old new None rest;
-      inputs = ap (λ (s : Session Entry). s.current.inputs) is
-          ∙ set_split old.session.current.inputs k input there
-          ∙ ap (λ n. take k old.session.current.inputs ++ input ∷ drop n old.session.current.inputs)
-          (sym (add-one k));
-      kept = inr (other, ap (λ (s : Session Entry). s.current.kept) is);
-    }
-
-pub put_last : (k : ℕ) (input : Input) (old new : Editing) (setup : Setup) (disk : List ℕ)
-    → insert_input kept_entries k input old.session ≡ Ok new.session
-    → new ≡ with_session old new.session None
-    → k ≡ length old.session.current.inputs → k < 36000
-    → IsConsistent setup disk old.session.current.inputs old.session.current.kept
-    → IsPutAt k input old new
-put_last k input old new setup disk made rest last room is_list =
-    let inputs = old.session.current.inputs in
-    let within : length inputs < 36000 = omega (arith, last, room) in
-    let free : insert_refusal k old.session.current ≡ None =
-    ap (λ t. cond t (Some NoFrame) (cond (ltb (length inputs) 36000) None (Some FullRecording)))
-    (le-ltb (length inputs) k (omega (arith, last)))
-    ∙ ap (λ t. cond t None (Some FullRecording)) (lt-ltb (length inputs) 36000 within) in
-    let after = insert_draft kept_entries k input old.session.current in
-    let is =
-    accepted_session (insert_refusal k old.session.current) (edited old.session after) new.session made free
-    in record {
-      rest = rest_at old new None rest;
-      inputs = ap (λ (s : Session Entry). s.current.inputs) is
-          ∙ ap (λ (after_it : List Input). take k inputs ++ input ∷ after_it)
-          (drop_all k inputs (omega (arith, last)) ∙ sym (drop_all (k + 1) inputs (omega (arith, last))));
-      kept = inl (ap (λ (s : Session Entry). s.current.kept) is
-          ∙ inserted_last k old.session.current.kept
-          (λ i lt. let low = is_list.true_links.within i lt in omega (arith, low, last)));
-    }
+-- ---- one input
 
 -- whether an input is the one that is there
 pub is_found : (inputs : List Input) (k : ℕ) (there input : Input) (same : Bool) → k < length inputs
@@ -145,54 +72,181 @@ rolled_all known frames old new rolled few =
     (drop_all frames old.session.current.inputs few)
     ∙ append-nil (net_inputs known frames)
 
-module _ (known : Known) (frames : ℕ) (old now : Editing) (rolled : IsRolledTo known frames old now) where
+-- ---- one frame after another
+
+-- rolled back but for a run of inputs that aren't the predicted ones, which is still to be written
+pub record IsRolling (known : Known) (frames : ℕ) (old now : Editing) (run : List Input) : Type 0 where
+  pub done : ℕ
+  pub count : done + length run ≡ frames
+  pub rolled : IsRolledTo known done old now
+  pub inputs : net_inputs known frames ≡ net_inputs known done ++ run
+  pub wrong : (k : ℕ) → done ≤ k → k < frames
+      → slice_get old.session.current.inputs k ≢ Some (net_input known k)
+
+pub rolling_none : (known : Known) (editor : Editing) → IsRolling known 0 editor editor []
+unfolding net_inputs
+rolling_none known editor = record {
+  done = 0;
+  count = refl;
+  rolled = rolled_none known editor;
+  inputs = refl;
+  wrong = λ k from below. absurd (omega (arith, below));
+}
+
+-- the list around one element
+parted_at : {A : Type 0} (xs : List A) (k : ℕ) (x : A) → slice_get xs k ≡ Some x
+    → drop k xs ≡ x ∷ drop (k + 1) xs
+parted_at [] k x is = absurd cc
+parted_at (y ∷ xs) zero x is = λ i. same_Some y x is i ∷ xs
+parted_at (y ∷ xs) (suc k) x is =
+    let next : suc (k + 1) ≡ suc k + 1 = omega arith in
+    parted_at xs k x is ∙ ap (λ n. x ∷ drop n (y ∷ xs)) next
+
+-- a further input is still as it was
+still : (known : Known) (done : ℕ) (old now : Editing) → IsRolledTo known done old now → (k : ℕ) → done ≤ k
+    → slice_get now.session.current.inputs k ≡ slice_get old.session.current.inputs k
+still known done old now rolled k past =
+    let inputs : List Input = old.session.current.inputs in
+    let net = net_inputs known done in
+    let here : k ≡ done + (k - done) = omega (arith, past) in
+    ap (λ (xs : List Input). slice_get xs k) rolled.inputs
+    ∙ sym (get_dropped (net ++ drop done inputs) done (k - done) k here)
+    ∙ ap (λ (xs : List Input). slice_get xs (k - done))
+    (drop-append-drop done inputs net done (omega arith) (net_length known done))
+    ∙ get_dropped inputs done (k - done) k here
+
+-- a frame more, whose input is right
+rolled_right : (known : Known) (frames : ℕ) (old now : Editing) → IsRolledTo known frames old now
+    → slice_get old.session.current.inputs frames ≡ Some (net_input known frames)
+    → IsRolledTo known (frames + 1) old now
+rolled_right known frames old now rolled right =
+    let inputs : List Input = old.session.current.inputs in
+    let net = net_inputs known frames in
+    let input = net_input known frames in record {
+      rest = rolled.rest;
+      inputs = rolled.inputs
+          ∙ ap (λ (xs : List Input). net ++ xs) (parted_at inputs frames input right)
+          ∙ sym (append_assoc net (input ∷ []) (drop (frames + 1) inputs))
+          ∙ ap (λ (xs : List Input). xs ++ drop (frames + 1) inputs) (sym (inputs_grow known frames));
+      kept = links_fewer (IsRight known frames inputs) (IsRight known (frames + 1) inputs)
+          old.session.current.kept now.session.current.kept (λ k is lt. is (omega (arith, lt))) rolled.kept;
+    }
+
+module _ (known : Known) (frames : ℕ) (old now : Editing) (run : List Input)
+    (rolling : IsRolling known frames old now run) where
   abbrev inputs : List Input
   inputs = old.session.current.inputs
 
-  abbrev net : List Input
-  net = net_inputs known frames
+  abbrev input : Input
+  input = net_input known frames
 
-  -- the next input is still as it was
-  still : slice_get now.session.current.inputs frames ≡ slice_get inputs frames
-  still =
-      let here : frames ≡ frames + 0 = omega arith in
-      ap (λ (xs : List Input). slice_get xs frames) rolled.inputs
-      ∙ sym (get_dropped (net ++ drop frames inputs) frames 0 frames here)
-      ∙ ap (λ (xs : List Input). slice_get xs 0)
-      (drop-append-drop frames inputs net frames (omega arith) (net_length known frames))
-      ∙ get_dropped inputs frames 0 frames here
+  -- where the run begins
+  pub run_within : (length run ≤ frames) × (frames ≤ length now.session.current.inputs + length run)
+  run_within =
+      let count = rolling.count in
+      let long = rolled_length known rolling.done old now rolling.rolled in
+      (omega (arith, count), omega (arith, count, long))
 
-  before : take frames now.session.current.inputs ≡ net
-  before =
-      let long = net_length known frames in
-      ap (take frames) rolled.inputs
-      ∙ take-append-le frames net (drop frames inputs) (omega (arith, long))
-      ∙ ap (λ n. take n net) (sym long)
-      ∙ take-length net
-
-  after : drop (frames + 1) now.session.current.inputs ≡ drop (frames + 1) inputs
-  after =
-      ap (drop (frames + 1)) rolled.inputs
-      ∙ drop-append-drop frames inputs net (frames + 1) (omega arith) (net_length known frames)
-
-  -- one frame more
-  pub rolled_more : (next : Editing) → IsPutAt frames (net_input known frames) now next
-      → IsRolledTo known (frames + 1) old next
-  rolled_more next put =
-      let input = net_input known frames in
-      let right : ℕ → Type 0 = IsRight known (frames + 1) inputs in
-      let fewer : KeepsLinks right old.session.current.kept now.session.current.kept =
-      links_fewer (IsRight known frames inputs) right old.session.current.kept now.session.current.kept
-      (λ k is lt. is (omega (arith, lt))) rolled.kept in record {
-        rest = put.rest ∙ ap (λ (e : Editing). with_session e next.session next.at) rolled.rest;
-        inputs = put.inputs
-            ∙ (λ i. before i ++ input ∷ after i)
-            ∙ sym (append_assoc net (input ∷ []) (drop (frames + 1) inputs))
-            ∙ ap (λ (xs : List Input). xs ++ drop (frames + 1) inputs) (sym (inputs_grow known frames));
-        kept = elim put.kept [
-          | inl same ↦ subst (KeepsLinks right old.session.current.kept) (sym same) fewer
-          | inr set ↦ subst (KeepsLinks right old.session.current.kept) (sym set.1)
-              (links_set right frames old.session.current.kept now.session.current.kept
-              (λ is. set.0 (still ∙ is (omega arith))) fewer)
+  -- a frame more, whose input isn't right
+  pub rolling_wrong : (more : List Input) → more ≡ run ++ input ∷ []
+      → slice_get now.session.current.inputs frames ≢ Some input
+      → IsRolling known (frames + 1) old now more
+  rolling_wrong more more_is other =
+      let count = rolling.count in
+      let past : rolling.done ≤ frames = omega (arith, count) in
+      let long = ap length more_is ∙ length-append run (input ∷ []) in record {
+        done = rolling.done;
+        count = omega (arith, count, long);
+        rolled = rolling.rolled;
+        inputs = inputs_grow known frames
+            ∙ ap (λ (xs : List Input). xs ++ input ∷ []) rolling.inputs
+            ∙ append_assoc (net_inputs known rolling.done) run (input ∷ [])
+            ∙ ap (λ (xs : List Input). net_inputs known rolling.done ++ xs) (sym more_is);
+        wrong = λ k from below right. elim (cases_lt k frames) [
+          | inl before ↦ rolling.wrong k from before right
+          | inr last ↦
+              let same : k ≡ frames = omega (arith, below, last) in
+              other (still known rolling.done old now rolling.rolled frames past
+              ∙ subst (λ j. slice_get inputs j ≡ Some (net_input known j)) same right)
         ];
       }
+
+  -- memory ran out before the run was written
+  pub partly : (all : ℕ) → frames ≤ all → IsPartlyRolled known all old now
+  partly all few =
+      let count = rolling.count in
+      record { done = rolling.done; some_of = omega (arith, count, few); rolled = rolling.rolled }
+
+-- nothing is to be written
+none_left : (known : Known) (frames : ℕ) (old now : Editing) → IsRolling known frames old now []
+    → IsRolledTo known frames old now
+none_left known frames old now rolling =
+    let count = rolling.count in
+    let all : rolling.done ≡ frames = omega (arith, count) in
+    subst (λ n. IsRolledTo known n old now) all rolling.rolled
+
+-- the run is written
+all_written : (known : Known) (frames : ℕ) (old now next : Editing) (run : List Input)
+    → IsRolling known frames old now run → next ≡ with_session now next.session None
+    → next.session.current ≡ overwrite_draft (frames - length run) run now.session.current
+    → IsRolledTo known frames old next
+all_written known frames old now next run rolling rest draft =
+    let done = rolling.done in
+    let count = rolling.count in
+    let inputs : List Input = old.session.current.inputs in
+    let now_inputs : List Input = now.session.current.inputs in
+    let net = net_inputs known done in
+    let long = net_length known done in
+    let right : ℕ → Type 0 = IsRight known frames inputs in
+    let from : frames - length run ≡ done = omega (arith, count) in
+    let is = draft ∙ ap (λ n. overwrite_draft n run now.session.current) from in
+    let front : take done now_inputs ≡ net =
+    ap (take done) rolling.rolled.inputs
+    ∙ take-append-le done net (drop done inputs) (omega (arith, long))
+    ∙ ap (λ n. take n net) (sym long)
+    ∙ take-length net in
+    let back : drop (done + length run) now_inputs ≡ drop frames inputs =
+    ap (drop (done + length run)) rolling.rolled.inputs
+    ∙ drop-append-drop done inputs net (done + length run) (omega arith) long
+    ∙ ap (λ n. drop n inputs) count in
+    let at = ap (λ (e : Editing). e.at) rest in record {
+      rest = rest ∙ ap (λ (e : Editing). with_session e next.session None) rolling.rolled.rest
+          ∙ ap (with_session old next.session) (sym at);
+      inputs = ap (λ (d : Draft Entry). d.inputs) is
+          ∙ (λ i. front i ++ (run ++ back i))
+          ∙ sym (append_assoc net run (drop frames inputs))
+          ∙ ap (λ (xs : List Input). xs ++ drop frames inputs) (sym rolling.inputs);
+      kept = subst (KeepsLinks right old.session.current.kept) (sym (ap (λ (d : Draft Entry). d.kept) is))
+          (links_between right done (done + length run) old.session.current.kept now.session.current.kept
+          (λ j from below right. rolling.wrong j from (omega (arith, below, count))
+          (right (omega (arith, below, count))))
+          (links_fewer (IsRight known done inputs) right old.session.current.kept now.session.current.kept
+          (λ k is lt. is (omega (arith, lt, count))) rolling.rolled.kept));
+    }
+
+pub run_written : (known : Known) (frames : ℕ) (old now next : Editing) (run : List Input)
+    → IsRolling known frames old now run → IsWritten (frames - length run) run now next
+    → IsRolledTo known frames old next
+run_written known frames old now next [] rolling same =
+    subst (IsRolledTo known frames old) (sym same) (none_left known frames old now rolling)
+run_written known frames old now next (input ∷ run) rolling written =
+    all_written known frames old now next (input ∷ run) rolling written.0 written.1
+
+-- and its end is a frame whose input is right
+pub rolling_right : (known : Known) (frames : ℕ) (old now next : Editing) (run left : List Input)
+    → IsRolling known frames old now run
+    → slice_get now.session.current.inputs frames ≡ Some (net_input known frames)
+    → IsWritten (frames - length run) run now next → left ≡ []
+    → IsRolling known (frames + 1) old next left
+rolling_right known frames old now next run left rolling right written left_is =
+    let count = rolling.count in
+    let past : rolling.done ≤ frames = omega (arith, count) in
+    let was = sym (still known rolling.done old now rolling.rolled frames past) ∙ right in
+    let rolled = run_written known frames old now next run rolling written in
+    subst (IsRolling known (frames + 1) old next) (sym left_is) (record {
+      done = frames + 1;
+      count = omega arith;
+      rolled = rolled_right known frames old next rolled was;
+      inputs = sym (append-nil (net_inputs known (frames + 1)));
+      wrong = λ k from below. absurd (omega (arith, from, below));
+    })

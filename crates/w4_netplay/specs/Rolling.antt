@@ -1,11 +1,11 @@
 -- What rolling back leaves of a kept list and of an editor.
-use Rattle.std.specs.Prelude.{◌≡◌, ◌≢◌, ℕ, ◌+◌, ◌<◌, ◌≤◌, ◌⊎◌, true, List, ◌∷◌, ◌++◌, take, drop, Some}
+use Rattle.std.specs.Prelude.{◌≡◌, ℕ, ◌+◌, ◌<◌, ◌≤◌, true, List, [], ◌∷◌, ◌++◌, drop, None, Some}
 use Rattle.std.specs.List.{slice_get}
 use Rattle.w4_defs.specs.declared.console.Input.{Input}
-use Rattle.w4_defs.specs.KeptList.{Entry, SamePlaces, kept_entries, place_at, state_at, linked_at}
+use Rattle.w4_defs.specs.KeptList.{Entry, SamePlaces, place_at, state_at, linked_at}
 use Rattle.w4_defs.specs.Rollback.{Known, net_input, net_inputs}
-use Rattle.w4_defs.specs.Session.{unlink_above}
 use Rattle.w4_editor.specs.Editing.{Editing, with_session}
+use Rattle.w4_editor.specs.Overwriting.{overwrite_draft}
 use Rattle.w4_netplay.specs.Replicas.{Netplay, KeepsNetplay, known_of, prediction}
 
 -- places and states are the same, and a link is kept where all inputs since the entry before were right
@@ -16,15 +16,13 @@ pub record KeepsLinks (right : ℕ → Type 0) (old new : List Entry) : Type 0 w
       → ((k : ℕ) → place_at old i ≤ k → k < place_at old (i + 1) → right k)
       → linked_at new (i + 1) ≡ true
 
--- the input is input K, which is there or follows the last; if it is another, the first entry above K is
--- unlinked
-pub record IsPutAt (k : ℕ) (input : Input) (old new : Editing) : Type 0 where
-  pub rest : new ≡ with_session old new.session new.at
-  pub inputs : new.session.current.inputs
-      ≡ take k old.session.current.inputs ++ input ∷ drop (k + 1) old.session.current.inputs
-  pub kept : (new.session.current.kept ≡ old.session.current.kept)
-      ⊎ ((slice_get old.session.current.inputs k ≢ Some input)
-      × (new.session.current.kept ≡ unlink_above kept_entries k old.session.current.kept))
+-- these are the inputs from K on, and the entries with one of them between lost their links; where there are
+-- none, nothing has changed
+abbrev pub IsWritten : ℕ → List Input → Editing → Editing → Type 0
+IsWritten k [] old new = new ≡ old
+IsWritten k (input ∷ written) old new =
+    (new ≡ with_session old new.session None)
+    × (new.session.current ≡ overwrite_draft k (input ∷ written) old.session.current)
 
 -- input K is the predicted one, if it is one of the first so many
 abbrev pub IsRight : Known → ℕ → List Input → ℕ → Type 0

@@ -5,12 +5,10 @@
 #![tactic(auto)]
 
 pub mod laws;
-mod net_order;
 mod pads;
 pub mod replica;
 mod rollback;
 
-pub use net_order::read_log;
 pub use replica::Replica;
 pub use w4_defs::NetRefusal;
-pub use w4_defs::netplay::{NetOrder, Packet};
+pub use w4_defs::netplay::Packet;

@@ -9,12 +9,10 @@ use std::alloc::{AllocError, Global};
 use std::marker::Model;
 use w4_defs::NetRefusal;
 use w4_defs::netplay::Packet;
+use w4_record::MOST_FRAMES;
 
 /// How many players there are.
 const PLAYERS: u8 = 4;
-
-/// How many frames there may be.
-pub const MOST_FRAMES: usize = 36_000;
 
 /// The bytes of the accepted packets: for each frame the four pads, each of which has a byte or none. A
 /// contract sees them as this list.
@@ -63,7 +61,7 @@ impl Pads {
     }
 
     /// Why a packet is refused.
-    pub fn refusal(&self, packet: &Packet) -> Option<NetRefusal>
+    pub fn packet_refusal(&self, packet: &Packet) -> Option<NetRefusal>
         ensures { result ≡ packet_refusal (known_in self.now) packet.now }
     {
         if packet.player >= PLAYERS {
@@ -84,7 +82,7 @@ impl Pads {
         requires { is_accepted (known_in self.old) packet.now ≡ true }
         ensures { known_in self.new ≡ learned (known_in self.old) packet.now }
     {
-        put(
+        put_known(
             &mut self.frames[packet.frame as usize],
             packet.player as usize,
             packet.pad,
@@ -107,7 +105,7 @@ impl Pads {
 }
 
 /// Puts a byte in the place of what is known of a player's pad.
-fn put(pads: &mut [Option<u8>; 4], player: usize, pad: u8)
+fn put_known(pads: &mut [Option<u8>; 4], player: usize, pad: u8)
     requires { player < 4 }
     ensures put { pads.new ≡ slice_set pads.old player (Some pad) }
     ensures four { length pads.old ≡ 4 }

@@ -19,7 +19,7 @@ ghost use Rattle.w4_netplay.specs.Replicas.{
 ghost use Rattle.w4_netplay.specs.Rolling.{IsRolled};
 ghost use Rattle.w4_defs.specs.declared.net_refusal.NetRefusal.TheVariants.{FullRecording, OutOfMemory as NoMemory};
 
-use crate::pads::{MOST_FRAMES, Pads};
+use crate::pads::Pads;
 use crate::rollback::{only_memory, roll_back};
 use std::alloc::Global;
 use std::marker::Model;
@@ -27,13 +27,10 @@ use std::sync::ledger::Ledger;
 use w4_blit::Font;
 use w4_defs::netplay::Packet;
 use w4_defs::{NetRefusal, OutOfMemory, Steps};
-use w4_editor::Editor;
+use w4_editor::{Editor, MOST_KEPT};
 use w4_map::State;
-use w4_record::Recording;
+use w4_record::{MOST_FRAMES, Recording};
 use wasm_valid::Cart;
-
-/// How many places may be kept, place 0 among them.
-const MOST_KEPT: usize = 1_024;
 
 /// One player's side of a session. A contract sees what is known of the pads, how many frames have passed,
 /// and the editor.
@@ -93,7 +90,7 @@ impl Replica {
             packet_refusal (known_of self.old) packet.now ≡ Some refusal) }
         ensures unchanged { OnErr result (self.new ≡ self.old) }
     {
-        if let Some(refusal) = self.pads.refusal(packet) {
+        if let Some(refusal) = self.pads.packet_refusal(packet) {
             return Err(refusal);
         }
         self.pads.learn(packet);

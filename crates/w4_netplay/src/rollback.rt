@@ -1,10 +1,11 @@
-//! Rolling back: an editor's inputs are brought up to those that are predicted, by an edit of each that isn't
-//! the predicted one. A kept place loses its link only where such an input stands before it.
+//! Rolling back: an editor's inputs are brought up to those that are predicted, by one edit of each run of
+//! inputs that aren't the predicted ones. A kept place loses its link only where such an input stands before
+//! it.
 
-ghost use Rattle.std.specs.Prelude.{◌≡◌, ◌≢◌, ◌<◌, ◌≤◌, ◌↔◌, IsTrue, OnErr, OnOk, Some, false, length, pos};
+ghost use Rattle.std.specs.Prelude.{◌≡◌, ◌+◌, ◌-◌, ◌≤◌, ◌↔◌, [], IsTrue, OnErr, OnOk, Some, false, length, pos};
 ghost use Rattle.std.specs.List.{slice_get};
 ghost use Rattle.w4_netplay.specs.Pads.{known_in};
-ghost use Rattle.w4_netplay.specs.Rolling.{IsPartlyRolled, IsPutAt, IsRolledTo};
+ghost use Rattle.w4_netplay.specs.Rolling.{IsPartlyRolled, IsRolledTo, IsWritten};
 
 use crate::pads::Pads;
 use std::alloc::Global;
@@ -26,12 +27,18 @@ pub fn roll_back(
     ensures err { OnErr result (IsPartlyRolled (known_in pads.now) frames editor.old editor.new) }
 {
     let mut latest = [0; 4];
+    let mut run = Vec::new(alloc);
     for frame in 0..frames {
         let predicted = pads.predict(frame, latest);
-        put(alloc, editor, frame, input_of(predicted))?;
+        let input = input_of(predicted);
+        if has_input(editor.recording(), frame, &input) {
+            write_run(alloc, editor, frame, &mut run)?;
+        } else {
+            run.push(input)?;
+        }
         latest = predicted;
     }
-    Ok(())
+    write_run(alloc, editor, frames, &mut run)
 }
 
 /// The input of these pads, and of nothing else.
@@ -48,24 +55,6 @@ fn input_of(pads: [u8; 4]) -> Input
     }
 }
 
-/// Makes an input input `k`, which is there or follows the last.
-fn put(alloc: Global, editor: &mut Editor, k: usize, input: Input) -> Result<(), OutOfMemory>
-    requires there { k ≤ length editor.old.session.current.inputs }
-    requires few { k < 36000 }
-    ensures ok { OnOk result (IsPutAt k input editor.old editor.new) }
-    ensures err { OnErr result (editor.new ≡ editor.old) }
-{
-    let recording = editor.recording();
-    if has_input(recording, k, &input) {
-        return Ok(());
-    }
-    if k < recording.frames.len() {
-        set(alloc, editor, k, input)
-    } else {
-        push(alloc, editor, k, input)
-    }
-}
-
 /// Whether an input is input `k`.
 fn has_input(recording: &Recording, k: usize, input: &Input) -> bool
     ensures { IsTrue result ↔ (slice_get recording.now.frames k ≡ Some input.now) }
@@ -76,29 +65,28 @@ fn has_input(recording: &Recording, k: usize, input: &Input) -> bool
     }
 }
 
-/// Puts an input in the place of another input `k`.
-fn set(alloc: Global, editor: &mut Editor, k: usize, input: Input) -> Result<(), OutOfMemory>
-    requires there { k < length editor.old.session.current.inputs }
-    requires other { slice_get editor.old.session.current.inputs k ≢ Some input }
-    ensures ok { OnOk result (IsPutAt k input editor.old editor.new) }
+/// Makes a run the inputs before place `end`, by one edit, and empties it. An empty run is no edit.
+fn write_run(
+    alloc: Global,
+    editor: &mut Editor,
+    end: usize,
+    run: &mut Vec<Input>,
+) -> Result<(), OutOfMemory>
+    requires start { length run.old.items ≤ end }
+    requires there { end ≤ length editor.old.session.current.inputs + length run.old.items }
+    requires few { end ≤ 36000 }
+    ensures ok { OnOk result (IsWritten (end - length run.old.items) run.old.items editor.old editor.new) }
+    ensures empty { OnOk result (run.new.items ≡ []) }
     ensures err { OnErr result (editor.new ≡ editor.old) }
 {
-    match editor.set(alloc, k, input) {
-        Ok(()) => Ok(()),
-        Err(refusal) => Err(only_memory(refusal)),
+    if run.is_empty() {
+        return Ok(());
     }
-}
-
-/// Adds an input after the last, which then is input `k`.
-fn push(alloc: Global, editor: &mut Editor, k: usize, input: Input) -> Result<(), OutOfMemory>
-    requires last { k ≡ length editor.old.session.current.inputs }
-    requires few { k < 36000 }
-    ensures ok { OnOk result (IsPutAt k input editor.old editor.new) }
-    ensures err { OnErr result (editor.new ≡ editor.old) }
-{
-    let _shown = editor.at();
-    match editor.insert(alloc, k, input) {
-        Ok(()) => Ok(()),
+    match editor.overwrite(alloc, end - run.len(), run.as_slice()) {
+        Ok(()) => {
+            run.clear();
+            Ok(())
+        }
         Err(refusal) => Err(only_memory(refusal)),
     }
 }

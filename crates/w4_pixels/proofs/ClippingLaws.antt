@@ -20,6 +20,13 @@ pub boxed_no_row : (f : Painter) (left right top bottom a b : ℕ) → bottom �
     → clipped f left right top bottom a b ≡ None
 boxed_no_row f left right top bottom a b h = grind (arith, nat_tests)
 
+-- one palette index, where one test or the other holds
+pub union : (s t : Bool) (o : Option ℕ) → option_or (only_if s o) (only_if t o) ≡ only_if (s || t) o
+union true true None = refl
+union true false None = refl
+union true t (Some n) = refl
+union false t o = refl
+
 -- two parts of a painter, of which a pixel is in one at most, are the painter in both
 either : (first second both : Bool) (o : Option ℕ) → (first && second) ≡ false → both ≡ (first || second)
     → option_or (only_if first o) (only_if second o) ≡ only_if both o
@@ -68,8 +75,8 @@ four_asked f q v a b first second third fourth e0 e1 e2 e3 = elim (cases_eq (a /
         let P : ℕ → Type 0 = λ k. one_of_four k first second third fourth ≡ f (4 * q + k) v in
         let cell : one_of_four (a % 4) first second third fourth ≡ f (4 * q + a % 4) v =
         below_four P (e0 ∙ ap (λ u. f u v) (omega arith)) e1 e2 e3 (a % 4) (omega arith) in
-        let place : 4 * q + a % 4 ≡ a = omega arith in
-        ap (only_if (a / 4 == q && b == v)) (cell ∙ ap (λ u. f u v) place ∙ ap (f a) (sym eb)))
+        let byte_is : 4 * q + a % 4 ≡ a = omega arith in
+        ap (only_if (a / 4 == q && b == v)) (cell ∙ ap (λ u. f u v) byte_is ∙ ap (f a) (sym eb)))
     | inr n ↦ away (a / 4 == q && b == v) _ _ (grind (arith, nat_tests))
   ]
   | inr n ↦ away (a / 4 == q && b == v) _ _ (grind (arith, nat_tests))

@@ -1,6 +1,8 @@
 -- What a byte with a palette index in some of its digits shows.
-use Rattle.std.proofs.Common.{append_assoc, ◌⊎◌, subst, ◌++◌, take, drop, length, replicate, ◌≡◌, ℕ, ◌+◌, ◌-◌, ◌*◌, ◌/◌, ◌%◌, ◌^◌, ◌<◌, ◌≤◌, min, Bool, true, false, ◌&&◌, cond, List, get_or, Option, Some, unwrap_or, refl, sym, ◌∙◌, ap, arith}
+use Rattle.std.proofs.Common.{append_assoc, ◌⊎◌, subst, ◌++◌, take, drop, length, replicate, ◌≡◌, ℕ, ◌+◌, ◌-◌, ◌*◌, ◌/◌, ◌%◌, ◌^◌, ◌<◌, ◌≤◌, Bool, true, false, ◌&&◌, ◌||◌, cond, List, get_or, Option, Some, unwrap_or, refl, sym, ◌∙◌, ap, inl, inr, arith}
 use Rattle.std.specs.Prelude.{ℤ, pos, int_le, ◌==◌, nat_le, nat_lt, if◌then◌else◌}
+use Rattle.std.specs.Option.{option_or}
+use Rattle.std.proofs.lemmas.Bool.{cases_eq, cases_lt}
 use Rattle.std.proofs.lemmas.Bool.Decides.{nat_tests}
 use Rattle.std.proofs.lemmas.Int.{ints}
 use Rattle.std.proofs.lemmas.List.{get_or-replicate, length-replicate, length-take, length-drop, drop-drop}
@@ -10,42 +12,37 @@ use Rattle.w4_defs.specs.Framebuffer.{painted_pixel, paint}
 use Rattle.w4_defs.specs.Shapes.{only_if, span_painter}
 use Rattle.w4_defs.proofs.PaintLaws.{paint_only}
 use Rattle.w4_defs.proofs.RegisterLaws.{spliced}
-use Rattle.w4_pixels.specs.Packed.{dot_painter, one_of_four, part_painter, quad_painter, row_painter, zero_painter}
+use Rattle.w4_pixels.specs.Clipping.{clipped}
+use Rattle.w4_pixels.proofs.ClippingLaws.{union}
+use Rattle.w4_pixels.specs.Packed.{Chooses, bytes_painter, masked_painter, dot_painter, one_of_four, quad_painter, zero_painter}
 
 chosen_index : (test : Bool) (index digit : ℕ) → index < 4 → digit < 4
     → cond test index digit ≡ unwrap_or (only_if test (Some index)) digit % 4
 chosen_index true index digit h g = omega arith
 chosen_index false index digit h g = omega arith
 
-pub part_digit : (page : List ℕ) (q first end row index low high k digit : ℕ) → first < end
-    → first < 4 * q + 4 → 4 * q < end → q < 40 → row < 160 → index < 4
-    → low ≡ first - 4 * q → high ≡ min (end - 4 * q) 4 → k < 4
-    → digit ≡ (if nat_le low k && nat_lt k high then index else get_or page (160 + (40 * row + q)) 0 / 4 ^ k
-    % 4)
-    → digit ≡ painted_pixel page (part_painter q first end row (Some index)) (4 * q + k) row
-part_digit page q first end row index low high k digit some left here hq hrow hentry el eh hk e =
-    let place : (160 * row + (4 * q + k)) / 4 ≡ 40 * row + q = omega arith in
+-- the pixels of a byte that a mask chooses
+pub mask_digit : (page : List ℕ) (q row mask index k digit : ℕ) → index < 4 → k < 4
+    → digit ≡ (if mask / 4 ^ k % 4 == 3 then index else get_or page (160 + (40 * row + q)) 0 / 4 ^ k % 4)
+    → digit ≡ painted_pixel page (masked_painter q row mask (Some index)) (4 * q + k) row
+mask_digit page q row mask index k digit hi hk e =
+    let byte_is : (160 * row + (4 * q + k)) / 4 ≡ 40 * row + q = omega arith in
     let which : (4 * q + k) % 4 ≡ k = omega arith in
-    let test : ((4 * q + k) / 4 == q && ((nat_le first (4 * q + k) && nat_lt (4 * q + k) end) && row == row))
-    ≡ (nat_le low k && nat_lt k high) = grind (arith, nat_tests) in
-    rw (place, which, test)
-    (e ∙ chosen_index (nat_le low k && nat_lt k high) index
-    (get_or page (160 + (40 * row + q)) 0 / 4 ^ k % 4) hentry (omega arith))
-
--- a byte of the span is all its own
-pub whole_digit : (k index other : ℕ) → k < 4 → index ≡ (if nat_le 0 k && nat_lt k 4 then index else other)
-whole_digit k index other h =
-    let test : (nat_le 0 k && nat_lt k 4) ≡ true = grind (arith, nat_tests) in rw test refl
+    let here : ((4 * q + k) / 4 == q) ≡ true = grind (arith, nat_tests) in
+    let line : (row == row) ≡ true = grind (arith, nat_tests) in
+    rw (byte_is, which, here, line)
+    (e ∙ chosen_index (mask / 4 ^ k % 4 == 3) index (get_or page (160 + (40 * row + q)) 0 / 4 ^ k % 4) hi
+    (omega arith))
 
 -- one pixel of a byte
 pub dot_digit : (page : List ℕ) (u v k index digit : ℕ) → u < 160 → index < 4 → k < 4
     → digit ≡ (if k == u % 4 then index else get_or page (160 + (40 * v + u / 4)) 0 / 4 ^ k % 4)
     → digit ≡ painted_pixel page (dot_painter u v (Some index)) (4 * (u / 4) + k) v
 dot_digit page u v k index digit hu hi hk e =
-    let place : (160 * v + (4 * (u / 4) + k)) / 4 ≡ 40 * v + u / 4 = omega arith in
+    let byte_is : (160 * v + (4 * (u / 4) + k)) / 4 ≡ 40 * v + u / 4 = omega arith in
     let which : (4 * (u / 4) + k) % 4 ≡ k = omega arith in
     let test : (4 * (u / 4) + k == u && v == v) ≡ (k == u % 4) = grind (arith, nat_tests) in
-    rw (place, which, test)
+    rw (byte_is, which, test)
     (e ∙ chosen_index (k == u % 4) index (get_or page (160 + (40 * v + u / 4)) 0 / 4 ^ k % 4) hi (omega
     arith))
 
@@ -55,15 +52,59 @@ pub quad_digit : (page : List ℕ) (q row k digit : ℕ) (first second third fou
     (get_or page (160 + (40 * row + q)) 0 / 4 ^ k % 4) % 4
     → digit ≡ painted_pixel page (quad_painter q row first second third fourth) (4 * q + k) row
 quad_digit page q row k digit first second third fourth hk e =
-    let place : (160 * row + (4 * q + k)) / 4 ≡ 40 * row + q = omega arith in
+    let byte_is : (160 * row + (4 * q + k)) / 4 ≡ 40 * row + q = omega arith in
     let which : (4 * q + k) % 4 ≡ k = omega arith in
     let test : ((4 * q + k) / 4 == q && row == row) ≡ true = grind (arith, nat_tests) in
-    rw (place, which, test) e
+    rw (byte_is, which, test) e
+
+-- what a mask chooses, by the columns that it is made for
+chosen : (test : Bool) → ((if test then 3 else 0) == 3) ≡ test
+chosen true = refl
+chosen false = refl
+
+mask_test : (q row mask low high u v : ℕ) → Chooses low high mask
+    → (u / 4 == q && v == row && mask / 4 ^ (u % 4) % 4 == 3)
+    ≡ (u / 4 == q && v == row && (nat_le low (u % 4) && nat_lt (u % 4) high))
+mask_test q row mask low high u v chooses =
+    rw (chooses (u % 4) (omega arith), chosen (nat_le low (u % 4) && nat_lt (u % 4) high)) refl
+
+-- a row whose columns share a byte
+pub narrow_row : (first end row mask index u v : ℕ) → first < end → first / 4 ≡ (end - 1) / 4
+    → Chooses (first % 4) (end - 4 * (first / 4)) mask
+    → masked_painter (first / 4) row mask (Some index) u v
+    ≡ clipped (λ a b. Some index) first end row (row + 1) u v
+narrow_row first end row mask index u v some narrow chooses =
+    ap (λ t. only_if t (Some index))
+    (mask_test (first / 4) row mask (first % 4) (end - 4 * (first / 4)) u v chooses
+    ∙ grind (arith, nat_tests))
+
+-- the first byte of a row, the bytes between, and the last
+pub wide_row : (first end row left right index u v : ℕ) → first / 4 < (end - 1) / 4
+    → Chooses (first % 4) 4 left → Chooses 0 (end - 4 * ((end - 1) / 4)) right
+    → option_or (masked_painter ((end - 1) / 4) row right (Some index) u v)
+    (option_or (bytes_painter (first / 4 + 1) ((end - 1) / 4) row (Some index) u v)
+    (masked_painter (first / 4) row left (Some index) u v))
+    ≡ clipped (λ a b. Some index) first end row (row + 1) u v
+wide_row first end row left right index u v wide low high =
+    let last = (end - 1) / 4 in
+    let one : Bool = u / 4 == first / 4 && v == row && (nat_le (first % 4) (u % 4) && nat_lt (u % 4) 4) in
+    let two : Bool = (nat_le (first / 4 + 1) (u / 4) && nat_lt (u / 4) last) && v == row in
+    let three : Bool = u / 4 == last && v == row && (nat_le 0 (u % 4) && nat_lt (u % 4) (end - 4 * last)) in
+    let all : (three || (two || one))
+    ≡ ((nat_le first u && nat_lt u end) && (nat_le row v && nat_lt v (row + 1))) =
+    grind (arith, nat_tests) in
+    rw (
+      mask_test (first / 4) row left (first % 4) 4 u v low,
+      mask_test last row right 0 (end - 4 * last) u v high,
+      union two one (Some index),
+      union three (two || one) (Some index),
+      all,
+    ) refl
 
 -- a span in columns of the screen is the span of the coordinates
 pub span_row : (x0 x1 y : ℤ) (first end row u v : ℕ) (index : Option ℕ)
     → nat_le first u ≡ int_le x0 (pos u) → nat_le end u ≡ int_le x1 (pos u) → y ≡ pos row
-    → row_painter first end row index u v ≡ span_painter x0 x1 y index u v
+    → clipped (λ a b. index) first end row (row + 1) u v ≡ span_painter x0 x1 y index u v
 span_row x0 x1 y first end row u v index low high line =
     ap (λ t. only_if t index) (grind (arith, ints, nat_tests))
 
@@ -80,12 +121,80 @@ zero_bytes page new len size zero same = paint_only page new zero_painter len (r
   len = size;
   bytes = λ i low high. (
       let here : get_or new (160 + (i - 160)) 0 ≡ 0 = zero (i - 160) (omega arith) in
-      let place : 160 + (i - 160) ≡ i = omega arith in
-      subst (λ (j : ℕ). get_or new j 0 < 256) place (subst (λ (b : ℕ). b < 256) (sym here) (omega arith)));
+      let byte_is : 160 + (i - 160) ≡ i = omega arith in
+      subst (λ (j : ℕ). get_or new j 0 < 256) byte_is (subst (λ (b : ℕ). b < 256) (sym here) (omega arith)));
 })
 
 mid_size : (xs : List ℕ) (a k : ℕ) → a + k ≤ length xs → length (mid_of a k xs) ≡ k
 mid_size xs a k h = simp (length-take, length-drop) (omega arith)
+
+-- bytes of a row filled in place, each with four times the palette index
+filled_digit : (page new : List ℕ) (first end row byte index x y : ℕ) → end ≤ 40 → index < 4
+    → ((k : ℕ) → k < 4 → byte / 4 ^ k % 4 ≡ index)
+    → ((j : ℕ) → j < end - first → get_or new (160 + 40 * row + first + j) 0 ≡ byte)
+    → ((i : ℕ) → (i < 160 + 40 * row + first) ⊎ (160 + 40 * row + end ≤ i) → get_or new i 0 ≡ get_or page i 0)
+    → x < 160
+    → get_or new (160 + (160 * y + x) / 4) 0 / 4 ^ (x % 4) % 4
+    ≡ painted_pixel page (bytes_painter first end row (Some index)) x y
+filled_digit page new first end row byte index x y he hi digits inside outside hx =
+    let place : 160 + (160 * y + x) / 4 ≡ 160 + 40 * y + x / 4 = omega arith in
+    let left : get_or new (160 + (160 * y + x) / 4) 0 ≡ get_or page (160 + (160 * y + x) / 4) 0
+    → ((nat_le first (x / 4) && nat_lt (x / 4) end) && y == row) ≡ false
+    → get_or new (160 + (160 * y + x) / 4) 0 / 4 ^ (x % 4) % 4
+    ≡ painted_pixel page (bytes_painter first end row (Some index)) x y =
+    λ same no. rw (same, no) (omega arith) in
+    elim (cases_eq y row) [
+      | inr n ↦ left (outside _ (grind arith)) (grind (arith, nat_tests))
+      | inl e ↦ elim (cases_lt (x / 4) first) [
+        | inl low ↦ left (outside _ (inl (omega arith))) (grind (arith, nat_tests))
+        | inr from ↦ elim (cases_lt (x / 4) end) [
+          | inr high ↦ left (outside _ (inr (omega arith))) (grind (arith, nat_tests))
+          | inl below ↦ (
+              let yes : ((nat_le first (x / 4) && nat_lt (x / 4) end) && y == row) ≡ true =
+              grind (arith, nat_tests) in
+              let here : 160 + (160 * y + x) / 4 ≡ 160 + 40 * row + first + (x / 4 - first) = omega arith in
+              let filled : get_or new (160 + (160 * y + x) / 4) 0 ≡ byte =
+              ap (λ i. get_or new i 0) here ∙ inside (x / 4 - first) (omega arith) in
+              rw (filled, digits (x % 4) (omega arith), yes) (omega arith))
+        ]
+      ]
+    ]
+
+pub bytes_filled : (page filled : List ℕ) (first end row byte index a k n : ℕ) → first ≤ end → end ≤ 40
+    → row < 160
+    → index < 4 → byte < 256 → a ≡ 160 + 40 * row + first → n ≡ 160 + 40 * row + end → a + k ≡ n
+    → length page ≡ 65536 → ((i : ℕ) → get_or page i 0 < 256)
+    → ((j : ℕ) → j < 4 → byte / 4 ^ j % 4 ≡ index)
+    → filled ≡ replicate (length (mid_of a k page)) byte
+    → put_mid a k page filled ≡ paint page (bytes_painter first end row (Some index))
+bytes_filled page filled first end row byte index a k n order he hrow hi hb ea en ek len small digits all =
+    let new = put_mid a k page filled in
+    let e : filled ≡ replicate k byte = all ∙ ap (λ m. replicate m byte) (mid_size page a k (omega arith)) in
+    let size : length filled ≡ k = ap length e ∙ length-replicate {A = ℕ} k byte in
+    let flat : put_mid a k page filled ≡ take a page ++ filled ++ drop n page =
+    ap (λ t. take a page ++ (filled ++ t)) (drop-drop k a page ∙ ap (λ j. drop j page) ek)
+    ∙ sym (append_assoc (take a page) filled (drop n page)) in
+    let parts = spliced page filled a n (omega arith) (omega arith) in
+    let inside : (j : ℕ) → j < end - first → get_or new (160 + 40 * row + first + j) 0 ≡ byte = λ j hj.
+    ap (λ i. get_or new (i + j) 0) (sym ea) ∙ ap (λ l. get_or l (a + j) 0) flat ∙ parts.1 j (omega arith)
+    ∙ ap (λ f. get_or f j 0) e ∙ get_or-replicate k j byte 0 (omega arith) in
+    let outside : (i : ℕ) → (i < 160 + 40 * row + first) ⊎ (160 + 40 * row + end ≤ i)
+    → get_or new i 0 ≡ get_or page i 0 = λ i out. ap (λ l. get_or l i 0) flat ∙ parts.2 i (grind arith) in
+    paint_only page new (bytes_painter first end row (Some index)) len (record {
+      pixels = λ x y hx hy. filled_digit page new first end row byte index x y he hi digits inside outside hx;
+      outside = λ i out. outside i (grind arith);
+      len = ap length flat ∙ parts.0;
+      bytes = λ i low high. elim (cases_lt i a) [
+        | inl below ↦ subst (λ (v : ℕ). v < 256) (sym (outside i (inl (omega arith)))) (small i)
+        | inr from ↦ elim (cases_lt i n) [
+          | inr above ↦ subst (λ (v : ℕ). v < 256) (sym (outside i (inr (omega arith)))) (small i)
+          | inl below ↦ (
+              let place : 160 + 40 * row + first + (i - a) ≡ i = omega arith in
+              subst (λ (j : ℕ). get_or new j 0 < 256) place
+              (subst (λ (v : ℕ). v < 256) (sym (inside (i - a) (omega arith))) hb))
+        ]
+      ];
+    })
 
 -- the framebuffer filled in place
 pub zero_filled : (page filled : List ℕ) (a k n : ℕ) → a ≡ 160 → k ≡ 6400 → a + k ≡ n → length page ≡ 65536

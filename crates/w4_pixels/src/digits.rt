@@ -1,6 +1,7 @@
 //! A byte of the framebuffer as its four two-bit digits, the lowest first.
 
-ghost use Rattle.std.specs.Prelude.{◌/◌, ◌%◌, ◌&&◌, ◌<◌, ◌==◌, ◌≡◌, ◌≤◌, ◌^◌, ℕ, if◌then◌else◌, nat_le, nat_lt};
+ghost use Rattle.std.specs.Prelude.{◌/◌, ◌%◌, ◌<◌, ◌==◌, ◌≡◌, ◌≤◌, ◌^◌, ℕ, if◌then◌else◌};
+ghost use Rattle.w4_pixels.specs.Packed.{Chooses, IsMask};
 
 /// The k-th digit of a byte.
 pub fn digit(byte: u8, k: u32) -> u8
@@ -17,29 +18,37 @@ pub fn with_digit(byte: u8, k: u32, index: u8) -> u8
     ensures { (j : ℕ) → j < 4
         → result / 4 ^ j % 4 ≡ (if j == k then index else byte / 4 ^ j % 4) }
 {
-    let weight = weight(k);
+    let weight = digit_weight(k);
     byte - digit(byte, k) * weight + index * weight
 }
 
 /// What the k-th digit counts.
-fn weight(k: u32) -> u8
+fn digit_weight(k: u32) -> u8
     requires { k < 4 }
     ensures { result ≡ 4 ^ k }
 {
     1 << (2 * k)
 }
 
-/// The byte with the palette index in its digits from `low` up to `high`, which is left out.
-pub fn with_part(byte: u8, low: u32, high: u32, index: u8) -> u8
-    requires { index < 4 }
-    ensures { (k : ℕ) → k < 4
-        → result / 4 ^ k % 4 ≡ (if nat_le low k && nat_lt k high then index else byte / 4 ^ k % 4) }
+/// The byte whose digits from `low` up to `high`, which is left out, are 3, and the others 0.
+pub fn span_mask(low: usize, high: usize) -> u8
+    requires low { low < 4 }
+    requires some { 1 ≤ high }
+    requires high { high ≤ 4 }
+    ensures { Chooses low high result }
 {
-    if low == 0 && high == 4 {
-        filled(index)
-    } else {
-        mixed(byte, low, high, index)
-    }
+    let (from_low, up_to_high) = (255_u8 << (2 * low as u32), 255_u8 >> (8 - 2 * high as u32));
+    from_low & up_to_high
+}
+
+/// The byte with the palette index as each digit that is 3 in the mask.
+pub fn masked(byte: u8, mask: u8, index: u8) -> u8
+    requires mask { IsMask mask }
+    requires index { index < 4 }
+    ensures { (k : ℕ) → k < 4
+        → result / 4 ^ k % 4 ≡ (if mask / 4 ^ k % 4 == 3 then index else byte / 4 ^ k % 4) }
+{
+    byte & !mask | filled(index) & mask
 }
 
 /// A byte of four times the same digit.
@@ -48,30 +57,4 @@ pub(crate) fn filled(index: u8) -> u8
     ensures { (k : ℕ) → k < 4 → result / 4 ^ k % 4 ≡ index }
 {
     85 * index
-}
-
-fn mixed(byte: u8, low: u32, high: u32, index: u8) -> u8
-    requires { index < 4 }
-    ensures { (k : ℕ) → k < 4
-        → result / 4 ^ k % 4 ≡ (if nat_le low k && nat_lt k high then index else byte / 4 ^ k % 4) }
-{
-    let first = chosen(byte, 0, low, high, index);
-    let second = chosen(byte, 1, low, high, index);
-    let third = chosen(byte, 2, low, high, index);
-    let fourth = chosen(byte, 3, low, high, index);
-    first + 4 * second + 16 * third + 64 * fourth
-}
-
-/// The palette index where `k` is from `low` up to `high`, else the byte's own digit.
-fn chosen(byte: u8, k: u32, low: u32, high: u32, index: u8) -> u8
-    requires digit { k < 4 }
-    requires index { index < 4 }
-    ensures value { result ≡ (if nat_le low k && nat_lt k high then index else byte / 4 ^ k % 4) }
-    ensures bound { result < 4 }
-{
-    if low <= k && k < high {
-        index
-    } else {
-        digit(byte, k)
-    }
 }

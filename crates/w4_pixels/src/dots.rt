@@ -7,6 +7,7 @@ ghost use Rattle.w4_pixels.specs.Clipping.{clipped};
 ghost use Rattle.w4_pixels.specs.Packed.{dot_painter};
 
 use crate::digits::{digit, with_digit};
+use crate::runs::fill;
 use w4_defs::PageBytes;
 
 /// The palette index, 0 to 3, of the pixel at column `x` and row `y`.
@@ -56,7 +57,5 @@ pub fn column(page: &mut PageBytes, u: usize, top: usize, bottom: usize, index: 
     requires index { index < 4 }
     ensures { page.new ≡ paint page.old (clipped (λ a b. Some index) u (u + 1) top bottom) }
 {
-    for v in top..bottom {
-        put_dot(page, u, v, index);
-    }
+    fill(page, u, u + 1, top, bottom, index);
 }

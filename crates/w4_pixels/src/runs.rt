@@ -1,11 +1,12 @@
 //! Runs of pixels, written by whole bytes.
 
-ghost use Rattle.std.specs.Prelude.{◌+◌, ◌*◌, ◌/◌, ◌%◌, ◌&&◌, ◌<◌, ◌≡◌, ◌≤◌, ◌^◌, ℕ, Some, if◌then◌else◌, nat_le, nat_lt};
+ghost use Rattle.std.specs.Prelude.{◌+◌, ◌-◌, ◌*◌, ◌/◌, ◌%◌, ◌<◌, ◌≡◌, ◌≤◌, Some};
 ghost use Rattle.w4_defs.specs.Framebuffer.{paint};
 ghost use Rattle.w4_defs.specs.Shapes.{span_painter};
-ghost use Rattle.w4_pixels.specs.Packed.{part_painter, row_painter, zero_painter};
+ghost use Rattle.w4_pixels.specs.Clipping.{clipped};
+ghost use Rattle.w4_pixels.specs.Packed.{Chooses, IsMask, bytes_painter, masked_painter, zero_painter};
 
-use crate::digits::{filled, with_part};
+use crate::digits::{filled, masked, span_mask};
 use crate::screen::on_screen;
 use w4_defs::PageBytes;
 
@@ -23,64 +24,111 @@ pub fn span(page: &mut PageBytes, x0: i64, x1: i64, y: i64, index: u8)
     ensures { page.new ≡ paint page.old (span_painter x0 x1 y (Some index)) }
 {
     if 0 <= y && y < 160 {
-        put_span(page, on_screen(x0), on_screen(x1), y as usize, index);
+        let row = y as usize;
+        fill(page, on_screen(x0), on_screen(x1), row, row + 1, index);
     }
 }
 
-fn put_span(page: &mut PageBytes, first: usize, end: usize, row: usize, index: u8)
-    requires end { end ≤ 160 }
-    requires row { row < 160 }
+/// Paints the columns from `first` up to `end` of the screen's rows from `top` up to `bottom`.
+pub fn fill(page: &mut PageBytes, first: usize, end: usize, top: usize, bottom: usize, index: u8)
+    requires columns { end ≤ 160 }
+    requires rows { bottom ≤ 160 }
     requires index { index < 4 }
-    ensures { page.new ≡ paint page.old (row_painter first end row (Some index)) }
+    ensures { page.new ≡ paint page.old (clipped (λ a b. Some index) first end top bottom) }
 {
     if first < end {
-        for q in first / 4..(end + 3) / 4 {
-            put_part(page, q, first, end, row, index);
+        let (left, right) = (first / 4, (end - 1) / 4);
+        if left == right {
+            let mask = span_mask(first % 4, end - 4 * left);
+            fill_narrow(page, first, end, mask, top, bottom, index);
+        } else {
+            fill_wide(page, first, end, top, bottom, index);
         }
     }
 }
 
-/// Paints those pixels of a row's span that are in the row's byte `q`.
-fn put_part(page: &mut PageBytes, q: usize, first: usize, end: usize, row: usize, index: u8)
+/// Paints rows of a box whose columns share a byte.
+fn fill_narrow(
+    page: &mut PageBytes,
+    first: usize,
+    end: usize,
+    mask: u8,
+    top: usize,
+    bottom: usize,
+    index: u8,
+)
     requires some { first < end }
-    requires left { first < 4 * q + 4 }
-    requires here { 4 * q < end }
-    requires end { end ≤ 160 }
-    requires row { row < 160 }
+    requires columns { end ≤ 160 }
+    requires narrow { first / 4 ≡ (end - 1) / 4 }
+    requires mask { Chooses (first % 4) (end - 4 * (first / 4)) mask }
+    requires rows { bottom ≤ 160 }
     requires index { index < 4 }
-    ensures { page.new ≡ paint page.old (part_painter q first end row (Some index)) }
+    ensures { page.new ≡ paint page.old (clipped (λ a b. Some index) first end top bottom) }
 {
-    if first <= 4 * q && 4 * q + 4 <= end {
-        put_whole(page, q, first, end, row, index);
-    } else {
-        put_some(page, q, first, end, row, index);
+    for row in top..bottom {
+        put_masked(page, first / 4, row, mask, index);
     }
 }
 
-/// All four of them are the span's.
-fn put_whole(page: &mut PageBytes, q: usize, first: usize, end: usize, row: usize, index: u8)
-    requires left { first ≤ 4 * q }
-    requires right { 4 * q + 4 ≤ end }
-    requires end { end ≤ 160 }
-    requires row { row < 160 }
+/// Paints rows of a box whose first and last columns are in different bytes.
+fn fill_wide(page: &mut PageBytes, first: usize, end: usize, top: usize, bottom: usize, index: u8)
+    requires columns { end ≤ 160 }
+    requires wide { first / 4 < (end - 1) / 4 }
+    requires rows { bottom ≤ 160 }
     requires index { index < 4 }
-    ensures { page.new ≡ paint page.old (part_painter q first end row (Some index)) }
+    ensures { page.new ≡ paint page.old (clipped (λ a b. Some index) first end top bottom) }
 {
-    let at = 160 + (40 * row + q);
-    page[at] = filled(index);
+    let left = span_mask(first % 4, 4);
+    let right = span_mask(0, end - 4 * ((end - 1) / 4));
+    for row in top..bottom {
+        put_row(page, first, end, left, right, row, index);
+    }
 }
 
-fn put_some(page: &mut PageBytes, q: usize, first: usize, end: usize, row: usize, index: u8)
-    requires some { first < end }
-    requires left { first < 4 * q + 4 }
-    requires here { 4 * q < end }
-    requires end { end ≤ 160 }
+/// Paints a row's columns from `first` up to `end` by the masks of their first and last bytes.
+fn put_row(
+    page: &mut PageBytes,
+    first: usize,
+    end: usize,
+    left: u8,
+    right: u8,
+    row: usize,
+    index: u8,
+)
+    requires columns { end ≤ 160 }
+    requires wide { first / 4 < (end - 1) / 4 }
+    requires left { Chooses (first % 4) 4 left }
+    requires right { Chooses 0 (end - 4 * ((end - 1) / 4)) right }
     requires row { row < 160 }
     requires index { index < 4 }
-    ensures { page.new ≡ paint page.old (part_painter q first end row (Some index)) }
+    ensures { page.new ≡ paint page.old (clipped (λ a b. Some index) first end row (row + 1)) }
 {
-    let low = first.saturating_sub(4 * q) as u32;
-    let high = (end - 4 * q).min(4) as u32;
+    let last = (end - 1) / 4;
+    put_masked(page, first / 4, row, left, index);
+    put_whole(page, first / 4 + 1, last, row, index);
+    put_masked(page, last, row, right, index);
+}
+
+/// Paints all pixels of a row's bytes from `first` up to `end`.
+fn put_whole(page: &mut PageBytes, first: usize, end: usize, row: usize, index: u8)
+    requires order { first ≤ end }
+    requires end { end ≤ 40 }
+    requires row { row < 160 }
+    requires index { index < 4 }
+    ensures { page.new ≡ paint page.old (bytes_painter first end row (Some index)) }
+{
+    let start = 160 + 40 * row;
+    page[start + first..start + end].fill(filled(index));
+}
+
+/// Paints those pixels of a row's byte `q` that the mask chooses.
+fn put_masked(page: &mut PageBytes, q: usize, row: usize, mask: u8, index: u8)
+    requires column { q < 40 }
+    requires row { row < 160 }
+    requires mask { IsMask mask }
+    requires index { index < 4 }
+    ensures { page.new ≡ paint page.old (masked_painter q row mask (Some index)) }
+{
     let at = 160 + (40 * row + q);
-    page[at] = with_part(page[at], low, high, index);
+    page[at] = masked(page[at], mask, index);
 }

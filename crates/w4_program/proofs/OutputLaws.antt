@@ -118,39 +118,42 @@ judged_once unique (Ok bytes) (Err (ScriptRefused kind)) other one two = absurd 
 judged_once unique (Ok bytes) (Err (FrameRefused number n)) other one two = absurd one
 judged_once unique (Ok bytes) (Err (ListRefused kind)) other one two = absurd one
 
-there_once : (found : Option (Result Output Status)) (made other : Result Output Status) → found ≡ Some made
-    → found ≡ Some other → made ≡ other
-there_once found made other one two = cc
+there_once : (found : Option (Result Output Status)) (output other : Result Output Status) → found
+    ≡ Some output
+    → found ≡ Some other → output ≡ other
+there_once found output other one two = cc
 
-alone_once : (form : Form) (files : Files) (made other : Result Output Status)
-    → OutputsAlone form files made → OutputsAlone form files other → made ≡ other
-alone_once (Make number) files made other one two = there_once (make_output number files) made other one two
-alone_once (Check cart) files made other one two = absurd one
-alone_once (Blank cart budget) files made other one two = absurd one
-alone_once (Net words) files made other one two = absurd one
-alone_once (Ram words query) files made other one two = absurd one
-alone_once (Wave words) files made other one two = absurd one
-alone_once (Batch words) files made other one two = absurd one
-alone_once (Frames words from to) files made other one two = absurd one
-alone_once (Tones words) files made other one two = absurd one
-alone_once (Trace words) files made other one two = absurd one
-alone_once (Disk words place) files made other one two = absurd one
-alone_once (Edit words) files made other one two = absurd one
+alone_once : (form : Form) (files : Files) (output other : Result Output Status)
+    → OutputsAlone form files output → OutputsAlone form files other → output ≡ other
+alone_once (Make number) files output other one two = there_once (make_output number files) output other one
+    two
+alone_once (Check cart) files output other one two = absurd one
+alone_once (Blank cart budget) files output other one two = absurd one
+alone_once (Net words) files output other one two = absurd one
+alone_once (Ram words query) files output other one two = absurd one
+alone_once (Wave words) files output other one two = absurd one
+alone_once (Batch words) files output other one two = absurd one
+alone_once (Frames words from to) files output other one two = absurd one
+alone_once (Tones words) files output other one two = absurd one
+alone_once (Trace words) files output other one two = absurd one
+alone_once (Disk words place) files output other one two = absurd one
+alone_once (Edit words) files output other one two = absurd one
 
 over_once : AtMostOneModule → (word : Option (List ℕ)) (form : Form) (files : Files)
-    (made other : Result Output Status)
-    → OverFile word form files made → OverFile word form files other → made ≡ other
-over_once unique None form files made other one two = alone_once form files made other one two
-over_once unique (Some name) form files made other (cart, judged, e) (again, rejudged, d) =
-    there_once (over_cart (output_of form) files again) made other
-    (subst (λ c. over_cart (output_of form) files c ≡ Some made)
+    (output other : Result Output Status)
+    → OverFile word form files output → OverFile word form files other → output ≡ other
+over_once unique None form files output other one two = alone_once form files output other one two
+over_once unique (Some name) form files output other (cart, judged, e) (again, rejudged, d) =
+    there_once (over_cart (output_of form) files again) output other
+    (subst (λ c. over_cart (output_of form) files c ≡ Some output)
     (judged_once unique (reading files name 65537) cart again judged rejudged) e) d
 
-form_once : AtMostOneModule → (form : Option Form) (files : Files) (made other : Result Output Status)
-    → OutputsForm form files made → OutputsForm form files other → made ≡ other
-form_once unique None files made other one two = one ∙ sym two
-form_once unique (Some form) files made other one two =
-    over_once unique (cart_word form) form files made other one two
+form_once : AtMostOneModule → (form : Option Form) (files : Files) (output other : Result Output Status)
+    → OutputsForm form files output → OutputsForm form files other → output ≡ other
+form_once unique None files output other one two = one ∙ sym two
+form_once unique (Some form) files output other one two =
+    over_once unique (cart_word form) form files output other one two
 
 pub one_output : AtMostOneModule → AtMostOneOutput
-one_output unique words files made other one two = form_once unique (form_of words) files made other one two
+one_output unique words files output other one two = form_once unique (form_of words) files output other one
+    two

@@ -1,17 +1,17 @@
 -- How the whole ended is so after the report of its status, too.
 use Rattle.std.proofs.Common.{◌≡◌, ◌≢◌, ◌⊎◌, ℕ, inl, inr, List, Result, sym, subst, ◌∙◌}
 use Rattle.std.specs.Prelude.{⊤}
-use Rattle.w4_defs.specs.World.{Files, World, Rises, Appends, AppendsFront, LeavesReporting}
+use Rattle.w4_defs.specs.World.{Files, World, Rises, AppendsFront, LeavesReporting}
 use Rattle.w4_defs.specs.declared.status.Status.{Status}
 use Rattle.w4_defs.specs.declared.status.Status.TheVariants as status
 use Rattle.w4_defs.specs.Endings.{Manner, AllWritten, NoCommand, ReadFailed, WriteFailed, MemoryRefused, Refused, manner_of}
 use Rattle.w4_defs.specs.Output.{Output}
 use Rattle.w4_defs.specs.StatusLines.{status_line}
-use Rattle.w4_defs.specs.Causes.{ReadFails, LeavesErr, LeavesOutputs, OpensFile, Writes, WritesPart, Ends, IsCutShort}
+use Rattle.w4_defs.specs.Causes.{ReadFails, LeavesErr, LeavesOutputs, Writes, WritesPart, Ends, IsCutShort}
 
-writes_reported : (old mid new : World) (made : Output) → LeavesReporting mid new → Writes old mid made
-    → Writes old new made
-writes_reported old mid new made leaves h =
+writes_reported : (old mid new : World) (output : Output) → LeavesReporting mid new → Writes old mid output
+    → Writes old new output
+writes_reported old mid new output leaves h =
     ((λ before texts. leaves.out ∙ h.0 before texts), leaves.files ∙ h.1)
 
 untouched_reported : (old mid new : World) → LeavesReporting mid new → LeavesOutputs old mid
@@ -23,14 +23,11 @@ front_reported : (old mid new : World) (bytes : List ℕ) → LeavesReporting mi
 front_reported old mid new bytes leaves front =
     subst (λ out. AppendsFront old.out out bytes) (sym leaves.out) front
 
-part_reported : (old mid new : World) (made : Output) → LeavesReporting mid new → WritesPart old mid made
-    → WritesPart old new made
-part_reported old mid new made leaves (inl (front, same)) =
-    inl (front_reported old mid new made.out leaves front, leaves.files ∙ same)
-part_reported old mid new made leaves (inr (written, opens)) = inr (
-  subst (λ out. Appends old.out out made.out) (sym leaves.out) written,
-  subst (λ files. OpensFile old.files files made.file) (sym leaves.files) opens,
-)
+part_reported : (old mid new : World) (output : Output) → LeavesReporting mid new → WritesPart old mid output
+    → WritesPart old new output
+part_reported old mid new output leaves (inl (front, same)) =
+    inl (front_reported old mid new output.out leaves front, leaves.files ∙ same)
+part_reported old mid new output leaves (inr all) = inr (writes_reported old mid new output leaves all)
 
 read_fails_reported : (old mid new : World) (step : Files → Result Output Status → Type 0)
     → LeavesReporting mid new → ReadFails old mid step → ReadFails old new step
@@ -41,22 +38,22 @@ read_fails_reported old mid new step leaves (inr absent) = inr absent
 pub ends_kept : (old mid new : World) (why : Manner) (step : Files → Result Output Status → Type 0)
     → LeavesReporting mid new → Ends old mid why step → Ends old new why step
 ends_kept old mid new AllWritten step leaves h =
-    λ files texts. let made = h files texts in
-    (made.0, made.1, writes_reported old mid new made.0 leaves made.2)
+    λ files texts. let output = h files texts in
+    (output.0, output.1, writes_reported old mid new output.0 leaves output.2)
 ends_kept old mid new NoCommand step leaves h = (h.0, untouched_reported old mid new leaves h.1)
 ends_kept old mid new ReadFailed step leaves h =
     (read_fails_reported old mid new step leaves h.0, untouched_reported old mid new leaves h.1)
 ends_kept old mid new WriteFailed step leaves h = (
   subst (λ n. Rises old.write_faults n) (sym leaves.writes) h.0,
-  λ files texts. let made = h.1 files texts in
-      (made.0, made.1, part_reported old mid new made.0 leaves made.2),
+  λ files texts. let output = h.1 files texts in
+      (output.0, output.1, part_reported old mid new output.0 leaves output.2),
 )
 ends_kept old mid new MemoryRefused step leaves (same, inl untold) =
     (leaves.files ∙ same, inl (leaves.out ∙ untold))
 ends_kept old mid new MemoryRefused step leaves (same, inr told) = (
   leaves.files ∙ same,
-  inr (λ files texts. let made = told files texts in
-      (made.0, made.1, front_reported old mid new made.0.out leaves made.2)),
+  inr (λ files texts. let output = told files texts in
+      (output.0, output.1, front_reported old mid new output.0.out leaves output.2)),
 )
 ends_kept old mid new (Refused refusal) step leaves h = (h.0, untouched_reported old mid new leaves h.1)
 

@@ -17,16 +17,16 @@ pub appends_when_done : (old new : World) (result : Status) (step : Files → Re
     (Means : Files → Type 0)
     → EndsBut old new (manner_of result) step → ((files : Files) → Means files) → result ≡ status.Done
     → ForSome old.files
-    (λ files. (made : Output) × step files (Ok made) × Appends old.out new.out made.out
-    × (new.files ≡ Some made.files) × Means files)
+    (λ files. (output : Output) × step files (Ok output) × Appends old.out new.out output.out
+    × (new.files ≡ Some output.files) × Means files)
 appends_when_done old new result step Means h means e = λ files texts.
-    let made = subst (λ s. EndsBut old new (manner_of s) step) e h files texts in
-    (made.0, made.1, made.2.0, made.2.1, means files)
+    let output = subst (λ s. EndsBut old new (manner_of s) step) e h files texts in
+    (output.0, output.1, output.2.0, output.2.1, means files)
 
 pub write_fault : (old new : World) (result : Status) (step : Files → Result Output Status → Type 0)
     → EndsBut old new (manner_of result) step → result ≡ status.WriteFault
     → Rises old.write_faults new.write_faults
-    × ForSome old.files (λ files. (made : Output) × step files (Ok made) × WritesPart old new made)
+    × ForSome old.files (λ files. (output : Output) × step files (Ok output) × WritesPart old new output)
 write_fault old new result step h e = subst (λ s. EndsBut old new (manner_of s) step) e h
 
 pub read_fault : (old new : World) (result : Status) (step : Files → Result Output Status → Type 0)
@@ -102,7 +102,7 @@ pub exact : (old new : World) (result : Status) (step : Files → Result Output 
     → ForSome old.files
     (λ files. NoFault old new → IsExact result (step files))
 exact old new status.Done step h =
-    λ files texts well. let made = h files texts in inr (Ok made.0, made.1, refl)
+    λ files texts well. let output = h files texts in inr (Ok output.0, output.1, refl)
 exact old new status.Usage step h = λ files texts well. inr (Err status.Usage, h.0 files texts, refl)
 exact old new (status.CartRefused kind) step h =
     λ files texts well. inr (Err (status.CartRefused kind), h.0 files texts, refl)

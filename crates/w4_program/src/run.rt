@@ -12,7 +12,7 @@ ghost use Rattle.w4_defs.specs.World.{AppendsFront, LeavesReporting};
 
 use std::alloc::Global;
 use std::thread::Threads;
-use w4_commands::line::line;
+use w4_commands::status_line::status_line;
 use w4_commands::{Status, form_of_words, run_form};
 use w4_console::laws::accepted_runs_have_meaning;
 use w4_defs::output_laws::complete_is_done;
@@ -64,7 +64,7 @@ fn obey<R: Threads + Sync, H: House, G: Gate + Sync>(
     gate: &G,
 ) -> Status
     ensures ends { Ends (H.world house.old) (H.world house.new) (manner_of result)
-        (λ files made. Outputs (map string_bytes words.now) files made) }
+        (λ files output. Outputs (map string_bytes words.now) files output) }
     ensures usage { result ≡ Status.Usage → form_of (map string_bytes words.now) ≡ None }
     ensures no_form { form_of (map string_bytes words.now) ≡ None → result ≡ Status.Usage }
     ensures err { LeavesErr (H.world house.old) (H.world house.new) }
@@ -87,7 +87,7 @@ pub(crate) fn report<H: House>(alloc: Global, house: &mut H, status: Status) -> 
     if status == Status::Done {
         return status;
     }
-    let Ok(line) = line(alloc, status) else {
+    let Ok(line) = status_line(alloc, status) else {
         return Status::OutOfMemory;
     };
     match house.write_err(alloc, line.as_slice()) {

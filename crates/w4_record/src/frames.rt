@@ -19,7 +19,7 @@ pub enum Version {
 
 impl Version {
     /// The version of a file with this heading.
-    pub fn of(heading: &[u8]) -> Option<Version>
+    pub fn of_heading(heading: &[u8]) -> Option<Version>
         ensures { option_map version_number result ≡ version_of heading.now }
     {
         if heading == b"W4RC\x01".as_slice() {

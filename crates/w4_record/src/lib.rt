@@ -15,7 +15,7 @@ mod tests;
 pub mod writing;
 
 pub use digest::digest_of;
-pub use reading::read_recording;
-pub use recording::Recording;
+pub use reading::{MOST_BYTES, read_recording};
+pub use recording::{MOST_FRAMES, Recording};
 pub use refusal::RecordingRefusal;
 pub use writing::write_recording;

@@ -6,9 +6,13 @@ ghost use Rattle.w4_record.specs.Parts.{recording_from};
 
 use crate::fields::{front, u16_at, u32_at};
 use crate::frames::{Version, are_frames, frames_of};
-use crate::recording::Recording;
+use crate::recording::{MOST_DISK_BYTES, MOST_FRAMES, Recording};
 use crate::refusal::RecordingRefusal;
 use std::alloc::Global;
+
+/// The greatest length of a recording's file, in bytes: 47 of its heading, digest, budget and counts, a whole
+/// disk, and 10 for each of the most frames.
+pub const MOST_BYTES: usize = 47 + MOST_DISK_BYTES + 10 * MOST_FRAMES;
 
 /// The parts of a recording's bytes, with the frames as bytes.
 #[derive(Drop)]
@@ -28,13 +32,13 @@ fn parts_of(bytes: &[u8]) -> Option<Parts<'_>>
     ensures digest { IfSome result (λ parts. length parts.digest.now ≡ 32) }
 {
     let (heading, rest) = front(bytes, 5)?;
-    let version = Version::of(heading)?;
+    let version = Version::of_heading(heading)?;
     let (digest, rest) = front(rest, 32)?;
     let (budget, rest) = u32_at(rest)?;
     let (size, rest) = u16_at(rest)?;
     let (disk, rest) = front(rest, size as usize)?;
     let (count, frames) = u32_at(rest)?;
-    if 1 <= budget && size <= 1024 && count <= 36_000 {
+    if 1 <= budget && size as usize <= MOST_DISK_BYTES && count as usize <= MOST_FRAMES {
         Some(Parts {
             version,
             digest,

@@ -7,6 +7,12 @@ use std::marker::Model;
 use std::mem;
 use w4_defs::Input;
 
+/// How many bytes a disk has at most, as in WASM-4.
+pub const MOST_DISK_BYTES: usize = 1_024;
+
+/// How many frames a recording has at most: ten minutes of 60 a second.
+pub const MOST_FRAMES: usize = 36_000;
+
 /// What a run is given. Contracts see it as the record of w4_defs, and its limits hold of every value.
 #[derive(Drop)]
 pub struct Recording {

@@ -3,3 +3,4 @@ mod PieceLaws
 mod LineLaws
 mod OrderLaws
 mod NameLaws
+mod RequestLaws

@@ -1,7 +1,7 @@
 -- The first line of a text, which is skipped or not, and the lines after it.
-use Rattle.std.proofs.Common.{◌≡◌, ℕ, ◌+◌, true, false, List, [], ◌∷◌, length, refl, sym, ap, ◌∙◌}
+use Rattle.std.proofs.Common.{◌≡◌, ℕ, ◌+◌, true, false, List, [], ◌∷◌, length, refl}
 use Rattle.std.proofs.lemmas.List.{nil_from_length}
-use Rattle.w4_defs.specs.Lines.{Line, is_skipped, lines_from, pieces, words_of}
+use Rattle.w4_defs.specs.Lines.{is_skipped, lines_from, pieces, words_of}
 
 pub line_before : (number : ℕ) (bytes line rest : List ℕ) (words : List (List ℕ))
     → pieces 10 bytes ≡ line ∷ pieces 10 rest → words ≡ words_of line → is_skipped words ≡ false

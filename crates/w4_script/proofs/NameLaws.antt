@@ -1,13 +1,14 @@
 -- Lists of names: their first line, which is empty or not, the names that are read one after another, and the
 -- worked cases.
-use Rattle.std.proofs.Common.{◌≡◌, ◌≤◌, ◌<◌, ℕ, ◌+◌, ltb, leb, true, false, Bool, List, [], ◌∷◌, ◌++◌, length, map, codes, string_bytes, String, Global, Option, Some, None, Result, Ok, Err, refl, sym, ap, ◌∙◌}
+use Rattle.std.proofs.Common.{◌≡◌, ◌≤◌, ◌<◌, ℕ, ◌+◌, ltb, true, false, Bool, List, [], ◌∷◌, ◌++◌, length, map, codes, string_bytes, String, Global, Some, None, Result, Ok, Err, refl, sym, ap, ◌∙◌}
 use Rattle.std.specs.Io.BufRead.{strip_last}
 use Rattle.std.specs.Str.{IsUtf8, is_utf8}
 use Rattle.std.proofs.lemmas.Bool.{le-leb, lt-ltb}
 use Rattle.std.proofs.lemmas.List.{nil_from_length, append-nil, map-append, length-append}
 use Rattle.std.proofs.lemmas.Str.{IsUtf8-from_is_utf8, is_utf8-from_IsUtf8}
 use Rattle.w4_defs.specs.Lines.{pieces}
-use Rattle.w4_defs.specs.OrderFile.{ScriptFault, BadLine, with_order}
+use Rattle.w4_defs.specs.declared.status.ScriptKind.{ScriptKind}
+use Rattle.w4_defs.specs.declared.status.ScriptKind.TheVariants.{BadLine}
 use Rattle.w4_defs.specs.NameLists.{NameLine, NameListCases, name_after, name_lines, name_lines_from, names_after, names_of}
 use Rattle.w4_script.proofs.OrderLaws.{with_orders, regroup_orders}
 
@@ -51,7 +52,7 @@ isnt_a_name count line few short wrong =
 
 -- one more line, which is a name
 pub one_name : (count : ℕ) (before : List (List ℕ)) (all left : List NameLine) (line : NameLine)
-    (name : List ℕ) (whole : Result (List (List ℕ)) ScriptFault)
+    (name : List ℕ) (whole : Result (List (List ℕ)) ScriptKind)
     → all ≡ line ∷ left → name_after count line.name ≡ Some name
     → with_orders before (names_after count all) ≡ whole
     → with_orders (before ++ name ∷ []) (names_after (count + 1) left) ≡ whole
@@ -64,7 +65,7 @@ one_name count before all left line name whole first read so_far =
 
 -- and its name is put after those before
 pub one_more_name : (before : List (String Global)) (owned : String Global) (name : List ℕ)
-    (all left : List NameLine) (line : NameLine) (whole : Result (List (List ℕ)) ScriptFault)
+    (all left : List NameLine) (line : NameLine) (whole : Result (List (List ℕ)) ScriptKind)
     → string_bytes owned ≡ name → all ≡ line ∷ left → name_after (length before) line.name ≡ Some name
     → with_orders (map string_bytes before) (names_after (length before) all) ≡ whole
     → with_orders (map string_bytes (before ++ owned ∷ []))
@@ -75,7 +76,7 @@ one_more_name before owned name all left line whole same first read so_far =
 
 -- a bad line
 pub bad_name : (count : ℕ) (before : List (List ℕ)) (all left : List NameLine) (line : NameLine)
-    (whole : Result (List (List ℕ)) ScriptFault)
+    (whole : Result (List (List ℕ)) ScriptKind)
     → all ≡ line ∷ left → name_after count line.name ≡ None
     → with_orders before (names_after count all) ≡ whole → whole ≡ Err (BadLine line.number)
 unfolding names_after
@@ -85,7 +86,7 @@ bad_name count before all left line whole first bad so_far =
 
 -- no line is left
 pub no_name : (count : ℕ) (before : List (List ℕ)) (all : List NameLine)
-    (whole : Result (List (List ℕ)) ScriptFault)
+    (whole : Result (List (List ℕ)) ScriptKind)
     → all ≡ [] → with_orders before (names_after count all) ≡ whole → whole ≡ Ok before
 unfolding names_after
 no_name count before all whole none so_far =

@@ -1,17 +1,19 @@
 -- Orders that are read line by line.
-use Rattle.std.proofs.Common.{◌≡◌, ℕ, List, [], ◌∷◌, ◌++◌, Option, Some, None, Result, Ok, Err, refl, sym, ap, ◌∙◌, append_assoc}
+use Rattle.std.proofs.Common.{◌≡◌, ℕ, List, [], ◌∷◌, ◌++◌, Some, None, Result, Ok, Err, refl, sym, ap, ◌∙◌, append_assoc}
 use Rattle.std.proofs.lemmas.List.{append-nil}
 use Rattle.w4_defs.specs.Lines.{Line}
-use Rattle.w4_defs.specs.OrderFile.{ScriptFault, BadLine, OrderReader, orders_in, with_order}
+use Rattle.w4_defs.specs.OrderFile.{OrderReader, orders_in, with_order}
+use Rattle.w4_defs.specs.declared.status.ScriptKind.{ScriptKind}
+use Rattle.w4_defs.specs.declared.status.ScriptKind.TheVariants.{BadLine}
 
 -- the orders that were read before, and what those of the lines that are left come to
-abbrev pub with_orders : {Order : Type 0} → List Order → Result (List Order) ScriptFault
-    → Result (List Order) ScriptFault
+abbrev pub with_orders : {Order : Type 0} → List Order → Result (List Order) ScriptKind
+    → Result (List Order) ScriptKind
 with_orders before (Ok orders) = Ok (before ++ orders)
 with_orders before (Err fault) = Err fault
 
 pub regroup_orders : {Order : Type 0} (before : List Order) (number : ℕ) (order : Order)
-    (more : Result (List Order) ScriptFault)
+    (more : Result (List Order) ScriptKind)
     → with_orders before (with_order number (Some order) more) ≡ with_orders (before ++ order ∷ []) more
 regroup_orders before number order (Ok more) =
     ap (λ orders. Ok orders) (sym (append_assoc before (order ∷ []) more))
@@ -20,7 +22,7 @@ regroup_orders before number order (Err fault) = refl
 -- one more line, whose order is read
 pub one_order : {Order : Type 0} (order_of : OrderReader Order) (before : List Order) (all left : List Line)
     (line : Line) (order : Order)
-    (whole : Result (List Order) ScriptFault) → all ≡ line ∷ left → order_of line.words ≡ Some order
+    (whole : Result (List Order) ScriptKind) → all ≡ line ∷ left → order_of line.words ≡ Some order
     → with_orders before (orders_in order_of all) ≡ whole
     → with_orders (before ++ order ∷ []) (orders_in order_of left) ≡ whole
 unfolding orders_in
@@ -33,7 +35,7 @@ one_order order_of before all left line order whole first read so_far =
 -- a bad line
 pub bad_line : {Order : Type 0} (order_of : OrderReader Order) (before : List Order) (all left : List Line)
     (line : Line)
-    (whole : Result (List Order) ScriptFault) → all ≡ line ∷ left → order_of line.words ≡ None
+    (whole : Result (List Order) ScriptKind) → all ≡ line ∷ left → order_of line.words ≡ None
     → with_orders before (orders_in order_of all) ≡ whole → whole ≡ Err (BadLine line.number)
 unfolding orders_in
 bad_line order_of before all left line whole first bad so_far =
@@ -43,7 +45,7 @@ bad_line order_of before all left line whole first bad so_far =
 
 -- no line is left
 pub no_line : {Order : Type 0} (order_of : OrderReader Order) (before : List Order) (all : List Line)
-    (whole : Result (List Order) ScriptFault) → all ≡ []
+    (whole : Result (List Order) ScriptKind) → all ≡ []
     → with_orders before (orders_in order_of all) ≡ whole → whole ≡ Ok before
 unfolding orders_in
 no_line order_of before all whole none so_far =

@@ -1,17 +1,19 @@
-//! Texts of lines (project rule): edit scripts, and the lines, words and numbers that lists, logs and queries
-//! share with them. The layers above rely on this: what is read is what the definitions in w4_defs say of
-//! the bytes, and a refusal names the first bad line.
+//! Texts of lines (project rule): edit scripts, logs of netplay, queries of memory and lists of names. The
+//! layers above rely on this: what is read is what the definitions in w4_defs say of the bytes, and a refusal
+//! names the first bad line.
 #![tactic(auto)]
 
 mod frame;
 mod lines;
 mod name_lines;
 mod names;
-pub mod number;
+mod net_log;
+mod number;
 mod order;
 mod order_file;
-pub mod order_words;
+mod order_words;
 mod pieces;
+mod query;
 mod reading;
 mod refusal;
 mod script;
@@ -19,13 +21,14 @@ mod script_words;
 mod words;
 
 pub use lines::{Line, script_lines};
-pub use names::read_names;
+pub use names::{MOST_LIST_BYTES, read_names};
+pub use net_log::read_log;
 pub use number::number_of;
-pub use order_file::{LineOrder, read_orders};
+pub use order_file::MOST_BYTES;
+pub use query::read_query;
 pub use refusal::ScriptRefusal;
 pub use script::read_script;
 pub use w4_defs::Order;
-pub use words::Words;
 
 #[cfg(test)]
 mod tests;

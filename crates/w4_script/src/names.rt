@@ -9,8 +9,8 @@ use crate::refusal::ScriptRefusal;
 use std::alloc::Global;
 use std::str;
 
-/// The greatest length of a list, in bytes.
-const MOST_BYTES: usize = 65_536;
+/// The greatest length of a list, in bytes: 256 lines of at most 255 bytes and their end.
+pub const MOST_LIST_BYTES: usize = 65_536;
 
 /// How many names a list has at most.
 const MOST_NAMES: usize = 256;
@@ -39,7 +39,7 @@ pub fn read_names(alloc: Global, bytes: &[u8]) -> Result<Vec<String>, ScriptRefu
     ensures names { IfOk result (λ names. names_of bytes.now ≡ Ok (map string_bytes names.items)) }
     ensures refused { IfErr result (λ refusal. Refuses refusal (names_of bytes.now)) }
 {
-    if bytes.len() > MOST_BYTES {
+    if bytes.len() > MOST_LIST_BYTES {
         return Err(ScriptRefusal::TooLong);
     }
     let mut names = Vec::new(alloc);

@@ -10,8 +10,8 @@ use crate::refusal::ScriptRefusal;
 use crate::words::Words;
 use std::alloc::Global;
 
-/// The greatest length of a file of orders, in bytes.
-const MOST_BYTES: usize = 1_048_576;
+/// The greatest length of a script, a log or a query, in bytes: 1 MiB.
+pub const MOST_BYTES: usize = 1_048_576;
 
 /// A kind of order, which is read from the words of a line.
 pub trait LineOrder: Sized + Drop {

@@ -1,7 +1,8 @@
 //! The words after the names of a script's orders on places: a number within bounds, two places, a film.
 
 ghost use Rattle.std.specs.Prelude.{◌≡◌, ℕ, option_map};
-ghost use Rattle.w4_defs.specs.Script.{film_order, number_order, range_order};
+ghost use Rattle.w4_defs.specs.OrderWords.{range_order};
+ghost use Rattle.w4_defs.specs.Script.{film_order, number_order};
 ghost use Rattle.w4_defs.specs.declared.order.Order.{Order};
 ghost use Rattle.w4_script.specs.Left.{words_left};
 

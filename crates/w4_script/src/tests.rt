@@ -1,10 +1,15 @@
 //! What no clause says: that the clauses mean the rule on lines, words, numbers and orders, and that each
 //! call that takes memory gives its answer where there is ample memory.
 
-use crate::{Line, Order, ScriptRefusal, number_of, read_names, read_script, script_lines};
+use crate::{
+    Line, Order, ScriptRefusal, number_of, read_log, read_names, read_query, read_script,
+    script_lines,
+};
 use std::test::Fail;
 use std::vec::Vec;
 use w4_defs::Input;
+use w4_defs::inspect::{Ask, Test};
+use w4_defs::netplay::{NetOrder, Packet};
 
 /// Whether a line has this number and these words.
 fn says(line: &Line, number: u32, words: &[&[u8]]) -> bool {
@@ -118,6 +123,59 @@ fn orders_on_places_are_read(rt: HostRuntime) -> Result<(), Fail> {
             .as_slice(),
         "answers"
     );
+    Ok(())
+}
+
+#[test]
+fn a_log_is_read(rt: HostRuntime) -> Result<(), Fail> {
+    let orders = read_log(
+        rt.alloc(),
+        b"pad 0 1 228\nnext\n# next\nkeep 1\nshow 2\nstate 2",
+    )?;
+    assert!(rt;
+        orders.as_slice()
+            == [
+                NetOrder::Pad {
+                    packet: Packet {
+                        player: 0,
+                        frame: 1,
+                        pad: 228
+                    }
+                },
+                NetOrder::Next,
+                NetOrder::Keep { p: 1 },
+                NetOrder::Show { p: 2 },
+                NetOrder::StateAt { p: 2 },
+            ]
+            .as_slice(),
+        "orders"
+    );
+    Ok(())
+}
+
+#[test]
+fn a_query_is_read(rt: HostRuntime) -> Result<(), Fail> {
+    let query = b"watch 160 1 0 2\n# the byte that rose\nstart 1 1\nmore 2\nis 2 9\r\nlist";
+    let requests = read_query(rt.alloc(), query)?;
+    let (more, is) = (Test::More, Test::Is { value: 9 });
+    assert!(rt;
+        requests.as_slice()
+            == [
+                Ask::Watch {
+                    address: 160,
+                    width: 1,
+                    a: 0,
+                    b: 2
+                },
+                Ask::Start { width: 1, p: 1 },
+                Ask::Narrow { p: 2, test: more },
+                Ask::Narrow { p: 2, test: is },
+                Ask::List,
+            ]
+            .as_slice()
+    );
+    let bad = read_query(rt.alloc(), b"list\nstart 3 1\n").err();
+    assert_eq!(rt; bad, Some(ScriptRefusal::BadLine(2)));
     Ok(())
 }
 

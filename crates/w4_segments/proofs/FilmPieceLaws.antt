@@ -11,75 +11,77 @@ use Rattle.w4_segments.specs.FilmPieces.{CanGoOn, images_between, images_by}
 use Rattle.w4_segments.specs.Pieces.{AreOfRunBelow, ArePieces, piece_begin}
 use Rattle.w4_segments.specs.Rounds.{entries_of}
 use Rattle.w4_segments.specs.Working.{EachDid, HasCartTypes, HasFilmed, worker_images}
-use Rattle.w4_segments.proofs.PieceLaws.{cut_inside, cut_rises, cut_to_end, pieces_made, span_both, span_none, types_made}
+use Rattle.w4_segments.proofs.PieceLaws.{cut_inside, cut_rises, cut_to_end, pieces_filmed, span_both, span_none, types_filmed}
 
-module _ (e : Editing) (team : List Worker) (first end entry next made : ℕ)
-    (is : CanGoOn team first end entry next made e) where
+module _ (e : Editing) (worker_list : List Worker) (first end first_entry next filmed : ℕ)
+    (is : CanGoOn worker_list first end first_entry next filmed e) where
   abbrev cut : ℕ → ℕ
   cut i = piece_begin (entries_of e) first end i
 
   -- all pieces that were made are handed out, and each worker has made one more
-  pub round_more : (dealt new : List Worker) → made ≡ next → cut next < end → length (entries_of e) ≤ 1024
-      → ArePieces e first end made team dealt
+  pub round_more : (dealt new : List Worker) → filmed ≡ next → cut next < end → length (entries_of e) ≤ 1024
+      → ArePieces e first end filmed worker_list dealt
       → EachDid (HasFilmed (editing_setup e) e.disk e.session.current.inputs) dealt new
-      → CanGoOn new first end entry next (made + length new) e × (next < made + length new)
+      → CanGoOn new first end first_entry next (filmed + length new) e × (next < filmed + length new)
   round_more dealt new same before most pieces did =
       let as_dealt = did.many in
-      let as_team = pieces.many in
+      let as_listed = pieces.many in
       let some = is.some in
       let few = is.few in
       let there = (cut_inside (entries_of e) first end next before).0 in (
         record {
-          some = omega (arith, as_dealt, as_team, some);
-          few = omega (arith, as_dealt, as_team, few);
+          some = omega (arith, as_dealt, as_listed, some);
+          few = omega (arith, as_dealt, as_listed, few);
           order = is.order;
           within = is.within;
           states = is.states;
-          types = types_made e first end made team dealt new pieces did;
+          types = types_filmed e first end filmed worker_list dealt new pieces did;
           begun = is.begun;
           passed = omega (arith, same);
-          hands = omega (arith, same);
-          bound = omega (arith, same, there, most, as_dealt, as_team, few);
+          worker_count = omega (arith, same);
+          bound = omega (arith, same, there, most, as_dealt, as_listed, few);
           pieces = λ k d lt.
               let low : k < length new = omega (arith, lt, same) in
-              let at : length new - (made + length new - next) + k ≡ k = omega (arith, same) in
-              let on : made + k ≡ next + k = omega (arith, same) in
+              let at : length new - (filmed + length new - next) + k ≡ k = omega (arith, same) in
+              let on : filmed + k ≡ next + k = omega (arith, same) in
               ap (λ i. images_between e (cut i) (cut (i + 1))) (sym on)
-              ∙ pieces_made e first end made team dealt new pieces did k d low
+              ∙ pieces_filmed e first end filmed worker_list dealt new pieces did k d low
               ∙ ap (λ i. Some (worker_images (get_or new i d))) (sym at);
         },
-        omega (arith, same, as_dealt, as_team, some),
+        omega (arith, same, as_dealt, as_listed, some),
       )
 
   -- the next piece, where there is one
-  pub piece_next : next < made → (d : Worker)
+  pub piece_next : next < filmed → (d : Worker)
       → images_between e (cut next) (cut (next + 1))
-      ≡ Some (worker_images (get_or team (length team - (made - next)) d))
+      ≡ Some (worker_images (get_or worker_list (length worker_list - (filmed - next)) d))
   piece_next some d =
-      let at : length team - (made - next) ≡ length team - (made - next) + 0 = omega arith in
+      let at : length worker_list - (filmed - next) ≡ length worker_list - (filmed - next)
+      + 0 = omega arith in
       let on : next + 0 ≡ next = omega arith in
       ap (λ i. images_between e (cut i) (cut (i + 1))) (sym on)
       ∙ is.pieces 0 d (omega (arith, some))
-      ∙ ap (λ i. Some (worker_images (get_or team i d))) (sym at)
+      ∙ ap (λ i. Some (worker_images (get_or worker_list i d))) (sym at)
 
-  pub piece_handed_out : next < made → (hand : ℕ) → hand ≡ length team - (made - next)
-      → images_between e (cut next) (cut (next + 1)) ≡ Some (images_by (slice_get team hand))
-  piece_handed_out some hand is_hand =
+  pub piece_handed_out : next < filmed → (worker_index : ℕ) → worker_index
+      ≡ length worker_list - (filmed - next)
+      → images_between e (cut next) (cut (next + 1)) ≡ Some (images_by (slice_get worker_list worker_index))
+  piece_handed_out some worker_index worker_is =
       let few = is.some in
-      elim (slice_get_cases team hand).1 [
+      elim (slice_get_cases worker_list worker_index).1 [
         | inl (x, _, there, same) ↦
             piece_next some x
-            ∙ ap (λ i. Some (worker_images (get_or team i x))) (sym is_hand)
+            ∙ ap (λ i. Some (worker_images (get_or worker_list i x))) (sym worker_is)
             ∙ ap (λ (w : Worker). Some (worker_images w)) same
             ∙ ap (λ (w : Option Worker). Some (images_by w)) (sym there)
-        | inr (past, _) ↦ absurd (omega (arith, past, is_hand, some, few))
+        | inr (past, _) ↦ absurd (omega (arith, past, worker_is, some, few))
       ]
 
   -- the film without it
-  pub piece_less : next < made → CanGoOn team first end entry (next + 1) made e
+  pub piece_less : next < filmed → CanGoOn worker_list first end first_entry (next + 1) filmed e
   piece_less some =
       let begun = is.begun in
-      let hands = is.hands in
+      let worker_count = is.worker_count in
       record {
         some = is.some;
         few = is.few;
@@ -89,15 +91,16 @@ module _ (e : Editing) (team : List Worker) (first end entry next made : ℕ)
         types = is.types;
         begun = omega (arith, begun);
         passed = omega (arith, some);
-        hands = omega (arith, hands);
+        worker_count = omega (arith, worker_count);
         bound = is.bound;
         pieces = λ k d lt.
-            let at : length team - (made - (next + 1)) + k ≡ length team - (made - next) + (k + 1) =
-            omega (arith, lt, some, hands) in
+            let at : length worker_list - (filmed - (next + 1)) + k ≡ length worker_list - (filmed - next)
+            + (k + 1) =
+            omega (arith, lt, some, worker_count) in
             let on : next + (k + 1) ≡ next + 1 + k = omega arith in
             ap (λ i. images_between e (cut i) (cut (i + 1))) (sym on)
             ∙ is.pieces (k + 1) d (omega (arith, lt))
-            ∙ ap (λ i. Some (worker_images (get_or team i d))) (sym at);
+            ∙ ap (λ i. Some (worker_images (get_or worker_list i d))) (sym at);
       }
 
 -- what is left begins with the next piece
@@ -120,10 +123,12 @@ module _ (e : Editing) (first end : ℕ)
       span_none e first end (cut_at next) end (omega (arith, past, most))
 
 -- a film that begins: nothing is made
-pub film_begun : (e : Editing) (team : List Worker) (first end entry : ℕ) → 0 < length team → length team ≤ 16
+pub film_begun : (e : Editing) (worker_list : List Worker) (first end first_entry : ℕ) → 0
+    < length worker_list → length worker_list ≤ 16
     → first ≤ end → end ≤ length e.session.current.inputs + 1 → AreOfRunBelow end e
-    → All (HasCartTypes e.cart) team → entry ≤ 1024 → CanGoOn team first end entry entry entry e
-film_begun e team first end entry some few order within states types low = record {
+    → All (HasCartTypes e.cart) worker_list → first_entry ≤ 1024
+    → CanGoOn worker_list first end first_entry first_entry first_entry e
+film_begun e worker_list first end first_entry some few order within states types low = record {
   some = some;
   few = few;
   order = order;
@@ -132,7 +137,7 @@ film_begun e team first end entry some few order within states types low = recor
   types = types;
   begun = omega arith;
   passed = omega arith;
-  hands = omega arith;
+  worker_count = omega arith;
   bound = omega (arith, low);
   pieces = λ k d lt. absurd (omega (arith, lt));
 }

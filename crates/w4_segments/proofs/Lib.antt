@@ -1,5 +1,5 @@
 pub mod BatchLaws
-pub mod TeamLaws
+pub mod WorkerLaws
 pub mod RoundLaws
 pub mod PieceLaws
 pub mod FilmPieceLaws

@@ -66,10 +66,10 @@ module _ (setup : Setup) (disk : List ℕ) (inputs : List Input) where
       → first ≤ place → run_state setup disk inputs (place + 1) ≡ Some state → image screen ≡ image state.page
       → images first (place + 1 - first) ≡ Some (flat_map image screens)
       → images first (place + 1 + 1 - first) ≡ Some (flat_map image (screens ++ screen ∷ []))
-  more_screens screens screen first place state le is same made =
+  more_screens screens screen first place state le is same filmed =
       images_in_parts (place + 1 - first) 1 (place + 1 + 1 - first) first (place + 1)
       (omega (arith, le)) (omega (arith, le))
-      ∙ (λ k. joined (made k) (one_image (place + 1) state is k))
+      ∙ (λ k. joined (filmed k) (one_image (place + 1) state is k))
       ∙ ap (λ xs. Some (flat_map image screens ++ xs)) (sym (append-nil (image screen) ∙ same))
       ∙ ap Some (sym (flat_map-append image screens (screen ∷ [])))
 
@@ -148,21 +148,22 @@ module _ (e : Editing) (first end : ℕ) where
       (λ k. images_of e (from k) (to k - from k))
 
   -- and so are those of each worker of a round
-  pub pieces_made : (next : ℕ) (old dealt made : List Worker) → ArePieces e first end next old dealt
-      → EachDid (HasFilmed (editing_setup e) e.disk e.session.current.inputs) dealt made
-      → (k : ℕ) (d : Worker) → k < length made
-      → images_between e (cut_of (next + k)) (cut_of (next + k + 1)) ≡ Some (worker_images (get_or made k d))
-  pieces_made next old dealt made pieces did k d lt =
+  pub pieces_filmed : (next : ℕ) (old dealt filmed : List Worker) → ArePieces e first end next old dealt
+      → EachDid (HasFilmed (editing_setup e) e.disk e.session.current.inputs) dealt filmed
+      → (k : ℕ) (d : Worker) → k < length filmed
+      → images_between e (cut_of (next + k)) (cut_of (next + k + 1))
+      ≡ Some (worker_images (get_or filmed k d))
+  pieces_filmed next old dealt filmed pieces did k d lt =
       let many = did.many in
       let below : k < length dealt = omega (arith, many, lt) in
       let piece = pieces.each k d below in
       task_makes (next + k) (get_or dealt k d).task piece.begins piece.ends piece.none
       ∙ (did.each k d below).images
 
-  pub types_made : (next : ℕ) (old dealt made : List Worker) → ArePieces e first end next old dealt
-      → EachDid (HasFilmed (editing_setup e) e.disk e.session.current.inputs) dealt made
-      → All (HasCartTypes e.cart) made
-  types_made next old dealt made pieces did k d lt =
+  pub types_filmed : (next : ℕ) (old dealt filmed : List Worker) → ArePieces e first end next old dealt
+      → EachDid (HasFilmed (editing_setup e) e.disk e.session.current.inputs) dealt filmed
+      → All (HasCartTypes e.cart) filmed
+  types_filmed next old dealt filmed pieces did k d lt =
       let many = did.many in (did.each k d (omega (arith, many, lt))).types
 
 -- where all entries up to the last below a place are linked, their states are those of the run

@@ -19,7 +19,7 @@ use Rattle.w4_segments.specs.declared.worker.Worker.{Worker}
 use Rattle.w4_segments.specs.Filming.{KeepsShown}
 use Rattle.w4_segments.specs.Rounds.{entries_of, IsSegment, IsDealt, AreRising, AreDealt, AreComputed, LinksNext, CanTake, IsTaken, LengthensFront}
 use Rattle.w4_segments.specs.Working.{HasCartTypes, CanPlay, HasPlayed, EachDid}
-use Rattle.w4_segments.proofs.TeamLaws.{up_to_here, all_changed, changed_here, unchanged}
+use Rattle.w4_segments.proofs.WorkerLaws.{up_to_here, all_changed, changed_here, unchanged}
 
 -- ---- linked entries
 
@@ -34,25 +34,28 @@ all_before kept n first after (suc i) le =
 -- ---- dealing
 
 -- what the first so many workers have, and where the next one goes on
-pub record Dealing (e : Editing) (last hand next : ℕ) (team : List Worker) : Type 0 where
-  pub types : All (HasCartTypes e.cart) team
+pub record Dealing (e : Editing) (last worker_index next : ℕ) (worker_list : List Worker) : Type 0 where
+  pub types : All (HasCartTypes e.cart) worker_list
   pub within : next ≤ last
-  pub segment : (i : ℕ) (d : Worker) → i < hand → (task : Task) → (get_or team i d).task ≡ Some task
-      → IsSegment e last (get_or team i d) task × (task.entry < next)
-  pub rising : (i j : ℕ) (d : Worker) (s t : Task) → i < j → j < hand
-      → (get_or team i d).task ≡ Some s
-      → (get_or team j d).task ≡ Some t
+  pub segment : (i : ℕ) (d : Worker) → i < worker_index → (task : Task) → (get_or worker_list i d).task
+      ≡ Some task
+      → IsSegment e last (get_or worker_list i d) task × (task.entry < next)
+  pub rising : (i j : ℕ) (d : Worker) (s t : Task) → i < j → j < worker_index
+      → (get_or worker_list i d).task ≡ Some s
+      → (get_or worker_list j d).task ≡ Some t
       → s.entry < t.entry
-  pub start : hand ≡ 0 → next ≡ 0
-  pub before : (d : Worker) (task : Task) → 0 < hand → (get_or team 0 d).task ≡ Some task → (i : ℕ)
+  pub start : worker_index ≡ 0 → next ≡ 0
+  pub before : (d : Worker) (task : Task) → 0 < worker_index → (get_or worker_list 0 d).task ≡ Some task
+      → (i : ℕ)
       → i < task.entry
       → linked_at (entries_of e) (i + 1) ≡ true
-  pub none : (d : Worker) → 0 < hand → (get_or team 0 d).task ≡ None → (i : ℕ) → i < last
+  pub none : (d : Worker) → 0 < worker_index → (get_or worker_list 0 d).task ≡ None → (i : ℕ) → i < last
       → linked_at (entries_of e) (i + 1) ≡ true
 
-pub dealing_none : (e : Editing) (last : ℕ) (team : List Worker) → All (HasCartTypes e.cart) team
-    → Dealing e last 0 0 team
-dealing_none e last team types = record {
+pub dealing_none : (e : Editing) (last : ℕ) (worker_list : List Worker)
+    → All (HasCartTypes e.cart) worker_list
+    → Dealing e last 0 0 worker_list
+dealing_none e last worker_list types = record {
   types = types;
   within = omega arith;
   segment = λ i d lt. absurd (omega (arith, lt));
@@ -62,45 +65,47 @@ dealing_none e last team types = record {
   none = λ d lt. absurd (omega (arith, lt));
 }
 
-module _ (e : Editing) (last hand next after : ℕ) (team : List Worker) (w : Worker)
-    (p : Dealing e last hand next team)
-    (lt : hand < length team) (dealt : IsDealt e next last after w) where
+module _ (e : Editing) (last worker_index next after : ℕ) (worker_list : List Worker) (w : Worker)
+    (p : Dealing e last worker_index next worker_list)
+    (lt : worker_index < length worker_list) (dealt : IsDealt e next last after w) where
   abbrev team_now : List Worker
-  team_now = set team hand w
+  team_now = set worker_list worker_index w
 
-  at_here : (d : Worker) → get_or team_now hand d ≡ w
-  at_here d = changed_here team hand w lt d
+  at_here : (d : Worker) → get_or team_now worker_index d ≡ w
+  at_here d = changed_here worker_list worker_index w lt d
 
-  task_here : (d : Worker) (task : Task) → (get_or team_now hand d).task ≡ Some task → w.task ≡ Some task
+  task_here : (d : Worker) (task : Task) → (get_or team_now worker_index d).task ≡ Some task → w.task
+      ≡ Some task
   task_here d task some = ap (λ (x : Worker). x.task) (sym (at_here d)) ∙ some
 
-  task_there : (i : ℕ) (d : Worker) (task : Option Task) → i < hand → (get_or team_now i d).task ≡ task
-      → (get_or team i d).task ≡ task
+  task_there : (i : ℕ) (d : Worker) (task : Option Task) → i < worker_index → (get_or team_now i d).task
+      ≡ task
+      → (get_or worker_list i d).task ≡ task
   task_there i d task low some =
-      let other : i ≢ hand = λ same. absurd (omega (arith, low, same)) in
-      ap (λ (x : Worker). x.task) (sym (unchanged team hand w lt i d other)) ∙ some
+      let other : i ≢ worker_index = λ same. absurd (omega (arith, low, same)) in
+      ap (λ (x : Worker). x.task) (sym (unchanged worker_list worker_index w lt i d other)) ∙ some
 
-  rising_more : (i j : ℕ) (d : Worker) (s t : Task) → i < j → j < hand + 1
+  rising_more : (i j : ℕ) (d : Worker) (s t : Task) → i < j → j < worker_index + 1
       → (get_or team_now i d).task ≡ Some s
       → (get_or team_now j d).task ≡ Some t
       → s.entry < t.entry
   rising_more i j d s t ij below one two =
-      let low : i < hand = omega (arith, ij, below) in
-      elim (cases_lt j hand) [
+      let low : i < worker_index = omega (arith, ij, below) in
+      elim (cases_lt j worker_index) [
         | inl lower ↦ p.rising i j d s t ij lower (task_there i d (Some s) low one)
             (task_there j d (Some t) lower two)
         | inr high ↦
-            let same : j ≡ hand = omega (arith, below, high) in
+            let same : j ≡ worker_index = omega (arith, below, high) in
             let before = (p.segment i d low s (task_there i d (Some s) low one)).1 in
             let here = subst (λ n. (get_or team_now n d).task ≡ Some t) same two in
             let after = (dealt.next_is t (task_here d t here)).0 in
             omega (arith, before, after)
       ]
 
-  segment_more : (i : ℕ) (d : Worker) → i < hand + 1 → (task : Task)
+  segment_more : (i : ℕ) (d : Worker) → i < worker_index + 1 → (task : Task)
       → (get_or team_now i d).task ≡ Some task
       → IsSegment e last (get_or team_now i d) task × (task.entry < after)
-  segment_more = up_to_here team hand w lt
+  segment_more = up_to_here worker_list worker_index w lt
       (λ _ x. (task : Task) → x.task ≡ Some task → IsSegment e last x task × (task.entry < after))
       (λ i d low task some.
       let is = p.segment i d low task some in
@@ -108,37 +113,39 @@ module _ (e : Editing) (last hand next after : ℕ) (team : List Worker) (w : Wo
       let order = dealt.order in (is.0, omega (arith, below, order)))
       (λ task some. let at = (dealt.next_is task some).1 in (dealt.segment task some, omega (arith, at)))
 
-  first_here : hand ≡ 0 → (d : Worker) (task : Option Task) → (get_or team_now 0 d).task ≡ task → w.task ≡
+  first_here : worker_index ≡ 0 → (d : Worker) (task : Option Task) → (get_or team_now 0 d).task ≡ task
+      → w.task ≡
       task
   first_here begins d task some =
       ap (λ (x : Worker). x.task) (sym (at_here d))
       ∙ ap (λ n. (get_or team_now n d).task) begins
       ∙ some
 
-  before_more : (d : Worker) (task : Task) → 0 < hand + 1 → (get_or team_now 0 d).task ≡ Some task → (i : ℕ)
+  before_more : (d : Worker) (task : Task) → 0 < worker_index + 1 → (get_or team_now 0 d).task ≡ Some task
+      → (i : ℕ)
       → i < task.entry
       → linked_at (entries_of e) (i + 1) ≡ true
-  before_more d task _ some i below = elim (cases_lt 0 hand) [
+  before_more d task _ some i below = elim (cases_lt 0 worker_index) [
     | inl more ↦ p.before d task more (task_there 0 d (Some task) more some) i below
     | inr first ↦
-        let zero : hand ≡ 0 = omega (arith, first) in
+        let zero : worker_index ≡ 0 = omega (arith, first) in
         let begin = p.start zero in
         dealt.before task (first_here zero d (Some task) some) i (omega (arith, begin)) below
   ]
 
-  none_more : (d : Worker) → 0 < hand + 1 → (get_or team_now 0 d).task ≡ None → (i : ℕ) → i < last
+  none_more : (d : Worker) → 0 < worker_index + 1 → (get_or team_now 0 d).task ≡ None → (i : ℕ) → i < last
       → linked_at (entries_of e) (i + 1) ≡ true
-  none_more d _ none i below = elim (cases_lt 0 hand) [
+  none_more d _ none i below = elim (cases_lt 0 worker_index) [
     | inl more ↦ p.none d more (task_there 0 d None more none) i below
     | inr first ↦
-        let zero : hand ≡ 0 = omega (arith, first) in
+        let zero : worker_index ≡ 0 = omega (arith, first) in
         let begin = p.start zero in
         dealt.none (first_here zero d None none) i (omega (arith, begin)) below
   ]
 
-  pub dealing_more : Dealing e last (hand + 1) after team_now
+  pub dealing_more : Dealing e last (worker_index + 1) after team_now
   dealing_more = record {
-    types = all_changed team hand w lt (HasCartTypes e.cart) p.types dealt.types;
+    types = all_changed worker_list worker_index w lt (HasCartTypes e.cart) p.types dealt.types;
     within = dealt.within;
     segment = segment_more;
     rising = rising_more;
@@ -147,11 +154,12 @@ module _ (e : Editing) (last hand next after : ℕ) (team : List Worker) (w : Wo
     none = none_more;
   }
 
-pub dealing_done : (e : Editing) (last hand next : ℕ) (old new : List Worker) → length new ≡ length old
-    → hand ≡ length new
-    → Dealing e last hand next new
+pub dealing_done : (e : Editing) (last worker_index next : ℕ) (old new : List Worker) → length new
+    ≡ length old
+    → worker_index ≡ length new
+    → Dealing e last worker_index next new
     → AreDealt e last old new
-dealing_done e last hand next old new many all p = record {
+dealing_done e last worker_index next old new many all p = record {
   many = many;
   types = p.types;
   segment = λ i d task lt some. (p.segment i d (omega (arith, lt, all)) task some).0;
@@ -278,41 +286,45 @@ module _ (disk : List ℕ) (e new : Editing) (entry : ℕ) (found : State)
 
 -- after the first so many workers: of those to come, a worker's first state still stands unless it was the
 -- one replaced last; the front is kept, and one entry longer once the first worker is done
-pub record Taking (e : Editing) (team : List Worker) (hand : ℕ) (replaced : Option ℕ)
+pub record Taking (e : Editing) (worker_list : List Worker) (worker_index : ℕ) (replaced : Option ℕ)
     (now : Editing) : Type 0 where
   pub keeps : KeepsShown e now
-  pub start : hand ≡ 0 → replaced ≡ None
-  pub stands : (i : ℕ) (d : Worker) (task : Task) → hand ≤ i → i < length team
-      → (get_or team i d).task ≡ Some task
+  pub start : worker_index ≡ 0 → replaced ≡ None
+  pub stands : (i : ℕ) (d : Worker) (task : Task) → worker_index ≤ i → i < length worker_list
+      → (get_or worker_list i d).task ≡ Some task
       → replaced ≢ Some task.entry
       → state_at (entries_of now) task.entry ≡ state_at (entries_of e) task.entry
-  pub low : (i : ℕ) (d : Worker) (task : Task) (entry : ℕ) → hand ≤ i → i < length team
-      → (get_or team i d).task ≡ Some task
+  pub low : (i : ℕ) (d : Worker) (task : Task) (entry : ℕ) → worker_index ≤ i → i < length worker_list
+      → (get_or worker_list i d).task ≡ Some task
       → replaced ≡ Some entry
       → entry ≤ task.entry
-  pub front : (d : Worker) (task : Task) → 0 < length team → (get_or team 0 d).task ≡ Some task → (j : ℕ)
+  pub front : (d : Worker) (task : Task) → 0 < length worker_list → (get_or worker_list 0 d).task ≡ Some task
+      → (j : ℕ)
       → j ≤ task.entry
       → linked_at (entries_of now) j ≡ linked_at (entries_of e) j
-  pub next : (d : Worker) (task : Task) → 0 < hand → 0 < length team → (get_or team 0 d).task ≡ Some task
+  pub next : (d : Worker) (task : Task) → 0 < worker_index → 0 < length worker_list
+      → (get_or worker_list 0 d).task ≡ Some task
       → linked_at (entries_of now) (task.entry + 1) ≡ true
 
-module _ (e : Editing) (team : List Worker) (hand : ℕ) (replaced : Option ℕ) (now : Editing)
-    (p : Taking e team hand replaced now)
-    (lt : hand < length team) (w : Worker) (read : (d : Worker) → get_or team hand d ≡ w) where
+module _ (e : Editing) (worker_list : List Worker) (worker_index : ℕ) (replaced : Option ℕ) (now : Editing)
+    (p : Taking e worker_list worker_index replaced now)
+    (lt : worker_index < length worker_list) (w : Worker)
+    (read : (d : Worker) → get_or worker_list worker_index d ≡ w) where
   -- it was thrown away, or had nothing
   pub taking_skip : ((task : Task) → w.task ≡ Some task → replaced ≡ Some task.entry)
-      → Taking e team (hand + 1) replaced now
+      → Taking e worker_list (worker_index + 1) replaced now
   taking_skip thrown = record {
     keeps = p.keeps;
     start = λ none. absurd (omega (arith, none));
     stands = λ i d task le. p.stands i d task (omega (arith, le));
     low = λ i d task entry le. p.low i d task entry (omega (arith, le));
     front = p.front;
-    next = λ d task _ some is. elim (cases_lt 0 hand) [
+    next = λ d task _ some is. elim (cases_lt 0 worker_index) [
       | inl more ↦ p.next d task more some is
       | inr first ↦
-          let zero : hand ≡ 0 = omega (arith, first) in
-          let here = ap (λ (x : Worker). x.task) (sym (read d)) ∙ ap (λ n. (get_or team n d).task) zero ∙
+          let zero : worker_index ≡ 0 = omega (arith, first) in
+          let here = ap (λ (x : Worker). x.task) (sym (read d)) ∙ ap (λ n. (get_or worker_list n d).task) zero
+          ∙
           is in
           let stale = thrown task here in
           let none = p.start zero in
@@ -320,19 +332,19 @@ module _ (e : Editing) (team : List Worker) (hand : ℕ) (replaced : Option ℕ)
     ];
   }
 
-  module _ (task : Task) (some : w.task ≡ Some task) (rising : AreRising team) (last : Option ℕ)
+  module _ (task : Task) (some : w.task ≡ Some task) (rising : AreRising worker_list) (last : Option ℕ)
       (new : Editing)
       (keeps : KeepsShown now new) (put : LinksNext task.entry replaced last now new) where
-    here : (d : Worker) → (get_or team hand d).task ≡ Some task
+    here : (d : Worker) → (get_or worker_list worker_index d).task ≡ Some task
     here d = ap (λ (x : Worker). x.task) (read d) ∙ some
 
-    later : (i : ℕ) (d : Worker) (s : Task) → hand + 1 ≤ i → i < length team
-        → (get_or team i d).task ≡ Some s
+    later : (i : ℕ) (d : Worker) (s : Task) → worker_index + 1 ≤ i → i < length worker_list
+        → (get_or worker_list i d).task ≡ Some s
         → task.entry < s.entry
-    later i d s le below is = rising hand i d task s (omega (arith, le)) below (here d) is
+    later i d s le below is = rising worker_index i d task s (omega (arith, le)) below (here d) is
 
     old_low : (entry : ℕ) → replaced ≡ Some entry → entry ≤ task.entry
-    old_low entry is = p.low hand w task entry (omega arith) lt (here w) is
+    old_low entry is = p.low worker_index w task entry (omega arith) lt (here w) is
 
     next_stays : last ≢ Some (task.entry + 1)
         → state_at (entries_of new) (task.entry + 1) ≡ state_at (entries_of now) (task.entry + 1)
@@ -362,8 +374,8 @@ module _ (e : Editing) (team : List Worker) (hand : ℕ) (replaced : Option ℕ)
         let two : k ≢ task.entry + 1 + 1 = λ e. absurd (omega (arith, le, e)) in
         ap (λ (x : Entry). x.linked) (put.computed.others k one two)
 
-    stands_on : (i : ℕ) (d : Worker) (s : Task) → hand + 1 ≤ i → i < length team
-        → (get_or team i d).task ≡ Some s
+    stands_on : (i : ℕ) (d : Worker) (s : Task) → worker_index + 1 ≤ i → i < length worker_list
+        → (get_or worker_list i d).task ≡ Some s
         → last ≢ Some s.entry
         → state_at (entries_of new) s.entry ≡ state_at (entries_of e) s.entry
     stands_on i d s le below is other =
@@ -372,8 +384,8 @@ module _ (e : Editing) (team : List Worker) (hand : ℕ) (replaced : Option ℕ)
         ∙ p.stands i d s (omega (arith, le)) below is
         (λ old. let low = old_low s.entry old in absurd (omega (arith, low, above)))
 
-    low_on : (i : ℕ) (d : Worker) (s : Task) (entry : ℕ) → hand + 1 ≤ i → i < length team
-        → (get_or team i d).task ≡ Some s
+    low_on : (i : ℕ) (d : Worker) (s : Task) (entry : ℕ) → worker_index + 1 ≤ i → i < length worker_list
+        → (get_or worker_list i d).task ≡ Some s
         → last ≡ Some entry
         → entry ≤ s.entry
     low_on i d s entry le below is found =
@@ -387,35 +399,37 @@ module _ (e : Editing) (team : List Worker) (hand : ℕ) (replaced : Option ℕ)
               omega (arith, low, above)
         ]
 
-    first_is : hand ≡ 0 → (d : Worker) (first : Task) → (get_or team 0 d).task ≡ Some first → first ≡ task
+    first_is : worker_index ≡ 0 → (d : Worker) (first : Task) → (get_or worker_list 0 d).task ≡ Some first
+        → first ≡ task
     first_is begins d first is =
-        some_task first task (sym is ∙ ap (λ n. (get_or team n d).task) (sym begins) ∙ here d)
+        some_task first task (sym is ∙ ap (λ n. (get_or worker_list n d).task) (sym begins) ∙ here d)
 
-    front_on : (d : Worker) (first : Task) → 0 < length team → (get_or team 0 d).task ≡ Some first → (j : ℕ)
+    front_on : (d : Worker) (first : Task) → 0 < length worker_list → (get_or worker_list 0 d).task
+        ≡ Some first → (j : ℕ)
         → j ≤ first.entry
         → linked_at (entries_of new) j ≡ linked_at (entries_of e) j
-    front_on d first there is j le = elim (cases_lt 0 hand) [
+    front_on d first there is j le = elim (cases_lt 0 worker_index) [
       | inl more ↦
-          let below = rising 0 hand d first task more lt is (here d) in
+          let below = rising 0 worker_index d first task more lt is (here d) in
           link_stays j (omega (arith, le, below)) ∙ p.front d first there is j le
       | inr none ↦
           let same = ap (λ (t : Task). t.entry) (first_is (omega (arith, none)) d first is) in
           link_stays j (omega (arith, le, same)) ∙ p.front d first there is j le
     ]
 
-    next_on : (d : Worker) (first : Task) → 0 < hand + 1 → 0 < length team
-        → (get_or team 0 d).task ≡ Some first
+    next_on : (d : Worker) (first : Task) → 0 < worker_index + 1 → 0 < length worker_list
+        → (get_or worker_list 0 d).task ≡ Some first
         → linked_at (entries_of new) (first.entry + 1) ≡ true
-    next_on d first _ there is = elim (cases_lt 0 hand) [
+    next_on d first _ there is = elim (cases_lt 0 worker_index) [
       | inl more ↦
-          let below = rising 0 hand d first task more lt is (here d) in
+          let below = rising 0 worker_index d first task more lt is (here d) in
           link_stays (first.entry + 1) (omega (arith, below)) ∙ p.next d first more there is
       | inr none ↦
           let same = ap (λ (t : Task). t.entry) (first_is (omega (arith, none)) d first is) in
           ap (λ n. linked_at (entries_of new) (n + 1)) same ∙ put.computed.linked
     ]
 
-    pub taking_put : Taking e team (hand + 1) last new
+    pub taking_put : Taking e worker_list (worker_index + 1) last new
     taking_put = record {
       keeps = keeps_both e now new p.keeps keeps;
       start = λ none. absurd (omega (arith, none));
@@ -426,12 +440,13 @@ module _ (e : Editing) (team : List Worker) (hand : ℕ) (replaced : Option ℕ)
     }
 
   -- one worker more
-  pub taking_more : AreRising team → (last : Option ℕ) (new : Editing) → KeepsShown now new
+  pub taking_more : AreRising worker_list → (last : Option ℕ) (new : Editing) → KeepsShown now new
       → IsTaken w replaced last now new
-      → Taking e team (hand + 1) last new
+      → Taking e worker_list (worker_index + 1) last new
   taking_more rising last new keeps (inl (thrown, same, stays)) =
-      subst (λ (x : Option ℕ). Taking e team (hand + 1) x new) (sym same)
-      (subst (λ (x : Editing). Taking e team (hand + 1) replaced x) (sym stays) (taking_skip thrown))
+      subst (λ (x : Option ℕ). Taking e worker_list (worker_index + 1) x new) (sym same)
+      (subst (λ (x : Editing). Taking e worker_list (worker_index + 1) replaced x) (sym stays)
+      (taking_skip thrown))
   taking_more rising last new keeps (inr (task, some, other, put)) =
       taking_put task some rising last new keeps put
 
@@ -444,17 +459,17 @@ some_of None none is off = absurd (let e : false ≡ not none = is in let f : no
 some_of (Some task) none is off = (task, refl)
 
 -- the first worker, who has a task
-pub busy_first : (team : List Worker) (w : Worker) (none : Bool) → 0 < length team
-    → is_some (get_or team 0 w).task ≡ not none
+pub busy_first : (worker_list : List Worker) (w : Worker) (none : Bool) → 0 < length worker_list
+    → is_some (get_or worker_list 0 w).task ≡ not none
     → none ≡ false
-    → (task : Task) × ((d : Worker) → (get_or team 0 d).task ≡ Some task)
-busy_first team w none lt is off =
-    let found = some_of (get_or team 0 w).task none is off in (
+    → (task : Task) × ((d : Worker) → (get_or worker_list 0 d).task ≡ Some task)
+busy_first worker_list w none lt is off =
+    let found = some_of (get_or worker_list 0 w).task none is off in (
       found.0,
-      λ d. ap (λ (x : Worker). x.task) (get_or_default team 0 d w lt) ∙ found.1,
+      λ d. ap (λ (x : Worker). x.task) (get_or_default worker_list 0 d w lt) ∙ found.1,
     )
 
--- a team that has nothing to do
+-- workers that have nothing to do
 pub idle_linked : (e : Editing) (last : ℕ) (old dealt : List Worker) → AreDealt e last old dealt
     → 0 < length dealt
     → ((d : Worker) → (get_or dealt 0 d).task ≡ None)
@@ -486,7 +501,7 @@ front_lengthens setup inputs e last old (w ∷ dealt) played now a did longer so
     ] in longer w task (omega (arith, some, many)) ((did.each 0 w some).task ∙ is w) front i (omega
     (arith, le, past))
 
--- what a team that was dealt its segments can play
+-- what workers that were dealt their segments can play
 pub dealt_can_play : (disk : List ℕ) (e : Editing) (last : ℕ) (old dealt : List Worker)
     → IsDraft (editing_setup e) disk e.session.current
     → last < length (entries_of e)

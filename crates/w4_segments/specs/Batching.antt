@@ -38,9 +38,10 @@ abbrev pub CoverAll : ℕ → Dealt → Type 0
 CoverAll count dealt = (w : ℕ) (d : Result (Vec BatchRow Global) OutOfMemory) → w < length dealt
     → IfOk (slice_index_or dealt w d) (λ rows. count ≤ w + length rows.items * length dealt)
 
-abbrev pub AreOfHands : (ℕ → Option BatchRow) → ℕ → ℕ → Dealt → Type 0
-AreOfHands wanted count hands dealt = (w : ℕ) (d : Result (Vec BatchRow Global) OutOfMemory) → w < hands
-    → IfOk (slice_index_or dealt w d) (λ rows. AreRows wanted count w hands rows.items)
+abbrev pub AreOfWorkers : (ℕ → Option BatchRow) → ℕ → ℕ → Dealt → Type 0
+AreOfWorkers wanted count worker_count dealt = (w : ℕ) (d : Result (Vec BatchRow Global) OutOfMemory) → w
+    < worker_count
+    → IfOk (slice_index_or dealt w d) (λ rows. AreRows wanted count w worker_count rows.items)
 
 abbrev pub AreDealtOut : (ℕ → Option BatchRow) → ℕ → Dealt → Type 0
-AreDealtOut wanted count dealt = AreOfHands wanted count (length dealt) dealt
+AreDealtOut wanted count dealt = AreOfWorkers wanted count (length dealt) dealt

@@ -29,32 +29,34 @@ images_by None = []
 images_by (Some worker) = worker_images worker
 
 abbrev pub piece_of : FilmPieces → List ℕ
-piece_of film = images_by (slice_get film.team.items film.hand)
+piece_of film = images_by (slice_get film.worker_list.items film.worker_index)
 
 -- the worker of the piece of entry NEXT + K, of those that are made and not handed out
 abbrev pub worker_at : List Worker → ℕ → ℕ → ℕ → Worker → Worker
-worker_at team next made k d = slice_index_or team (length team - (made - next) + k) d
+worker_at worker_list next filmed k d = slice_index_or worker_list (length worker_list - (filmed - next) + k)
+    d
 
 -- a film can be gone on with over this editor: the kept states that it goes on from are those of the run, and
 -- the pieces that are made have the screens of their images
-pub record CanGoOn (team : List Worker) (first end entry next made : ℕ) (e : Editing) : Type 0 where
-  pub some : 0 < length team
-  pub few : length team ≤ 16
-  pub order : first ≤ end
-  pub within : end ≤ length e.session.current.inputs + 1
-  pub states : AreOfRunBelow end e
-  pub types : All (HasCartTypes e.cart) team
-  pub begun : entry ≤ next
-  pub passed : next ≤ made
-  pub hands : made ≤ next + length team
-  pub bound : made ≤ 2048
-  pub pieces : (k : ℕ) (d : Worker) → k < made - next
-      → images_between e (piece_begin (entries_of e) first end (next + k))
-      (piece_begin (entries_of e) first end (next + k + 1))
-      ≡ Some (worker_images (worker_at team next made k d))
+pub record CanGoOn (worker_list : List Worker) (first end first_entry next filmed : ℕ) (e : Editing) : Type 0
+  where
+    pub some : 0 < length worker_list
+    pub few : length worker_list ≤ 16
+    pub order : first ≤ end
+    pub within : end ≤ length e.session.current.inputs + 1
+    pub states : AreOfRunBelow end e
+    pub types : All (HasCartTypes e.cart) worker_list
+    pub begun : first_entry ≤ next
+    pub passed : next ≤ filmed
+    pub worker_count : filmed ≤ next + length worker_list
+    pub bound : filmed ≤ 2048
+    pub pieces : (k : ℕ) (d : Worker) → k < filmed - next
+        → images_between e (piece_begin (entries_of e) first end (next + k))
+        (piece_begin (entries_of e) first end (next + k + 1))
+        ≡ Some (worker_images (worker_at worker_list next filmed k d))
 
 abbrev pub IsFilming : FilmPieces → Editing → Type 0
-IsFilming film e = CanGoOn film.team.items film.first film.end film.entry film.next film.made e
+IsFilming film e = CanGoOn film.worker_list.items film.first film.end film.first_entry film.next film.filmed e
 
 -- the next piece is made, and nothing was handed out
 pub record HasNext (e : Editing) (old new : FilmPieces) : Type 0 where
@@ -62,4 +64,4 @@ pub record HasNext (e : Editing) (old new : FilmPieces) : Type 0 where
   pub first : new.first ≡ old.first
   pub end : new.end ≡ old.end
   pub next : new.next ≡ old.next
-  pub some : new.next < new.made
+  pub some : new.next < new.filmed

@@ -31,7 +31,7 @@ pub record IsPiece (e : Editing) (first end i : ℕ) (worker : Worker) : Type 0 
   pub none : worker.task ≡ None
       → piece_begin (entries_of e) first end (i + 1) ≡ piece_begin (entries_of e) first end i
 
--- a team has the pieces from entry I on, in order
+-- the workers have the pieces from entry I on, in order
 pub record ArePieces (e : Editing) (first end i : ℕ) (old new : List Worker) : Type 0 where
   pub many : length new ≡ length old
   pub each : (k : ℕ) (d : Worker) → k < length new → IsPiece e first end (i + k) (slice_index_or new k d)

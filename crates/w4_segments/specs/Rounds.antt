@@ -30,11 +30,11 @@ pub record IsDealt (e : Editing) (from last next : ℕ) (worker : Worker) : Type
       → linked_at (entries_of e) (i + 1) ≡ true
   pub none : worker.task ≡ None → (i : ℕ) → from ≤ i → i < last → linked_at (entries_of e) (i + 1) ≡ true
 
--- the tasks of a team rise
+-- the tasks of the workers rise
 abbrev pub AreRising : List Worker → Type 0
-AreRising team = (i j : ℕ) (d : Worker) (s t : Task) → i < j → j < length team
-    → (slice_index_or team i d).task ≡ Some s
-    → (slice_index_or team j d).task ≡ Some t
+AreRising worker_list = (i j : ℕ) (d : Worker) (s t : Task) → i < j → j < length worker_list
+    → (slice_index_or worker_list i d).task ≡ Some s
+    → (slice_index_or worker_list j d).task ≡ Some t
     → s.entry < t.entry
 
 -- the first segments that aren't linked, in order
@@ -52,16 +52,16 @@ pub record AreDealt (e : Editing) (last : ℕ) (old new : List Worker) : Type 0 
       → linked_at (entries_of e) (i + 1) ≡ true
 
 -- what each worker has is what the inputs make of the state that is kept before
-pub record AreComputed (e : Editing) (last : ℕ) (team : List Worker) : Type 0 where
-  pub types : All (HasCartTypes e.cart) team
-  pub there : (i : ℕ) (d : Worker) (task : Task) → i < length team
-      → (slice_index_or team i d).task ≡ Some task
+pub record AreComputed (e : Editing) (last : ℕ) (worker_list : List Worker) : Type 0 where
+  pub types : All (HasCartTypes e.cart) worker_list
+  pub there : (i : ℕ) (d : Worker) (task : Task) → i < length worker_list
+      → (slice_index_or worker_list i d).task ≡ Some task
       → task.entry < last
-  pub state : (i : ℕ) (d : Worker) (task : Task) → i < length team
-      → (slice_index_or team i d).task ≡ Some task
+  pub state : (i : ℕ) (d : Worker) (task : Task) → i < length worker_list
+      → (slice_index_or worker_list i d).task ≡ Some task
       → computed (editing_setup e) e.session.current.inputs (entries_of e) task.entry
-      ≡ Some (slice_index_or team i d).console
-  pub rising : AreRising team
+      ≡ Some (slice_index_or worker_list i d).console
+  pub rising : AreRising worker_list
 
 -- the entry after this one is linked with the state that was found, and is the one replaced last unless it
 -- had that state
@@ -90,7 +90,7 @@ IsTaken worker replaced last old new =
 
 -- where all before the first segment is linked, its end is linked too
 abbrev pub LengthensFront : List Worker → Editing → Editing → Type 0
-LengthensFront team old new = (d : Worker) (task : Task) → 0 < length team
-    → (slice_index_or team 0 d).task ≡ Some task
+LengthensFront worker_list old new = (d : Worker) (task : Task) → 0 < length worker_list
+    → (slice_index_or worker_list 0 d).task ≡ Some task
     → AreLinked task.entry (entries_of old)
     → AreLinked (task.entry + 1) (entries_of new)

@@ -54,7 +54,7 @@ pub record HasFilmed (setup : Setup) (disk : List ℕ) (inputs : List Input) (ol
   pub types : HasCartTypes setup.cart new
   pub images : task_images setup disk inputs old.task ≡ Some (worker_images new)
 
--- each worker of a team did so
+-- each worker did so
 pub record EachDid (Did : Worker → Worker → Type 0) (old new : List Worker) : Type 0 where
   pub many : length new ≡ length old
   pub each : (i : ℕ) (d : Worker) → i < length old → Did (slice_index_or old i d) (slice_index_or new i d)

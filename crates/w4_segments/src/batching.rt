@@ -1,11 +1,11 @@
-//! Batches: many recordings are run on one cart, and one row is told of each.
+//! Batches: many recordings are run on one cart, and one row is made of each.
 
 ghost use Rattle.sha2.specs.Sha256.{sha256};
 ghost use Rattle.std.specs.Prelude.{◌≡◌, ℕ, ◌+◌, ◌<◌, ◌≤◌, IfOk, Option, Some, length, map};
 ghost use Rattle.w4_defs.specs.Batch.{file_row, file_rows, ran_row, run_row};
 ghost use Rattle.w4_defs.specs.State.{HasGlobals};
 ghost use Rattle.w4_defs.specs.declared.batch.BatchRow.{BatchRow};
-ghost use Rattle.w4_segments.specs.Batching.{AreDealtOut, AreOfHands, AreRows, CoverAll, HasRows, bytes_of, item_row};
+ghost use Rattle.w4_segments.specs.Batching.{AreDealtOut, AreOfWorkers, AreRows, CoverAll, HasRows, bytes_of, item_row};
 
 use crate::gate::Gate;
 use crate::playing::play;
@@ -39,8 +39,8 @@ pub fn batch<R: Threads + Sync, G: Gate + Sync>(
     ensures { IfOk result (λ rows. map Some rows.items
         ≡ file_rows sha256 cart.now font.now digest.now (map bytes_of items.now)) }
 {
-    let hands = items.len().min(workers);
-    let dealt = all_rows(rt, alloc, cart, font, digest, items, hands, gate)?;
+    let worker_count = items.len().min(workers);
+    let dealt = all_rows(rt, alloc, cart, font, digest, items, worker_count, gate)?;
     in_order(alloc, dealt.as_slice(), items.len())
 }
 
@@ -52,28 +52,28 @@ fn all_rows<R: Threads + Sync, G: Gate + Sync>(
     font: &Font,
     digest: &[u8; 32],
     items: &[Vec<u8>],
-    hands: usize,
+    worker_count: usize,
     gate: &G,
 ) -> Result<Vec<Result<Vec<BatchRow>, OutOfMemory>>, OutOfMemory>
-    requires { hands ≤ 16 }
-    ensures many { IfOk result (λ dealt. length dealt.items ≡ hands) }
-    ensures rows { IfOk result (λ dealt. AreOfHands (item_row cart.now font.now digest.now items.now)
-        (length items.now) hands dealt.items) }
+    requires { worker_count ≤ 16 }
+    ensures many { IfOk result (λ dealt. length dealt.items ≡ worker_count) }
+    ensures rows { IfOk result (λ dealt. AreOfWorkers (item_row cart.now font.now digest.now items.now)
+        (length items.now) worker_count dealt.items) }
 {
     let rows = thread::map_indices(
         rt,
         alloc,
-        hands,
-        &|first| { rows_of(alloc, gate, cart, font, digest, items, first, hands) },
+        worker_count,
+        &|first| { rows_of(alloc, gate, cart, font, digest, items, first, worker_count) },
     )?;
     Ok(rows)
 }
 
 /// What a worker runs recordings on: a console, and the room for an image.
 #[derive(Drop)]
-struct Runner {
+struct BatchWorker {
     console: Console,
-    picture: Box<[u8; IMAGE_LEN]>,
+    image_bytes: Box<[u8; IMAGE_LEN]>,
 }
 
 /// The rows that one worker makes: of item `first` and of each `stride`-th after it.
@@ -92,15 +92,15 @@ fn rows_of<G: Gate>(
     ensures { IfOk result (λ rows. AreRows (item_row cart.now font.now digest.now items.now)
         (length items.now) first stride rows.items) }
 {
-    let mut runner = Runner {
+    let mut worker = BatchWorker {
         console: Console::new(alloc, cart)?,
-        picture: Box::new(alloc, [0; IMAGE_LEN])?,
+        image_bytes: Box::new(alloc, [0; IMAGE_LEN])?,
     };
     let mut rows = Vec::new(alloc);
     let mut at = first;
     while at < items.len() {
         let bytes = items[at].as_slice();
-        let row = row(alloc, gate, cart, font, digest, at, bytes, &mut runner)?;
+        let row = row(alloc, gate, cart, font, digest, at, bytes, &mut worker)?;
         rows.push(row)?;
         at += stride;
     }
@@ -116,11 +116,11 @@ fn row<G: Gate>(
     digest: &[u8; 32],
     number: usize,
     bytes: &[u8],
-    runner: &mut Runner,
+    worker: &mut BatchWorker,
 ) -> Result<BatchRow, OutOfMemory>
-    requires types { HasGlobals cart.now runner.old.console }
+    requires types { HasGlobals cart.now worker.old.console }
     ensures row { IfOk result (λ row. file_row sha256 cart.now font.now digest.now bytes.now ≡ Some row) }
-    ensures types { HasGlobals cart.now runner.new.console }
+    ensures types { HasGlobals cart.now worker.new.console }
 {
     let recording = match read_recording(alloc, bytes) {
         Ok(recording) => recording,
@@ -131,38 +131,43 @@ fn row<G: Gate>(
         return Ok(BatchRow::WrongCart);
     }
     gate.pass(number);
-    Ok(run(cart, font, &recording, runner))
+    Ok(run_recording(cart, font, &recording, worker))
 }
 
 /// Runs a recording from its reset to its last place.
-fn run(cart: &Cart, font: &Font, recording: &Recording, runner: &mut Runner) -> BatchRow
-    requires types { HasGlobals cart.now runner.old.console }
+fn run_recording(
+    cart: &Cart,
+    font: &Font,
+    recording: &Recording,
+    worker: &mut BatchWorker,
+) -> BatchRow
+    requires types { HasGlobals cart.now worker.old.console }
     ensures row { run_row sha256 cart.now font.now recording.now ≡ Some result }
-    ensures types { HasGlobals cart.now runner.new.console }
+    ensures types { HasGlobals cart.now worker.new.console }
 {
-    let console = &mut runner.console;
+    let console = &mut worker.console;
     let frames = recording.frames.as_slice().len();
-    let mut made = FrameRecord::new();
+    let mut frame_record = FrameRecord::new();
     console.reset(
         cart,
         font,
         recording.disk.as_slice(),
         recording.budget,
-        &mut made,
+        &mut frame_record,
     );
     play(console, cart, font, recording, 0, frames);
-    ran(frames as u32, console.state(), &mut runner.picture)
+    ran(frames as u32, console.state(), &mut worker.image_bytes)
 }
 
-/// What is told of a run that ended in this state.
-fn ran(frames: u32, state: &State, picture: &mut [u8; IMAGE_LEN]) -> BatchRow
+/// The row of a run that ended in this state.
+fn ran(frames: u32, state: &State, image_bytes: &mut [u8; IMAGE_LEN]) -> BatchRow
     ensures { result ≡ ran_row sha256 frames state.now }
 {
-    ppm_into(state, picture);
+    ppm_into(state, image_bytes);
     BatchRow::Ran {
         frames,
         halt: state.halt,
-        image: digest_of(picture),
+        image: digest_of(image_bytes),
         disk: state.disk.bytes().len() as u32,
     }
 }

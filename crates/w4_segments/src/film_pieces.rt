@@ -14,7 +14,7 @@ ghost use Rattle.w4_defs.specs.declared.film_refusal.FilmRefusal.TheVariants.{Ou
 use crate::gate::{Gate, OpenGate};
 use crate::pieces::film_all;
 use crate::rounds::{is_consistent, settle_rounds, unlinked};
-use crate::worker::{Task, Worker, team};
+use crate::worker::{Task, Worker, new_workers};
 use std::alloc::Global;
 use std::marker::Brand;
 use std::sync::ledger::{Blank, Ledger};
@@ -31,17 +31,17 @@ const MOST_IMAGES: usize = 600;
 /// over the editor has to stay as it is.
 #[derive(Drop)]
 pub struct FilmPieces {
-    team: Vec<Worker>,
+    worker_list: Vec<Worker>,
     /// The place where it begins, and the one after its last.
     first: usize,
     end: usize,
     /// The kept places, counted from 0, whose pieces are the first, the next to be handed out, and the next
-    /// to be made.
-    entry: usize,
+    /// to be filmed.
+    first_entry: usize,
     next: usize,
-    made: usize,
+    filmed: usize,
     /// The worker whose piece was handed out last.
-    hand: usize,
+    worker_index: usize,
 }
 
 impl FilmPieces {
@@ -67,7 +67,7 @@ impl FilmPieces {
         ensures unchanged { IfErr result (λ refusal. refusal ≢ NoMemory → editor.new ≡ editor.old) }
         ensures keeps { KeepsShown editor.old editor.new }
     {
-        if let Some(refusal) = refusal(editor, a, b) {
+        if let Some(refusal) = film_refusal(editor, a, b) {
             return Err(refusal);
         }
         let film = begin_there::<R, Brand>(rt, alloc, editor, a, b, workers, Blank::new(1))?;
@@ -97,7 +97,7 @@ impl FilmPieces {
             return Ok(false);
         }
         self.make_next(rt, editor, gate)?;
-        self.hand = self.team.as_slice().len() - (self.made - self.next);
+        self.worker_index = self.worker_list.as_slice().len() - (self.filmed - self.next);
         self.next += 1;
         Ok(true)
     }
@@ -106,7 +106,7 @@ impl FilmPieces {
     pub fn screens(&self) -> &[Screen]
         ensures { flat_map image result.now ≡ piece_of self.now }
     {
-        match self.team.as_slice().get(self.hand) {
+        match self.worker_list.as_slice().get(self.worker_index) {
             Some(worker) => worker.screens.as_slice(),
             None => &[],
         }
@@ -124,28 +124,35 @@ impl FilmPieces {
         requires more { film_cut self.old editor.now self.old.next < self.old.end }
         ensures { OnOk result (HasNext editor.now self.old self.new) }
     {
-        if self.next < self.made {
+        if self.next < self.filmed {
             return Ok(());
         }
         is_consistent(editor);
-        let number = self.made - self.entry;
-        let team = self.team.as_mut_slice();
-        deal(editor, number, self.made, self.first, self.end, team)?;
+        let number = self.filmed - self.first_entry;
+        let worker_list = self.worker_list.as_mut_slice();
+        deal_pieces(
+            editor,
+            number,
+            self.filmed,
+            self.first,
+            self.end,
+            worker_list,
+        )?;
         film_all(
             rt,
             gate,
             editor.cart(),
             editor.font(),
             editor.recording(),
-            team,
+            worker_list,
         );
-        self.made += team.len();
+        self.filmed += worker_list.len();
         Ok(())
     }
 }
 
 /// Why there is no film of places `a` to `b`.
-fn refusal(editor: &Editor, a: usize, b: usize) -> Option<FilmRefusal>
+fn film_refusal(editor: &Editor, a: usize, b: usize) -> Option<FilmRefusal>
     requires { a ≤ b }
     ensures { result ≡ film_refusal a b editor.now.session.current.inputs }
 {
@@ -181,8 +188,8 @@ fn begin_there<R: Threads + Sync, L: Ledger>(
 {
     is_consistent(editor);
     let (first, last) = (last_up_to(editor, a), last_up_to(editor, b));
-    let hands = (last + 1 - first).max(unlinked(editor, last)).min(workers);
-    let mut team = team(alloc, editor.cart(), hands)?;
+    let worker_count = (last + 1 - first).max(unlinked(editor, last)).min(workers);
+    let mut worker_list = new_workers(alloc, editor.cart(), worker_count)?;
     let mut rounds = Steps::<L>::new(blank);
     settle_rounds(
         rt,
@@ -190,18 +197,18 @@ fn begin_there<R: Threads + Sync, L: Ledger>(
         editor,
         last,
         &OpenGate,
-        team.as_mut_slice(),
+        worker_list.as_mut_slice(),
         &mut rounds,
     )?;
     is_consistent(editor);
     Ok(FilmPieces {
-        team,
+        worker_list,
         first: a,
         end: b + 1,
-        entry: first,
+        first_entry: first,
         next: first,
-        made: first,
-        hand: 0,
+        filmed: first,
+        worker_index: 0,
     })
 }
 
@@ -234,38 +241,38 @@ fn cut(editor: &Editor, first: usize, end: usize, i: usize) -> usize
 }
 
 /// Gives each worker a piece, in order from entry `next` on, as long as there are any.
-fn deal(
+fn deal_pieces(
     editor: &Editor,
     number: usize,
     next: usize,
     first: usize,
     end: usize,
-    team: &mut [Worker],
+    worker_list: &mut [Worker],
 ) -> Result<(), OutOfMemory>
-    requires few { length team.old ≤ 16 }
+    requires few { length worker_list.old ≤ 16 }
     requires next { next ≤ 1024 }
     requires number { number ≤ next }
     requires order { first ≤ end }
     requires within { end ≤ length editor.now.session.current.inputs + 1 }
     requires states { AreOfRunBelow end editor.now }
-    requires types { All (HasCartTypes editor.now.cart) team.old }
-    ensures { OnOk result (ArePieces editor.now first end next team.old team.new) }
+    requires types { All (HasCartTypes editor.now.cart) worker_list.old }
+    ensures { OnOk result (ArePieces editor.now first end next worker_list.old worker_list.new) }
 {
-    for hand in 0..team.len() {
-        deal_one(
+    for worker_index in 0..worker_list.len() {
+        deal_piece(
             editor,
-            number + hand,
-            next + hand,
+            number + worker_index,
+            next + worker_index,
             first,
             end,
-            &mut team[hand],
+            &mut worker_list[worker_index],
         )?;
     }
     Ok(())
 }
 
 /// Gives a worker the piece of an entry, if it isn't empty, and room for its screens.
-fn deal_one(
+fn deal_piece(
     editor: &Editor,
     number: usize,
     entry: usize,

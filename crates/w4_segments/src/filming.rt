@@ -52,10 +52,10 @@ fn gathered<R: Threads + Sync, G: Gate + Sync>(
     requires { IsFilming film.old editor.now }
     ensures { IfOk result (λ all. images_left film.old editor.now ≡ Some all.items) }
 {
-    let mut picture = Box::new(alloc, [0; IMAGE_LEN])?;
+    let mut image_bytes = Box::new(alloc, [0; IMAGE_LEN])?;
     let mut all = Vec::new(alloc);
     while film.next_piece(rt, editor, gate)? {
-        append_images(film.screens(), &mut picture, &mut all)?;
+        append_images(film.screens(), &mut image_bytes, &mut all)?;
     }
     Ok(all)
 }
@@ -63,14 +63,14 @@ fn gathered<R: Threads + Sync, G: Gate + Sync>(
 /// Appends the images of screens, each made in the same room.
 fn append_images(
     screens: &[Screen],
-    picture: &mut [u8; IMAGE_LEN],
+    image_bytes: &mut [u8; IMAGE_LEN],
     all: &mut Vec<u8>,
 ) -> Result<(), OutOfMemory>
     ensures { OnOk result (all.new.items ≡ all.old.items ++ flat_map image screens.now) }
 {
     for screen in screens {
-        screen_into(screen, picture);
-        all.extend_from_slice(picture)?;
+        screen_into(screen, image_bytes);
+        all.extend_from_slice(image_bytes)?;
     }
     Ok(())
 }

@@ -27,18 +27,18 @@ pub(crate) fn film_all<R: Threads + Sync, G: Gate + Sync>(
     cart: &Cart,
     font: &Font,
     recording: &Recording,
-    team: &mut [Worker],
+    worker_list: &mut [Worker],
 )
     requires { All (CanFilm (console_setup cart.now font.now recording.now.budget) recording.now.disk
-        recording.now.frames) team.old }
+        recording.now.frames) worker_list.old }
     ensures { EachDid (HasFilmed (console_setup cart.now font.now recording.now.budget) recording.now.disk
-        recording.now.frames) team.old team.new }
+        recording.now.frames) worker_list.old worker_list.new }
 {
-    let hands = team.len().max(1);
+    let worker_count = worker_list.len().max(1);
     thread::for_each_mut(
         rt,
-        team,
-        hands,
+        worker_list,
+        worker_count,
         &|_, worker| film_one(gate, cart, font, recording, worker),
     );
 }

@@ -31,11 +31,11 @@ pub(crate) fn play(
     ensures globals { HasGlobals cart.now console.new }
 {
     let inputs = &recording.frames[from..to];
-    run::<Brand>(console, cart, font, recording.budget, inputs, Blank::new(1));
+    play_frames::<Brand>(console, cart, font, recording.budget, inputs, Blank::new(1));
 }
 
 /// Plays these frames under a counter of their own.
-fn run<L: Ledger>(
+fn play_frames<L: Ledger>(
     console: &mut Console,
     cart: &Cart,
     font: &Font,
@@ -51,9 +51,9 @@ fn run<L: Ledger>(
     ensures fold { fold (console_setup cart.now font.now budget) console.old inputs.now ≡ Some console.new }
     ensures globals { HasGlobals cart.now console.new }
 {
-    let mut made = FrameRecord::new();
+    let mut frame_record = FrameRecord::new();
     let mut steps = Steps::<L>::new(blank);
     for input in inputs {
-        console.frame(cart, font, input, budget, &mut made, &mut steps);
+        console.frame(cart, font, input, budget, &mut frame_record, &mut steps);
     }
 }

@@ -36,21 +36,21 @@ pub(crate) fn settle_rounds<R: Threads + Sync, G: Gate + Sync, L: Ledger>(
     editor: &mut Editor,
     last: usize,
     gate: &G,
-    team: &mut [Worker],
+    worker_list: &mut [Worker],
     rounds: &mut Steps<L>,
 ) -> Result<(), OutOfMemory>
     requires there { last < length editor.old.session.current.kept }
-    requires some { 0 < length team.old }
-    requires types { All (HasCartTypes editor.old.cart) team.old }
+    requires some { 0 < length worker_list.old }
+    requires types { All (HasCartTypes editor.old.cart) worker_list.old }
     ensures linked { OnOk result (AreLinked last editor.new.session.current.kept) }
     ensures keeps { KeepsShown editor.old editor.new }
-    ensures many { length team.new ≡ length team.old }
-    ensures types { OnOk result (All (HasCartTypes editor.old.cart) team.new) }
+    ensures many { length worker_list.new ≡ length worker_list.old }
+    ensures types { OnOk result (All (HasCartTypes editor.old.cart) worker_list.new) }
     ensures rounds { RunsAtMost rounds.old rounds.new last }
 {
     is_consistent(editor);
     for _ in 0..last {
-        if !settle_round(rt, alloc, editor, last, gate, team, rounds)? {
+        if !settle_round(rt, alloc, editor, last, gate, worker_list, rounds)? {
             return Ok(());
         }
     }
@@ -64,25 +64,25 @@ fn settle_round<R: Threads + Sync, G: Gate + Sync, L: Ledger>(
     editor: &mut Editor,
     last: usize,
     gate: &G,
-    team: &mut [Worker],
+    worker_list: &mut [Worker],
     rounds: &mut Steps<L>,
 ) -> Result<bool, OutOfMemory>
     requires there { last < length editor.old.session.current.kept }
-    requires some { 0 < length team.old }
-    requires types { All (HasCartTypes editor.old.cart) team.old }
+    requires some { 0 < length worker_list.old }
+    requires types { All (HasCartTypes editor.old.cart) worker_list.old }
     ensures none { IfOk result (λ found. IsFalse found → AreLinked last editor.new.session.current.kept) }
     ensures front { IfOk result (λ found. IsTrue found → (m : ℕ) → m < last →
         AreLinked m editor.old.session.current.kept
         → AreLinked (m + 1) editor.new.session.current.kept) }
     ensures keeps { KeepsShown editor.old editor.new }
-    ensures many { length team.new ≡ length team.old }
-    ensures types { OnOk result (All (HasCartTypes editor.old.cart) team.new) }
+    ensures many { length worker_list.new ≡ length worker_list.old }
+    ensures types { OnOk result (All (HasCartTypes editor.old.cart) worker_list.new) }
     ensures round { rounds.new ≡ rounds.old + 1 }
 {
     rounds.tick();
     is_consistent(editor);
-    deal(editor, last, team);
-    if is_idle(team) {
+    deal_segments(editor, last, worker_list);
+    if is_idle(worker_list) {
         return Ok(false);
     }
     play_all(
@@ -91,36 +91,48 @@ fn settle_round<R: Threads + Sync, G: Gate + Sync, L: Ledger>(
         editor.cart(),
         editor.font(),
         editor.recording(),
-        team,
+        worker_list,
     );
-    take_all(alloc, editor, last, team)?;
+    take_all(alloc, editor, last, worker_list)?;
     Ok(true)
 }
 
-/// Whether a team has nothing to do: its first worker is the first to have a task.
-fn is_idle(team: &[Worker]) -> bool
-    requires { 0 < length team.now }
-    ensures idle { IsTrue result → (d : Worker) → (slice_index_or team.now 0 d).task ≡ None }
+/// Whether the workers have nothing to do: the first of them is the first to have a task.
+fn is_idle(worker_list: &[Worker]) -> bool
+    requires { 0 < length worker_list.now }
+    ensures idle { IsTrue result → (d : Worker) → (slice_index_or worker_list.now 0 d).task ≡ None }
     ensures busy { IsFalse result → (task : Task) × ((d : Worker)
-        → (slice_index_or team.now 0 d).task ≡ Some task) }
+        → (slice_index_or worker_list.now 0 d).task ≡ Some task) }
 {
-    team[0].task.is_none()
+    worker_list[0].task.is_none()
 }
 
 /// Gives each worker a segment that isn't linked, in order, as long as there are any.
-fn deal(editor: &Editor, last: usize, team: &mut [Worker])
+fn deal_segments(editor: &Editor, last: usize, worker_list: &mut [Worker])
     requires there { last < length editor.now.session.current.kept }
-    requires types { All (HasCartTypes editor.now.cart) team.old }
-    ensures { AreDealt editor.now last team.old team.new }
+    requires types { All (HasCartTypes editor.now.cart) worker_list.old }
+    ensures { AreDealt editor.now last worker_list.old worker_list.new }
 {
     let mut next = 0;
-    for hand in 0..team.len() {
-        next = deal_one(editor, hand, next, last, &mut team[hand]);
+    for worker_index in 0..worker_list.len() {
+        next = deal_segment(
+            editor,
+            worker_index,
+            next,
+            last,
+            &mut worker_list[worker_index],
+        );
     }
 }
 
 /// Gives a worker the first segment from entry `from` on that isn't linked; returns the entry after it.
-fn deal_one(editor: &Editor, number: usize, from: usize, last: usize, worker: &mut Worker) -> usize
+fn deal_segment(
+    editor: &Editor,
+    number: usize,
+    from: usize,
+    last: usize,
+    worker: &mut Worker,
+) -> usize
     requires there { last < length editor.now.session.current.kept }
     requires from { from ≤ last }
     requires types { HasCartTypes editor.now.cart worker.old }
@@ -191,17 +203,17 @@ fn play_all<R: Threads + Sync, G: Gate + Sync>(
     cart: &Cart,
     font: &Font,
     recording: &Recording,
-    team: &mut [Worker],
+    worker_list: &mut [Worker],
 )
-    requires { All (CanPlay cart.now recording.now.frames) team.old }
+    requires { All (CanPlay cart.now recording.now.frames) worker_list.old }
     ensures { EachDid (HasPlayed (console_setup cart.now font.now recording.now.budget)
-        recording.now.frames) team.old team.new }
+        recording.now.frames) worker_list.old worker_list.new }
 {
-    let hands = team.len().max(1);
+    let worker_count = worker_list.len().max(1);
     thread::for_each_mut(
         rt,
-        team,
-        hands,
+        worker_list,
+        worker_count,
         &|_, worker| play_one(gate, cart, font, recording, worker),
     );
 }
@@ -231,16 +243,16 @@ fn take_all(
     alloc: Global,
     editor: &mut Editor,
     last: usize,
-    team: &[Worker],
+    worker_list: &[Worker],
 ) -> Result<(), OutOfMemory>
     requires there { last < length editor.old.session.current.kept }
-    requires played { AreComputed editor.old last team.now }
+    requires played { AreComputed editor.old last worker_list.now }
     ensures keeps { KeepsShown editor.old editor.new }
-    ensures front { OnOk result (LengthensFront team.now editor.old editor.new) }
+    ensures front { OnOk result (LengthensFront worker_list.now editor.old editor.new) }
 {
     let mut replaced = None;
-    for hand in 0..team.len() {
-        replaced = take_one(alloc, editor, &team[hand], replaced)?;
+    for worker_index in 0..worker_list.len() {
+        replaced = take_one(alloc, editor, &worker_list[worker_index], replaced)?;
     }
     Ok(())
 }
@@ -259,7 +271,7 @@ fn take_one(
 {
     match worker.task {
         Some(task) if replaced != Some(task.entry) => {
-            put(alloc, editor, task.entry, worker.console.state(), replaced)
+            link_or_replace(alloc, editor, task.entry, worker.console.state(), replaced)
         }
         _ => Ok(replaced),
     }
@@ -267,7 +279,7 @@ fn take_one(
 
 /// Links the entry after `entry`. Where another state was found than is kept, it is put in its place, and
 /// this entry is returned as the one that was replaced last.
-fn put(
+fn link_or_replace(
     alloc: Global,
     editor: &mut Editor,
     entry: usize,

@@ -9,7 +9,7 @@ ghost use Rattle.w4_segments.specs.Settling.{IsPartlySettled, IsSettledWide};
 
 use crate::gate::Gate;
 use crate::rounds::{is_consistent, settle_rounds, unlinked};
-use crate::worker::team;
+use crate::worker::new_workers;
 use std::alloc::Global;
 use std::marker::Brand;
 use std::sync::ledger::{Blank, Ledger};
@@ -123,8 +123,16 @@ fn link_all<R: Threads + Sync, G: Gate + Sync, L: Ledger>(
     if owed == 0 {
         return Ok(());
     }
-    let mut team = team(alloc, editor.cart(), owed.min(workers))?;
-    settle_rounds(rt, alloc, editor, last, gate, team.as_mut_slice(), rounds)
+    let mut worker_list = new_workers(alloc, editor.cart(), owed.min(workers))?;
+    settle_rounds(
+        rt,
+        alloc,
+        editor,
+        last,
+        gate,
+        worker_list.as_mut_slice(),
+        rounds,
+    )
 }
 
 /// The last entry; entry 0 is always there.

@@ -42,13 +42,17 @@ impl Worker {
 }
 
 /// So many workers without a task. All the memory for consoles is taken here.
-pub(crate) fn team(alloc: Global, cart: &Cart, count: usize) -> Result<Vec<Worker>, OutOfMemory>
-    ensures many { IfOk result (λ team. vec_len team ≡ count) }
-    ensures types { IfOk result (λ team. All (HasCartTypes cart.now) team.items) }
+pub(crate) fn new_workers(
+    alloc: Global,
+    cart: &Cart,
+    count: usize,
+) -> Result<Vec<Worker>, OutOfMemory>
+    ensures many { IfOk result (λ worker_list. vec_len worker_list ≡ count) }
+    ensures types { IfOk result (λ worker_list. All (HasCartTypes cart.now) worker_list.items) }
 {
-    let mut team = Vec::with_capacity(alloc, count)?;
+    let mut worker_list = Vec::with_capacity(alloc, count)?;
     for _ in 0..count {
-        team.push(Worker::new(alloc, cart)?)?;
+        worker_list.push(Worker::new(alloc, cart)?)?;
     }
-    Ok(team)
+    Ok(worker_list)
 }

@@ -1,5 +1,5 @@
 -- Tests of boxes of cells.
-use Rattle.std.proofs.Common.{◌≡◌, ℕ, ◌+◌, ◌<◌, ◌≤◌, List, length, Bool, true, false, ◌&&◌, ◌||◌, Option, Some, None, refl, sym, ◌∙◌, ap, arith}
+use Rattle.std.proofs.Common.{◌≡◌, ℕ, ◌+◌, ◌<◌, List, length, Bool, true, false, ◌&&◌, ◌||◌, Option, None, refl, ◌∙◌, ap, arith}
 use Rattle.std.specs.Prelude.{◌==◌, nat_le, nat_lt, ℤ, pos, ◌+ℤ◌, ◌-ℤ◌, ◌<ℤ◌, ◌≤ℤ◌, int_le, int_lt}
 use Rattle.std.specs.Option.{option_or}
 use Rattle.std.proofs.lemmas.Bool.Decides.{nat_tests}
@@ -8,47 +8,10 @@ use Rattle.w4_defs.specs.Framebuffer.{Painter, paint, over}
 use Rattle.w4_defs.proofs.PaintLaws.{paint-paint, paint_step}
 use Rattle.w4_defs.specs.Shapes.{only_if, is_at, is_inside, span_painter, column_painter, box_painter, outline_painter}
 use Rattle.w4_pixels.specs.Clipping.{clipped}
-use Rattle.w4_shapes.specs.Painted.{rows_painter}
-
--- one palette index, where one test or the other holds
-pub union : (s t : Bool) (o : Option ℕ) → option_or (only_if s o) (only_if t o) ≡ only_if (s || t) o
-union true true None = refl
-union true false None = refl
-union true t (Some n) = refl
-union false t o = refl
-
-shared_conjuncts : (a b c d : Bool) → ((a && b && c) || ((a && b) && d)) ≡ ((a && b) && (d || c))
-shared_conjuncts false b c d = refl
-shared_conjuncts true false c d = refl
-shared_conjuncts true true false false = refl
-shared_conjuncts true true false true = refl
-shared_conjuncts true true true false = refl
-shared_conjuncts true true true true = refl
+use Rattle.w4_pixels.proofs.ClippingLaws.{union}
 
 pub at_row : (row v : ℕ) → is_at (pos row) v ≡ (v == row)
 at_row row v = grind (arith, ints, nat_tests)
-
--- one more row
-pub rows_more : (left right : ℤ) (top row u v : ℕ) (index : Option ℕ) → top ≤ row
-    → option_or (span_painter left right (pos row) index u v) (rows_painter left right top row index u v)
-    ≡ rows_painter left right top (row + 1) index u v
-rows_more left right top row u v index h =
-    let next : (nat_le top v && nat_lt v (row + 1)) ≡ ((nat_le top v && nat_lt v row) || v == row) =
-    grind (arith, nat_tests) in
-    let line : (nat_le top v && nat_lt v (row + 1)) ≡ ((nat_le top v && nat_lt v row) || is_at (pos row) v) =
-    next ∙ sym (ap (λ t. (nat_le top v && nat_lt v row) || t) (at_row row v)) in
-    union _ _ index ∙ ap (λ t. only_if t index)
-    (shared_conjuncts (int_le left (pos u)) (int_lt (pos u) right) (is_at (pos row) v)
-    (nat_le top v && nat_lt v row)
-    ∙ ap (λ t. (int_le left (pos u) && int_lt (pos u) right) && t) (sym line))
-
--- rows of the screen are the rows of the coordinates
-pub rows_all : (left right top bottom : ℤ) (first end u v : ℕ) (index : Option ℕ)
-    → nat_le first v ≡ int_le top (pos v) → nat_le end v ≡ int_le bottom (pos v)
-    → rows_painter left right first end index u v ≡ box_painter left right top bottom index u v
-rows_all left right top bottom first end u v index hf he =
-    let stop : nat_lt v end ≡ int_lt (pos v) bottom = grind (arith, ints, nat_tests) in
-    rw (hf, stop) refl
 
 -- the test of one coordinate, as a box has it
 one_from : (z : ℤ) (u : ℕ) → int_lt (pos u) (z +ℤ pos 1) ≡ int_le (pos u) z

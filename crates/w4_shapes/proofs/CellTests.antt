@@ -5,9 +5,9 @@ use Rattle.std.proofs.lemmas.Bool.Decides.{nat_tests}
 use Rattle.std.proofs.lemmas.Int.{ints}
 use Rattle.w4_defs.specs.Shapes.{only_if, is_inside}
 
-pub kept : (test : Bool) (o : Option ℕ) → test ≡ true → o ≡ only_if test o
-kept true o e = refl
-kept false o e = absurd (cc)
+pub passes : (test : Bool) (o : Option ℕ) → test ≡ true → o ≡ only_if test o
+passes true o e = refl
+passes false o e = absurd (cc)
 
 pub gone : (test : Bool) (o : Option ℕ) → test ≡ false → None ≡ only_if test o
 gone true o e = absurd (cc)

@@ -109,7 +109,7 @@ next_pixel x1 x2 y1 y2 wide high t m n number next straight aside down em en one
           let pixel_too = subst (λ (k : ℕ). IsPixel (toward x1 x2 m) (toward y1 y2 k) number) each pixel in
           let column = subst (λ (k : ℕ). OnAxis (toward x1 x2 k)) (sym later) on in
           let row_too = subst (λ (k : ℕ). OnAxis (toward y1 y2 k)) next_each row in
-          let made : IsPixel (toward x1 x2 n) (toward y1 y2 (t + 1)) next =
+          let is_pixel : IsPixel (toward x1 x2 n) (toward y1 y2 (t + 1)) next =
           steep_pixel (toward x1 x2 m) (toward x1 x2 n) (toward y1 y2 t) (toward y1 y2 (t + 1))
           (across x1 x2) m n number
           next straight aside (across_one x1 x2)
@@ -118,7 +118,7 @@ next_pixel x1 x2 y1 y2 wide high t m n number next straight aside down em en one
           pixel_too column row_too (steep tall) ea same more in
           subst (λ (k : ℕ). IsPixel (toward x1 x2 (moved wide high (t + 1))) (toward y1 y2 k) next)
           (sym next_each)
-          (subst (λ (k : ℕ). IsPixel (toward x1 x2 k) (toward y1 y2 (t + 1)) next) later made))
+          (subst (λ (k : ℕ). IsPixel (toward x1 x2 k) (toward y1 y2 (t + 1)) next) later is_pixel))
       | inr low ↦ (
           let less : min wide high ≡ high = omega arith in
           let most : max wide high ≡ wide = omega arith in
@@ -134,12 +134,12 @@ next_pixel x1 x2 y1 y2 wide high t m n number next straight aside down em en one
           let pixel_too = subst (λ (k : ℕ). IsPixel (toward x1 x2 k) (toward y1 y2 m) number) each pixel in
           let row_too = subst (λ (k : ℕ). OnAxis (toward y1 y2 k)) (sym later) row in
           let column = subst (λ (k : ℕ). OnAxis (toward x1 x2 k)) next_each on in
-          let made : IsPixel (toward x1 x2 (t + 1)) (toward y1 y2 n) next =
+          let is_pixel : IsPixel (toward x1 x2 (t + 1)) (toward y1 y2 n) next =
           flat_pixel (toward x1 x2 t) (toward x1 x2 (t + 1)) (toward y1 y2 m) (toward y1 y2 n)
           (across x1 x2) m n number
           next straight aside (across_one x1 x2) (toward_next x1 x2 t) (down_or y1 y2 m n down one)
           pixel_too column row_too (flat low) ea same more in
           subst (λ (k : ℕ). IsPixel (toward x1 x2 k) (toward y1 y2 (moved high wide (t + 1))) next)
           (sym next_each)
-          (subst (λ (k : ℕ). IsPixel (toward x1 x2 (t + 1)) (toward y1 y2 k) next) later made))
+          (subst (λ (k : ℕ). IsPixel (toward x1 x2 (t + 1)) (toward y1 y2 k) next) later is_pixel))
     ]

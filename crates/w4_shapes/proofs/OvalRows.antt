@@ -14,7 +14,7 @@ use Rattle.w4_shapes.specs.OvalCells.{Spans, extent_painter, has, is_inner, pain
 use Rattle.w4_shapes.specs.declared.ovals.Cells.{Cells}
 use Rattle.w4_shapes.specs.declared.ovals.Columns.{Columns}
 use Rattle.w4_shapes.specs.declared.ovals.Extent.{Extent}
-use Rattle.w4_shapes.proofs.CellTests.{both, first_fails, gone, is_cell, kept, second_fails}
+use Rattle.w4_shapes.proofs.CellTests.{both, first_fails, gone, is_cell, passes, second_fails}
 
 -- columns counted from one left of the screen
 pub span_extent : (first end row u v : ℕ) (index : Option ℕ)
@@ -209,9 +209,9 @@ row_pixel cells columns v above here below whole inner u b left right top bottom
               order high same (palette_index cells.colors 2) (palette_index cells.colors 1)
               (pos u -ℤ cells.x) (pos v -ℤ cells.y) refl refl) in
               painted
-              ∙ kept (is_inside cells.x (cells.x +ℤ pos cells.w) cells.y (cells.y +ℤ pos cells.h) u b)
+              ∙ passes (is_inside cells.x (cells.x +ℤ pos cells.w) cells.y (cells.y +ℤ pos cells.h) u b)
               (oval_index cells.colors cells.w cells.h (pos u -ℤ cells.x) (pos b -ℤ cells.y)) cell
-              ∙ kept all (painter_of cells u b) here_too)
+              ∙ passes all (painter_of cells u b) here_too)
         ]
       ]
     ]

@@ -10,7 +10,8 @@ use Rattle.std.proofs.lemmas.Bool.Decides.{nat_tests}
 use Rattle.w4_defs.specs.Shapes.{only_if, is_at, point_painter, points_painter, apart, toward, moved, minor_step}
 use Rattle.w4_shapes.specs.Painted.{is_point, steps_painter}
 use Rattle.w4_pixels.specs.Packed.{dot_painter}
-use Rattle.w4_shapes.proofs.BoxTests.{at_row, union}
+use Rattle.w4_pixels.proofs.ClippingLaws.{union}
+use Rattle.w4_shapes.proofs.BoxTests.{at_row}
 
 -- tests that agree on a range
 any_ext : (p q : ℕ → Bool) (a n : ℕ) → ((t : ℕ) → a ≤ t → t < a + n → p t ≡ q t)

@@ -1,13 +1,8 @@
 -- What a shape has painted once a loop has come so far.
-use Rattle.std.specs.Prelude.{ℕ, ℤ, pos, Bool, ◌≡◌, ◌<◌, ◌≤ℤ◌, ◌<ℤ◌, ◌/◌, ◌%◌, negsuc, ◌&&◌, nat_le, nat_lt, int_le, int_lt, if◌then◌else◌, Option}
+use Rattle.std.specs.Prelude.{ℕ, ℤ, pos, Bool, ◌≡◌, ◌<◌, ◌≤ℤ◌, ◌<ℤ◌, ◌/◌, ◌%◌, negsuc, ◌&&◌, nat_le, int_le, if◌then◌else◌, Option}
 use Rattle.std.specs.List.{range_with_len, list_any}
 use Rattle.w4_defs.specs.Framebuffer.{Painter}
 use Rattle.w4_defs.specs.Shapes.{only_if, is_at, toward, moved, apart}
-
--- the columns from `left` up to `right` of the screen's rows from `top` up to `bottom`
-abbrev pub rows_painter : ℤ → ℤ → ℕ → ℕ → Option ℕ → Painter
-rows_painter left right top bottom index u v =
-    only_if ((int_le left (pos u) && int_lt (pos u) right) && (nat_le top v && nat_lt v bottom)) index
 
 -- the pixel is the point of a line that starts at its first end after t steps
 abbrev pub is_point : ℤ → ℤ → ℤ → ℤ → ℕ → ℕ → ℕ → Bool

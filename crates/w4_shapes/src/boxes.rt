@@ -1,13 +1,12 @@
-//! Horizontal and vertical lines and rectangles, by spans of the rows that are on the screen.
+//! Horizontal and vertical lines and rectangles, by the boxes of the screen that they cover.
 
 ghost use Rattle.std.specs.Option.{ForSome};
-ghost use Rattle.std.specs.Prelude.{◌+ℤ◌, ◌<◌, ◌<ℤ◌, ◌≡◌, ◌≤◌, Some};
+ghost use Rattle.std.specs.Prelude.{◌<◌, ◌<ℤ◌, ◌≡◌, Some};
 ghost use Rattle.w4_defs.specs.Framebuffer.{paint};
 ghost use Rattle.w4_defs.specs.Shapes.{box_painter, column_painter, hline_painter, outline_painter, rect_painter, vline_painter};
-ghost use Rattle.w4_shapes.specs.Painted.{rows_painter};
 
 use w4_defs::PageBytes;
-use w4_pixels::{column, entry_of, on_screen, span};
+use w4_pixels::{column, entry_of, on_screen};
 
 /// Paints `len` pixels in colour 1 from (x, y) to the right; none where `len` is below 1.
 pub fn hline(page: &mut PageBytes, colors: u16, x: i32, y: i32, len: i32)
@@ -44,7 +43,8 @@ fn fill(page: &mut PageBytes, left: i64, right: i64, top: i64, bottom: i64, inde
     ensures { page.new ≡ paint page.old (box_painter left right top bottom index) }
 {
     if let Some(index) = index {
-        fill_rows(page, left, right, on_screen(top), on_screen(bottom), index);
+        let (first, end) = (on_screen(left), on_screen(right));
+        w4_pixels::fill(page, first, end, on_screen(top), on_screen(bottom), index);
     }
 }
 
@@ -64,17 +64,6 @@ fn put_column(page: &mut PageBytes, x: i64, top: i64, bottom: i64, index: u8)
 {
     if 0 <= x && x < 160 {
         column(page, x as usize, on_screen(top), on_screen(bottom), index);
-    }
-}
-
-/// Fills rows of the screen.
-fn fill_rows(page: &mut PageBytes, left: i64, right: i64, top: usize, bottom: usize, index: u8)
-    requires rows { bottom ≤ 160 }
-    requires index { index < 4 }
-    ensures { page.new ≡ paint page.old (rows_painter left right top bottom (Some index)) }
-{
-    for row in top..bottom {
-        span(page, left, right, row as i64, index);
     }
 }
 

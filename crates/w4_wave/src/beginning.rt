@@ -33,18 +33,18 @@ pub fn play_all(channels: &mut Channels, tones: &[Tone])
     }
 }
 
-/// Silences each channel that has no sound.
-pub fn silence_all(channels: &mut Channels, sounds: &[Option<Sound>; 4])
+/// Silences each channel that a record has silent; the others are unchanged.
+pub fn silence_as_recorded(channels: &mut Channels, sounds: &[Option<Sound>; 4])
     ensures { channels.new ≡ map (λ pair. silenced pair.0 pair.1) (zip channels.old sounds.now) }
 {
-    silence(channels, 0, sounds[0]);
-    silence(channels, 1, sounds[1]);
-    silence(channels, 2, sounds[2]);
-    silence(channels, 3, sounds[3]);
+    silence_if_recorded(channels, 0, sounds[0]);
+    silence_if_recorded(channels, 1, sounds[1]);
+    silence_if_recorded(channels, 2, sounds[2]);
+    silence_if_recorded(channels, 3, sounds[3]);
 }
 
-/// Silences a channel that has no sound.
-fn silence(channels: &mut Channels, channel: u8, sound: Option<Sound>)
+/// Silences a channel that its record has silent; else it is unchanged.
+fn silence_if_recorded(channels: &mut Channels, channel: u8, sound: Option<Sound>)
     requires { channel < 4 }
     ensures channels { channels.new ≡
         slice_set channels.old channel (silenced (slice_index_or channels.old channel None) sound) }

@@ -7,7 +7,7 @@ ghost use Rattle.w4_defs.specs.Bytes.{replaced};
 /// The bytes of a frame: 735 samples, each two bytes for the left and two for the right.
 pub const FRAME_LEN: usize = 2940;
 
-pub fn put(out: &mut [u8; FRAME_LEN], at: usize, sample: [u8; 4])
+pub fn put_sample(out: &mut [u8; FRAME_LEN], at: usize, sample: [u8; 4])
     requires { at + 4 ≤ 2940 }
     ensures { out.new ≡ replaced out.old at 4 sample }
 {

@@ -7,15 +7,15 @@ use w4_tone::decode;
 
 #[test]
 fn a_tone_has_its_samples_and_then_there_is_silence(rt: HostRuntime) {
-    let mut made = FrameRecord::new();
-    made.tones.add(decode(11025, 1, 100, 8));
-    made.sounds[0] = Some(Sound {
+    let mut frame_record = FrameRecord::new();
+    frame_record.tones.add(decode(11025, 1, 100, 8));
+    frame_record.sounds[0] = Some(Sound {
         level: 100,
         frequency: 11025,
     });
     let mut wave = Wave::new();
     let mut out = [1; FRAME_LEN];
-    wave.render(&made, &mut out);
+    wave.render(&frame_record, &mut out);
     for (tick, sample) in out.chunks_exact(4).enumerate() {
         let want = if tick % 4 < 2 {
             [0x40, 0x1f, 0x40, 0x1f]

@@ -6,10 +6,10 @@ ghost use Rattle.w4_defs.specs.Tones.{IsTone};
 ghost use Rattle.w4_devices.specs.Records.{record_of};
 ghost use Rattle.w4_wave.specs.Outputs.{IsPart, output_at, tone_and_sound};
 
-use crate::beginning::{play_all, silence_all};
+use crate::beginning::{play_all, silence_as_recorded};
 use crate::oscillators::{next_phase, next_register, value};
 use crate::output::{Output, Part, TICKS, UNHEARD, on_sides};
-use crate::samples::{FRAME_LEN, put, sample, sum};
+use crate::samples::{FRAME_LEN, put_sample, sample, sum};
 use std::marker::Model;
 use w4_defs::{Sound, Tone};
 use w4_devices::FrameRecord;
@@ -49,21 +49,21 @@ impl Wave {
     }
 
     /// Writes the samples of one frame, by its record. What its channels play goes on in the next frame.
-    pub fn render(&mut self, made: &FrameRecord, out: &mut [u8; FRAME_LEN])
-        ensures samples { out.new ≡ rendered (record_of made.now) self.old }
-        ensures wave { self.new ≡ after_frame (record_of made.now) self.old }
+    pub fn render(&mut self, frame_record: &FrameRecord, out: &mut [u8; FRAME_LEN])
+        ensures samples { out.new ≡ rendered (record_of frame_record.now) self.old }
+        ensures wave { self.new ≡ after_frame (record_of frame_record.now) self.old }
     {
-        self.begin(made);
+        self.begin_frame(frame_record);
         self.sound(out);
         self.channels.age();
     }
 
     /// Plays the tones of a record, and silences the channels that it has silent.
-    fn begin(&mut self, made: &FrameRecord)
-        ensures { self.new ≡ with_record (record_of made.now) self.old }
+    fn begin_frame(&mut self, frame_record: &FrameRecord)
+        ensures { self.new ≡ with_record (record_of frame_record.now) self.old }
     {
-        play_all(&mut self.channels, made.tones.kept());
-        silence_all(&mut self.channels, &made.sounds);
+        play_all(&mut self.channels, frame_record.tones.kept());
+        silence_as_recorded(&mut self.channels, &frame_record.sounds);
     }
 
     /// All ticks of a frame. Each channel's are taken together, and a channel that isn't heard is skipped.
@@ -88,7 +88,7 @@ impl Wave {
                 third.right[tick],
                 fourth.right[tick],
             );
-            put(out, 4 * tick, sample(left, right));
+            put_sample(out, 4 * tick, sample(left, right));
         }
         self.phases = [first.phase, second.phase, third.phase, fourth.phase];
         self.noise = fourth.register;

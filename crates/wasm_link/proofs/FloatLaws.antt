@@ -19,30 +19,30 @@ use Rattle.w4_defs.specs.Floats.{is_float, is_float_result, is_float_operation, 
 use Rattle.w4_defs.specs.Lookup.{imported_global}
 use Rattle.wasm_tree.specs.Pool.{operations_of}
 use Rattle.wasm_tree.specs.Layout.{IsBody}
-use Rattle.wasm_link.specs.Judging.{is_float_entry, imports_float}
+use Rattle.wasm_link.specs.Judging.{is_float_mark, imports_float}
 
--- whether a float stands among the entries
+-- whether a float stands among the marks
 abbrev floats : List Mark → Bool
-floats ms = list_any is_float_entry (operations_of ms)
+floats ms = list_any is_float_mark (operations_of ms)
 
-leaf_float : (op : Op) → IsLeaf op → is_float_entry op ≡ is_float_operation op
+leaf_float : (op : Op) → IsLeaf op → is_float_mark op ≡ is_float_operation op
 leaf_float (Block r m) h = absurd h
 leaf_float (Loop r m) h = absurd h
 leaf_float (If r other m) h = absurd h
 leaf_float op h = refl
 
 floats_append : (xs ys : List Mark) → floats (xs ++ ys) ≡ (floats xs || floats ys)
-floats_append xs ys = ap (list_any is_float_entry) (map-append (λ m. m.0) xs ys)
-    ∙ list_any-append is_float_entry (operations_of xs) (operations_of ys)
+floats_append xs ys = ap (list_any is_float_mark) (map-append (λ m. m.0) xs ys)
+    ∙ list_any-append is_float_mark (operations_of xs) (operations_of ys)
 
--- a list that opens with an entry, and what follows it
-opened_floats : (x : Mark) (xs ys : List Mark) (first inner rest : Bool) → is_float_entry x.0 ≡ first
+-- a list that opens with a mark, and what follows it
+opened_floats : (x : Mark) (xs ys : List Mark) (first inner rest : Bool) → is_float_mark x.0 ≡ first
     → floats xs ≡ inner → floats ys ≡ rest → floats ((x ∷ xs) ++ ys) ≡ (first || inner || rest)
 opened_floats x xs ys first inner rest ex exs eys =
     floats_append (x ∷ xs) ys ∙ ap (λ b. (b || floats xs) || floats ys) ex
     ∙ ap (λ b. (first || b) || floats ys) exs ∙ ap (λ b. (first || inner) || b) eys
 
-pub flat_floats : (close : Op) → is_float_entry close ≡ false → (at : ℕ) (e : Expr) → IsProper e
+pub flat_floats : (close : Op) → is_float_mark close ≡ false → (at : ℕ) (e : Expr) → IsProper e
     → floats (flat_at close at e) ≡ has_float e
 flat_floats close c at done p = ap (λ b. b || false) c
 flat_floats close c at (plain m rest) p =
@@ -75,22 +75,22 @@ flat_floats close c at (if_else r taken other rest) p =
     (flat_floats close c (end + 1) rest p.2)
 
 pub expression_floats : (e : Expr) (ops : List Op) → ops ≡ operations_of (flat e) → IsProper e
-    → list_any is_float_entry ops ≡ has_float e
-expression_floats e ops is p = ap (list_any is_float_entry) is ∙ flat_floats End refl 0 e p
+    → list_any is_float_mark ops ≡ has_float e
+expression_floats e ops is p = ap (list_any is_float_mark) is ∙ flat_floats End refl 0 e p
 
 -- one body
 body_floats : (b : Function) (runs : List Locals) (ops : List Op) → b.runs ≡ runs → IsBody (Some b) ops
     → IsProper b.list
-    → (list_any (λ run. is_float run.kind) runs || list_any is_float_entry ops) ≡ function_has_float b
+    → (list_any (λ run. is_float run.kind) runs || list_any is_float_mark ops) ≡ function_has_float b
 body_floats b runs ops er is p =
-    ap (λ rs. list_any (λ run. is_float run.kind) rs || list_any is_float_entry ops) (sym er)
+    ap (λ rs. list_any (λ run. is_float run.kind) rs || list_any is_float_mark ops) (sym er)
     ∙ ap (λ x. list_any (λ run. is_float run.kind) b.runs || x)
-    (ap (list_any is_float_entry) is.1 ∙ flat_floats End refl is.0 b.list p)
+    (ap (list_any is_float_mark) is.1 ∙ flat_floats End refl is.0 b.list p)
 
 pub body_flag : (b : Option Function) (runs : List Locals) (ops : List Op)
     → option_map (λ f. f.runs) b ≡ Some runs → IsBody b ops → IfSome b (λ f. IsProper f.list)
     → option_map function_has_float b
-    ≡ Some (list_any (λ run. is_float run.kind) runs || list_any is_float_entry ops)
+    ≡ Some (list_any (λ run. is_float run.kind) runs || list_any is_float_mark ops)
 body_flag None runs ops er is p = absurd is
 body_flag (Some b) runs ops er is p = ap Some (sym (body_floats b runs ops (same_Some _ _ er) is p))
 

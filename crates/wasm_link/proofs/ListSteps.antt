@@ -27,8 +27,8 @@ flag_step p (x ∷ xs) (suc i) r e = flag_step p xs i r e
 pub flag_found : {X : Type 0} (p : X → Bool) (xs : List X) (i : ℕ) (r : Bool)
     → option_map p (slice_get xs i) ≡ Some r → r ≡ true → list_any p (drop i xs) ≡ list_any p xs
     → true ≡ list_any p xs
-flag_found p xs i r e holds so_far =
-    sym (sym so_far ∙ flag_step p xs i r e ∙ ap (λ b. b || list_any p (drop (suc i) xs)) holds)
+flag_found p xs i r e is_met so_far =
+    sym (sym so_far ∙ flag_step p xs i r e ∙ ap (λ b. b || list_any p (drop (suc i) xs)) is_met)
 
 pub flag_next : {X : Type 0} (p : X → Bool) (xs : List X) (i next : ℕ) (r : Bool) → next ≡ i + 1
     → option_map p (slice_get xs i) ≡ Some r → r ≡ false → list_any p (drop i xs) ≡ list_any p xs

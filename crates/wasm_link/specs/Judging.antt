@@ -15,11 +15,11 @@ abbrev pub is_other : ValType → Bool
 is_other t = not (same_type t I32)
 
 -- a float instruction, or a block type that is a float's
-abbrev pub is_float_entry : Op → Bool
-is_float_entry (Block r end) = is_float_result r
-is_float_entry (Loop r end) = is_float_result r
-is_float_entry (If r other end) = is_float_result r
-is_float_entry op = is_float_operation op
+abbrev pub is_float_mark : Op → Bool
+is_float_mark (Block r end) = is_float_result r
+is_float_mark (Loop r end) = is_float_result r
+is_float_mark (If r other end) = is_float_result r
+is_float_mark op = is_float_operation op
 
 -- an imported global of a float type
 abbrev pub imports_float : ImportKind → Bool

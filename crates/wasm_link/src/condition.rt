@@ -7,17 +7,17 @@ ghost use Rattle.std.specs.Prelude.{◌≡◌, position};
 pub trait Condition<T> {
     ghost use Rattle.std.specs.Prelude.{◌≡◌, Bool};
 
-    ghost holds: { Self → T → Bool };
+    ghost is_met: { Self → T → Bool };
 
-    fn holds(&self, item: &T) -> bool
-        ensures { result ≡ holds self.now item.now };
+    fn is_met(&self, item: &T) -> bool
+        ensures { result ≡ is_met self.now item.now };
 }
 
 pub fn any<T, C: Condition<T>>(condition: &C, items: &[T]) -> bool
-    ensures { result ≡ list_any (C.holds condition.now) items.now }
+    ensures { result ≡ list_any (C.is_met condition.now) items.now }
 {
     for i in 0..items.len() {
-        if condition.holds(&items[i]) {
+        if condition.is_met(&items[i]) {
             return true;
         }
     }
@@ -25,10 +25,10 @@ pub fn any<T, C: Condition<T>>(condition: &C, items: &[T]) -> bool
 }
 
 pub fn first<T, C: Condition<T>>(condition: &C, items: &[T]) -> Option<usize>
-    ensures { result ≡ position (C.holds condition.now) items.now }
+    ensures { result ≡ position (C.is_met condition.now) items.now }
 {
     for i in 0..items.len() {
-        if condition.holds(&items[i]) {
+        if condition.is_met(&items[i]) {
             return Some(i);
         }
     }

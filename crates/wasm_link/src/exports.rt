@@ -17,9 +17,9 @@ pub struct IsUpdate;
 impl Condition<Export> for IsUpdate {
     ghost use Rattle.w4_defs.specs.Profile.{is_update};
 
-    ghost holds = { λ _ e. is_update e };
+    ghost is_met = { λ _ e. is_update e };
 
-    fn holds(&self, export: &Export) -> bool {
+    fn is_met(&self, export: &Export) -> bool {
         &export.name[..] == b"update".as_slice()
     }
 }
@@ -33,9 +33,9 @@ pub struct IsWrongEntry<'a> {
 impl<'a> Condition<Export> for IsWrongEntry<'a> {
     ghost use Rattle.w4_defs.specs.Profile.{is_wrong_entry};
 
-    ghost holds = { λ s e. is_wrong_entry s.code.now e };
+    ghost is_met = { λ s e. is_wrong_entry s.code.now e };
 
-    fn holds(&self, export: &Export) -> bool {
+    fn is_met(&self, export: &Export) -> bool {
         is_entry_name(&export.name) && !is_entry_function(self.code, export.kind, export.index)
     }
 }
@@ -92,10 +92,10 @@ fn type_index(code: &Code, func: u32) -> Option<u32>
             left -= 1;
         }
     }
-    entry(code.functions(), left)
+    function_at(code.functions(), left)
 }
 
-fn entry(items: &[u32], i: usize) -> Option<u32>
+fn function_at(items: &[u32], i: usize) -> Option<u32>
     ensures { result ≡ slice_get items.now i }
 {
     if i < items.len() {

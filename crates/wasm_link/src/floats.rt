@@ -2,12 +2,13 @@
 
 ghost use Rattle.std.specs.List.{list_any};
 ghost use Rattle.std.specs.Prelude.{◌<◌, ◌≡◌, Some, length, option_map, slice_get};
-ghost use Rattle.w4_defs.specs.Floats.{function_has_float, has_float, is_float, is_float_operation, is_float_result, module_has_float};
+ghost use Rattle.w4_defs.specs.Floats.{function_has_float, has_float, is_float, is_float_operation, is_float_result, is_float_row, module_has_float};
+ghost use Rattle.w4_defs.specs.InstructionTable.{row};
 ghost use Rattle.w4_defs.specs.Lookup.{global_types};
-ghost use Rattle.wasm_link.specs.Judging.{imports_float, is_float_entry};
+ghost use Rattle.wasm_link.specs.Judging.{imports_float, is_float_mark};
 
 use crate::condition::{Condition, any};
-use w4_defs::{FuncType, ImportEntry, ImportKind, Locals, Op, ValType};
+use w4_defs::{Basic, FuncType, ImportEntry, ImportKind, Locals, Op, Row, ValType};
 use wasm_tree::{Code, FlatElement, FlatExpression, FlatGlobal, FlatSegment};
 
 pub fn has_floats(code: &Code) -> bool
@@ -57,9 +58,9 @@ struct IsFloat;
 impl Condition<ValType> for IsFloat {
     ghost use Rattle.w4_defs.specs.Floats.{is_float};
 
-    ghost holds = { λ _ kind. is_float kind };
+    ghost is_met = { λ _ kind. is_float kind };
 
-    fn holds(&self, kind: &ValType) -> bool {
+    fn is_met(&self, kind: &ValType) -> bool {
         is_float(*kind)
     }
 }
@@ -67,9 +68,9 @@ impl Condition<ValType> for IsFloat {
 impl Condition<Locals> for IsFloat {
     ghost use Rattle.w4_defs.specs.Floats.{is_float};
 
-    ghost holds = { λ _ run. is_float run.kind };
+    ghost is_met = { λ _ run. is_float run.kind };
 
-    fn holds(&self, run: &Locals) -> bool {
+    fn is_met(&self, run: &Locals) -> bool {
         is_float(run.kind)
     }
 }
@@ -77,9 +78,9 @@ impl Condition<Locals> for IsFloat {
 impl Condition<ImportEntry> for IsFloat {
     ghost use Rattle.wasm_link.specs.Judging.{imports_float};
 
-    ghost holds = { λ _ i. imports_float i.kind };
+    ghost is_met = { λ _ i. imports_float i.kind };
 
-    fn holds(&self, import: &ImportEntry) -> bool {
+    fn is_met(&self, import: &ImportEntry) -> bool {
         imports_float(import.kind)
     }
 }
@@ -87,20 +88,20 @@ impl Condition<ImportEntry> for IsFloat {
 impl Condition<FlatGlobal> for IsFloat {
     ghost use Rattle.w4_defs.specs.Floats.{is_float};
 
-    ghost holds = { λ _ g. is_float g.global.value };
+    ghost is_met = { λ _ g. is_float g.global.value };
 
-    fn holds(&self, global: &FlatGlobal) -> bool {
+    fn is_met(&self, global: &FlatGlobal) -> bool {
         is_float(global.global.value)
     }
 }
 
 impl Condition<Op> for IsFloat {
-    ghost use Rattle.wasm_link.specs.Judging.{is_float_entry};
+    ghost use Rattle.wasm_link.specs.Judging.{is_float_mark};
 
-    ghost holds = { λ _ op. is_float_entry op };
+    ghost is_met = { λ _ op. is_float_mark op };
 
-    fn holds(&self, op: &Op) -> bool {
-        is_float_entry(*op)
+    fn is_met(&self, op: &Op) -> bool {
+        is_float_mark(*op)
     }
 }
 
@@ -111,9 +112,9 @@ struct HasFloat;
 impl Condition<FuncType> for HasFloat {
     ghost use Rattle.w4_defs.specs.Floats.{signature_has_float};
 
-    ghost holds = { λ _ s. signature_has_float s };
+    ghost is_met = { λ _ s. signature_has_float s };
 
-    fn holds(&self, signature: &FuncType) -> bool {
+    fn is_met(&self, signature: &FuncType) -> bool {
         any(&IsFloat, &signature.params) || any(&IsFloat, &signature.results)
     }
 }
@@ -121,9 +122,9 @@ impl Condition<FuncType> for HasFloat {
 impl Condition<FlatGlobal> for HasFloat {
     ghost use Rattle.w4_defs.specs.Floats.{has_float};
 
-    ghost holds = { λ _ g. has_float g.first };
+    ghost is_met = { λ _ g. has_float g.first };
 
-    fn holds(&self, global: &FlatGlobal) -> bool {
+    fn is_met(&self, global: &FlatGlobal) -> bool {
         has_float(&global.first)
     }
 }
@@ -131,9 +132,9 @@ impl Condition<FlatGlobal> for HasFloat {
 impl Condition<FlatElement> for HasFloat {
     ghost use Rattle.w4_defs.specs.Floats.{has_float};
 
-    ghost holds = { λ _ s. has_float s.offset };
+    ghost is_met = { λ _ s. has_float s.offset };
 
-    fn holds(&self, segment: &FlatElement) -> bool {
+    fn is_met(&self, segment: &FlatElement) -> bool {
         has_float(&segment.offset)
     }
 }
@@ -141,9 +142,9 @@ impl Condition<FlatElement> for HasFloat {
 impl Condition<FlatSegment> for HasFloat {
     ghost use Rattle.w4_defs.specs.Floats.{has_float};
 
-    ghost holds = { λ _ s. has_float s.offset };
+    ghost is_met = { λ _ s. has_float s.offset };
 
-    fn holds(&self, segment: &FlatSegment) -> bool {
+    fn is_met(&self, segment: &FlatSegment) -> bool {
         has_float(&segment.offset)
     }
 }
@@ -183,19 +184,22 @@ fn imports_float(kind: ImportKind) -> bool
     }
 }
 
+fn is_float_basic(basic: Basic) -> bool
+    ensures { result ≡ is_float_row (row basic) }
+{
+    let (_, row) = basic.table_row();
+    matches!(row, Row::Float)
+}
+
 /// A float instruction, or a block type that is a float's.
-fn is_float_entry(op: Op) -> bool
-    ensures { result ≡ is_float_entry op }
+fn is_float_mark(op: Op) -> bool
+    ensures { result ≡ is_float_mark op }
 {
     match op {
         Op::Block { result, .. } => is_float_result(result),
         Op::Loop { result, .. } => is_float_result(result),
         Op::If { result, .. } => is_float_result(result),
-        Op::F32Const { .. } => true,
-        Op::F64Const { .. } => true,
-        Op::FloatMemory { .. } => true,
-        Op::FloatPlain { .. } => true,
-        Op::FloatCut { .. } => true,
+        Op::Basic(basic) => is_float_basic(basic),
         _ => false,
     }
 }

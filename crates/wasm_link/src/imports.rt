@@ -56,9 +56,9 @@ impl<'a> Condition<ImportEntry> for IsWrong<'a> {
     ghost use Rattle.std.specs.Prelude.{not};
     ghost use Rattle.w4_defs.specs.Profile.{is_right};
 
-    ghost holds = { λ s i. not (is_right s.code.now i) };
+    ghost is_met = { λ s i. not (is_right s.code.now i) };
 
-    fn holds(&self, import: &ImportEntry) -> bool {
+    fn is_met(&self, import: &ImportEntry) -> bool {
         !is_right(self.code, import)
     }
 }
@@ -136,9 +136,9 @@ pub struct IsMemory;
 impl Condition<ImportEntry> for IsMemory {
     ghost use Rattle.w4_defs.specs.Profile.{is_memory};
 
-    ghost holds = { λ _ i. is_memory i };
+    ghost is_met = { λ _ i. is_memory i };
 
-    fn holds(&self, import: &ImportEntry) -> bool {
+    fn is_met(&self, import: &ImportEntry) -> bool {
         is_memory(import)
     }
 }

@@ -70,25 +70,25 @@ fn last_refusal(code: &Code) -> Option<ProfileRefusal>
     segment_refusal(first_outside(code))
 }
 
-fn segment_refusal(place: Option<usize>) -> Option<ProfileRefusal>
-    ensures { result ≡ option_map SegmentOutside place }
+fn segment_refusal(segment: Option<usize>) -> Option<ProfileRefusal>
+    ensures { result ≡ option_map SegmentOutside segment }
 {
-    match place {
+    match segment {
         Some(i) => Some(ProfileRefusal::SegmentOutside(i)),
         None => None,
     }
 }
 
-/// A table of more than 65,536 entries at least.
+/// A table of more than 65,536 elements at least.
 #[derive(Drop)]
 struct IsLarge;
 
 impl Condition<Limits> for IsLarge {
     ghost use Rattle.std.specs.Prelude.{nat_lt};
 
-    ghost holds = { λ _ l. nat_lt 65536 l.least };
+    ghost is_met = { λ _ l. nat_lt 65536 l.least };
 
-    fn holds(&self, limits: &Limits) -> bool {
+    fn is_met(&self, limits: &Limits) -> bool {
         65536 < limits.least
     }
 }

@@ -4,7 +4,7 @@ ghost use Rattle.std.specs.Prelude.{◌+◌, ◌<◌, ◌≡◌, length, positio
 ghost use Rattle.w4_defs.specs.Profile.{exceeds_size, i32_constant, segments_outside, single_constant, table_size};
 
 use crate::condition::{Condition, first};
-use w4_defs::Op;
+use w4_defs::{Basic, Op};
 use wasm_tree::{Code, FlatElement, FlatExpression, FlatSegment};
 
 /// The first segment that is outside; the element segments are numbered first.
@@ -17,7 +17,7 @@ pub fn first_outside(code: &Code) -> Option<usize>
     match first(&IsOutside { size }, elements) {
         Some(i) => Some(i),
         None => match first(&IsOutside { size: 65536 }, segments) {
-            Some(i) => Some(place_after(elements, segments, i)),
+            Some(i) => Some(segment_after(elements, segments, i)),
             None => None,
         },
     }
@@ -33,9 +33,9 @@ impl Condition<FlatElement> for IsOutside {
     ghost use Rattle.std.specs.Prelude.{length};
     ghost use Rattle.w4_defs.specs.Profile.{exceeds_size, single_constant};
 
-    ghost holds = { λ c s. exceeds_size (single_constant s.offset) (length s.functions) c.size };
+    ghost is_met = { λ c s. exceeds_size (single_constant s.offset) (length s.functions) c.size };
 
-    fn holds(&self, segment: &FlatElement) -> bool {
+    fn is_met(&self, segment: &FlatElement) -> bool {
         passes(
             single_constant(&segment.offset),
             segment.functions.len(),
@@ -48,9 +48,9 @@ impl Condition<FlatSegment> for IsOutside {
     ghost use Rattle.std.specs.Prelude.{length};
     ghost use Rattle.w4_defs.specs.Profile.{exceeds_size, single_constant};
 
-    ghost holds = { λ c s. exceeds_size (single_constant s.offset) (length s.bytes) c.size };
+    ghost is_met = { λ c s. exceeds_size (single_constant s.offset) (length s.bytes) c.size };
 
-    fn holds(&self, segment: &FlatSegment) -> bool {
+    fn is_met(&self, segment: &FlatSegment) -> bool {
         passes(
             single_constant(&segment.offset),
             segment.bytes.len(),
@@ -84,7 +84,7 @@ fn constant(op: Op) -> Option<u32>
     ensures { result ≡ i32_constant op }
 {
     match op {
-        Op::I32Const { value } => Some(value),
+        Op::Basic(Basic::I32Const { value }) => Some(value),
         _ => None,
     }
 }
@@ -100,7 +100,7 @@ fn table_size(code: &Code) -> usize
 }
 
 /// The number of a data segment among all segments.
-fn place_after(elements: &[FlatElement], segments: &[FlatSegment], i: usize) -> usize
+fn segment_after(elements: &[FlatElement], segments: &[FlatSegment], i: usize) -> usize
     requires { i < length segments.now }
     ensures { result ≡ length elements.now + i }
 {

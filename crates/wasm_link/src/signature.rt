@@ -20,9 +20,9 @@ pub struct Numbers {
 struct IsOther;
 
 impl Condition<ValType> for IsOther {
-    ghost holds = { λ _ kind. is_other kind };
+    ghost is_met = { λ _ kind. is_other kind };
 
-    fn holds(&self, kind: &ValType) -> bool {
+    fn is_met(&self, kind: &ValType) -> bool {
         match *kind {
             ValType::I32 => false,
             ValType::I64 => true,

@@ -10,7 +10,7 @@ use Rattle.w4_defs.specs.Tree.{Mark}
 use Rattle.w4_defs.specs.Module.{Signature, WasmModule}
 use Rattle.w4_defs.specs.Outcome.{HostFunctions, Store, Outcome, Trap, Stuck}
 use Rattle.w4_defs.specs.Program.{Callee, callees, table_of, program}
-use Rattle.wasm_tree.specs.Layout.{entries}
+use Rattle.wasm_tree.specs.Layout.{marks}
 use Rattle.wasm_tree.specs.Pool.{operations_of}
 use Rattle.wasm_valid.specs.declared.call.Call.{Call}
 use Rattle.wasm_valid.specs.Calls.{IsCall, AreCalls, number_of_type}
@@ -24,13 +24,13 @@ use Rattle.wasm_machine.specs.Tie.{Ties, IsUnderWay, Goes, store_with}
 use Rattle.wasm_machine.specs.Transfers.{Reach}
 use Rattle.wasm_machine.specs.Calling.{IsCallUnderWay, Calls}
 use Rattle.wasm_machine.proofs.StraightLaws.{OpAt}
-use Rattle.wasm_machine.proofs.CallIndirectLaws.{direct, indirect, outside_table, empty_entry, full_entry, typed_call, named_there, named_within}
+use Rattle.wasm_machine.proofs.CallIndirectLaws.{direct, indirect, outside_table, empty_element, full_element, typed_call, named_there, named_within}
 
--- a place at which an operation stands
-pub next_place_fits : (ms : List Mark) (place : ℕ) (o : Op) → OpAt ms place o → length ms < 4294967296
-    → place + 1 < 4294967296
-next_place_fits ms place o at bound =
-    let within : place < length (operations_of ms) = slice_get_within (operations_of ms) place o at in
+-- a position at which an operation stands
+pub next_place_fits : (ms : List Mark) (position : ℕ) (o : Op) → OpAt ms position o → length ms < 4294967296
+    → position + 1 < 4294967296
+next_place_fits ms position o at bound =
+    let within : position < length (operations_of ms) = slice_get_within (operations_of ms) position o at in
     let long : length (operations_of ms) ≡ length ms = length-map ms (λ (m : Mark). m.0) in
     omega arith
 
@@ -39,96 +39,96 @@ item : {A : Type 0} (xs : List A) (i : ℕ) (d : A) (x : A) → slice_get xs i �
     ≡ Some (get_or xs i d)
 item xs i d x e = slice_get-get_or xs i d (slice_get_within xs i x e)
 
-module _ {H : Type 0} (imports : HostFunctions H) (m : WasmModule) (place b : ℕ) (activation : Activation)
+module _ {H : Type 0} (imports : HostFunctions H) (m : WasmModule) (position b : ℕ) (activation : Activation)
     (labels : List Label)
     (page : List ℕ) (host : H) where
   -- a call through the table
   pub indirect_top : (globals : List Val) (t table : ℕ) (slots : List ℕ)
-      → OpAt (entries m) place (op.CallIndirect t table)
-      → IsUnderWay (program m imports) (entries m) place activation labels slots
+      → OpAt (marks m) position (op.CallIndirect t table)
+      → IsUnderWay (program m imports) (marks m) position activation labels slots
       (store_with page globals host) (b + 1)
       → 0 < length slots
   indirect_top globals t table slots at g =
-      (indirect g.whole (program m imports) (entries m) activation labels (store_with page globals host)
-      g.meant place t
+      (indirect g.whole (program m imports) (marks m) activation labels (store_with page globals host)
+      g.meant position t
       table slots b at g.ties).0
 
   pub indirect_type : (globals : List Val) (t table : ℕ) (slots : List ℕ)
-      → OpAt (entries m) place (op.CallIndirect t table)
-      → IsUnderWay (program m imports) (entries m) place activation labels slots
+      → OpAt (marks m) position (op.CallIndirect t table)
+      → IsUnderWay (program m imports) (marks m) position activation labels slots
       (store_with page globals host) (b + 1)
       → (numbers : List ℕ) → numbers ≡ type_numbers m → t < length numbers
   indirect_type globals t table slots at g numbers is =
-      let r = indirect g.whole (program m imports) (entries m) activation labels
+      let r = indirect g.whole (program m imports) (marks m) activation labels
       (store_with page globals host) g.meant
-      place t table slots b at g.ties in
+      position t table slots b at g.ties in
       let within : t < length m.types = slice_get_within m.types t r.1 r.2 in
       let long : length numbers ≡ length m.types = ap length is
       ∙ length-map m.types (number_of_type m.types) in
       omega arith
 
   pub table_trap : (globals : List Val) (t table index : ℕ) (slots slots' : List ℕ)
-      → OpAt (entries m) place (op.CallIndirect t table)
+      → OpAt (marks m) position (op.CallIndirect t table)
       → slots ≡ index ∷ slots' → (functions : List (Option ℕ)) → functions ≡ table_of m
       → length functions ≤ index
-      → Goes (program m imports) (entries m) place activation labels slots (store_with page globals host)
+      → Goes (program m imports) (marks m) position activation labels slots (store_with page globals host)
       (b + 1)
       (flow.Trap cause.Table) activation labels slots' (store_with page globals host) b
   table_trap globals t table index slots slots' at top functions is past = record {
     by = λ whole meant h.
-        let r = indirect whole (program m imports) (entries m) activation labels
-        (store_with page globals host) meant place
+        let r = indirect whole (program m imports) (marks m) activation labels
+        (store_with page globals host) meant position
         t table slots b at h in
-        outside_table whole (program m imports) (entries m) activation labels (store_with page globals host)
+        outside_table whole (program m imports) (marks m) activation labels (store_with page globals host)
         r.1 index
-        (place + 1) slots' b (r.3 index slots' top)
+        (position + 1) slots' b (r.3 index slots' top)
         (ap (λ l. slice_get l index) (sym is) ∙ slice_get_past functions index past);
   }
 
   pub empty_trap : (globals : List Val) (t table index : ℕ) (slots slots' : List ℕ)
-      → OpAt (entries m) place (op.CallIndirect t table)
+      → OpAt (marks m) position (op.CallIndirect t table)
       → slots ≡ index ∷ slots' → (functions : List (Option ℕ)) → functions ≡ table_of m
       → index < length functions → (z : Option ℕ) → get_or functions index z ≡ None
-      → Goes (program m imports) (entries m) place activation labels slots (store_with page globals host)
+      → Goes (program m imports) (marks m) position activation labels slots (store_with page globals host)
       (b + 1)
       (flow.Trap cause.EmptyEntry) activation labels slots' (store_with page globals host) b
   empty_trap globals t table index slots slots' at top functions is within z none = record {
     by = λ whole meant h.
-        let r = indirect whole (program m imports) (entries m) activation labels
-        (store_with page globals host) meant place
+        let r = indirect whole (program m imports) (marks m) activation labels
+        (store_with page globals host) meant position
         t table slots b at h in
-        empty_entry whole (program m imports) (entries m) activation labels (store_with page globals host)
+        empty_element whole (program m imports) (marks m) activation labels (store_with page globals host)
         r.1 index
-        (place + 1) slots' b (r.3 index slots' top)
+        (position + 1) slots' b (r.3 index slots' top)
         (ap (λ l. slice_get l index) (sym is) ∙ slice_get-get_or functions index z within ∙ ap Some none);
   }
 
-module _ {H : Type 0} (imports : HostFunctions H) (m : WasmModule) (place b : ℕ) (activation : Activation)
+module _ {H : Type 0} (imports : HostFunctions H) (m : WasmModule) (position b : ℕ) (activation : Activation)
     (labels : List Label)
     (page : List ℕ) (host : H)
     (calls : List Call) (zip : AreCalls m (callees m) calls) (d : Call) where
   -- a call
-  pub direct_within : (globals : List Val) (f : ℕ) (slots : List ℕ) → OpAt (entries m) place (op.Call f)
-      → IsUnderWay (program m imports) (entries m) place activation labels slots
+  pub direct_within : (globals : List Val) (f : ℕ) (slots : List ℕ) → OpAt (marks m) position (op.Call f)
+      → IsUnderWay (program m imports) (marks m) position activation labels slots
       (store_with page globals host) (b + 1)
       → f < length calls
   direct_within globals f slots at g =
-      let r = direct g.whole (program m imports) (entries m) activation labels (store_with page globals host)
-      g.meant place
+      let r = direct g.whole (program m imports) (marks m) activation labels (store_with page globals host)
+      g.meant position
       f slots b at g.ties in
       named_within m calls f r.0 zip r.1
 
-  direct_named : (globals : List Val) (f : ℕ) (slots : List ℕ) → OpAt (entries m) place (op.Call f)
+  direct_named : (globals : List Val) (f : ℕ) (slots : List ℕ) → OpAt (marks m) position (op.Call f)
       → (whole : Outcome H) → whole ≢ Stuck
-      → Ties whole (program m imports) (entries m) place activation labels slots
+      → Ties whole (program m imports) (marks m) position activation labels slots
       (store_with page globals host) (b + 1)
       → (c : Callee) × IsCall m c (get_or calls f d)
-      × Reach whole (program m imports) (entries m) c (place + 1) activation labels slots
+      × Reach whole (program m imports) (marks m) c (position + 1) activation labels slots
       (store_with page globals host)
       b
   direct_named globals f slots at whole meant t =
-      let r = direct whole (program m imports) (entries m) activation labels (store_with page globals host)
-      meant place f
+      let r = direct whole (program m imports) (marks m) activation labels (store_with page globals host)
+      meant position f
       slots b at t in (
         r.0,
         named_there m calls f r.0 (get_or calls f d) zip r.1
@@ -136,10 +136,10 @@ module _ {H : Type 0} (imports : HostFunctions H) (m : WasmModule) (place b : �
         r.2,
       )
 
-  pub direct_calling : (globals : List Val) (f : ℕ) (slots : List ℕ) → OpAt (entries m) place (op.Call f)
-      → IsUnderWay (program m imports) (entries m) place activation labels slots
+  pub direct_calling : (globals : List Val) (f : ℕ) (slots : List ℕ) → OpAt (marks m) position (op.Call f)
+      → IsUnderWay (program m imports) (marks m) position activation labels slots
       (store_with page globals host) (b + 1)
-      → IsCallUnderWay imports (get_or calls f d) (place + 1) activation labels slots page host b
+      → IsCallUnderWay imports (get_or calls f d) (position + 1) activation labels slots page host b
   direct_calling globals f slots at g =
       let r = direct_named globals f slots at g.whole g.meant g.ties in
       record {
@@ -151,12 +151,12 @@ module _ {H : Type 0} (imports : HostFunctions H) (m : WasmModule) (place b : �
             { whole = g.whole; meant = g.meant; reach = r.2 };
       }
 
-  pub direct_goes : (globals : List Val) (f : ℕ) (slots : List ℕ) → OpAt (entries m) place (op.Call f)
+  pub direct_goes : (globals : List Val) (f : ℕ) (slots : List ℕ) → OpAt (marks m) position (op.Call f)
       → (answer : Flow) (activation' : Activation) (labels' : List Label) (slots' page' : List ℕ) (host' : H)
-      → Calls imports (get_or calls f d) (place + 1) activation labels slots page host b answer activation'
+      → Calls imports (get_or calls f d) (position + 1) activation labels slots page host b answer activation'
       labels' slots'
       page' host'
-      → Goes (program m imports) (entries m) place activation labels slots (store_with page globals host)
+      → Goes (program m imports) (marks m) position activation labels slots (store_with page globals host)
       (b + 1) answer
       activation' labels' slots' (store_with page' globals host') b
   direct_goes globals f slots at answer activation' labels' slots' page' host' c = record {
@@ -165,7 +165,7 @@ module _ {H : Type 0} (imports : HostFunctions H) (m : WasmModule) (place b : �
         (c.by m r.0 globals r.1).by whole meant r.2;
   }
 
-  -- a full entry names a function, which is called where its type is the one named
+  -- a full element names a function, which is called where its type is the one named
   pub record TypedEntry (globals : List Val) (whole : Outcome H) (t f : ℕ) (slots' : List ℕ) : Type 0 where
     pub signature : Signature
     pub callee : Callee
@@ -173,32 +173,32 @@ module _ {H : Type 0} (imports : HostFunctions H) (m : WasmModule) (place b : �
     pub there : slice_get (callees m) f ≡ Some callee
     pub named : IsCall m callee (get_or calls f d)
     pub same : type_number_of (get_or calls f d) ≡ number_of_type m.types signature
-        → Reach whole (program m imports) (entries m) callee (place + 1) activation labels slots'
+        → Reach whole (program m imports) (marks m) callee (position + 1) activation labels slots'
         (store_with page globals host) b
     pub other : type_number_of (get_or calls f d) ≢ number_of_type m.types signature → whole
         ≡ Trap cause.Type_ (store_with page globals host)
 
   typed_entry : (globals : List Val) (t table index f : ℕ) (slots slots' : List ℕ)
-      → OpAt (entries m) place (op.CallIndirect t table)
+      → OpAt (marks m) position (op.CallIndirect t table)
       → slots ≡ index ∷ slots' → (functions : List (Option ℕ)) → functions ≡ table_of m
       → index < length functions → (z : Option ℕ) → get_or functions index z ≡ Some f
       → (whole : Outcome H) → whole ≢ Stuck
-      → Ties whole (program m imports) (entries m) place activation labels slots
+      → Ties whole (program m imports) (marks m) position activation labels slots
       (store_with page globals host) (b + 1)
       → TypedEntry globals whole t f slots'
   typed_entry globals t table index f slots slots' at top functions is within z full whole meant h =
       let st : Store H = store_with page globals host in
-      let r = indirect whole (program m imports) (entries m) activation labels st meant place t table slots b
+      let r = indirect whole (program m imports) (marks m) activation labels st meant position t table slots b
       at h in
-      let w = full_entry whole (program m imports) (entries m) activation labels st meant r.1 index f
-      (place + 1)
+      let w = full_element whole (program m imports) (marks m) activation labels st meant r.1 index f
+      (position + 1)
       slots' b (r.3 index slots' top)
       (ap (λ l. slice_get l index) (sym is) ∙ slice_get-get_or functions index z within ∙ ap Some full) in
       let named : IsCall m w.0 (get_or calls f d) =
       named_there m calls f w.0 (get_or calls f d) zip w.1
       (slice_get-get_or calls f d (named_within m calls f w.0 zip w.1)) in
-      let k = typed_call whole (program m imports) (entries m) activation labels st meant m t r.1 w.0
-      (get_or calls f d) (place + 1) slots' b r.2 named w.2 in
+      let k = typed_call whole (program m imports) (marks m) activation labels st meant m t r.1 w.0
+      (get_or calls f d) (position + 1) slots' b r.2 named w.2 in
       record {
         signature = r.1;
         callee = w.0;
@@ -217,10 +217,10 @@ module _ {H : Type 0} (imports : HostFunctions H) (m : WasmModule) (place b : �
       (slice_get-map (number_of_type m.types) m.types t ∙ ap (option_map (number_of_type m.types)) at)
 
   pub indirect_within : (globals : List Val) (t table index f : ℕ) (slots slots' : List ℕ)
-      → OpAt (entries m) place (op.CallIndirect t table)
+      → OpAt (marks m) position (op.CallIndirect t table)
       → slots ≡ index ∷ slots' → (functions : List (Option ℕ)) → functions ≡ table_of m
       → index < length functions → (z : Option ℕ) → get_or functions index z ≡ Some f
-      → IsUnderWay (program m imports) (entries m) place activation labels slots
+      → IsUnderWay (program m imports) (marks m) position activation labels slots
       (store_with page globals host) (b + 1)
       → f < length calls
   indirect_within globals t table index f slots slots' at top functions is within z full g =
@@ -229,11 +229,11 @@ module _ {H : Type 0} (imports : HostFunctions H) (m : WasmModule) (place b : �
       named_within m calls f w.callee zip w.there
 
   pub type_trap : (globals : List Val) (t table index f : ℕ) (slots slots' : List ℕ)
-      → OpAt (entries m) place (op.CallIndirect t table)
+      → OpAt (marks m) position (op.CallIndirect t table)
       → slots ≡ index ∷ slots' → (functions : List (Option ℕ)) → functions ≡ table_of m
       → index < length functions → (z : Option ℕ) → get_or functions index z ≡ Some f
       → (numbers : List ℕ) → numbers ≡ type_numbers m → type_number_of (get_or calls f d) ≢ get_or numbers t 0
-      → Goes (program m imports) (entries m) place activation labels slots (store_with page globals host)
+      → Goes (program m imports) (marks m) position activation labels slots (store_with page globals host)
       (b + 1)
       (flow.Trap cause.Type_) activation labels slots' (store_with page globals host) b
   type_trap globals t table index f slots slots' at top functions is within z full numbers are other =
@@ -246,13 +246,13 @@ module _ {H : Type 0} (imports : HostFunctions H) (m : WasmModule) (place b : �
       }
 
   pub indirect_calling : (globals : List Val) (t table index f : ℕ) (slots slots' : List ℕ)
-      → OpAt (entries m) place (op.CallIndirect t table)
+      → OpAt (marks m) position (op.CallIndirect t table)
       → slots ≡ index ∷ slots' → (functions : List (Option ℕ)) → functions ≡ table_of m
       → index < length functions → (z : Option ℕ) → get_or functions index z ≡ Some f
       → (numbers : List ℕ) → numbers ≡ type_numbers m → type_number_of (get_or calls f d) ≡ get_or numbers t 0
-      → IsUnderWay (program m imports) (entries m) place activation labels slots
+      → IsUnderWay (program m imports) (marks m) position activation labels slots
       (store_with page globals host) (b + 1)
-      → IsCallUnderWay imports (get_or calls f d) (place + 1) activation labels slots' page host b
+      → IsCallUnderWay imports (get_or calls f d) (position + 1) activation labels slots' page host b
   indirect_calling globals t table index f slots slots' at top functions is within z full numbers are same g =
       let w = typed_entry globals t table index f slots slots' at top functions is within z full g.whole
       g.meant g.ties in
@@ -269,15 +269,16 @@ module _ {H : Type 0} (imports : HostFunctions H) (m : WasmModule) (place b : �
       }
 
   pub indirect_goes : (globals : List Val) (t table index f : ℕ) (slots slots' : List ℕ)
-      → OpAt (entries m) place (op.CallIndirect t table)
+      → OpAt (marks m) position (op.CallIndirect t table)
       → slots ≡ index ∷ slots' → (functions : List (Option ℕ)) → functions ≡ table_of m
       → index < length functions → (z : Option ℕ) → get_or functions index z ≡ Some f
       → (numbers : List ℕ) → numbers ≡ type_numbers m → type_number_of (get_or calls f d) ≡ get_or numbers t 0
       → (answer : Flow) (activation' : Activation) (labels' : List Label) (slots'' page' : List ℕ) (host' : H)
-      → Calls imports (get_or calls f d) (place + 1) activation labels slots' page host b answer activation'
+      → Calls imports (get_or calls f d) (position + 1) activation labels slots' page host b answer
+      activation'
       labels' slots''
       page' host'
-      → Goes (program m imports) (entries m) place activation labels slots (store_with page globals host)
+      → Goes (program m imports) (marks m) position activation labels slots (store_with page globals host)
       (b + 1) answer
       activation' labels' slots'' (store_with page' globals host') b
   indirect_goes globals t table index f slots slots' at top functions is within z full numbers are same answer

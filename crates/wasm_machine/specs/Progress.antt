@@ -7,7 +7,7 @@ use Rattle.wasm_machine.specs.declared.flow.Flow.TheVariants as flow
 
 -- where it goes on, twice the budget and the open lists are less than before
 abbrev pub Progress : Flow → (rest : ℕ) → (labels labels' : List Label) → Type 0
-Progress (flow.Go place left) rest labels labels' = 2 * left + length labels' < 2 * rest + length labels
+Progress (flow.Go position left) rest labels labels' = 2 * left + length labels' < 2 * rest + length labels
 Progress (flow.Done left) rest labels labels' = Unit {0}
 Progress (flow.Trap cause) rest labels labels' = Unit {0}
 Progress flow.Spent rest labels labels' = Unit {0}

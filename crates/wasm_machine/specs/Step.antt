@@ -5,7 +5,7 @@ use Rattle.w4_defs.specs.declared.value.Val.{Val}
 use Rattle.w4_defs.specs.Module.{WasmModule}
 use Rattle.w4_defs.specs.Outcome.{HostFunctions}
 use Rattle.w4_defs.specs.Program.{program}
-use Rattle.wasm_tree.specs.Layout.{entries}
+use Rattle.wasm_tree.specs.Layout.{marks}
 use Rattle.wasm_machine.specs.declared.label.Label.{Label}
 use Rattle.wasm_machine.specs.declared.activation.Activation.{Activation}
 use Rattle.wasm_machine.specs.declared.flow.Flow.{Flow}
@@ -13,26 +13,29 @@ use Rattle.wasm_machine.specs.declared.ending.Ending.{Ending}
 use Rattle.wasm_machine.specs.Tie.{store_with, IsUnderWay, Goes, Runs}
 
 -- before a step: some run stands there that doesn't end without meaning
-abbrev pub IsBeforeStep : {H : Type 0} → HostFunctions H → WasmModule → (place : ℕ) → Activation → List Label
+abbrev pub IsBeforeStep : {H : Type 0} → HostFunctions H → WasmModule → (position : ℕ) → Activation
+    → List Label
     → (slots page : List ℕ) → List Val → H → (budget : ℕ) → Type 0
-IsBeforeStep imports cart place activation labels slots page globals host budget =
-    IsUnderWay (program cart imports) (entries cart) place activation labels slots
+IsBeforeStep imports cart position activation labels slots page globals host budget =
+    IsUnderWay (program cart imports) (marks cart) position activation labels slots
     (store_with page globals host) budget
 
 -- after it: its answer and what it leaves are right for each such run
-abbrev pub IsAfterStep : {H : Type 0} → HostFunctions H → WasmModule → (place : ℕ) → Activation → List Label
+abbrev pub IsAfterStep : {H : Type 0} → HostFunctions H → WasmModule → (position : ℕ) → Activation
+    → List Label
     → (slots page : List ℕ) → List Val → H → (budget : ℕ)
     → Flow → Activation → List Label → (slots' page' : List ℕ) → List Val → H → (rest : ℕ) → Type 0
-IsAfterStep imports cart place activation labels slots page globals host budget
+IsAfterStep imports cart position activation labels slots page globals host budget
     answer activation' labels' slots' page' globals' host' rest =
-    Goes (program cart imports) (entries cart) place activation labels slots
+    Goes (program cart imports) (marks cart) position activation labels slots
     (store_with page globals host) budget
     answer activation' labels' slots' (store_with page' globals' host') rest
 
 -- after a run
-abbrev pub IsAfterRun : {H : Type 0} → HostFunctions H → WasmModule → (place : ℕ) → Activation → List Label
+abbrev pub IsAfterRun : {H : Type 0} → HostFunctions H → WasmModule → (position : ℕ) → Activation → List Label
     → (slots page : List ℕ) → List Val → H → (budget : ℕ)
     → Ending → (page' : List ℕ) → List Val → H → Type 0
-IsAfterRun imports cart place activation labels slots page globals host budget ending page' globals' host' =
-    Runs (program cart imports) (entries cart) place activation labels slots
+IsAfterRun imports cart position activation labels slots page globals host budget ending page' globals' host'
+    =
+    Runs (program cart imports) (marks cart) position activation labels slots
     (store_with page globals host) budget ending (store_with page' globals' host')

@@ -21,7 +21,7 @@ pub(crate) fn answers(result_type: Option<ValType>) -> bool
     }
 }
 
-/// A block or an if begins, which ends at this place.
+/// A block or an if begins, which ends at this position.
 #[inline(always)]
 pub(crate) fn begin_list(answers: bool, end: usize, labels: &mut LabelStack, slots: &ValueStack)
     requires end { end < 4294967296 }
@@ -36,7 +36,7 @@ pub(crate) fn begin_list(answers: bool, end: usize, labels: &mut LabelStack, slo
     });
 }
 
-/// An iteration of a loop begins at this place.
+/// An iteration of a loop begins at this position.
 #[inline(always)]
 pub(crate) fn begin_loop(start: usize, labels: &mut LabelStack, slots: &ValueStack)
     requires start { start < 4294967296 }
@@ -50,15 +50,15 @@ pub(crate) fn begin_loop(start: usize, labels: &mut LabelStack, slots: &ValueSta
     });
 }
 
-/// Where an if at this place goes on, whose else stands at `other`; None where it goes on after its end.
+/// Where an if at this position goes on, whose else stands at `other`; None where it goes on after its end.
 #[inline(always)]
-pub(crate) fn choose(condition: u64, place: usize, other: Option<usize>) -> Option<usize>
-    requires place { place < 4294967296 }
+pub(crate) fn choose_list(condition: u64, position: usize, other: Option<usize>) -> Option<usize>
+    requires position { position < 4294967296 }
     requires other { IfSome other (λ p. p < 4294967296) }
-    ensures { result ≡ if_target condition place other }
+    ensures { result ≡ if_target condition position other }
 {
     if condition != 0 {
-        return Some(place + 1);
+        return Some(position + 1);
     }
     match other {
         Some(other) => Some(other + 1),

@@ -12,7 +12,7 @@ use crate::value_stack::ValueStack;
 
 /// How many values there are: one or none.
 #[inline(always)]
-fn count(answers: bool) -> usize
+fn result_count(answers: bool) -> usize
     ensures value { result ≡ truth answers }
     ensures few { result ≤ 1 }
 {
@@ -32,7 +32,7 @@ fn leave(
     ensures slots { slots.new ≡ cut_to_height activation.old.base (truth answers) slots.old }
     ensures activation { activation.new ≡ caller base reserve activation.old }
 {
-    slots.cut(activation.base, count(answers));
+    slots.cut(activation.base, result_count(answers));
     activation.base = base as usize;
     activation.depth -= 1;
     activation.reserve -= reserve as usize;
@@ -58,17 +58,17 @@ pub(crate) fn land(
                 height,
             },
         ) => {
-            labels.leave(1);
-            slots.cut(height as usize, count(answers));
+            labels.drop_labels(1);
+            slots.cut(height as usize, result_count(answers));
             Flow::Go {
-                place: end as usize + 1,
+                pc: end as usize + 1,
                 rest,
             }
         }
         Some(Label::Loop { start, height }) => {
             slots.cut(height as usize, 0);
             Flow::Go {
-                place: start as usize,
+                pc: start as usize,
                 rest,
             }
         }
@@ -80,10 +80,10 @@ pub(crate) fn land(
                 reserve,
             },
         ) => {
-            labels.leave(1);
+            labels.drop_labels(1);
             leave(answers, base, reserve, activation, slots);
             Flow::Go {
-                place: back as usize,
+                pc: back as usize,
                 rest,
             }
         }
@@ -104,7 +104,7 @@ pub(crate) fn branch(
     ensures { Lands (drop label labels.old) slots.old activation.old rest result labels.new slots.new
         activation.new }
 {
-    labels.leave(label);
+    labels.drop_labels(label);
     land(rest, activation, labels, slots)
 }
 
@@ -126,37 +126,37 @@ pub(crate) fn leave_lists(labels: &mut LabelStack)
     ensures left { labels.new ≡ drop (lists_of labels.old) labels.old }
 {
     while in_list(labels) {
-        labels.leave(1);
+        labels.drop_labels(1);
     }
 }
 
-/// The end of the innermost list, at this place; that of an if may be its else.
+/// The end of the innermost list, at this position; that of an if may be its else.
 #[inline(always)]
 pub(crate) fn close(
-    place: usize,
+    position: usize,
     rest: u32,
     activation: &mut Activation,
     labels: &mut LabelStack,
     slots: &mut ValueStack,
 ) -> Flow
-    requires place { place < 4294967296 }
+    requires position { position < 4294967296 }
     requires closes { CanClose labels.old slots.old activation.old }
-    ensures { Closes place labels.old slots.old activation.old rest result labels.new slots.new
+    ensures { Closes position labels.old slots.old activation.old rest result labels.new slots.new
         activation.new }
 {
     match labels.top() {
         None => Flow::Done { rest },
         Some(Label::List { end, .. }) => {
-            labels.leave(1);
+            labels.drop_labels(1);
             Flow::Go {
-                place: end as usize + 1,
+                pc: end as usize + 1,
                 rest,
             }
         }
         Some(Label::Loop { .. }) => {
-            labels.leave(1);
+            labels.drop_labels(1);
             Flow::Go {
-                place: place + 1,
+                pc: position + 1,
                 rest,
             }
         }
@@ -168,10 +168,10 @@ pub(crate) fn close(
                 reserve,
             },
         ) => {
-            labels.leave(1);
+            labels.drop_labels(1);
             leave(answers, base, reserve, activation, slots);
             Flow::Go {
-                place: back as usize,
+                pc: back as usize,
                 rest,
             }
         }

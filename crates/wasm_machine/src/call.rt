@@ -7,7 +7,7 @@ ghost use Rattle.wasm_machine.specs.Calling.{Calls, IsCallUnderWay};
 ghost use Rattle.wasm_machine.specs.Step.{IsAfterStep, IsBeforeStep};
 ghost use Rattle.wasm_machine.specs.Tie.{host_functions};
 ghost use Rattle.wasm_machine.specs.TypeNumbers.{type_number_of};
-ghost use Rattle.wasm_tree.specs.Layout.{entries};
+ghost use Rattle.wasm_tree.specs.Layout.{marks};
 ghost use Rattle.wasm_tree.specs.Pool.{operations_of};
 
 use crate::activation::Activation;
@@ -60,24 +60,25 @@ pub(crate) fn call<H: Host>(
                 params, zeros, answers, reserve, back, activation, labels, slots,
             );
             Flow::Go {
-                place: start,
+                pc: start,
                 rest: budget,
             }
         }
         Call::Import { name, params, .. } => {
             match call_host(name, params, budget, slots, page, host) {
-                Some(rest) => Flow::Go { place: back, rest },
+                Some(rest) => Flow::Go { pc: back, rest },
                 None => Flow::Spent,
             }
         }
     }
 }
 
-/// `call`: calls the function with this index. The instruction stands at `place`, and its own unit is taken.
+/// `call`: calls the function with this index. The instruction stands at `position`, and its own unit is
+/// taken.
 pub(crate) fn call_direct<H: Host>(
     cart: &Cart,
     func: u32,
-    place: usize,
+    position: usize,
     budget: u32,
     activation: &mut Activation,
     labels: &mut LabelStack,
@@ -86,12 +87,12 @@ pub(crate) fn call_direct<H: Host>(
     host: &mut H,
 ) -> Flow
     requires going { (globals : List Val)
-        × IsBeforeStep (host_functions H.weight H.effect) cart.now place activation.old
+        × IsBeforeStep (host_functions H.weight H.effect) cart.now position activation.old
         labels.old slots.old page.old globals host.old (budget + 1) }
-    requires op { slice_get (operations_of (entries cart.now)) place ≡ Some (op.Call func) }
-    requires bound { length (entries cart.now) < 4294967296 }
+    requires op { slice_get (operations_of (marks cart.now)) position ≡ Some (op.Call func) }
+    requires bound { length (marks cart.now) < 4294967296 }
     ensures goes { (globals : List Val)
-        → IsAfterStep (host_functions H.weight H.effect) cart.now place activation.old
+        → IsAfterStep (host_functions H.weight H.effect) cart.now position activation.old
         labels.old slots.old page.old globals host.old (budget + 1)
         result activation.new labels.new slots.new page.new globals host.new budget }
     ensures grows { length labels.new ≤ length labels.old + 1 }
@@ -100,7 +101,7 @@ pub(crate) fn call_direct<H: Host>(
     let callee = calls[func as usize];
     call(
         callee,
-        place + 1,
+        position + 1,
         budget,
         activation,
         labels,
@@ -121,12 +122,12 @@ fn type_number(callee: &Call) -> u32
 }
 
 /// `call_indirect`: calls the function that stands in the table at the index on the stack, where its type is
-/// the one with this index. The instruction stands at `place`, and its own unit is taken.
+/// the one with this index. The instruction stands at `position`, and its own unit is taken.
 pub(crate) fn call_indirect<H: Host>(
     cart: &Cart,
     type_index: u32,
     table_index: u32,
-    place: usize,
+    position: usize,
     budget: u32,
     activation: &mut Activation,
     labels: &mut LabelStack,
@@ -135,13 +136,13 @@ pub(crate) fn call_indirect<H: Host>(
     host: &mut H,
 ) -> Flow
     requires going { (globals : List Val)
-        × IsBeforeStep (host_functions H.weight H.effect) cart.now place activation.old
+        × IsBeforeStep (host_functions H.weight H.effect) cart.now position activation.old
         labels.old slots.old page.old globals host.old (budget + 1) }
-    requires op { slice_get (operations_of (entries cart.now)) place
+    requires op { slice_get (operations_of (marks cart.now)) position
         ≡ Some (op.CallIndirect type_index table_index) }
-    requires bound { length (entries cart.now) < 4294967296 }
+    requires bound { length (marks cart.now) < 4294967296 }
     ensures goes { (globals : List Val)
-        → IsAfterStep (host_functions H.weight H.effect) cart.now place activation.old
+        → IsAfterStep (host_functions H.weight H.effect) cart.now position activation.old
         labels.old slots.old page.old globals host.old (budget + 1)
         result activation.new labels.new slots.new page.new globals host.new budget }
     ensures grows { length labels.new ≤ length labels.old + 1 }
@@ -151,8 +152,8 @@ pub(crate) fn call_indirect<H: Host>(
     if index >= table.len() {
         return Flow::Trap(Cause::Table);
     }
-    let entry = table[index];
-    let Some(func) = entry else {
+    let element = table[index];
+    let Some(func) = element else {
         return Flow::Trap(Cause::EmptyEntry);
     };
     let calls = cart.calls();
@@ -164,7 +165,7 @@ pub(crate) fn call_indirect<H: Host>(
     }
     call(
         callee,
-        place + 1,
+        position + 1,
         budget,
         activation,
         labels,

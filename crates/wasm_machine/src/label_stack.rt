@@ -73,7 +73,7 @@ impl LabelStack {
 
     /// Drops so many labels, the innermost first. The pops become one subtraction in machine code.
     #[inline(always)]
-    pub(crate) fn leave(&mut self, count: usize)
+    pub(crate) fn drop_labels(&mut self, count: usize)
         requires { count ≤ length self.old }
         ensures { self.new ≡ drop count self.old }
     {

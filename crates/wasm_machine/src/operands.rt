@@ -1,5 +1,5 @@
-//! What the numeric instructions do to their operands, one function a shape and width. Each has the clause
-//! of a plain instruction, for which it takes the page and the place of the locals too.
+//! What the numeric instructions do to their operands, one function a shape and width. Each has the clause of
+//! a plain instruction, for which it takes the page and the position of the locals too.
 
 ghost use Rattle.std.specs.Prelude.{◌≡◌, ◌+◌, ◌≤◌, length};
 ghost use Rattle.w4_defs.specs.declared.value.ValType.TheVariants.{I32, I64};

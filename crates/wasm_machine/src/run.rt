@@ -4,7 +4,7 @@ ghost use Rattle.std.specs.Prelude.{◌≡◌, ◌+◌, ◌<◌, Some, length, s
 ghost use Rattle.wasm_machine.specs.Progress.{Progress};
 ghost use Rattle.wasm_machine.specs.Step.{IsAfterRun, IsAfterStep, IsBeforeStep};
 ghost use Rattle.wasm_machine.specs.Tie.{host_functions};
-ghost use Rattle.wasm_tree.specs.Layout.{entries};
+ghost use Rattle.wasm_tree.specs.Layout.{marks};
 ghost use Rattle.wasm_tree.specs.Pool.{operations_of};
 
 use crate::activation::Activation;
@@ -19,13 +19,13 @@ use wasm_page::Page;
 use wasm_tree::Host;
 use wasm_valid::Cart;
 
-/// Does what stands at a place. One unit of the budget is taken before an instruction; an end and an else
+/// Does what stands at a position. One unit of the budget is taken before an instruction; an end and an else
 /// take none.
 #[inline(always)]
 fn step<H: Host>(
     cart: &Cart,
     op: &Op,
-    place: usize,
+    position: usize,
     rest: u32,
     activation: &mut Activation,
     labels: &mut LabelStack,
@@ -34,41 +34,37 @@ fn step<H: Host>(
     globals: &mut [Val],
     host: &mut H,
 ) -> Flow
-    requires going { IsBeforeStep (host_functions H.weight H.effect) cart.now place activation.old labels.old
-        slots.old
-        page.old globals.old host.old rest }
-    requires op { slice_get (operations_of (entries cart.now)) place ≡ Some op.now }
-    requires bound { length (entries cart.now) < 4294967296 }
-    ensures goes { IsAfterStep (host_functions H.weight H.effect) cart.now place activation.old labels.old
-        slots.old
-        page.old globals.old host.old rest
+    requires going { IsBeforeStep (host_functions H.weight H.effect) cart.now position activation.old
+        labels.old slots.old page.old globals.old host.old rest }
+    requires op { slice_get (operations_of (marks cart.now)) position ≡ Some op.now }
+    requires bound { length (marks cart.now) < 4294967296 }
+    ensures goes { IsAfterStep (host_functions H.weight H.effect) cart.now position activation.old labels.old
+        slots.old page.old globals.old host.old rest
         result activation.new labels.new slots.new page.new globals.new host.new rest }
     ensures progress { Progress result rest labels.old labels.new }
 {
-    match *op {
-        Op::End => close(place, rest, activation, labels, slots),
-        Op::Else => close(place, rest, activation, labels, slots),
-        _ => {
-            if rest == 0 {
-                return Flow::Spent;
-            }
-            execute(
-                cart,
-                op,
-                place,
-                rest - 1,
-                activation,
-                labels,
-                slots,
-                page,
-                globals,
-                host,
-            )
-        }
+    if rest == 0 {
+        return match *op {
+            Op::End => close(position, rest, activation, labels, slots),
+            Op::Else => close(position, rest, activation, labels, slots),
+            _ => Flow::Spent,
+        };
     }
+    execute(
+        cart,
+        op,
+        position,
+        rest - 1,
+        activation,
+        labels,
+        slots,
+        page,
+        globals,
+        host,
+    )
 }
 
-/// Runs from a place on to the end of the entry function.
+/// Runs from a position on to the end of the entry function.
 pub(crate) fn run<H: Host>(
     cart: &Cart,
     start: usize,
@@ -89,18 +85,18 @@ pub(crate) fn run<H: Host>(
         result page.new globals.new host.new }
 {
     let operations = cart.code().operations();
-    let mut place = start;
+    let mut position = start;
     let mut rest = budget;
     'steps: loop {
-        let op = &operations[place];
+        let op = &operations[position];
         match step(
-            cart, op, place, rest, activation, labels, slots, page, globals, host,
+            cart, op, position, rest, activation, labels, slots, page, globals, host,
         ) {
             Flow::Go {
-                place: next,
+                pc: next,
                 rest: left,
             } => {
-                place = next;
+                position = next;
                 rest = left;
             }
             Flow::Done { rest } => return Ending::Done { rest },

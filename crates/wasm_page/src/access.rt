@@ -13,7 +13,7 @@ pub fn length_of(page: &PageBytes)
 {}
 
 /// The address as an index, where so many bytes from there on lie in the page.
-pub fn place(address: u64, count: usize) -> Option<usize>
+pub fn index_in_page(address: u64, count: usize) -> Option<usize>
     requires { IsCount count }
     ensures { SomeIff result (address + count ≤ 65536) address }
 {

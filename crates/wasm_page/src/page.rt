@@ -5,7 +5,7 @@ ghost use Rattle.std.specs.Option.{SomeIff};
 ghost use Rattle.w4_defs.specs.Bytes.{number_at, put_number};
 ghost use Rattle.wasm_page.specs.Counts.{IsCount};
 
-use crate::access::{length_of, load_at, place, store_at};
+use crate::access::{index_in_page, length_of, load_at, store_at};
 use std::alloc::Global;
 use std::marker::Model;
 use w4_defs::{OutOfMemory, PageBytes};
@@ -60,7 +60,7 @@ impl Page {
         requires { IsCount count }
         ensures { SomeIff result (address + count ≤ 65536) (number_at self.now address count) }
     {
-        let at = place(address, count)?;
+        let at = index_in_page(address, count)?;
         Some(load_at(&self.bytes, at, count))
     }
 
@@ -72,7 +72,7 @@ impl Page {
         ensures unchanged { IfNone result (self.new ≡ self.old) }
         ensures within { IsSome result ↔ (address + count ≤ 65536) }
     {
-        let at = place(address, count)?;
+        let at = index_in_page(address, count)?;
         store_at(&mut self.bytes, at, count, value);
         Some(())
     }

@@ -1,5 +1,5 @@
 -- Steps of a reader taken apart.
-use Rattle.std.proofs.Common.{◌≡◌, ◌≢◌, ℕ, Bool, true, false, ◌&&◌, eqb, if◌then◌else◌, ◌⊎◌, inl, inr, List, Option, Some, None, refl, ap, subst, arith}
+use Rattle.std.proofs.Common.{◌≡◌, ◌≢◌, ℕ, Bool, true, false, ◌&&◌, ◌||◌, eqb, if◌then◌else◌, ◌⊎◌, inl, inr, List, Option, Some, None, refl, ap, subst, arith}
 use Rattle.std.proofs.lemmas.Bool.Decides.{nat_tests}
 use Rattle.w4_defs.specs.BinaryText.{Texts}
 use Rattle.wasm_read.specs.Reader.{read_as, Takes}
@@ -25,6 +25,10 @@ takes_as_read {A} spelled bytes x y r s t e =
 pub and_true : (a b : Bool) → (a && b) ≡ true → (a ≡ true) × (b ≡ true)
 and_true true b e = (refl, e)
 and_true false b e = absurd cc
+
+pub or_true : (a b : Bool) → (a || b) ≡ true → (a ≡ true) ⊎ (b ≡ true)
+or_true true b e = inl refl
+or_true false b e = inr e
 
 pub numbers_differ : (a b : ℕ) → eqb a b ≡ false → a ≢ b
 numbers_differ a b e = grind (arith, nat_tests)

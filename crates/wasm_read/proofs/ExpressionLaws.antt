@@ -1,4 +1,4 @@
--- What the second pass makes of entries are the flattenings of trees that the bytes encode.
+-- What the second pass makes of marks are the flattenings of trees that the bytes encode.
 use Rattle.std.proofs.Common.{◌≡◌, ℕ, ◌+◌, ◌≤◌, true, if◌then◌else◌, List, [], ◌∷◌, ◌++◌, length, Option, Some, None, refl, ap, sym, ◌∙◌, subst, append_assoc, append-nil, arith}
 use Rattle.std.proofs.lemmas.List.{length-append}
 use Rattle.w4_defs.specs.declared.value.ValType.{ValType}
@@ -16,29 +16,29 @@ use Rattle.wasm_tree.specs.Expressions.{IsFlat}
 use Rattle.wasm_read.specs.declared.brackets.Close.{Close}
 use Rattle.wasm_read.specs.declared.brackets.Close.TheVariants.{Ends, Parts}
 use Rattle.wasm_read.specs.Reader.{read_as, Reads}
-use Rattle.wasm_read.specs.ReadExpression.{entries_at, entry_with_places, entries_with_places, is_one_end, matched, flattening_at, expression_at}
+use Rattle.wasm_read.specs.ReadExpression.{marks_at, mark_with_positions, marks_with_positions, is_one_end, matched, flattening_at, expression_at}
 use Rattle.wasm_read.proofs.Basics.{takes_as_read}
-use Rattle.wasm_read.proofs.EntryLaws.{entry_texts, entry, entries_long}
-use Rattle.wasm_read.proofs.Passes.{filled_as, raw, list_proper, raw_spelled, end_spelled, whole_walks, entries_found, entries_sound, filled_raw}
+use Rattle.wasm_read.proofs.MarkLaws.{mark_texts, mark_encoding, marks_long}
+use Rattle.wasm_read.proofs.Passes.{filled_as, raw, list_proper, raw_spelled, end_spelled, whole_walks, marks_found, marks_sound, filled_raw}
 
-abbrev place_of : Close → ℕ
-place_of (Ends place) = place
-place_of (Parts place) = place
+abbrev position_of : Close → ℕ
+position_of (Ends position) = position
+position_of (Parts position) = position
 
 abbrev close_byte : Close → ℕ
-close_byte (Ends place) = 0x0b
-close_byte (Parts place) = 0x05
+close_byte (Ends position) = 0x0b
+close_byte (Parts position) = 0x05
 
 abbrev op_of : Close → Op
-op_of (Ends place) = End
-op_of (Parts place) = Else
+op_of (Ends position) = End
+op_of (Parts position) = Else
 
--- the text encodes the lists that these close, one after the other, and the entries are their flattenings
+-- the text encodes the lists that these close, one after the other, and the marks are their flattenings
 abbrev Forest : ℕ → List Close → List ℕ → List Mark → Type 0
 Forest at [] text ms = (text ≡ []) × (ms ≡ [])
 Forest at (c ∷ cs) text ms =
     (e : Expr) × (next : ℕ) × (a b : List ℕ) × (more : List Mark) × (next ≡ at + span e + 1)
-    × (next ≡ place_of c + 1)
+    × (next ≡ position_of c + 1)
     × (text ≡ a ++ b) × list (close_byte c) e a × (ms ≡ flat_at (op_of c) at e ++ more)
     × Forest next cs b more
 
@@ -62,8 +62,8 @@ labels_moved at text op labels cs ms none f =
     let P : List ℕ → Type 0 = λ ls. Forest at cs text ((op, ls) ∷ ms) in
     subst P (sym none) f
 
--- a closing entry begins a list
-grow_done : (at : ℕ) (c : Close) → place_of c ≡ at → (cs : List Close) (a b : List ℕ) (ms : List Mark)
+-- a closing mark begins a list
+grow_done : (at : ℕ) (c : Close) → position_of c ≡ at → (cs : List Close) (a b : List ℕ) (ms : List Mark)
     → a ≡ close_byte c ∷ [] → Forest (at + 1) cs b ms
     → Forest at (c ∷ cs) (a ++ b) (mark (op_of c) ∷ ms)
 grow_done at c e cs a b ms h f = (done, at + 1, a, b, ms, omega arith, omega (arith, e), refl, h, refl, f)
@@ -85,7 +85,7 @@ grow_plain at m c cs a b ms h (e, next, a1, b1, more, e1, e2, t, l, f, tail) = (
   tail,
 )
 
--- an entry that opens a list takes the two trees that stand next
+-- a mark that opens a list takes the two trees that stand next
 grow_text : (code : ℕ) (r : Option ValType) (a b a1 b1 a2 b2 : List ℕ) (P Q : Texts)
     → (byte code then block_type r) a → b ≡ a1 ++ b1 → b1 ≡ a2 ++ b2 → P a1 → Q a2
     → (text : List ℕ) × (a ++ b ≡ text ++ b2) × (byte code then block_type r then P then Q) text
@@ -108,13 +108,14 @@ flat_block : (r : Option ValType) (close : Op) (at end k : ℕ) (inner rest : Ex
     → ms ≡ flat_at End (at + 1) inner ++ more1 → more1 ≡ flat_at close (end + 1) rest ++ more
     → mark (Block r k) ∷ ms ≡ flat_at close at (block r inner rest) ++ more
 flat_block r close at end k inner rest ms more more1 e ek f1 f2 =
-    let place : ℕ = at + 1 + span inner in
-    let same : k ≡ place = ek ∙ e in
+    let position : ℕ = at + 1 + span inner in
+    let same : k ≡ position = ek ∙ e in
     let front : List Mark = flat_at End (at + 1) inner in
-    let back : List Mark = flat_at close (place + 1) rest in
+    let back : List Mark = flat_at close (position + 1) rest in
     let tail : more1 ≡ back ++ more = f2 ∙ ap (λ n. flat_at close (n + 1) rest ++ more) e in
     ap (λ n. mark (Block r n) ∷ ms) same
-    ∙ ap (λ x. mark (Block r place) ∷ x) (f1 ∙ ap (λ x. front ++ x) tail ∙ sym (append_assoc front back more))
+    ∙ ap (λ x. mark (Block r position) ∷ x) (f1 ∙ ap (λ x. front ++ x) tail
+    ∙ sym (append_assoc front back more))
 
 grow_block : (at : ℕ) (r : Option ValType) (k : ℕ) (c : Close) (cs : List Close) (a b : List ℕ)
     (ms : List Mark) → (byte 2 then block_type r) a
@@ -146,13 +147,14 @@ flat_loop : (r : Option ValType) (close : Op) (at end k : ℕ) (inner rest : Exp
     → ms ≡ flat_at End (at + 1) inner ++ more1 → more1 ≡ flat_at close (end + 1) rest ++ more
     → mark (Loop r k) ∷ ms ≡ flat_at close at (loop r inner rest) ++ more
 flat_loop r close at end k inner rest ms more more1 e ek f1 f2 =
-    let place : ℕ = at + 1 + span inner in
-    let same : k ≡ place = ek ∙ e in
+    let position : ℕ = at + 1 + span inner in
+    let same : k ≡ position = ek ∙ e in
     let front : List Mark = flat_at End (at + 1) inner in
-    let back : List Mark = flat_at close (place + 1) rest in
+    let back : List Mark = flat_at close (position + 1) rest in
     let tail : more1 ≡ back ++ more = f2 ∙ ap (λ n. flat_at close (n + 1) rest ++ more) e in
     ap (λ n. mark (Loop r n) ∷ ms) same
-    ∙ ap (λ x. mark (Loop r place) ∷ x) (f1 ∙ ap (λ x. front ++ x) tail ∙ sym (append_assoc front back more))
+    ∙ ap (λ x. mark (Loop r position) ∷ x) (f1 ∙ ap (λ x. front ++ x) tail
+    ∙ sym (append_assoc front back more))
 
 grow_loop : (at : ℕ) (r : Option ValType) (k : ℕ) (c : Close) (cs : List Close) (a b : List ℕ)
     (ms : List Mark) → (byte 3 then block_type r) a
@@ -184,13 +186,13 @@ flat_if_then : (r : Option ValType) (close : Op) (at end k : ℕ) (inner rest : 
     → ms ≡ flat_at End (at + 1) inner ++ more1 → more1 ≡ flat_at close (end + 1) rest ++ more
     → mark (If r None k) ∷ ms ≡ flat_at close at (if_then r inner rest) ++ more
 flat_if_then r close at end k inner rest ms more more1 e ek f1 f2 =
-    let place : ℕ = at + 1 + span inner in
-    let same : k ≡ place = ek ∙ e in
+    let position : ℕ = at + 1 + span inner in
+    let same : k ≡ position = ek ∙ e in
     let front : List Mark = flat_at End (at + 1) inner in
-    let back : List Mark = flat_at close (place + 1) rest in
+    let back : List Mark = flat_at close (position + 1) rest in
     let tail : more1 ≡ back ++ more = f2 ∙ ap (λ n. flat_at close (n + 1) rest ++ more) e in
     ap (λ n. mark (If r None n) ∷ ms) same
-    ∙ ap (λ x. mark (If r None place) ∷ x)
+    ∙ ap (λ x. mark (If r None position) ∷ x)
     (f1 ∙ ap (λ x. front ++ x) tail ∙ sym (append_assoc front back more))
 
 grow_if_then : (at : ℕ) (r : Option ValType) (k : ℕ) (c : Close) (cs : List Close) (a b : List ℕ)
@@ -287,10 +289,10 @@ grow_else at r j k c cs a b ms h (
       tail,
     )
 
--- one entry more, from the front
+-- one mark more, from the front
 abbrev Grows : ℕ → Op → List ℕ → List Close → Op → List Close → List ℕ → List ℕ → List Mark → Type 0
 Grows at op labels cs x ds a b ms =
-    entry_texts op labels a → entry_with_places at op cs ≡ placed_as x ds → Forest (at + 1) cs b ms
+    mark_texts op labels a → mark_with_positions at op cs ≡ placed_as x ds → Forest (at + 1) cs b ms
     → Forest at ds (a ++ b) ((x, labels) ∷ ms)
 
 grow : (at : ℕ) (op : Op) (labels : List ℕ) (cs : List Close) (x : Op) (ds : List Close) (a b : List ℕ)
@@ -345,14 +347,14 @@ forest_joined at text ts ms ns cs ds t e f =
     subst R second (subst Q first (subst P (sym t) f))
 
 filled_sound : (ms : List Mark) (at : ℕ) (text : List ℕ) (ns : List Mark) (cs : List Close)
-    → items entry ms text → entries_with_places at ms ≡ filled_as ns cs → Forest at cs text ns
+    → items mark_encoding ms text → marks_with_positions at ms ≡ filled_as ns cs → Forest at cs text ns
 filled_sound [] at text ns cs h e = forest_joined at text [] [] ns [] cs h e (refl, refl)
 filled_sound (m ∷ ms) at text ns cs h e =
-    let after = bind_some (entries_with_places (at + 1) ms)
-    (λ (f : List Mark × List Close). entry_with_places at m.0 f.1 >>= λ p. filled_as
+    let after = bind_some (marks_with_positions (at + 1) ms)
+    (λ (f : List Mark × List Close). mark_with_positions at m.0 f.1 >>= λ p. filled_as
     ((p.0, m.1) ∷ f.0) p.1) (ns, cs) e in
     let f = filled_sound ms (at + 1) h.1 after.0.0 after.0.1 h.4 after.1 in
-    let p = bind_some (entry_with_places at m.0 after.0.1)
+    let p = bind_some (mark_with_positions at m.0 after.0.1)
     (λ (p : Op × List Close). filled_as ((p.0, m.1) ∷ after.0.0) p.1) (ns, cs) after.2 in
     forest_joined at text (h.0 ++ h.1) ((p.0.0, m.1) ∷ after.0.0) ns p.0.1 cs h.2 p.2
     (grow at m.0 m.1 after.0.1 p.0.0 p.0.1 h.0 h.1 after.0.0 h.3 p.1 f)
@@ -374,10 +376,10 @@ closed_tree (Parts k ∷ cs) text ms e f = absurd cc
 closed_tree (Ends k ∷ []) text ms e f = one_tree k text ms f
 closed_tree (Ends k ∷ (c ∷ cs)) text ms e f = absurd cc
 
-matched_sound : (ms : List Mark) (text : List ℕ) (ns : List Mark) → items entry ms text
+matched_sound : (ms : List Mark) (text : List ℕ) (ns : List Mark) → items mark_encoding ms text
     → matched ms ≡ Some ns → Spelled text ns
 matched_sound ms text ns h e =
-    let f = bind_some (entries_with_places 0 ms)
+    let f = bind_some (marks_with_positions 0 ms)
     (λ (f : List Mark × List Close). if is_one_end f.1 then Some f.0 else None) ns e in
     let i = held_if (is_one_end f.0.1) (Some f.0.0) ns f.2 in
     let forest = filled_sound ms 0 text f.0.0 f.0.1 h f.1 in
@@ -391,9 +393,9 @@ spelled_flat text ms s = (s.0, list_proper 0x0b s.0 text s.1, s.2)
 pub flattening_sound : (bytes : List ℕ) (ms : List Mark) (rest : List ℕ)
     → flattening_at bytes ≡ Some (ms, rest) → (text : List ℕ) × (bytes ≡ text ++ rest) × Spelled text ms
 flattening_sound bytes ms rest e =
-    let x = bind_some (entries_at (length bytes) 1 bytes)
+    let x = bind_some (marks_at (length bytes) 1 bytes)
     (λ (x : List Mark × List ℕ). matched x.0 >>= λ ns. read_as ns x.1) (ms, rest) e in
-    let t = entries_sound (length bytes) 1 bytes x.0.0 x.0.1 x.1 in
+    let t = marks_sound (length bytes) 1 bytes x.0.0 x.0.1 x.1 in
     let n = bind_some (matched x.0.0) (λ ns. read_as ns x.0.1) (ms, rest) x.2 in
     takes_as_read (λ ns text. Spelled text ns) bytes n.0 ms x.0.1 rest
     (t.0, t.1, matched_sound x.0.0 t.0 n.0 t.2 n.1) n.2
@@ -404,14 +406,14 @@ flattening_complete text rest e h =
     let proper = list_proper 0x0b e text h in
     let spelled = raw_spelled 0x0b End end_spelled e text h in
     let few : length (raw End e) ≤ length (text ++ rest) =
-    omega (arith, entries_long (raw End e) text spelled, length-append text rest) in
-    let first = entries_found (length (text ++ rest)) 1 (raw End e) text rest spelled (whole_walks e proper)
+    omega (arith, marks_long (raw End e) text spelled, length-append text rest) in
+    let first = marks_found (length (text ++ rest)) 1 (raw End e) text rest spelled (whole_walks e proper)
     few in
     let second = filled_raw End Ends (λ i ds. refl) e proper 0 (0 + span e + 1) (0 + span e) refl refl [] []
     [] refl in
     let same = append-nil (raw End e) in
-    let filled_whole : entries_with_places 0 (raw End e) ≡ filled_as (flat e) (Ends (0 + span e) ∷ []) =
-    ap (λ ms. entries_with_places 0 ms) (sym same) ∙ second
+    let filled_whole : marks_with_positions 0 (raw End e) ≡ filled_as (flat e) (Ends (0 + span e) ∷ []) =
+    ap (λ ms. marks_with_positions 0 ms) (sym same) ∙ second
     ∙ ap (λ ms. filled_as ms (Ends (0 + span e) ∷ [])) (append-nil (flat e)) in
     rw (first, filled_whole) refl
 
@@ -434,7 +436,7 @@ expression_reads = record {
 }
 
 pub matched_flat : (turns depth : ℕ) (bytes : List ℕ) (ms : List Mark) (rest : List ℕ) (ns : List Mark)
-    → entries_at turns depth bytes ≡ Some (ms, rest) → matched ms ≡ Some ns → IsFlat ns
+    → marks_at turns depth bytes ≡ Some (ms, rest) → matched ms ≡ Some ns → IsFlat ns
 matched_flat turns depth bytes ms rest ns e h =
-    let t = entries_sound turns depth bytes ms rest e in
+    let t = marks_sound turns depth bytes ms rest e in
     spelled_flat t.0 ns (matched_sound ms t.0 ns t.2 h)

@@ -1,42 +1,52 @@
 -- Every row of the instruction table is encoded by its code and what stands after it.
-use Rattle.std.proofs.Common.{◌≡◌, ℕ, inl, inr, eqb, List, [], ◌∷◌, Option, Some, None, refl, ap, sym, subst}
+use Rattle.std.proofs.Common.{◌≡◌, ℕ, zero, suc, Bool, true, false, ◌||◌, inl, inr, eqb, List, [], ◌∷◌, map, Option, Some, None, refl, ap, sym, subst}
+use Rattle.std.specs.Prelude.{replicate, option_map}
+use Rattle.std.specs.List.{list_all}
 use Rattle.std.proofs.lemmas.Bool.{eqb-true}
+use Rattle.std.proofs.lemmas.Option.{same_Some}
 use Rattle.w4_defs.specs.declared.operation.Op.{Op}
+use Rattle.w4_defs.specs.declared.operation.Op.TheVariants as op
+use Rattle.w4_defs.specs.declared.basic.Basic.{Basic}
+use Rattle.w4_defs.specs.declared.basic.Basic.TheVariants.{F32Const, F64Const, FloatMemory, FloatPlain, FloatCut}
+use Rattle.w4_defs.specs.declared.instruction_table.Row.{Row}
+use Rattle.w4_defs.specs.declared.instruction_table.Row.TheVariants.{Const, Test, Compare, Unary, Binary, Wrap, Extend, ExtendWithin, Load, Store, MemorySize, MemoryGrow, MemoryCopy, MemoryFill, Float}
+use Rattle.w4_defs.specs.InstructionTable.{opcode, row}
 use Rattle.w4_defs.specs.BinaryText.{Texts, ◌then◌, byte}
 use Rattle.w4_defs.specs.BinaryNumber.{unsigned}
-use Rattle.w4_defs.specs.BinaryMemory.{immediate, IsFloatAccess}
+use Rattle.w4_defs.specs.BinaryBasic.{immediate, shaped, basic, IsFloatAccess}
 use Rattle.w4_defs.specs.BinaryInstruction.{operation}
 use Rattle.wasm_read.specs.Reader.{row_of}
-use Rattle.wasm_read.specs.InstructionTable.{control_rows, compare32_rows, compare64_rows, arith32_rows, arith64_rows, convert_rows, index_rows, load_rows, store_rows}
-use Rattle.wasm_read.specs.ReadOperation.{first_some, plain_of, access_of}
-use Rattle.wasm_read.proofs.Basics.{split_if}
+use Rattle.wasm_read.specs.InstructionTable.{rows, control_rows, compare32, compare64, arith32, arith64, conversions, index_rows, loads, stores}
+use Rattle.wasm_read.specs.ReadOperation.{first_some, numeric_of, plain_of, is_float_access, access_of}
+use Rattle.wasm_read.proofs.Basics.{split_if, and_true, or_true}
 
-abbrev AllSpelled : Texts → List (ℕ × Op) → Type 0
-AllSpelled P [] = Unit {0}
-AllSpelled P (row ∷ rows) = ((text : List ℕ) → P text → operation row.1 (row.0 ∷ text)) × AllSpelled P rows
+-- what is encoded by a code and these texts
+abbrev AllSpelled : {A : Type 0} → (A → Texts) → Texts → List (ℕ × A) → Type 0
+AllSpelled Q P [] = Unit {0}
+AllSpelled Q P (row ∷ rows) = ((text : List ℕ) → P text → Q row.1 (row.0 ∷ text)) × AllSpelled Q P rows
 
 -- what an option gives is encoded by this code and such bytes
-abbrev pub IsSpelled : Texts → ℕ → Option Op → Type 0
-IsSpelled P code o = (op : Op) (text : List ℕ) → o ≡ Some op → P text → operation op (code ∷ text)
+abbrev pub IsSpelled : {A : Type 0} → (A → Texts) → Texts → ℕ → Option A → Type 0
+IsSpelled {A} Q P code o = (x : A) (text : List ℕ) → o ≡ Some x → P text → Q x (code ∷ text)
 
-row_spelled : (P : Texts) (rows : List (ℕ × Op)) → AllSpelled P rows → (code : ℕ)
-    → IsSpelled P code (row_of rows code)
-row_spelled P [] all code op text e p = absurd cc
-row_spelled P (row ∷ rows) all code op text e p =
-    elim (split_if (eqb code row.0) (Some row.1) (row_of rows code) (Some op) e) [
+row_spelled : {A : Type 0} (Q : A → Texts) (P : Texts) (rows : List (ℕ × A)) → AllSpelled Q P rows
+    → (code : ℕ) → IsSpelled Q P code (row_of rows code)
+row_spelled Q P [] all code x text e p = absurd cc
+row_spelled {A} Q P (row ∷ rows) all code x text e p =
+    elim (split_if (eqb code row.0) (Some row.1) (row_of rows code) (Some x) e) [
       | inl h ↦
           let same : row.0 ≡ code = sym (eqb-true code row.0 h.0) in
-          let value : row.1 ≡ op = cc in
-          let Q : ℕ → Type 0 = λ k. operation row.1 (k ∷ text) in
-          let R : Op → Type 0 = λ o. operation o (code ∷ text) in
-          subst R value (subst Q same (all.0 text p))
-      | inr h ↦ row_spelled P rows all.1 code op text h.1 p
+          let value : row.1 ≡ x = cc in
+          let At : ℕ → Type 0 = λ k. Q row.1 (k ∷ text) in
+          let Of : A → Type 0 = λ o. Q o (code ∷ text) in
+          subst Of value (subst At same (all.0 text p))
+      | inr h ↦ row_spelled Q P rows all.1 code x text h.1 p
     ]
 
-first_spelled : (P : Texts) (code : ℕ) (o other : Option Op) → IsSpelled P code o → IsSpelled P code other
-    → IsSpelled P code (first_some o other)
-first_spelled P code (Some x) other f g = f
-first_spelled P code None other f g = g
+first_spelled : {A : Type 0} (Q : A → Texts) (P : Texts) (code : ℕ) (o other : Option A)
+    → IsSpelled Q P code o → IsSpelled Q P code other → IsSpelled Q P code (first_some o other)
+first_spelled Q P code (Some x) other f g = f
+first_spelled Q P code None other f g = g
 
 -- no bytes
 abbrev pub no_bytes : Texts
@@ -48,146 +58,83 @@ alone code text h = ap (λ t. code ∷ t) h
 pub headed : (P : Texts) (code : ℕ) (text : List ℕ) → P text → (byte code then P) (code ∷ text)
 headed P code text p = (code ∷ [], text, refl, refl, p)
 
-float_headed : (code align offset : ℕ) → IsFloatAccess code → (text : List ℕ) → immediate align offset text
-    → IsFloatAccess code × (byte code then immediate align offset) (code ∷ text)
-float_headed code align offset is text p = (is, headed (immediate align offset) code text p)
+-- ---- basic instructions after whose code nothing stands
 
-control_spelled : AllSpelled no_bytes control_rows
+abbrev is_alone : Row → Bool
+is_alone (Test t) = true
+is_alone (Compare t o) = true
+is_alone (Unary t o) = true
+is_alone (Binary t o) = true
+is_alone Wrap = true
+is_alone (Extend sign) = true
+is_alone (ExtendWithin t bits) = true
+is_alone _ = false
+
+shaped_alone : (code : ℕ) (r : Row) → is_alone r ≡ true → shaped code r (code ∷ [])
+shaped_alone code (Test t) h = refl
+shaped_alone code (Compare t o) h = refl
+shaped_alone code (Unary t o) h = refl
+shaped_alone code (Binary t o) h = refl
+shaped_alone code Wrap h = refl
+shaped_alone code (Extend sign) h = refl
+shaped_alone code (ExtendWithin t bits) h = refl
+shaped_alone code _ h = absurd (cc h)
+
+basic_alone : (i : Basic) → is_alone (row i) ≡ true → basic i (opcode i ∷ [])
+basic_alone (F32Const bits) h = absurd (cc h)
+basic_alone (F64Const bits) h = absurd (cc h)
+basic_alone (FloatMemory code align offset) h = absurd (cc h)
+basic_alone (FloatPlain code) h = absurd (cc h)
+basic_alone (FloatCut code) h = absurd (cc h)
+basic_alone i h = shaped_alone (opcode i) (row i) h
+
+all_alone : (is : List Basic) → list_all (λ i. is_alone (row i)) is ≡ true
+    → AllSpelled basic no_bytes (rows is)
+all_alone [] h = tt
+all_alone (i ∷ is) h =
+    let k = and_true (is_alone (row i)) (list_all (λ i. is_alone (row i)) is) h in (
+      λ text p. subst (λ t. basic i (opcode i ∷ t)) (sym p) (basic_alone i k.0),
+      all_alone is k.1,
+    )
+
+-- ---- basic instructions that access the memory
+
+abbrev accessed : Row → Option (ℕ × ℕ)
+accessed (Load t bytes sign align offset) = Some (align, offset)
+accessed (Store t bytes align offset) = Some (align, offset)
+accessed _ = None
+
+shaped_access : (code a o : ℕ) (r : Row) → accessed r ≡ Some (a, o) → (text : List ℕ) → immediate a o text
+    → shaped code r (code ∷ text)
+shaped_access code a o (Load t bytes sign align offset) h text p =
+    headed (immediate align offset) code text
+    (subst (λ (n : ℕ × ℕ). immediate n.0 n.1 text) (sym (same_Some _ _ h)) p)
+shaped_access code a o (Store t bytes align offset) h text p =
+    headed (immediate align offset) code text
+    (subst (λ (n : ℕ × ℕ). immediate n.0 n.1 text) (sym (same_Some _ _ h)) p)
+shaped_access code a o _ h text p = absurd (cc h)
+
+basic_access : (a o : ℕ) (i : Basic) → accessed (row i) ≡ Some (a, o) → (text : List ℕ) → immediate a o text
+    → basic i (opcode i ∷ text)
+basic_access a o (F32Const bits) h = absurd (cc h)
+basic_access a o (F64Const bits) h = absurd (cc h)
+basic_access a o (FloatMemory code align offset) h = absurd (cc h)
+basic_access a o (FloatPlain code) h = absurd (cc h)
+basic_access a o (FloatCut code) h = absurd (cc h)
+basic_access a o i h = shaped_access (opcode i) a o (row i) h
+
+all_access : (a o : ℕ) (is : List Basic) (n : ℕ)
+    → map (λ i. accessed (row i)) is ≡ replicate n (Some (a, o)) → AllSpelled basic (immediate a o) (rows is)
+all_access a o [] n h = tt
+all_access a o (i ∷ is) zero h = absurd (cc h)
+all_access a o (i ∷ is) (suc n) h = (basic_access a o i (cc h), all_access a o is n (cc h))
+
+-- ---- by their codes
+
+control_spelled : AllSpelled operation no_bytes control_rows
 control_spelled = (alone 0x00, (alone 0x01, (alone 0x0f, (alone 0x1a, (alone 0x1b, tt)))))
 
-compare32_spelled : AllSpelled no_bytes compare32_rows
-compare32_spelled = (
-  alone 0x45,
-  (
-    alone 0x46,
-    (
-      alone 0x47,
-      (
-        alone 0x48,
-        (
-          alone 0x49,
-          (
-            alone 0x4a,
-            (alone 0x4b, (alone 0x4c, (alone 0x4d, (alone 0x4e, (alone 0x4f, tt))))),
-          ),
-        ),
-      ),
-    ),
-  ),
-)
-
-compare64_spelled : AllSpelled no_bytes compare64_rows
-compare64_spelled = (
-  alone 0x50,
-  (
-    alone 0x51,
-    (
-      alone 0x52,
-      (
-        alone 0x53,
-        (
-          alone 0x54,
-          (
-            alone 0x55,
-            (alone 0x56, (alone 0x57, (alone 0x58, (alone 0x59, (alone 0x5a, tt))))),
-          ),
-        ),
-      ),
-    ),
-  ),
-)
-
-arith32_spelled : AllSpelled no_bytes arith32_rows
-arith32_spelled = (
-  alone 0x67,
-  (
-    alone 0x68,
-    (
-      alone 0x69,
-      (
-        alone 0x6a,
-        (
-          alone 0x6b,
-          (
-            alone 0x6c,
-            (
-              alone 0x6d,
-              (
-                alone 0x6e,
-                (
-                  alone 0x6f,
-                  (
-                    alone 0x70,
-                    (
-                      alone 0x71,
-                      (
-                        alone 0x72,
-                        (
-                          alone 0x73,
-                          (alone 0x74, (alone 0x75, (alone 0x76, (alone 0x77, (alone 0x78, tt))))),
-                        ),
-                      ),
-                    ),
-                  ),
-                ),
-              ),
-            ),
-          ),
-        ),
-      ),
-    ),
-  ),
-)
-
-arith64_spelled : AllSpelled no_bytes arith64_rows
-arith64_spelled = (
-  alone 0x79,
-  (
-    alone 0x7a,
-    (
-      alone 0x7b,
-      (
-        alone 0x7c,
-        (
-          alone 0x7d,
-          (
-            alone 0x7e,
-            (
-              alone 0x7f,
-              (
-                alone 0x80,
-                (
-                  alone 0x81,
-                  (
-                    alone 0x82,
-                    (
-                      alone 0x83,
-                      (
-                        alone 0x84,
-                        (
-                          alone 0x85,
-                          (alone 0x86, (alone 0x87, (alone 0x88, (alone 0x89, (alone 0x8a, tt))))),
-                        ),
-                      ),
-                    ),
-                  ),
-                ),
-              ),
-            ),
-          ),
-        ),
-      ),
-    ),
-  ),
-)
-
-convert_spelled : AllSpelled no_bytes convert_rows
-convert_spelled = (
-  alone 0xa7,
-  (alone 0xac, (alone 0xad, (alone 0xc0, (alone 0xc1, (alone 0xc2, (alone 0xc3, (alone 0xc4, tt))))))),
-)
-
-index_spelled : (i : ℕ) → AllSpelled (unsigned 32 i) (index_rows i)
+index_spelled : (i : ℕ) → AllSpelled operation (unsigned 32 i) (index_rows i)
 index_spelled i = (
   headed (unsigned 32 i) 0x0c,
   (
@@ -205,80 +152,56 @@ index_spelled i = (
   ),
 )
 
-load_spelled : (a o : ℕ) → AllSpelled (immediate a o) (load_rows a o)
-load_spelled a o = (
-  headed (immediate a o) 0x28,
-  (
-    headed (immediate a o) 0x29,
-    (
-      float_headed 0x2a a o (inl refl),
-      (
-        float_headed 0x2b a o (inr (inl refl)),
-        (
-          headed (immediate a o) 0x2c,
-          (
-            headed (immediate a o) 0x2d,
-            (
-              headed (immediate a o) 0x2e,
-              (
-                headed (immediate a o) 0x2f,
-                (
-                  headed (immediate a o) 0x30,
-                  (
-                    headed (immediate a o) 0x31,
-                    (
-                      headed (immediate a o) 0x32,
-                      (
-                        headed (immediate a o) 0x33,
-                        (headed (immediate a o) 0x34, (headed (immediate a o) 0x35, tt)),
-                      ),
-                    ),
-                  ),
-                ),
-              ),
-            ),
-          ),
-        ),
-      ),
-    ),
-  ),
-)
+listed_spelled : (code : ℕ) (is : List Basic) → list_all (λ i. is_alone (row i)) is ≡ true
+    → IsSpelled basic no_bytes code (row_of (rows is) code)
+listed_spelled code is h = row_spelled basic no_bytes (rows is) (all_alone is h) code
 
-store_spelled : (a o : ℕ) → AllSpelled (immediate a o) (store_rows a o)
-store_spelled a o = (
-  headed (immediate a o) 0x36,
-  (
-    headed (immediate a o) 0x37,
-    (
-      float_headed 0x38 a o (inr (inr (inl refl))),
-      (
-        float_headed 0x39 a o (inr (inr (inr refl))),
-        (
-          headed (immediate a o) 0x3a,
-          (
-            headed (immediate a o) 0x3b,
-            (headed (immediate a o) 0x3c, (headed (immediate a o) 0x3d, (headed (immediate a o) 0x3e, tt))),
-          ),
-        ),
-      ),
-    ),
-  ),
-)
+numeric_spelled : (code : ℕ) → IsSpelled basic no_bytes code (numeric_of code)
+numeric_spelled code =
+    first_spelled basic no_bytes code _ _ (listed_spelled code compare32 refl)
+    (first_spelled basic no_bytes code _ _ (listed_spelled code compare64 refl)
+    (first_spelled basic no_bytes code _ _ (listed_spelled code arith32 refl)
+    (first_spelled basic no_bytes code _ _ (listed_spelled code arith64 refl)
+    (listed_spelled code conversions refl))))
 
-pub plain_spelled : (code : ℕ) → IsSpelled no_bytes code (plain_of code)
+-- as an operation
+mapped_spelled : (P : Texts) (code : ℕ) (o : Option Basic) → IsSpelled basic P code o
+    → IsSpelled operation P code (option_map op.Basic o)
+mapped_spelled P code None f x text e p = absurd (cc e)
+mapped_spelled P code (Some i) f x text e p =
+    subst (λ (o : Op). operation o (code ∷ text)) (same_Some _ _ e) (f i text refl p)
+
+pub plain_spelled : (code : ℕ) → IsSpelled operation no_bytes code (plain_of code)
 plain_spelled code =
-    first_spelled no_bytes code _ _ (row_spelled no_bytes control_rows control_spelled code)
-    (first_spelled no_bytes code _ _ (row_spelled no_bytes compare32_rows compare32_spelled code)
-    (first_spelled no_bytes code _ _ (row_spelled no_bytes compare64_rows compare64_spelled code)
-    (first_spelled no_bytes code _ _ (row_spelled no_bytes arith32_rows arith32_spelled code)
-    (first_spelled no_bytes code _ _ (row_spelled no_bytes arith64_rows arith64_spelled code)
-    (row_spelled no_bytes convert_rows convert_spelled code)))))
+    first_spelled operation no_bytes code _ _
+    (row_spelled operation no_bytes control_rows control_spelled code)
+    (mapped_spelled no_bytes code (numeric_of code) (numeric_spelled code))
 
-pub indexed_spelled : (i code : ℕ) → IsSpelled (unsigned 32 i) code (row_of (index_rows i) code)
-indexed_spelled i code = row_spelled (unsigned 32 i) (index_rows i) (index_spelled i) code
+pub indexed_spelled : (i code : ℕ) → IsSpelled operation (unsigned 32 i) code (row_of (index_rows i) code)
+indexed_spelled i code = row_spelled operation (unsigned 32 i) (index_rows i) (index_spelled i) code
 
-pub access_spelled : (a o code : ℕ) → IsSpelled (immediate a o) code (access_of code a o)
-access_spelled a o code =
-    first_spelled (immediate a o) code _ _
-    (row_spelled (immediate a o) (load_rows a o) (load_spelled a o) code)
-    (row_spelled (immediate a o) (store_rows a o) (store_spelled a o) code)
+is_float_access_sound : (code : ℕ) → is_float_access code ≡ true → IsFloatAccess code
+is_float_access_sound code e =
+    elim (or_true (eqb code 0x2a) (eqb code 0x2b || (eqb code 0x38 || eqb code 0x39)) e) [
+      | inl h ↦ inl (eqb-true code 0x2a h)
+      | inr h ↦ elim (or_true (eqb code 0x2b) (eqb code 0x38 || eqb code 0x39) h) [
+        | inl k ↦ inr (inl (eqb-true code 0x2b k))
+        | inr k ↦ elim (or_true (eqb code 0x38) (eqb code 0x39) k) [
+          | inl m ↦ inr (inr (inl (eqb-true code 0x38 m)))
+          | inr m ↦ inr (inr (inr (eqb-true code 0x39 m)))
+        ]
+      ]
+    ]
+
+pub access_spelled : (a o code : ℕ) → IsSpelled basic (immediate a o) code (access_of code a o)
+access_spelled a o code i text e p =
+    let listed : Option Basic =
+    first_some (row_of (rows (loads a o)) code) (row_of (rows (stores a o)) code) in
+    elim (split_if (is_float_access code) (Some (FloatMemory code a o)) listed (Some i) e) [
+      | inl h ↦ subst (λ (x : Basic). basic x (code ∷ text)) (same_Some _ _ h.1)
+          (is_float_access_sound code h.0, headed (immediate a o) code text p)
+      | inr h ↦ first_spelled basic (immediate a o) code _ _
+          (row_spelled basic (immediate a o) (rows (loads a o)) (all_access a o (loads a o) 12 refl) code)
+          (row_spelled basic (immediate a o) (rows (stores a o)) (all_access a o (stores a o) 7 refl) code)
+          i text h.1 p
+    ]

@@ -6,7 +6,7 @@ pub mod TypeLaws
 pub mod InstructionTableLaws
 pub mod OperationSound
 pub mod OperationLaws
-pub mod EntryLaws
+pub mod MarkLaws
 pub mod Passes
 pub mod ExpressionLaws
 pub mod LoopLaws

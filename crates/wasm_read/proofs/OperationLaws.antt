@@ -3,11 +3,13 @@ use Rattle.std.proofs.Common.{◌≡◌, ℕ, ◌≤◌, Bool, true, false, ◌|
 use Rattle.std.specs.Int.{w32, w64}
 use Rattle.std.proofs.lemmas.Bool.{le-leb}
 use Rattle.w4_defs.specs.declared.operation.Op.{Op}
-use Rattle.w4_defs.specs.declared.operation.Op.TheVariants.{Block, Loop, If, Else, End, BrTable, Br, BrIf, Call, LocalGet, LocalSet, LocalTee, GlobalGet, GlobalSet, CallIndirect, I32Load, I64Load, I32Load8S, I32Load8U, I32Load16S, I32Load16U, I64Load8S, I64Load8U, I64Load16S, I64Load16U, I64Load32S, I64Load32U, I32Store, I64Store, I32Store8, I32Store16, I64Store8, I64Store16, I64Store32, FloatMemory, MemorySize, MemoryGrow, MemoryCopy, MemoryFill, I32Const, I64Const, F32Const, F64Const, FloatPlain, FloatCut}
+use Rattle.w4_defs.specs.declared.operation.Op.TheVariants.{Block, Loop, If, Else, End, BrTable, Br, BrIf, Call, LocalGet, LocalSet, LocalTee, GlobalGet, GlobalSet, CallIndirect, Basic}
+use Rattle.w4_defs.specs.declared.basic.Basic as basics
+use Rattle.w4_defs.specs.declared.basic.Basic.TheVariants.{I32Load, I64Load, I32Load8S, I32Load8U, I32Load16S, I32Load16U, I64Load8S, I64Load8U, I64Load16S, I64Load16U, I64Load32S, I64Load32U, I32Store, I64Store, I32Store8, I32Store16, I64Store8, I64Store16, I64Store32, FloatMemory, MemorySize, MemoryGrow, MemoryCopy, MemoryFill, I32Const, I64Const, F32Const, F64Const, FloatPlain, FloatCut}
+use Rattle.w4_defs.specs.InstructionTable.{opcode}
 use Rattle.w4_defs.specs.BinaryText.{Texts, ◌then◌, byte}
 use Rattle.w4_defs.specs.BinaryNumber.{unsigned, signed, little_endian}
-use Rattle.w4_defs.specs.BinaryNumeric.{IsFloatCode}
-use Rattle.w4_defs.specs.BinaryMemory.{immediate, IsFloatAccess}
+use Rattle.w4_defs.specs.BinaryBasic.{immediate, IsFloatCode, IsFloatAccess}
 use Rattle.w4_defs.specs.BinaryInstruction.{operation}
 use Rattle.w4_defs.specs.Reading.{◌>>=◌, little_endian_at}
 use Rattle.wasm_read.specs.Reader.{Reader, read_as, Reads, row_of}
@@ -44,16 +46,16 @@ indexed_found code index op text rest h row goes =
     ∙ ap (λ o. o >>= λ n. row_of (index_rows n.0) code >>= λ x. read_as x n.1) e
     ∙ ap (λ o. o >>= λ x. read_as x rest) row
 
-access_found : (code align offset : ℕ) (op : Op) (text rest : List ℕ)
-    → (byte code then immediate align offset) text → access_of code align offset ≡ Some op
-    → ((bs : List ℕ) → operation_after code bs ≡ access_at code bs)
-    → operation_at (text ++ rest) ≡ Some (op, rest)
+access_found : (align offset : ℕ) (i : basics.Basic) (text rest : List ℕ)
+    → (byte (opcode i) then immediate align offset) text → access_of (opcode i) align offset ≡ Some i
+    → ((bs : List ℕ) → operation_after (opcode i) bs ≡ access_at (opcode i) bs)
+    → operation_at (text ++ rest) ≡ Some (Basic i, rest)
 unfolding operation_at
-access_found code align offset op text rest h row goes =
+access_found align offset i text rest h row goes =
     let e = indices_reads.complete h.1 rest (align, offset) h.4 in
-    ap operation_at (headed_text code (immediate align offset) text rest h) ∙ goes (h.1 ++ rest)
-    ∙ ap (λ o. o >>= λ n. access_of code n.0.0 n.0.1 >>= λ x. read_as x n.1) e
-    ∙ ap (λ o. o >>= λ x. read_as x rest) row
+    ap operation_at (headed_text (opcode i) (immediate align offset) text rest h) ∙ goes (h.1 ++ rest)
+    ∙ ap (λ o. o >>= λ n. access_of (opcode i) n.0.0 n.0.1 >>= λ x. read_as (Basic x) n.1) e
+    ∙ ap (λ o. o >>= λ x. read_as (Basic x) rest) row
 
 -- a code after which nothing stands
 byte_found : (code : ℕ) (op : Op) (text rest : List ℕ) → text ≡ code ∷ []
@@ -67,15 +69,15 @@ float_access_found : (k code align offset : ℕ) (text rest : List ℕ) → code
     → (byte code then immediate align offset) text
     → access_of k align offset ≡ Some (FloatMemory k align offset)
     → ((bs : List ℕ) → operation_after k bs ≡ access_at k bs)
-    → operation_at (text ++ rest) ≡ Some (FloatMemory code align offset, rest)
+    → operation_at (text ++ rest) ≡ Some (Basic (FloatMemory code align offset), rest)
 float_access_found k code align offset text rest e h row goes =
     let P : ℕ → Type 0 = λ c. (byte c then immediate align offset) text in
-    access_found k align offset (FloatMemory k align offset) text rest (subst P e h) row goes
-    ∙ ap (λ c. read_as (FloatMemory c align offset) rest) (sym e)
+    access_found align offset (FloatMemory k align offset) text rest (subst P e h) row goes
+    ∙ ap (λ c. read_as (Basic (FloatMemory c align offset)) rest) (sym e)
 
 float_memory_found : (code align offset : ℕ) (text rest : List ℕ) → IsFloatAccess code
     → (byte code then immediate align offset) text
-    → operation_at (text ++ rest) ≡ Some (FloatMemory code align offset, rest)
+    → operation_at (text ++ rest) ≡ Some (Basic (FloatMemory code align offset), rest)
 float_memory_found code align offset text rest (inl e) h =
     float_access_found 0x2a code align offset text rest e h refl (λ bs. refl)
 float_memory_found code align offset text rest (inr (inl e)) h =
@@ -114,14 +116,14 @@ float_tested code (inr (inr (inr (l, h)))) =
     (or_right (is_between 0xa8 0xab code) _ (within_is_between 0xae 0xbf code l h)))
 
 float_plain_found : (code : ℕ) (text rest : List ℕ) → IsFloatCode code → text ≡ code ∷ []
-    → operation_at (text ++ rest) ≡ Some (FloatPlain code, rest)
+    → operation_at (text ++ rest) ≡ Some (Basic (FloatPlain code), rest)
 unfolding operation_at
 float_plain_found code text rest is h =
     let test = float_tested code is in
     ap (λ t. operation_at (t ++ rest)) h ∙ (rw test refl)
 
 float_cut_found : (code : ℕ) (text rest : List ℕ) → code ≤ 7 → (byte 0xfc then unsigned 32 code) text
-    → operation_at (text ++ rest) ≡ Some (FloatCut code, rest)
+    → operation_at (text ++ rest) ≡ Some (Basic (FloatCut code), rest)
 unfolding operation_at
 float_cut_found code text rest low h =
     let e = (unsigned_reads 32).complete h.1 rest code h.4 in
@@ -160,11 +162,11 @@ copy_text : (text : List ℕ) → (byte 0xfc then unsigned 32 10 then byte 0 the
 copy_text text h = (h.0, h.1, h.2, h.3, (h.4.0, h.4.1, h.4.2, h.4.3, two_zeros h.4.1 h.4.4))
 
 copy_after : (rest bs : List ℕ) → unsigned_at 32 bs ≡ Some (10, 0 ∷ 0 ∷ rest)
-    → operation_after 0xfc bs ≡ Some (MemoryCopy, rest)
+    → operation_after 0xfc bs ≡ Some (Basic MemoryCopy, rest)
 copy_after rest bs e = rw e refl
 
 fill_after : (rest bs : List ℕ) → unsigned_at 32 bs ≡ Some (11, 0 ∷ rest)
-    → operation_after 0xfc bs ≡ Some (MemoryFill, rest)
+    → operation_after 0xfc bs ≡ Some (Basic MemoryFill, rest)
 fill_after rest bs e = rw e refl
 
 operation_found : (op : Op) (text rest : List ℕ) → operation op text
@@ -186,60 +188,46 @@ operation_found (GlobalSet i) text rest h = indexed_found 0x24 i (GlobalSet i) t
 operation_found (CallIndirect s t) text rest h =
     mapped_found (λ (n : ℕ × ℕ). unsigned 32 n.0 then unsigned 32 n.1) indices_at indirect_of 0x11
     indices_reads (s, t) text rest h (λ bs. refl)
-operation_found (I32Load a o) text rest h = access_found 0x28 a o (I32Load a o) text rest h refl (λ bs. refl)
-operation_found (I64Load a o) text rest h = access_found 0x29 a o (I64Load a o) text rest h refl (λ bs. refl)
-operation_found (I32Load8S a o) text rest h =
-    access_found 0x2c a o (I32Load8S a o) text rest h refl (λ bs. refl)
-operation_found (I32Load8U a o) text rest h =
-    access_found 0x2d a o (I32Load8U a o) text rest h refl (λ bs. refl)
-operation_found (I32Load16S a o) text rest h =
-    access_found 0x2e a o (I32Load16S a o) text rest h refl (λ bs. refl)
-operation_found (I32Load16U a o) text rest h =
-    access_found 0x2f a o (I32Load16U a o) text rest h refl (λ bs. refl)
-operation_found (I64Load8S a o) text rest h =
-    access_found 0x30 a o (I64Load8S a o) text rest h refl (λ bs. refl)
-operation_found (I64Load8U a o) text rest h =
-    access_found 0x31 a o (I64Load8U a o) text rest h refl (λ bs. refl)
-operation_found (I64Load16S a o) text rest h =
-    access_found 0x32 a o (I64Load16S a o) text rest h refl (λ bs. refl)
-operation_found (I64Load16U a o) text rest h =
-    access_found 0x33 a o (I64Load16U a o) text rest h refl (λ bs. refl)
-operation_found (I64Load32S a o) text rest h =
-    access_found 0x34 a o (I64Load32S a o) text rest h refl (λ bs. refl)
-operation_found (I64Load32U a o) text rest h =
-    access_found 0x35 a o (I64Load32U a o) text rest h refl (λ bs. refl)
-operation_found (I32Store a o) text rest h =
-    access_found 0x36 a o (I32Store a o) text rest h refl (λ bs. refl)
-operation_found (I64Store a o) text rest h =
-    access_found 0x37 a o (I64Store a o) text rest h refl (λ bs. refl)
-operation_found (I32Store8 a o) text rest h =
-    access_found 0x3a a o (I32Store8 a o) text rest h refl (λ bs. refl)
-operation_found (I32Store16 a o) text rest h =
-    access_found 0x3b a o (I32Store16 a o) text rest h refl (λ bs. refl)
-operation_found (I64Store8 a o) text rest h =
-    access_found 0x3c a o (I64Store8 a o) text rest h refl (λ bs. refl)
-operation_found (I64Store16 a o) text rest h =
-    access_found 0x3d a o (I64Store16 a o) text rest h refl (λ bs. refl)
-operation_found (I64Store32 a o) text rest h =
-    access_found 0x3e a o (I64Store32 a o) text rest h refl (λ bs. refl)
-operation_found (FloatMemory code a o) text rest h = float_memory_found code a o text rest h.0 h.1
-operation_found MemorySize text rest h = zero_found 0x3f MemorySize text rest h (λ bs. refl)
-operation_found MemoryGrow text rest h = zero_found 0x40 MemoryGrow text rest h (λ bs. refl)
-operation_found MemoryCopy text rest h =
-    prefixed_found 10 (0 ∷ 0 ∷ []) MemoryCopy text rest (copy_text text h) (copy_after rest)
-operation_found MemoryFill text rest h = prefixed_found 11 (0 ∷ []) MemoryFill text rest h (fill_after rest)
-operation_found (I32Const value) text rest h =
-    mapped_found (signed 32) (signed_at 32) I32Const 0x41 (signed_reads 32) value text rest h (λ bs. refl)
-operation_found (I64Const value) text rest h =
-    mapped_found (signed 64) (signed_at 64) I64Const 0x42 (signed_reads 64) value text rest h (λ bs. refl)
-operation_found (F32Const bits) text rest h =
-    mapped_found (little_endian w32) (little_endian_at w32) F32Const 0x43 (number_reads w32) bits text
-    rest h (λ bs. refl)
-operation_found (F64Const bits) text rest h =
-    mapped_found (little_endian w64) (little_endian_at w64) F64Const 0x44 (number_reads w64) bits text
-    rest h (λ bs. refl)
-operation_found (FloatPlain code) text rest h = float_plain_found code text rest h.0 h.1
-operation_found (FloatCut code) text rest h = float_cut_found code text rest h.0 h.1
+operation_found (Basic (I32Load a o)) text rest h = access_found a o _ text rest h refl (λ bs. refl)
+operation_found (Basic (I64Load a o)) text rest h = access_found a o _ text rest h refl (λ bs. refl)
+operation_found (Basic (I32Load8S a o)) text rest h = access_found a o _ text rest h refl (λ bs. refl)
+operation_found (Basic (I32Load8U a o)) text rest h = access_found a o _ text rest h refl (λ bs. refl)
+operation_found (Basic (I32Load16S a o)) text rest h = access_found a o _ text rest h refl (λ bs. refl)
+operation_found (Basic (I32Load16U a o)) text rest h = access_found a o _ text rest h refl (λ bs. refl)
+operation_found (Basic (I64Load8S a o)) text rest h = access_found a o _ text rest h refl (λ bs. refl)
+operation_found (Basic (I64Load8U a o)) text rest h = access_found a o _ text rest h refl (λ bs. refl)
+operation_found (Basic (I64Load16S a o)) text rest h = access_found a o _ text rest h refl (λ bs. refl)
+operation_found (Basic (I64Load16U a o)) text rest h = access_found a o _ text rest h refl (λ bs. refl)
+operation_found (Basic (I64Load32S a o)) text rest h = access_found a o _ text rest h refl (λ bs. refl)
+operation_found (Basic (I64Load32U a o)) text rest h = access_found a o _ text rest h refl (λ bs. refl)
+operation_found (Basic (I32Store a o)) text rest h = access_found a o _ text rest h refl (λ bs. refl)
+operation_found (Basic (I64Store a o)) text rest h = access_found a o _ text rest h refl (λ bs. refl)
+operation_found (Basic (I32Store8 a o)) text rest h = access_found a o _ text rest h refl (λ bs. refl)
+operation_found (Basic (I32Store16 a o)) text rest h = access_found a o _ text rest h refl (λ bs. refl)
+operation_found (Basic (I64Store8 a o)) text rest h = access_found a o _ text rest h refl (λ bs. refl)
+operation_found (Basic (I64Store16 a o)) text rest h = access_found a o _ text rest h refl (λ bs. refl)
+operation_found (Basic (I64Store32 a o)) text rest h = access_found a o _ text rest h refl (λ bs. refl)
+operation_found (Basic (FloatMemory code a o)) text rest h = float_memory_found code a o text rest h.0 h.1
+operation_found (Basic MemorySize) text rest h = zero_found 0x3f (Basic MemorySize) text rest h (λ bs. refl)
+operation_found (Basic MemoryGrow) text rest h = zero_found 0x40 (Basic MemoryGrow) text rest h (λ bs. refl)
+operation_found (Basic MemoryCopy) text rest h =
+    prefixed_found 10 (0 ∷ 0 ∷ []) (Basic MemoryCopy) text rest (copy_text text h) (copy_after rest)
+operation_found (Basic MemoryFill) text rest h =
+    prefixed_found 11 (0 ∷ []) (Basic MemoryFill) text rest h (fill_after rest)
+operation_found (Basic (I32Const value)) text rest h =
+    mapped_found (signed 32) (signed_at 32) (λ n. Basic (I32Const n)) 0x41 (signed_reads 32) value text rest h
+    (λ bs. refl)
+operation_found (Basic (I64Const value)) text rest h =
+    mapped_found (signed 64) (signed_at 64) (λ n. Basic (I64Const n)) 0x42 (signed_reads 64) value text rest h
+    (λ bs. refl)
+operation_found (Basic (F32Const bits)) text rest h =
+    mapped_found (little_endian w32) (little_endian_at w32) (λ n. Basic (F32Const n)) 0x43 (number_reads w32)
+    bits text rest h (λ bs. refl)
+operation_found (Basic (F64Const bits)) text rest h =
+    mapped_found (little_endian w64) (little_endian_at w64) (λ n. Basic (F64Const n)) 0x44 (number_reads w64)
+    bits text rest h (λ bs. refl)
+operation_found (Basic (FloatPlain code)) text rest h = float_plain_found code text rest h.0 h.1
+operation_found (Basic (FloatCut code)) text rest h = float_cut_found code text rest h.0 h.1
 operation_found op text rest h = byte_found _ op text rest h (λ bs. refl)
 
 pub operation_reads : Reads operation operation_at

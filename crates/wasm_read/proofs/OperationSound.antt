@@ -5,10 +5,11 @@ use Rattle.std.proofs.lemmas.Bool.{eqb-true, leb-true}
 use Rattle.std.proofs.lemmas.Bool.Decides.{nat_tests}
 use Rattle.std.proofs.lemmas.List.{length-take-le, take-append-drop}
 use Rattle.w4_defs.specs.declared.operation.Op.{Op}
-use Rattle.w4_defs.specs.declared.operation.Op.TheVariants.{I32Const, I64Const, F32Const, F64Const, FloatPlain, FloatCut, MemorySize, MemoryGrow, MemoryCopy, MemoryFill}
+use Rattle.w4_defs.specs.declared.operation.Op.TheVariants.{Basic}
+use Rattle.w4_defs.specs.declared.basic.Basic.TheVariants.{I32Const, I64Const, F32Const, F64Const, FloatPlain, FloatCut, MemorySize, MemoryGrow, MemoryCopy, MemoryFill}
 use Rattle.w4_defs.specs.BinaryText.{Texts, ◌then◌}
 use Rattle.w4_defs.specs.BinaryNumber.{unsigned, signed, little_endian}
-use Rattle.w4_defs.specs.BinaryNumeric.{IsFloatCode}
+use Rattle.w4_defs.specs.BinaryBasic.{IsFloatCode}
 use Rattle.w4_defs.specs.BinaryInstruction.{operation}
 use Rattle.w4_defs.specs.Reading.{◌>>=◌, little_endian_at}
 use Rattle.w4_defs.proofs.ReadingLaws.{number_again}
@@ -18,7 +19,7 @@ use Rattle.wasm_read.specs.ReadNumber.{unsigned_at, signed_at}
 use Rattle.wasm_read.specs.Combine.{mapped_at, headed_at}
 use Rattle.wasm_read.specs.InstructionTable.{index_rows}
 use Rattle.wasm_read.specs.ReadOperation.{always_at, is_between, is_float_code, has_index, plain_of, access_of, indexed_at, indices_at, access_at, indirect_of, constant_at, prefixed_of, prefixed_at, special_after, operation_after, operation_at}
-use Rattle.wasm_read.proofs.Basics.{split_if, same_read, takes_as_read, and_true, numbers_differ}
+use Rattle.wasm_read.proofs.Basics.{split_if, same_read, takes_as_read, and_true, or_true, numbers_differ}
 use Rattle.wasm_read.proofs.NumberLaws.{unsigned_reads, signed_reads}
 use Rattle.wasm_read.proofs.CombineLaws.{both_reads}
 use Rattle.wasm_read.proofs.InstructionTableLaws.{headed, plain_spelled, indexed_spelled, access_spelled}
@@ -103,13 +104,13 @@ Prefixed n bs op rest =
     × ((size : List ℕ) → unsigned 32 n size → operation op (0xfc ∷ (size ++ text)))
 
 cut_spelled : (n : ℕ) → n ≤ 7 → (size : List ℕ) → unsigned 32 n size
-    → operation (FloatCut n) (0xfc ∷ (size ++ []))
+    → operation (Basic (FloatCut n)) (0xfc ∷ (size ++ []))
 cut_spelled n low size u =
     let P : List ℕ → Type 0 = λ t. unsigned 32 n t in
     (low, headed (unsigned 32 n) 0xfc (size ++ []) (subst P (sym (append-nil size)) u))
 
 copy_spelled : (n : ℕ) → n ≡ 10 → (size : List ℕ) → unsigned 32 n size
-    → operation MemoryCopy (0xfc ∷ (size ++ 0 ∷ 0 ∷ []))
+    → operation (Basic MemoryCopy) (0xfc ∷ (size ++ 0 ∷ 0 ∷ []))
 copy_spelled n e size u =
     let P : ℕ → Type 0 = λ k. unsigned 32 k size in (
       0xfc ∷ [],
@@ -120,7 +121,7 @@ copy_spelled n e size u =
     )
 
 fill_spelled : (n : ℕ) → n ≡ 11 → (size : List ℕ) → unsigned 32 n size
-    → operation MemoryFill (0xfc ∷ (size ++ 0 ∷ []))
+    → operation (Basic MemoryFill) (0xfc ∷ (size ++ 0 ∷ []))
 fill_spelled n e size u =
     let P : ℕ → Type 0 = λ k. unsigned 32 k size in
     (0xfc ∷ [], size ++ 0 ∷ [], refl, refl, (size, 0 ∷ [], refl, subst P e u, refl))
@@ -134,23 +135,26 @@ prefixed_moved n bs x op rest e p =
 prefixed_of_sound : (n : ℕ) (bs : List ℕ) (op : Op) (rest : List ℕ) → prefixed_of n bs ≡ Some (op, rest)
     → Prefixed n bs op rest
 prefixed_of_sound n bs op rest e =
-    let third : Option (Op × List ℕ) = if eqb n 11 then headed_at 0 (always_at MemoryFill) bs else None in
+    let third : Option (Op × List ℕ) =
+    if eqb n 11 then headed_at 0 (always_at (Basic MemoryFill)) bs else None in
     let second : Option (Op × List ℕ) =
-    if eqb n 10 then headed_at 0 (headed_at 0 (always_at MemoryCopy)) bs else third in
-    elim (split_if (nat_le n 7) (read_as (FloatCut n) bs) second (read_as op rest) e) [
+    if eqb n 10 then headed_at 0 (headed_at 0 (always_at (Basic MemoryCopy))) bs else third in
+    elim (split_if (nat_le n 7) (read_as (Basic (FloatCut n)) bs) second (read_as op rest) e) [
       | inl h ↦
-          let same = same_read (FloatCut n) op bs rest h.1 in
-          prefixed_moved n bs (FloatCut n) op rest same.0 ([], same.1, cut_spelled n (leb-true n 7 h.0))
-      | inr h ↦ elim (split_if (eqb n 10) (headed_at 0 (headed_at 0 (always_at MemoryCopy)) bs) third
+          let same = same_read (Basic (FloatCut n)) op bs rest h.1 in
+          prefixed_moved n bs (Basic (FloatCut n)) op rest same.0
+          ([], same.1, cut_spelled n (leb-true n 7 h.0))
+      | inr h ↦ elim (split_if (eqb n 10) (headed_at 0 (headed_at 0 (always_at (Basic MemoryCopy))) bs) third
           (read_as op rest) h.1) [
             | inl k ↦
-                let z = zeros_sound MemoryCopy op bs rest k.1 in
-                prefixed_moved n bs MemoryCopy op rest z.1
+                let z = zeros_sound (Basic MemoryCopy) op bs rest k.1 in
+                prefixed_moved n bs (Basic MemoryCopy) op rest z.1
                 (0 ∷ 0 ∷ [], z.0, copy_spelled n (eqb-true n 10 k.0))
             | inr k ↦
-                let i = held_if (eqb n 11) (headed_at 0 (always_at MemoryFill) bs) (op, rest) k.1 in
-                let z = zero_sound MemoryFill op bs rest i.1 in
-                prefixed_moved n bs MemoryFill op rest z.1 (0 ∷ [], z.0, fill_spelled n (eqb-true n 11 i.0))
+                let i = held_if (eqb n 11) (headed_at 0 (always_at (Basic MemoryFill)) bs) (op, rest) k.1 in
+                let z = zero_sound (Basic MemoryFill) op bs rest i.1 in
+                prefixed_moved n bs (Basic MemoryFill) op rest z.1
+                (0 ∷ [], z.0, fill_spelled n (eqb-true n 11 i.0))
           ]
     ]
 
@@ -177,21 +181,22 @@ special_sound code bs op rest e =
     let fourth : Option (Op × List ℕ) =
     if eqb code 0xfc then prefixed_at bs else (plain_of code >>= λ o. read_as o bs) in
     let third : Option (Op × List ℕ) =
-    if eqb code 0x40 then headed_at 0 (always_at MemoryGrow) bs else fourth in
+    if eqb code 0x40 then headed_at 0 (always_at (Basic MemoryGrow)) bs else fourth in
     let second : Option (Op × List ℕ) =
-    if eqb code 0x3f then headed_at 0 (always_at MemorySize) bs else third in
+    if eqb code 0x3f then headed_at 0 (always_at (Basic MemorySize)) bs else third in
     elim (split_if (eqb code 0x11) (mapped_at indirect_of indices_at bs) second (read_as op rest) e) [
       | inl h ↦ at_code 0x11 code bs op rest (eqb-true code 0x11 h.0)
           (mapped_sound (λ (n : ℕ × ℕ). unsigned 32 n.0 then unsigned 32 n.1) indices_at indirect_of 0x11
           indices_reads (λ x text p. (0x11 ∷ [], text, refl, refl, p)) bs op rest h.1)
-      | inr h ↦ elim (split_if (eqb code 0x3f) (headed_at 0 (always_at MemorySize) bs) third
+      | inr h ↦ elim (split_if (eqb code 0x3f) (headed_at 0 (always_at (Basic MemorySize)) bs) third
           (read_as op rest) h.1) [
             | inl k ↦ at_code 0x3f code bs op rest (eqb-true code 0x3f k.0)
-                (zero_taken 0x3f MemorySize op bs rest (0x3f ∷ [], 0 ∷ [], refl, refl, refl) k.1)
-            | inr k ↦ elim (split_if (eqb code 0x40) (headed_at 0 (always_at MemoryGrow) bs) fourth
+                (zero_taken 0x3f (Basic MemorySize) op bs rest (0x3f ∷ [], 0 ∷ [], refl, refl, refl) k.1)
+            | inr k ↦ elim (split_if (eqb code 0x40) (headed_at 0 (always_at (Basic MemoryGrow)) bs) fourth
                 (read_as op rest) k.1) [
                   | inl m ↦ at_code 0x40 code bs op rest (eqb-true code 0x40 m.0)
-                      (zero_taken 0x40 MemoryGrow op bs rest (0x40 ∷ [], 0 ∷ [], refl, refl, refl) m.1)
+                      (zero_taken 0x40 (Basic MemoryGrow) op bs rest
+                      (0x40 ∷ [], 0 ∷ [], refl, refl, refl) m.1)
                   | inr m ↦ elim (split_if (eqb code 0xfc) (prefixed_at bs)
                       (plain_of code >>= λ o. read_as o bs)
                       (read_as op rest) m.1) [
@@ -202,10 +207,6 @@ special_sound code bs op rest e =
                 ]
           ]
     ]
-
-or_true : (a b : Bool) → (a || b) ≡ true → (a ≡ true) ⊎ (b ≡ true)
-or_true true b e = inl refl
-or_true false b e = inr e
 
 between : (low high code : ℕ) → is_between low high code ≡ true → (low ≤ code) × (code ≤ high)
 between low high code e =
@@ -244,32 +245,31 @@ last_constant code within a b c =
 constant_sound : (code : ℕ) (bs : List ℕ) (op : Op) (rest : List ℕ) → is_between 0x41 0x44 code ≡ true
     → constant_at code bs ≡ Some (op, rest) → Takes operation (code ∷ bs) op rest
 constant_sound code bs op rest within e =
-    let third : Option (Op × List ℕ) =
-    if eqb code 0x43 then mapped_at F32Const (little_endian_at w32) bs else mapped_at F64Const
-    (little_endian_at w64) bs in
-    let second : Option (Op × List ℕ) =
-    if eqb code 0x42 then mapped_at I64Const (signed_at 64) bs else third in
-    elim (split_if (eqb code 0x41) (mapped_at I32Const (signed_at 32) bs) second (read_as op rest) e) [
+    let i32 : Option (Op × List ℕ) = mapped_at (λ n. Basic (I32Const n)) (signed_at 32) bs in
+    let i64 : Option (Op × List ℕ) = mapped_at (λ n. Basic (I64Const n)) (signed_at 64) bs in
+    let f32 : Option (Op × List ℕ) = mapped_at (λ n. Basic (F32Const n)) (little_endian_at w32) bs in
+    let f64 : Option (Op × List ℕ) = mapped_at (λ n. Basic (F64Const n)) (little_endian_at w64) bs in
+    let third : Option (Op × List ℕ) = if eqb code 0x43 then f32 else f64 in
+    let second : Option (Op × List ℕ) = if eqb code 0x42 then i64 else third in
+    elim (split_if (eqb code 0x41) i32 second (read_as op rest) e) [
       | inl h ↦ at_code 0x41 code bs op rest (eqb-true code 0x41 h.0)
-          (mapped_sound (signed 32) (signed_at 32) I32Const 0x41 (signed_reads 32)
+          (mapped_sound (signed 32) (signed_at 32) (λ n. Basic (I32Const n)) 0x41 (signed_reads 32)
           (λ x text p. (0x41 ∷ [], text, refl, refl, p)) bs op rest h.1)
-      | inr h ↦ elim (split_if (eqb code 0x42) (mapped_at I64Const (signed_at 64) bs) third (read_as op rest)
-          h.1) [
-            | inl k ↦ at_code 0x42 code bs op rest (eqb-true code 0x42 k.0)
-                (mapped_sound (signed 64) (signed_at 64) I64Const 0x42 (signed_reads 64)
-                (λ x text p. (0x42 ∷ [], text, refl, refl, p)) bs op rest k.1)
-            | inr k ↦ elim (split_if (eqb code 0x43) (mapped_at F32Const (little_endian_at w32) bs)
-                (mapped_at F64Const (little_endian_at w64) bs) (read_as op rest) k.1) [
-                  | inl m ↦ at_code 0x43 code bs op rest (eqb-true code 0x43 m.0)
-                      (mapped_sound (little_endian w32) (little_endian_at w32) F32Const 0x43
-                      (number_reads w32)
-                      (λ x text p. (0x43 ∷ [], text, refl, refl, p)) bs op rest m.1)
-                  | inr m ↦ at_code 0x44 code bs op rest (last_constant code within h.0 k.0 m.0)
-                      (mapped_sound (little_endian w64) (little_endian_at w64) F64Const 0x44
-                      (number_reads w64)
-                      (λ x text p. (0x44 ∷ [], text, refl, refl, p)) bs op rest m.1)
-                ]
-          ]
+      | inr h ↦ elim (split_if (eqb code 0x42) i64 third (read_as op rest) h.1) [
+        | inl k ↦ at_code 0x42 code bs op rest (eqb-true code 0x42 k.0)
+            (mapped_sound (signed 64) (signed_at 64) (λ n. Basic (I64Const n)) 0x42 (signed_reads 64)
+            (λ x text p. (0x42 ∷ [], text, refl, refl, p)) bs op rest k.1)
+        | inr k ↦ elim (split_if (eqb code 0x43) f32 f64 (read_as op rest) k.1) [
+          | inl m ↦ at_code 0x43 code bs op rest (eqb-true code 0x43 m.0)
+              (mapped_sound (little_endian w32) (little_endian_at w32) (λ n. Basic (F32Const n)) 0x43
+              (number_reads w32)
+              (λ x text p. (0x43 ∷ [], text, refl, refl, p)) bs op rest m.1)
+          | inr m ↦ at_code 0x44 code bs op rest (last_constant code within h.0 k.0 m.0)
+              (mapped_sound (little_endian w64) (little_endian_at w64) (λ n. Basic (F64Const n)) 0x44
+              (number_reads w64)
+              (λ x text p. (0x44 ∷ [], text, refl, refl, p)) bs op rest m.1)
+        ]
+      ]
     ]
 
 indexed_sound : (code : ℕ) (bs : List ℕ) (op : Op) (rest : List ℕ) → indexed_at code bs ≡ Some (op, rest)
@@ -286,16 +286,17 @@ access_sound : (code : ℕ) (bs : List ℕ) (op : Op) (rest : List ℕ) → acce
     → Takes operation (code ∷ bs) op rest
 access_sound code bs op rest e =
     let s = bind_some (indices_at bs)
-    (λ (n : (ℕ × ℕ) × List ℕ). access_of code n.0.0 n.0.1 >>= λ o. read_as o n.1) (op, rest) e in
+    (λ (n : (ℕ × ℕ) × List ℕ). access_of code n.0.0 n.0.1 >>= λ i. read_as (Basic i) n.1) (op, rest) e in
     let t = indices_reads.sound bs s.0.0 s.0.1 s.1 in
-    let o = bind_some (access_of code s.0.0.0 s.0.0.1) (λ x. read_as x s.0.1) (op, rest) s.2 in
-    takes_as_read operation (code ∷ bs) o.0 op s.0.1 rest
-    (takes_operation code bs t.0 s.0.1 o.0 t.1 (access_spelled s.0.0.0 s.0.0.1 code o.0 t.0 o.1 t.2)) o.2
+    let o = bind_some (access_of code s.0.0.0 s.0.0.1) (λ i. read_as (Basic i) s.0.1) (op, rest) s.2 in
+    takes_as_read operation (code ∷ bs) (Basic o.0) op s.0.1 rest
+    (takes_operation code bs t.0 s.0.1 (Basic o.0) t.1
+    (access_spelled s.0.0.0 s.0.0.1 code o.0 t.0 o.1 t.2)) o.2
 
 float_sound : (code : ℕ) (bs : List ℕ) (op : Op) (rest : List ℕ) → is_float_code code ≡ true
-    → read_as (FloatPlain code) bs ≡ Some (op, rest) → Takes operation (code ∷ bs) op rest
+    → read_as (Basic (FloatPlain code)) bs ≡ Some (op, rest) → Takes operation (code ∷ bs) op rest
 float_sound code bs op rest is e =
-    takes_as_read operation (code ∷ bs) (FloatPlain code) op bs rest
+    takes_as_read operation (code ∷ bs) (Basic (FloatPlain code)) op bs rest
     (code ∷ [], refl, (is_float_code_sound code is, refl)) e
 
 after_sound : (code : ℕ) (bs : List ℕ) (op : Op) (rest : List ℕ) → operation_after code bs ≡ Some (op, rest)
@@ -305,7 +306,7 @@ after_sound code bs op rest e =
     if is_between 0x41 0x44 code then constant_at code bs else special_after code bs in
     let third : Option (Op × List ℕ) = if is_between 0x28 0x3e code then access_at code bs else fourth in
     let second : Option (Op × List ℕ) = if has_index code then indexed_at code bs else third in
-    elim (split_if (is_float_code code) (read_as (FloatPlain code) bs) second (read_as op rest) e) [
+    elim (split_if (is_float_code code) (read_as (Basic (FloatPlain code)) bs) second (read_as op rest) e) [
       | inl h ↦ float_sound code bs op rest h.0 h.1
       | inr h ↦ elim (split_if (has_index code) (indexed_at code bs) third (read_as op rest) h.1) [
         | inl k ↦ indexed_sound code bs op rest k.1

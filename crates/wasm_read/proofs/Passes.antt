@@ -1,4 +1,4 @@
--- The entries of a tree, before their places are known, and what the two passes make of them.
+-- The marks of a tree, before their positions are known, and what the two passes make of them.
 use Rattle.std.proofs.Common.{◌≡◌, ◌≢◌, ℕ, zero, suc, ◌+◌, ◌-◌, ◌≤◌, eqb, true, false, if◌then◌else◌, ◌⊎◌, inl, inr, List, [], ◌∷◌, ◌++◌, length, Option, Some, None, refl, ap, sym, ◌∙◌, subst, append_assoc, append-nil, arith}
 use Rattle.std.proofs.lemmas.Bool.{eq-eqb}
 use Rattle.w4_defs.specs.declared.operation.Op.{Op}
@@ -13,9 +13,9 @@ use Rattle.w4_defs.proofs.OptionLaws.{bind_some}
 use Rattle.wasm_read.specs.declared.brackets.Close.{Close}
 use Rattle.wasm_read.specs.declared.brackets.Close.TheVariants.{Ends, Parts}
 use Rattle.wasm_read.specs.Reader.{Takes}
-use Rattle.wasm_read.specs.ReadExpression.{entry_at, depth_after, entries_at, entry_with_places, entries_with_places}
+use Rattle.wasm_read.specs.ReadExpression.{mark_at, depth_after, marks_at, mark_with_positions, marks_with_positions}
 use Rattle.wasm_read.proofs.Basics.{split_if, takes_as_read, numbers_differ_tested}
-use Rattle.wasm_read.proofs.EntryLaws.{entry_texts, entry, instruction_entry, instruction_leaf, entry_reads}
+use Rattle.wasm_read.proofs.MarkLaws.{mark_texts, mark_encoding, instruction_mark, instruction_leaf, mark_reads}
 
 abbrev pub raw : Op → Expr → List Mark
 raw close done = mark close ∷ []
@@ -44,19 +44,19 @@ list_proper k (if_else r taken other rest) text h =
     let u = t.4 in
     (list_proper 0x05 taken t.0 t.3, list_proper 0x0b other u.0 u.3, list_proper k rest u.1 u.4)
 
-items_joined : (xs ys : List Mark) (a b : List ℕ) → items entry xs a → items entry ys b
-    → items entry (xs ++ ys) (a ++ b)
+items_joined : (xs ys : List Mark) (a b : List ℕ) → items mark_encoding xs a → items mark_encoding ys b
+    → items mark_encoding (xs ++ ys) (a ++ b)
 items_joined [] ys a b h k =
-    let P : List ℕ → Type 0 = λ t. items entry ys (t ++ b) in
+    let P : List ℕ → Type 0 = λ t. items mark_encoding ys (t ++ b) in
     subst P (sym h) k
 items_joined (x ∷ xs) ys a b h k =
     (h.0, h.1 ++ b, ap (λ t. t ++ b) h.2 ∙ append_assoc h.0 h.1 b, h.3, items_joined xs ys h.1 b h.4 k)
 
--- an entry that opens a list, and the entries after it
+-- a mark that opens a list, and the marks after it
 opened_items : (x : Op) (code : ℕ) (P Q : Texts) (others : List Mark)
-    → ((t : List ℕ) → (byte code then P) t → entry_texts x [] t)
-    → ((t : List ℕ) → Q t → items entry others t) → (text : List ℕ) → (byte code then P then Q) text
-    → items entry (mark x ∷ others) text
+    → ((t : List ℕ) → (byte code then P) t → mark_texts x [] t)
+    → ((t : List ℕ) → Q t → items mark_encoding others t) → (text : List ℕ) → (byte code then P then Q) text
+    → items mark_encoding (mark x ∷ others) text
 opened_items x code P Q others spelled next text h =
     let t = h.4 in (
       h.0 ++ t.0,
@@ -66,25 +66,25 @@ opened_items x code P Q others spelled next text h =
       next t.1 t.4,
     )
 
-two_joined : (P Q : Texts) (xs ys : List Mark) → ((t : List ℕ) → P t → items entry xs t)
-    → ((t : List ℕ) → Q t → items entry ys t)
-    → (text : List ℕ) → (P then Q) text → items entry (xs ++ ys) text
+two_joined : (P Q : Texts) (xs ys : List Mark) → ((t : List ℕ) → P t → items mark_encoding xs t)
+    → ((t : List ℕ) → Q t → items mark_encoding ys t)
+    → (text : List ℕ) → (P then Q) text → items mark_encoding (xs ++ ys) text
 two_joined P Q xs ys p q text h =
-    let R : List ℕ → Type 0 = λ t. items entry (xs ++ ys) t in
+    let R : List ℕ → Type 0 = λ t. items mark_encoding (xs ++ ys) t in
     subst R (sym h.2) (items_joined xs ys h.0 h.1 (p h.0 h.3) (q h.1 h.4))
 
-pub end_spelled : (t : List ℕ) → byte 0x0b t → entry_texts End [] t
+pub end_spelled : (t : List ℕ) → byte 0x0b t → mark_texts End [] t
 end_spelled t h = (refl, h)
 
-else_spelled : (t : List ℕ) → byte 0x05 t → entry_texts Else [] t
+else_spelled : (t : List ℕ) → byte 0x05 t → mark_texts Else [] t
 else_spelled t h = (refl, h)
 
--- a text of the tree is one of its entries
-pub raw_spelled : (k : ℕ) (close : Op) → ((t : List ℕ) → byte k t → entry_texts close [] t)
-    → (e : Expr) (text : List ℕ) → list k e text → items entry (raw close e) text
+-- a text of the tree is one of its marks
+pub raw_spelled : (k : ℕ) (close : Op) → ((t : List ℕ) → byte k t → mark_texts close [] t)
+    → (e : Expr) (text : List ℕ) → list k e text → items mark_encoding (raw close e) text
 raw_spelled k close c done text h = (text, [], sym (append-nil text), c text h, refl)
 raw_spelled k close c (plain m rest) text h =
-    (h.0, h.1, h.2, instruction_entry m.0 m.1 h.0 h.3, raw_spelled k close c rest h.1 h.4)
+    (h.0, h.1, h.2, instruction_mark m.0 m.1 h.0 h.3, raw_spelled k close c rest h.1 h.4)
 raw_spelled k close c (block r inner rest) text h =
     opened_items (Block r 0) 0x02 (block_type r) (list 0x0b inner then list k rest)
     (raw End inner ++ raw close rest) (λ t p. ((refl, refl), p))
@@ -108,7 +108,7 @@ raw_spelled k close c (if_else r taken other rest) text h =
     (two_joined (list 0x0b other) (list k rest) (raw End other) (raw close rest)
     (raw_spelled 0x0b End end_spelled other) (raw_spelled k close c rest))) text h
 
--- these entries leave no list open just at their end
+-- these marks leave no list open just at their end
 abbrev Walks : ℕ → List Mark → Type 0
 Walks depth [] = ⊥
 Walks depth (m ∷ ms) =
@@ -205,46 +205,46 @@ abbrev all_read : List Mark → List ℕ → Option (List Mark × List ℕ)
 all_read ms rest = Some (ms, rest)
 
 -- the first pass reads them
-pub entries_found : (turns depth : ℕ) (ms : List Mark) (text rest : List ℕ) → items entry ms text
+pub marks_found : (turns depth : ℕ) (ms : List Mark) (text rest : List ℕ) → items mark_encoding ms text
     → Walks depth ms → length ms ≤ turns
-    → entries_at turns depth (text ++ rest) ≡ Some (ms, rest)
-entries_found zero depth [] text rest h w few = absurd w
-entries_found (suc turns) depth [] text rest h w few = absurd w
-entries_found zero depth (m ∷ ms) text rest h w few = absurd (omega arith)
-entries_found (suc turns) depth (m ∷ ms) text rest h (inl (zero_left, none)) few =
-    let e = entry_reads.complete h.0 (h.1 ++ rest) m h.3 in
+    → marks_at turns depth (text ++ rest) ≡ Some (ms, rest)
+marks_found zero depth [] text rest h w few = absurd w
+marks_found (suc turns) depth [] text rest h w few = absurd w
+marks_found zero depth (m ∷ ms) text rest h w few = absurd (omega arith)
+marks_found (suc turns) depth (m ∷ ms) text rest h (inl (zero_left, none)) few =
+    let e = mark_reads.complete h.0 (h.1 ++ rest) m h.3 in
     let test : eqb (depth_after m.0 depth) 0 ≡ true = eq-eqb (depth_after m.0 depth) 0 zero_left in
-    let P : List Mark → Type 0 = λ xs. items entry xs h.1 in
+    let P : List Mark → Type 0 = λ xs. items mark_encoding xs h.1 in
     let empty : h.1 ≡ [] = subst P none h.4 in
-    ap (entries_at (suc turns) depth) (ap (λ t. t ++ rest) h.2 ∙ append_assoc h.0 h.1 rest)
+    ap (marks_at (suc turns) depth) (ap (λ t. t ++ rest) h.2 ∙ append_assoc h.0 h.1 rest)
     ∙ (rw (e, test) (ap (λ t. only_as m (t ++ rest)) empty ∙ ap (λ xs. all_as m xs rest) (sym none)))
-entries_found (suc turns) depth (m ∷ ms) text rest h (inr (open_left, w)) few =
-    let e = entry_reads.complete h.0 (h.1 ++ rest) m h.3 in
+marks_found (suc turns) depth (m ∷ ms) text rest h (inr (open_left, w)) few =
+    let e = mark_reads.complete h.0 (h.1 ++ rest) m h.3 in
     let test : eqb (depth_after m.0 depth) 0 ≡ false =
     numbers_differ_tested (depth_after m.0 depth) 0 open_left in
-    let others = entries_found turns (depth_after m.0 depth) ms h.1 rest h.4 w (omega arith) in
-    ap (entries_at (suc turns) depth) (ap (λ t. t ++ rest) h.2 ∙ append_assoc h.0 h.1 rest)
+    let others = marks_found turns (depth_after m.0 depth) ms h.1 rest h.4 w (omega arith) in
+    ap (marks_at (suc turns) depth) (ap (λ t. t ++ rest) h.2 ∙ append_assoc h.0 h.1 rest)
     ∙ (rw (e, test, others) refl)
 
 -- what the first pass reads is encoded
-pub entries_sound : (turns depth : ℕ) (bytes : List ℕ) (ms : List Mark) (rest : List ℕ)
-    → entries_at turns depth bytes ≡ Some (ms, rest) → Takes (items entry) bytes ms rest
-entries_sound zero depth bytes ms rest e = absurd cc
-entries_sound (suc turns) depth bytes ms rest e =
-    let x = bind_some (entry_at bytes)
+pub marks_sound : (turns depth : ℕ) (bytes : List ℕ) (ms : List Mark) (rest : List ℕ)
+    → marks_at turns depth bytes ≡ Some (ms, rest) → Takes (items mark_encoding) bytes ms rest
+marks_sound zero depth bytes ms rest e = absurd cc
+marks_sound (suc turns) depth bytes ms rest e =
+    let x = bind_some (mark_at bytes)
     (λ (x : Mark × List ℕ). if eqb (depth_after x.0.0 depth) 0 then only_as x.0 x.1
-    else (entries_at turns (depth_after x.0.0 depth) x.1 >>= λ y. all_as x.0 y.0 y.1)) (ms, rest) e in
-    let front = entry_reads.sound bytes x.0.0 x.0.1 x.1 in
+    else (marks_at turns (depth_after x.0.0 depth) x.1 >>= λ y. all_as x.0 y.0 y.1)) (ms, rest) e in
+    let front = mark_reads.sound bytes x.0.0 x.0.1 x.1 in
     elim (split_if (eqb (depth_after x.0.0.0 depth) 0) (only_as x.0.0 x.0.1)
-    (entries_at turns (depth_after x.0.0.0 depth) x.0.1 >>= λ y. all_as x.0.0 y.0 y.1)
+    (marks_at turns (depth_after x.0.0.0 depth) x.0.1 >>= λ y. all_as x.0.0 y.0 y.1)
     (all_read ms rest) x.2) [
-      | inl h ↦ takes_as_read (items entry) bytes (x.0.0 ∷ []) ms x.0.1 rest
+      | inl h ↦ takes_as_read (items mark_encoding) bytes (x.0.0 ∷ []) ms x.0.1 rest
           (front.0, front.1, (front.0, [], sym (append-nil front.0), front.2, refl)) h.1
       | inr h ↦
-          let y = bind_some (entries_at turns (depth_after x.0.0.0 depth) x.0.1)
+          let y = bind_some (marks_at turns (depth_after x.0.0.0 depth) x.0.1)
           (λ (y : List Mark × List ℕ). all_as x.0.0 y.0 y.1) (ms, rest) h.1 in
-          let others = entries_sound turns (depth_after x.0.0.0 depth) x.0.1 y.0.0 y.0.1 y.1 in
-          takes_as_read (items entry) bytes (x.0.0 ∷ y.0.0) ms y.0.1 rest (
+          let others = marks_sound turns (depth_after x.0.0.0 depth) x.0.1 y.0.0 y.0.1 y.1 in
+          takes_as_read (items mark_encoding) bytes (x.0.0 ∷ y.0.0) ms y.0.1 rest (
             front.0 ++ others.0,
             front.1 ∙ ap (λ m. front.0 ++ m) others.1
                 ∙ sym (append_assoc front.0 others.0 y.0.1),
@@ -255,7 +255,7 @@ entries_sound (suc turns) depth bytes ms rest e =
 
 -- the second pass
 leaf_placed : (at : ℕ) (op : Op) (c : Close) (cs : List Close) → IsLeaf op
-    → entry_with_places at op (c ∷ cs) ≡ Some (op, c ∷ cs)
+    → mark_with_positions at op (c ∷ cs) ≡ Some (op, c ∷ cs)
 leaf_placed at (Block r end) c cs h = absurd h
 leaf_placed at (Loop r end) c cs h = absurd h
 leaf_placed at (If r other end) c cs h = absurd h
@@ -268,18 +268,18 @@ filled_as ms cs = Some (ms, cs)
 
 abbrev Closing : Op → (ℕ → Close) → Type 0
 Closing close closing = (at : ℕ) (cs : List Close)
-    → entry_with_places at close cs ≡ Some (close, closing at ∷ cs)
+    → mark_with_positions at close cs ≡ Some (close, closing at ∷ cs)
 
 pub filled_raw : (close : Op) (closing : ℕ → Close) → Closing close closing → (e : Expr) → IsProper e
     → (at n k : ℕ) → n ≡ at + span e + 1 → k ≡ at + span e
     → (more : List Mark) (after : List Mark) (cs : List Close)
-    → entries_with_places n more ≡ filled_as after cs
-    → entries_with_places at (raw close e ++ more) ≡ filled_as (flat_at close at e ++ after) (closing k ∷ cs)
+    → marks_with_positions n more ≡ filled_as after cs
+    → marks_with_positions at (raw close e ++ more) ≡ filled_as (flat_at close at e ++ after) (closing k ∷ cs)
 filled_raw close closing c done h at n k en ek more after cs f =
     let same : at + 1 ≡ n = omega arith in
     let there : at ≡ k = omega arith in
-    let e : entries_with_places (at + 1) more ≡ filled_as after cs =
-    ap (λ i. entries_with_places i more) same ∙ f in
+    let e : marks_with_positions (at + 1) more ≡ filled_as after cs =
+    ap (λ i. marks_with_positions i more) same ∙ f in
     let p = c at cs in
     (rw (e, p) refl) ∙ ap (λ i. filled_as (mark close ∷ after) (closing i ∷ cs)) there
 filled_raw close closing c (plain m rest) h at n k en ek more after cs f =
@@ -294,7 +294,7 @@ filled_raw close closing c (block r inner rest) h at n k en ek more after cs f =
     in
     let first = filled_raw End Ends (λ i ds. refl) inner h.0 (at + 1) (end + 1) end refl refl
     (raw close rest ++ more) (back ++ after) (closing k ∷ cs) last in
-    ap (λ ms. entries_with_places at (mark (Block r 0) ∷ ms))
+    ap (λ ms. marks_with_positions at (mark (Block r 0) ∷ ms))
     (append_assoc (raw End inner) (raw close rest) more)
     ∙ (rw first refl)
     ∙ ap (λ ms. filled_as (mark (Block r end) ∷ ms) (closing k ∷ cs)) (sym (append_assoc front back after))
@@ -306,7 +306,7 @@ filled_raw close closing c (loop r inner rest) h at n k en ek more after cs f =
     in
     let first = filled_raw End Ends (λ i ds. refl) inner h.0 (at + 1) (end + 1) end refl refl
     (raw close rest ++ more) (back ++ after) (closing k ∷ cs) last in
-    ap (λ ms. entries_with_places at (mark (Loop r 0) ∷ ms))
+    ap (λ ms. marks_with_positions at (mark (Loop r 0) ∷ ms))
     (append_assoc (raw End inner) (raw close rest) more)
     ∙ (rw first refl)
     ∙ ap (λ ms. filled_as (mark (Loop r end) ∷ ms) (closing k ∷ cs)) (sym (append_assoc front back after))
@@ -318,7 +318,7 @@ filled_raw close closing c (if_then r inner rest) h at n k en ek more after cs f
     in
     let first = filled_raw End Ends (λ i ds. refl) inner h.0 (at + 1) (end + 1) end refl refl
     (raw close rest ++ more) (back ++ after) (closing k ∷ cs) last in
-    ap (λ ms. entries_with_places at (mark (If r None 0) ∷ ms))
+    ap (λ ms. marks_with_positions at (mark (If r None 0) ∷ ms))
     (append_assoc (raw End inner) (raw close rest) more)
     ∙ (rw first refl)
     ∙ ap (λ ms. filled_as (mark (If r None end) ∷ ms) (closing k ∷ cs)) (sym (append_assoc front back after))
@@ -335,7 +335,7 @@ filled_raw close closing c (if_else r taken other rest) h at n k en ek more afte
     let first = filled_raw Else Parts (λ i ds. refl) taken h.0 (at + 1) (middle + 1) middle refl refl
     (raw End other ++ (raw close rest ++ more)) (second ++ (back ++ after))
     (Ends end ∷ closing k ∷ cs) mid in
-    ap (λ ms. entries_with_places at (mark (If r None 0) ∷ ms))
+    ap (λ ms. marks_with_positions at (mark (If r None 0) ∷ ms))
     (append_assoc (raw Else taken) (raw End other ++ raw close rest) more
     ∙ ap (λ ms. raw Else taken ++ ms) (append_assoc (raw End other) (raw close rest) more))
     ∙ (rw first refl)

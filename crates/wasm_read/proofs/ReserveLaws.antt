@@ -22,7 +22,7 @@ use Rattle.w4_defs.specs.Profile.{param_count, has_many_locals, if_so, first_cau
 use Rattle.w4_defs.specs.Cart.{IsCart}
 use Rattle.w4_defs.proofs.CauseLaws.{none_there, not_so}
 use Rattle.wasm_read.specs.Reserves.{ReservesAreSmall}
-use Rattle.wasm_read.proofs.EntryLaws.{instruction_entry, entry_long}
+use Rattle.wasm_read.proofs.MarkLaws.{instruction_mark, mark_long}
 
 -- ---- each instruction takes a byte
 
@@ -33,7 +33,7 @@ list_long k (plain m rest) text (a, b, e, first, others) =
       arith,
       ap (λ t. length t) e,
       length-append a b,
-      entry_long m.0 m.1 a (instruction_entry m.0 m.1 a first),
+      mark_long m.0 m.1 a (instruction_mark m.0 m.1 a first),
       list_long k rest b others,
     )
 list_long k (block r inner rest) text (a, b, e, code, (c, d, f, type, (g, i, j, within, others))) =

@@ -34,7 +34,7 @@ contents_at zero id bytes = None
 contents_at (suc turns) id bytes =
     section_at bytes >>= λ s. if s.0.0 == id then Some s.0.1 else contents_at turns id s.1
 
--- a vector, or no entries where the section is absent
+-- a vector, or no items where the section is absent
 abbrev pub part_at : {A : Type 0} → Reader A → Option (List ℕ) → Option (List A)
 part_at read None = Some []
 part_at read (Some text) = whole_at (vector_at read) text

@@ -1,8 +1,8 @@
-//! The places of the matching else and end of a flattening (Core Specification, section 5.4): found
-//! from the last entry to the first, so that each is final when it is written.
+//! The positions of the matching else and end of a flattening (Core Specification, section 5.4): found from
+//! the last mark to the first, so that each is final when it is written.
 
 ghost use Rattle.std.specs.Prelude.{None, Some, reverse, ◌≡◌};
-ghost use Rattle.wasm_read.specs.ReadExpression.{ended_by, entry_with_places, is_one_end, matched, parted_by};
+ghost use Rattle.wasm_read.specs.ReadExpression.{ended_by, mark_with_positions, is_one_end, matched, parted_by};
 ghost use Rattle.wasm_read.specs.Reader.{Answers};
 
 use crate::refusal::ReadRefusal;
@@ -10,7 +10,7 @@ use std::alloc::Global;
 use w4_defs::Op;
 use wasm_tree::Marks;
 
-/// A closing entry that isn't matched yet, by its place.
+/// A closing mark that isn't matched yet, by its position.
 #[derive(Clone, Copy, PartialEq, Eq, Debug)]
 pub enum Close {
     /// An `end`.
@@ -19,25 +19,26 @@ pub enum Close {
     Parts(usize),
 }
 
-/// The place of the `end` that stands next, where another list is still to be closed after it.
+/// The position of the `end` that stands next, where another list is still to be closed after it.
 fn ended_by(closes: &mut Vec<Close>) -> Result<usize, ReadRefusal>
-    ensures { Answers (λ place. ended_by (reverse closes.old.items) ≡ Some (place, reverse closes.new.items))
+    ensures { Answers (λ position. ended_by (reverse closes.old.items)
+        ≡ Some (position, reverse closes.new.items))
         (ended_by (reverse closes.old.items) ≡ None) result }
 {
-    let Some(Close::Ends(place)) = closes.pop() else {
+    let Some(Close::Ends(position)) = closes.pop() else {
         return Err(ReadRefusal::Malformed);
     };
     if closes.is_empty() {
         return Err(ReadRefusal::Malformed);
     }
-    Ok(place)
+    Ok(position)
 }
 
-/// The entry with its places; `closes` has the closing entries after it that aren't matched, the next
-/// one last.
+/// The mark with its positions; `closes` has the closing marks after it that aren't matched, the next one
+/// last.
 fn placed(closes: &mut Vec<Close>, at: usize, op: Op) -> Result<Op, ReadRefusal>
-    ensures { Answers (λ p. entry_with_places at op (reverse closes.old.items)
-        ≡ Some (p, reverse closes.new.items)) (entry_with_places at op (reverse closes.old.items) ≡ None)
+    ensures { Answers (λ p. mark_with_positions at op (reverse closes.old.items)
+        ≡ Some (p, reverse closes.new.items)) (mark_with_positions at op (reverse closes.old.items) ≡ None)
         result }
 {
     match op {
@@ -74,16 +75,16 @@ fn placed(closes: &mut Vec<Close>, at: usize, op: Op) -> Result<Op, ReadRefusal>
     }
 }
 
-/// The place of the `else` that stands next, if one does; it is then matched.
+/// The position of the `else` that stands next, if one does; it is then matched.
 fn parted_by(closes: &mut Vec<Close>) -> Option<usize>
     ensures { parted_by (reverse closes.old.items) ≡ (result, reverse closes.new.items) }
 {
     let last = *closes.last()?;
-    let Close::Parts(place) = last else {
+    let Close::Parts(position) = last else {
         return None;
     };
     closes.pop();
-    Some(place)
+    Some(position)
 }
 
 fn is_one_end(closes: &[Close]) -> bool
@@ -92,7 +93,7 @@ fn is_one_end(closes: &[Close]) -> bool
     matches!(closes, [Close::Ends(_)])
 }
 
-/// The entries with all their places, where they are the flattening of one list of instructions.
+/// The marks with all their positions, where they are the flattening of one list of instructions.
 pub fn matched(alloc: Global, mut marks: Marks) -> Result<Marks, ReadRefusal>
     ensures { Answers (λ ms. matched marks ≡ Some ms) (matched marks ≡ None) result }
 {

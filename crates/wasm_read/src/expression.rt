@@ -1,8 +1,8 @@
-//! Expressions (Core Specification, section 5.4), without recursion: the entries up to the `end` that
-//! closes them, and then their places.
+//! Expressions (Core Specification, section 5.4), without recursion: the marks up to the `end` that closes
+//! them, and then their positions.
 
 ghost use Rattle.std.specs.Prelude.{List, None, Some, option_map, length, ℕ, ◌++◌, ◌<◌, ◌≡◌, ◌∷◌, []};
-ghost use Rattle.wasm_read.specs.ReadExpression.{bracket_after, bracket_at, depth_after, entries_at, entry_at, expression_at, flattening_at, table_at, unlabelled_at};
+ghost use Rattle.wasm_read.specs.ReadExpression.{bracket_after, bracket_at, depth_after, marks_at, mark_at, expression_at, flattening_at, table_at, unlabelled_at};
 ghost use Rattle.wasm_read.specs.ReadType.{block_type_at};
 ghost use Rattle.wasm_read.specs.Reader.{Answers};
 ghost use Rattle.wasm_tree.specs.Expressions.{IsFlat};
@@ -17,7 +17,7 @@ use std::alloc::Global;
 use w4_defs::Op;
 use wasm_tree::{FlatExpression, Marks};
 
-/// What opens, parts or ends a list, after its code; its places are 0.
+/// What opens, parts or ends a list, after its code; its positions are 0.
 fn bracket_after(code: u8, bytes: &[u8]) -> Option<(Op, &[u8])>
     ensures { option_map (λ x. (x.0, x.1.now)) result ≡ bracket_after code bytes.now }
 {
@@ -56,7 +56,7 @@ fn bracket_at(bytes: &[u8]) -> Option<(Op, &[u8])>
     bracket_after(*code, rest)
 }
 
-/// An entry without labels.
+/// A mark without labels.
 #[tactic(auto, unfolding(crate::specs::ReadExpression::unlabelled_at))]
 fn unlabelled_at(bytes: &[u8]) -> Option<(Op, &[u8])>
     ensures { option_map (λ x. (x.0, x.1.now)) result ≡ unlabelled_at bytes.now }
@@ -82,11 +82,11 @@ fn table_at(alloc: Global, bytes: &[u8]) -> Result<(Vec<u32>, &[u8]), ReadRefusa
     Ok((labels, rest))
 }
 
-/// The entries with one more, this entry's operation, and the bytes after it.
-#[tactic(auto, unfolding(crate::specs::ReadExpression::entry_at))]
-fn entry_at(alloc: Global, marks: Marks, bytes: &[u8]) -> Result<(Marks, Op, &[u8]), ReadRefusal>
-    ensures { Answers (λ x. (labels : List ℕ) × (entry_at bytes.now ≡ Some ((x.1, labels), x.2.now))
-        × (x.0 ≡ marks ++ (x.1, labels) ∷ [])) (entry_at bytes.now ≡ None) result }
+/// The marks with one more, this mark's operation, and the bytes after it.
+#[tactic(auto, unfolding(crate::specs::ReadExpression::mark_at))]
+fn mark_at(alloc: Global, marks: Marks, bytes: &[u8]) -> Result<(Marks, Op, &[u8]), ReadRefusal>
+    ensures { Answers (λ x. (labels : List ℕ) × (mark_at bytes.now ≡ Some ((x.1, labels), x.2.now))
+        × (x.0 ≡ marks ++ (x.1, labels) ∷ [])) (mark_at bytes.now ≡ None) result }
 {
     if let Some((op, rest)) = unlabelled_at(bytes) {
         return Ok((marks.with(op, &[])?, op, rest));
@@ -95,7 +95,7 @@ fn entry_at(alloc: Global, marks: Marks, bytes: &[u8]) -> Result<(Marks, Op, &[u
     Ok((marks.with(Op::BrTable, &labels)?, Op::BrTable, rest))
 }
 
-/// How many lists are open after an entry.
+/// How many lists are open after a mark.
 fn depth_after(op: Op, depth: usize) -> usize
     requires { depth < usize.MAX }
     ensures { result ≡ depth_after op depth }
@@ -107,16 +107,16 @@ fn depth_after(op: Op, depth: usize) -> usize
     }
 }
 
-/// The entries of one list of instructions with its closing `end`, and the bytes after them.
-fn entries_at(alloc: Global, bytes: &[u8]) -> Result<(Marks, &[u8]), ReadRefusal>
-    ensures { Answers (λ x. entries_at (length bytes.now) 1 bytes.now ≡ Some (x.0, x.1.now))
-        (entries_at (length bytes.now) 1 bytes.now ≡ None) result }
+/// The marks of one list of instructions with its closing `end`, and the bytes after them.
+fn marks_at(alloc: Global, bytes: &[u8]) -> Result<(Marks, &[u8]), ReadRefusal>
+    ensures { Answers (λ x. marks_at (length bytes.now) 1 bytes.now ≡ Some (x.0, x.1.now))
+        (marks_at (length bytes.now) 1 bytes.now ≡ None) result }
 {
     let mut marks = Marks::new(alloc)?;
     let mut rest = bytes;
     let mut depth = 1;
     for _ in 0..bytes.len() {
-        let (more, op, after) = entry_at(alloc, marks, rest)?;
+        let (more, op, after) = mark_at(alloc, marks, rest)?;
         marks = more;
         rest = after;
         depth = depth_after(op, depth);
@@ -133,7 +133,7 @@ pub fn expression_at(alloc: Global, bytes: &[u8]) -> Result<(FlatExpression, &[u
     ensures { Answers (λ x. expression_at bytes.now ≡ Some (x.0, x.1.now)) (expression_at bytes.now ≡ None)
         result }
 {
-    let (marks, rest) = entries_at(alloc, bytes)?;
+    let (marks, rest) = marks_at(alloc, bytes)?;
     let marks = matched(alloc, marks)?;
     Ok((FlatExpression::new(marks), rest))
 }

@@ -13,7 +13,7 @@ pub trait Item: Drop {
     ghost reads: { List ℕ → Option (Self × List ℕ) };
 
     /// The value and the bytes after it.
-    fn read(alloc: Global, bytes: &[u8]) -> Result<(Self, &[u8]), ReadRefusal>
+    fn read_item(alloc: Global, bytes: &[u8]) -> Result<(Self, &[u8]), ReadRefusal>
         ensures { Answers (λ x. reads bytes.now ≡ Some (x.0, x.1.now)) (reads bytes.now ≡ None) result };
 }
 
@@ -38,7 +38,7 @@ fn items_at<T: Item>(
     let mut items = Vec::new(alloc);
     let mut rest = bytes;
     for _ in 0..count {
-        let (item, after) = T::read(alloc, rest)?;
+        let (item, after) = T::read_item(alloc, rest)?;
         items.push(item)?;
         rest = after;
     }

@@ -19,7 +19,7 @@ use std::alloc::Global;
 use w4_defs::{Export, FuncType, ImportEntry, Limits};
 use wasm_tree::{Bodies, Code, FlatBody, FlatElement, FlatGlobal, FlatSegment};
 
-/// The entries of a section, none where it is absent.
+/// The items of a section, none where it is absent.
 fn part_of<T: Item>(alloc: Global, contents: Option<&[u8]>) -> Result<Vec<T>, ReadRefusal>
     ensures { Answers (λ xs. part_at T.reads (option_map (λ c. c.now) contents.entry) ≡ Some xs.items)
         (part_at T.reads (option_map (λ c. c.now) contents.entry) ≡ None) result }

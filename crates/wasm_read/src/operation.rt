@@ -5,13 +5,13 @@ ghost use Rattle.w4_defs.specs.Reading.{little_endian_at};
 ghost use Rattle.std.specs.Int.{w32, w64};
 ghost use Rattle.wasm_read.specs.ReadNumber.{signed_at, unsigned_at};
 ghost use Rattle.wasm_read.specs.Combine.{headed_at};
-ghost use Rattle.wasm_read.specs.ReadOperation.{always_at, access_at, access_of, constant_at, has_index, indexed_at, indices_at, is_between, is_float_code, operation_after, operation_at, plain_of, prefixed_at, prefixed_of, special_after};
+ghost use Rattle.wasm_read.specs.ReadOperation.{always_at, access_at, access_of, constant_at, has_index, indexed_at, indices_at, is_between, is_float_access, is_float_code, numeric_of, operation_after, operation_at, plain_of, prefixed_at, prefixed_of, special_after};
 
 use crate::instruction_table::{
     arith32, arith64, compare32, compare64, control, convert, indexed, load, store,
 };
 use crate::number::{bits32_at, bits64_at, index_at, long_word_at, word_at};
-use w4_defs::Op;
+use w4_defs::{Basic, Op};
 
 fn is_between(low: u8, high: u8, code: u8) -> bool
     ensures { result ≡ is_between low high code }
@@ -33,6 +33,32 @@ fn has_index(code: u8) -> bool
     matches!(code, 0x0c | 0x0d | 0x10 | 0x20..=0x24)
 }
 
+/// Whether the code is that of a float access.
+fn is_float_access(code: u8) -> bool
+    ensures { result ≡ is_float_access code }
+{
+    matches!(code, 0x2a | 0x2b | 0x38 | 0x39)
+}
+
+/// The numeric instruction of a code after which nothing stands.
+fn numeric_of(code: u8) -> Option<Basic>
+    ensures { result ≡ numeric_of code }
+{
+    if let Some(basic) = compare32(code) {
+        return Some(basic);
+    }
+    if let Some(basic) = compare64(code) {
+        return Some(basic);
+    }
+    if let Some(basic) = arith32(code) {
+        return Some(basic);
+    }
+    if let Some(basic) = arith64(code) {
+        return Some(basic);
+    }
+    convert(code)
+}
+
 /// The instruction of a code after which nothing stands.
 fn plain_of(code: u8) -> Option<Op>
     ensures { result ≡ plain_of code }
@@ -40,26 +66,21 @@ fn plain_of(code: u8) -> Option<Op>
     if let Some(op) = control(code) {
         return Some(op);
     }
-    if let Some(op) = compare32(code) {
-        return Some(op);
-    }
-    if let Some(op) = compare64(code) {
-        return Some(op);
-    }
-    if let Some(op) = arith32(code) {
-        return Some(op);
-    }
-    if let Some(op) = arith64(code) {
-        return Some(op);
-    }
-    convert(code)
+    Some(Op::Basic(numeric_of(code)?))
 }
 
-fn access_of(code: u8, align: u32, offset: u32) -> Option<Op>
+fn access_of(code: u8, align: u32, offset: u32) -> Option<Basic>
     ensures { result ≡ access_of code align offset }
 {
-    if let Some(op) = load(code, align, offset) {
-        return Some(op);
+    if is_float_access(code) {
+        return Some(Basic::FloatMemory {
+            code,
+            align,
+            offset,
+        });
+    }
+    if let Some(basic) = load(code, align, offset) {
+        return Some(basic);
     }
     store(code, align, offset)
 }
@@ -83,7 +104,7 @@ fn access_at(code: u8, bytes: &[u8]) -> Option<(Op, &[u8])>
     ensures { option_map (λ x. (x.0, x.1.now)) result ≡ access_at code bytes.now }
 {
     let (align, offset, rest) = indices_at(bytes)?;
-    Some((access_of(code, align, offset)?, rest))
+    Some((Op::Basic(access_of(code, align, offset)?), rest))
 }
 
 fn constant_at(code: u8, bytes: &[u8]) -> Option<(Op, &[u8])>
@@ -91,18 +112,18 @@ fn constant_at(code: u8, bytes: &[u8]) -> Option<(Op, &[u8])>
 {
     if code == 0x41 {
         let (value, rest) = word_at(bytes)?;
-        return Some((Op::I32Const { value }, rest));
+        return Some((Op::Basic(Basic::I32Const { value }), rest));
     }
     if code == 0x42 {
         let (value, rest) = long_word_at(bytes)?;
-        return Some((Op::I64Const { value }, rest));
+        return Some((Op::Basic(Basic::I64Const { value }), rest));
     }
     if code == 0x43 {
         let (bits, rest) = bits32_at(bytes)?;
-        return Some((Op::F32Const { bits }, rest));
+        return Some((Op::Basic(Basic::F32Const { bits }), rest));
     }
     let (bits, rest) = bits64_at(bytes)?;
-    Some((Op::F64Const { bits }, rest))
+    Some((Op::Basic(Basic::F64Const { bits }), rest))
 }
 
 /// The instruction of this number after the prefix fc.
@@ -110,16 +131,16 @@ fn prefixed_of(number: u32, bytes: &[u8]) -> Option<(Op, &[u8])>
     ensures { option_map (λ x. (x.0, x.1.now)) result ≡ prefixed_of number bytes.now }
 {
     if number <= 7 {
-        return Some((Op::FloatCut { code: number as u8 }, bytes));
+        return Some((Op::Basic(Basic::FloatCut { code: number as u8 }), bytes));
     }
     if number == 10 {
         let [0, 0, rest @ ..] = bytes else {
             return None;
         };
-        return Some((Op::MemoryCopy, rest));
+        return Some((Op::Basic(Basic::MemoryCopy), rest));
     }
     if number == 11 {
-        return zero_byte(Op::MemoryFill, bytes);
+        return zero_byte(Op::Basic(Basic::MemoryFill), bytes);
     }
     None
 }
@@ -142,10 +163,10 @@ fn special_after(code: u8, bytes: &[u8]) -> Option<(Op, &[u8])>
         return Some((Op::CallIndirect { signature, table }, rest));
     }
     if code == 0x3f {
-        return zero_byte(Op::MemorySize, bytes);
+        return zero_byte(Op::Basic(Basic::MemorySize), bytes);
     }
     if code == 0x40 {
-        return zero_byte(Op::MemoryGrow, bytes);
+        return zero_byte(Op::Basic(Basic::MemoryGrow), bytes);
     }
     if code == 0xfc {
         let (number, rest) = index_at(bytes)?;
@@ -164,7 +185,7 @@ pub fn operation_at(bytes: &[u8]) -> Option<(Op, &[u8])>
     };
     let code = *code;
     if is_float_code(code) {
-        return Some((Op::FloatPlain { code }, rest));
+        return Some((Op::Basic(Basic::FloatPlain { code }), rest));
     }
     if has_index(code) {
         return indexed_at(code, rest);

@@ -95,7 +95,7 @@ impl Item for ImportEntry {
     ghost reads = { import_at };
 
     #[tactic(auto, unfolding(crate::specs::ReadPart::import_at))]
-    fn read(alloc: Global, bytes: &[u8]) -> Result<(ImportEntry, &[u8]), ReadRefusal> {
+    fn read_item(alloc: Global, bytes: &[u8]) -> Result<(ImportEntry, &[u8]), ReadRefusal> {
         let (module, rest) = held_name(alloc, bytes)?;
         let (name, rest) = held_name(alloc, rest)?;
         let (kind, rest) = import_kind_at(rest).ok_or(ReadRefusal::Malformed)?;
@@ -108,7 +108,7 @@ impl Item for Limits {
 
     ghost reads = { limits_at };
 
-    fn read(_alloc: Global, bytes: &[u8]) -> Result<(Limits, &[u8]), ReadRefusal> {
+    fn read_item(_alloc: Global, bytes: &[u8]) -> Result<(Limits, &[u8]), ReadRefusal> {
         limits_at(bytes).ok_or(ReadRefusal::Malformed)
     }
 }
@@ -132,7 +132,7 @@ impl Item for TableType {
 
     ghost reads = { table_type_at };
 
-    fn read(_alloc: Global, bytes: &[u8]) -> Result<(TableType, &[u8]), ReadRefusal> {
+    fn read_item(_alloc: Global, bytes: &[u8]) -> Result<(TableType, &[u8]), ReadRefusal> {
         let (limits, rest) = table_type_at(bytes).ok_or(ReadRefusal::Malformed)?;
         Ok((TableType { limits }, rest))
     }
@@ -144,7 +144,7 @@ impl Item for FlatGlobal {
     ghost reads = { global_at };
 
     #[tactic(auto, unfolding(crate::specs::ReadPart::global_at))]
-    fn read(alloc: Global, bytes: &[u8]) -> Result<(FlatGlobal, &[u8]), ReadRefusal> {
+    fn read_item(alloc: Global, bytes: &[u8]) -> Result<(FlatGlobal, &[u8]), ReadRefusal> {
         let (global, rest) = global_type_at(bytes).ok_or(ReadRefusal::Malformed)?;
         let (first, rest) = expression_at(alloc, rest)?;
         Ok((FlatGlobal { global, first }, rest))
@@ -157,7 +157,7 @@ impl Item for Export {
     ghost reads = { export_at };
 
     #[tactic(auto, unfolding(crate::specs::ReadPart::export_at))]
-    fn read(alloc: Global, bytes: &[u8]) -> Result<(Export, &[u8]), ReadRefusal> {
+    fn read_item(alloc: Global, bytes: &[u8]) -> Result<(Export, &[u8]), ReadRefusal> {
         let (name, rest) = held_name(alloc, bytes)?;
         let (kind, rest) = export_kind_at(rest).ok_or(ReadRefusal::Malformed)?;
         let (index, rest) = index_at(rest).ok_or(ReadRefusal::Malformed)?;
@@ -171,7 +171,7 @@ impl Item for FlatElement {
     ghost reads = { element_at };
 
     #[tactic(auto, unfolding(crate::specs::ReadPart::element_at))]
-    fn read(alloc: Global, bytes: &[u8]) -> Result<(FlatElement, &[u8]), ReadRefusal> {
+    fn read_item(alloc: Global, bytes: &[u8]) -> Result<(FlatElement, &[u8]), ReadRefusal> {
         let (table, rest) = index_at(bytes).ok_or(ReadRefusal::Malformed)?;
         let (offset, rest) = expression_at(alloc, rest)?;
         let (functions, rest) = vector_at(alloc, rest)?;
@@ -192,7 +192,7 @@ impl Item for Locals {
     ghost reads = { run_at };
 
     #[tactic(auto, unfolding(crate::specs::ReadPart::run_at))]
-    fn read(_alloc: Global, bytes: &[u8]) -> Result<(Locals, &[u8]), ReadRefusal> {
+    fn read_item(_alloc: Global, bytes: &[u8]) -> Result<(Locals, &[u8]), ReadRefusal> {
         let (count, rest) = index_at(bytes).ok_or(ReadRefusal::Malformed)?;
         let (kind, rest) = value_type_at(rest).ok_or(ReadRefusal::Malformed)?;
         Ok((Locals { count, kind }, rest))
@@ -236,7 +236,7 @@ impl Item for FlatBody {
     ghost reads = { body_at };
 
     #[tactic(auto, unfolding(crate::specs::ReadPart::body_at, crate::specs::Combine::sized_at))]
-    fn read(alloc: Global, bytes: &[u8]) -> Result<(FlatBody, &[u8]), ReadRefusal> {
+    fn read_item(alloc: Global, bytes: &[u8]) -> Result<(FlatBody, &[u8]), ReadRefusal> {
         let (contents, rest) = cut_at(bytes).ok_or(ReadRefusal::Malformed)?;
         Ok((function_of(alloc, contents)?, rest))
     }
@@ -248,7 +248,7 @@ impl Item for FlatSegment {
     ghost reads = { segment_at };
 
     #[tactic(auto, unfolding(crate::specs::ReadPart::segment_at))]
-    fn read(alloc: Global, bytes: &[u8]) -> Result<(FlatSegment, &[u8]), ReadRefusal> {
+    fn read_item(alloc: Global, bytes: &[u8]) -> Result<(FlatSegment, &[u8]), ReadRefusal> {
         let (memory, rest) = index_at(bytes).ok_or(ReadRefusal::Malformed)?;
         let (offset, rest) = expression_at(alloc, rest)?;
         let (contents, rest) = cut_at(rest).ok_or(ReadRefusal::Malformed)?;

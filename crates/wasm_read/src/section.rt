@@ -54,7 +54,7 @@ fn section_at(bytes: &[u8]) -> Option<(u8, &[u8], &[u8])>
     Some((*id, contents, rest))
 }
 
-/// The place of an id in the order 1 to 9, 12, 10, 11.
+/// The position of an id in the order 1 to 9, 12, 10, 11.
 fn rank(id: u8) -> u8
     requires { id < 255 }
     ensures { result ≡ rank id }

@@ -108,7 +108,7 @@ impl Item for u32 {
 
     ghost reads = { unsigned_at 32 };
 
-    fn read(_alloc: Global, bytes: &[u8]) -> Result<(u32, &[u8]), ReadRefusal> {
+    fn read_item(_alloc: Global, bytes: &[u8]) -> Result<(u32, &[u8]), ReadRefusal> {
         index_at(bytes).ok_or(ReadRefusal::Malformed)
     }
 }
@@ -118,7 +118,7 @@ impl Item for ValType {
 
     ghost reads = { value_type_at };
 
-    fn read(_alloc: Global, bytes: &[u8]) -> Result<(ValType, &[u8]), ReadRefusal> {
+    fn read_item(_alloc: Global, bytes: &[u8]) -> Result<(ValType, &[u8]), ReadRefusal> {
         value_type_at(bytes).ok_or(ReadRefusal::Malformed)
     }
 }
@@ -128,7 +128,7 @@ impl Item for FuncType {
 
     ghost reads = { func_type_at };
 
-    fn read(alloc: Global, bytes: &[u8]) -> Result<(FuncType, &[u8]), ReadRefusal> {
+    fn read_item(alloc: Global, bytes: &[u8]) -> Result<(FuncType, &[u8]), ReadRefusal> {
         let [0x60, rest @ ..] = bytes else {
             return Err(ReadRefusal::Malformed);
         };

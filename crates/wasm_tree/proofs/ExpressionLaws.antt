@@ -1,4 +1,4 @@
--- Entries that are a flattening, by the tree that they show.
+-- Marks that are a flattening, by the tree that they show.
 use Rattle.std.proofs.Common.{◌≡◌, List, sym, subst, ◌∙◌, ap}
 use Rattle.w4_defs.specs.Tree.{Mark, Expr, flat}
 use Rattle.w4_defs.specs.Flattening.{IsProper, read_flat}

@@ -1,4 +1,4 @@
--- Each body stands where its place says, and the functions are read back from there.
+-- Each body stands where its position says, and the functions are read back from there.
 use Rattle.std.proofs.Common.{◌≡◌, ℕ, zero, suc, ◌+◌, ◌<◌, List, [], ◌∷◌, ◌++◌, length, map, take, drop, get_or, Some, refl, sym, subst, ◌∙◌, ap, append_assoc, append-nil, length-append, arith}
 use Rattle.std.specs.Prelude.{slice_get, option_map}
 use Rattle.std.proofs.Math.Seq.{drop-append_seam, take-append_seam}
@@ -8,8 +8,8 @@ use Rattle.w4_defs.specs.Tree.{Mark, Expr, flat_at, flat}
 use Rattle.w4_defs.specs.Flattening.{IsProper, read_flat}
 use Rattle.w4_defs.specs.Module.{Function}
 use Rattle.w4_defs.proofs.ReadBack.{flattening_read_back}
-use Rattle.wasm_tree.specs.Shifting.{shifted_entry, within}
-use Rattle.wasm_tree.specs.Layout.{Placed, entry_count, laid_from, placed_from, starts_from, placed_function, functions_of, AreProper, AreLaid, StandsAt}
+use Rattle.wasm_tree.specs.Shifting.{shifted_mark, within}
+use Rattle.wasm_tree.specs.Layout.{Placed, mark_count, laid_from, placed_from, starts_from, placed_function, functions_of, AreProper, AreLaid, StandsAt}
 use Rattle.wasm_tree.proofs.ShiftLaws.{flattening_shifted, all_back, length_flat}
 
 -- where one list stands between two others
@@ -20,22 +20,22 @@ part_between front xs back at count ea ec =
     ∙ ap (λ ys. take count ys) (drop-append_seam front (xs ++ back))
     ∙ ap (λ k. take k (xs ++ back)) ec ∙ take-append_seam xs back
 
--- a body's tree, from its entries among all
+-- a body's tree, from its marks among all
 read_within : (start : ℕ) (e : Expr) → IsProper e → read_flat (map (within start) (flat_at End start e)) ≡ e
 read_within start e p =
     ap (λ ms. read_flat (map (within start) ms)) (flattening_shifted start e p)
     ∙ ap (λ ms. read_flat ms) (all_back start (flat e))
     ∙ flattening_read_back e p
 
-size_right : (at : ℕ) (f : Function) → entry_count f ≡ length (flat_at End at f.list)
+size_right : (at : ℕ) (f : Function) → mark_count f ≡ length (flat_at End at f.list)
 size_right at f = sym (length_flat End at f.list)
 
 one_back : (front back : List Mark) (at : ℕ) → at ≡ length front → (f : Function) → IsProper f.list
     → placed_function (front ++ (flat_at End at f.list ++ back))
-    (record { start = at; count = entry_count f; runs = f.runs }) ≡ f
+    (record { start = at; count = mark_count f; runs = f.runs }) ≡ f
 one_back front back at e f p =
     ap (λ ms. record { runs = f.runs; list = read_flat (map (within at) ms) })
-    (part_between front (flat_at End at f.list) back at (entry_count f) e (size_right at f))
+    (part_between front (flat_at End at f.list) back at (mark_count f) e (size_right at f))
     ∙ ap (λ x. record { runs = f.runs; list = x }) (read_within at f.list p)
 
 back_from : (front : List Mark) (at : ℕ) → at ≡ length front → (fs : List Function) → AreProper fs
@@ -43,14 +43,14 @@ back_from : (front : List Mark) (at : ℕ) → at ≡ length front → (fs : Lis
 back_from front at e [] p = refl
 back_from front at e (f ∷ fs) p =
     let here : List Mark = flat_at End at f.list in
-    let back : List Mark = laid_from (at + entry_count f) fs in
-    let next : at + entry_count f ≡ length (front ++ here) =
+    let back : List Mark = laid_from (at + mark_count f) fs in
+    let next : at + mark_count f ≡ length (front ++ here) =
     omega (arith, length-append front here, size_right at f) in
-    ap (λ g. g ∷ functions_of (front ++ (here ++ back)) (placed_from (at + entry_count f) fs))
+    ap (λ g. g ∷ functions_of (front ++ (here ++ back)) (placed_from (at + mark_count f) fs))
     (one_back front back at e f (p 0 f (omega arith)))
     ∙ ap (λ gs. f ∷ gs)
-    (ap (λ ms. functions_of ms (placed_from (at + entry_count f) fs))
-    (sym (append_assoc front here back)) ∙ back_from (front ++ here) (at + entry_count f) next fs
+    (ap (λ ms. functions_of ms (placed_from (at + mark_count f) fs))
+    (sym (append_assoc front here back)) ∙ back_from (front ++ here) (at + mark_count f) next fs
     (All-tail (λ g. IsProper g.list) f fs p))
 
 pub laid : (ms : List Mark) (ps : List Placed) (h : AreLaid ms ps) → functions_of ms ps ≡ h.0
@@ -80,28 +80,28 @@ laid_more at [] f start e =
     append-nil (flat_at End at f.list) ∙ ap (λ n. flat_at End n f.list) (omega (arith, e))
 laid_more at (g ∷ fs) f start e =
     ap (λ ms. flat_at End at g.list ++ ms)
-    (laid_more (at + entry_count g) fs f start
+    (laid_more (at + mark_count g) fs f start
     (omega (
       arith,
       e,
-      length-append (flat_at End at g.list) (laid_from (at + entry_count g) fs),
+      length-append (flat_at End at g.list) (laid_from (at + mark_count g) fs),
       size_right at g,
     )))
-    ∙ sym (append_assoc (flat_at End at g.list) (laid_from (at + entry_count g) fs)
+    ∙ sym (append_assoc (flat_at End at g.list) (laid_from (at + mark_count g) fs)
     (flat_at End start f.list))
 
 placed_more : (at : ℕ) (fs : List Function) (f : Function) (start : ℕ) → start ≡ at + length (laid_from at fs)
     → placed_from at (fs ++ f ∷ []) ≡ placed_from at fs
-    ++ record { start = start; count = entry_count f; runs = f.runs } ∷ []
-placed_more at [] f start e = ap (λ n. record { start = n; count = entry_count f; runs = f.runs } ∷ [])
+    ++ record { start = start; count = mark_count f; runs = f.runs } ∷ []
+placed_more at [] f start e = ap (λ n. record { start = n; count = mark_count f; runs = f.runs } ∷ [])
     (omega (arith, e))
 placed_more at (g ∷ fs) f start e =
-    ap (λ ps. record { start = at; count = entry_count g; runs = g.runs } ∷ ps)
-    (placed_more (at + entry_count g) fs f start
+    ap (λ ps. record { start = at; count = mark_count g; runs = g.runs } ∷ ps)
+    (placed_more (at + mark_count g) fs f start
     (omega (
       arith,
       e,
-      length-append (flat_at End at g.list) (laid_from (at + entry_count g) fs),
+      length-append (flat_at End at g.list) (laid_from (at + mark_count g) fs),
       size_right at g,
     )))
 
@@ -109,22 +109,22 @@ pub one_more_laid : (ms ms' : List Mark) (ps ps' : List Placed) (fs : List Funct
     (start count : ℕ)
     → AreProper fs × (ms ≡ laid_from 0 fs) × (ps ≡ placed_from 0 fs) → IsProper f.list
     → start ≡ length ms → count ≡ length (flat f.list)
-    → ms' ≡ ms ++ map (shifted_entry (length ms)) (flat f.list)
+    → ms' ≡ ms ++ map (shifted_mark (length ms)) (flat f.list)
     → ps' ≡ ps ++ record { start = start; count = count; runs = f.runs } ∷ []
     → AreProper (fs ++ f ∷ []) × (ms' ≡ laid_from 0 (fs ++ f ∷ [])) × (ps' ≡ placed_from 0 (fs ++ f ∷ []))
 one_more_laid ms ms' ps ps' fs f start count h p es ec em ep =
     let here : start ≡ 0 + length (laid_from 0 fs) = omega (arith, es, ap length h.1) in
-    let size : count ≡ entry_count f = ec ∙ sym (size_right 0 f) in (
+    let size : count ≡ mark_count f = ec ∙ sym (size_right 0 f) in (
       All-push (λ g. IsProper g.list) fs f h.0 p,
-      em ∙ ap (λ n. ms ++ map (shifted_entry n) (flat f.list)) (sym es)
+      em ∙ ap (λ n. ms ++ map (shifted_mark n) (flat f.list)) (sym es)
           ∙ ap (λ xs. ms ++ xs) (sym (flattening_shifted start f.list p))
           ∙ ap (λ xs. xs ++ flat_at End start f.list) h.1 ∙ sym (laid_more 0 fs f start here),
       ep ∙ ap (λ n. ps ++ record { start = start; count = n; runs = f.runs } ∷ []) size
-          ∙ ap (λ xs. xs ++ record { start = start; count = entry_count f; runs = f.runs } ∷ []) h.2
+          ∙ ap (λ xs. xs ++ record { start = start; count = mark_count f; runs = f.runs } ∷ []) h.2
           ∙ sym (placed_more 0 fs f start here),
     )
 
--- what the place of one body says of it
+-- what the position of one body says of it
 pub record FactsFrom (ms : List Mark) (at : ℕ) (fs : List Function) (func : ℕ) (p : Placed) : Type 0 where
   pub start : slice_get (starts_from at fs) func ≡ Some p.start
   pub stands : StandsAt ms p.start (slice_get fs func)
@@ -138,22 +138,22 @@ facts_from front at e [] func d h = absurd (omega arith)
 facts_from front at e (f ∷ fs) zero d h = record {
   start = refl;
   stands = (
-    laid_from (at + entry_count f) fs,
-    ap (λ k. drop k (front ++ (flat_at End at f.list ++ laid_from (at + entry_count f) fs))) e
-        ∙ drop-append_seam front (flat_at End at f.list ++ laid_from (at + entry_count f) fs),
+    laid_from (at + mark_count f) fs,
+    ap (λ k. drop k (front ++ (flat_at End at f.list ++ laid_from (at + mark_count f) fs))) e
+        ∙ drop-append_seam front (flat_at End at f.list ++ laid_from (at + mark_count f) fs),
   );
   count = ap Some (sym (size_right 0 f));
   runs = refl;
 }
 facts_from front at e (f ∷ fs) (suc func) d h =
     let here : List Mark = flat_at End at f.list in
-    let back : List Mark = laid_from (at + entry_count f) fs in
-    let next : at + entry_count f ≡ length (front ++ here) =
+    let back : List Mark = laid_from (at + mark_count f) fs in
+    let next : at + mark_count f ≡ length (front ++ here) =
     omega (arith, length-append front here, size_right at f) in
-    let p : Placed = get_or (placed_from (at + entry_count f) fs) func d in
-    let s : FactsFrom (front ++ (here ++ back)) (at + entry_count f) fs func p =
-    subst (λ (ms : List Mark). FactsFrom ms (at + entry_count f) fs func p) (append_assoc front here back)
-    (facts_from (front ++ here) (at + entry_count f) next fs func d (omega arith)) in
+    let p : Placed = get_or (placed_from (at + mark_count f) fs) func d in
+    let s : FactsFrom (front ++ (here ++ back)) (at + mark_count f) fs func p =
+    subst (λ (ms : List Mark). FactsFrom ms (at + mark_count f) fs func p) (append_assoc front here back)
+    (facts_from (front ++ here) (at + mark_count f) next fs func d (omega arith)) in
     record { start = s.start; stands = s.stands; count = s.count; runs = s.runs }
 
 pub facts : (fs : List Function) (func : ℕ) (d : Placed) → func < length fs
@@ -162,4 +162,4 @@ facts fs func d h = facts_from [] 0 refl fs func d h
 
 pub placed_length : (at : ℕ) (fs : List Function) → length (placed_from at fs) ≡ length fs
 placed_length at [] = refl
-placed_length at (f ∷ fs) = ap suc (placed_length (at + entry_count f) fs)
+placed_length at (f ∷ fs) = ap suc (placed_length (at + mark_count f) fs)

@@ -3,4 +3,4 @@ pub mod PoolLaws
 pub mod ShiftLaws
 pub mod ExpressionLaws
 pub mod LayoutLaws
-pub mod EntryLaws
+pub mod MarkLaws

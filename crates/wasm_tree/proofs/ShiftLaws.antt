@@ -1,4 +1,4 @@
--- A flattening that stands after other entries is its own, with all places moved along.
+-- A flattening that stands after other marks is its own, with all positions moved along.
 use Rattle.std.proofs.Common.{◌≡◌, ℕ, zero, suc, take, append_assoc, ◌+◌, ◌-◌, List, [], ◌∷◌, ◌++◌, length, map, Option, Some, None, refl, sym, ◌∙◌, ap, arith, length-append}
 use Rattle.std.specs.Prelude.{option_map, slice_get}
 use Rattle.std.proofs.lemmas.List.{map-append}
@@ -7,7 +7,7 @@ use Rattle.w4_defs.specs.declared.operation.Op.{Op}
 use Rattle.w4_defs.specs.declared.operation.Op.TheVariants.{Block, Loop, If, Else, End}
 use Rattle.w4_defs.specs.Tree.{Mark, mark, Expr, done, plain, block, loop, if_then, if_else, span, flat_at}
 use Rattle.w4_defs.specs.Flattening.{IsLeaf, IsProper}
-use Rattle.wasm_tree.specs.Shifting.{op_after, op_within, shifted_entry, within, FlatteningIsShifted}
+use Rattle.wasm_tree.specs.Shifting.{op_after, op_within, shifted_mark, within, FlatteningIsShifted}
 
 leaf_after : (start : ℕ) (op : Op) → IsLeaf op → op ≡ op_after start op
 leaf_after start (Block r m) h = absurd h
@@ -17,29 +17,29 @@ leaf_after start Else h = absurd h
 leaf_after start End h = absurd h
 leaf_after start op h = refl
 
--- a list that opens with an entry, and what follows it
-opened_shifted : (start : ℕ) (x y : Mark) (xs ys us vs : List Mark) → x ≡ shifted_entry start y
-    → xs ≡ map (shifted_entry start) ys → us ≡ map (shifted_entry start) vs
-    → (x ∷ xs) ++ us ≡ map (shifted_entry start) ((y ∷ ys) ++ vs)
+-- a list that opens with a mark, and what follows it
+opened_shifted : (start : ℕ) (x y : Mark) (xs ys us vs : List Mark) → x ≡ shifted_mark start y
+    → xs ≡ map (shifted_mark start) ys → us ≡ map (shifted_mark start) vs
+    → (x ∷ xs) ++ us ≡ map (shifted_mark start) ((y ∷ ys) ++ vs)
 opened_shifted start x y xs ys us vs ex exs eus =
-    ap (λ z. (z ∷ xs) ++ us) ex ∙ ap (λ zs. (shifted_entry start y ∷ zs) ++ us) exs
-    ∙ ap (λ zs. (shifted_entry start y ∷ map (shifted_entry start) ys) ++ zs) eus
-    ∙ sym (map-append (shifted_entry start) (y ∷ ys) vs)
+    ap (λ z. (z ∷ xs) ++ us) ex ∙ ap (λ zs. (shifted_mark start y ∷ zs) ++ us) exs
+    ∙ ap (λ zs. (shifted_mark start y ∷ map (shifted_mark start) ys) ++ zs) eus
+    ∙ sym (map-append (shifted_mark start) (y ∷ ys) vs)
 
-parted : (start : ℕ) (xs ys us vs : List Mark) → xs ≡ map (shifted_entry start) ys
-    → us ≡ map (shifted_entry start) vs → xs ++ us ≡ map (shifted_entry start) (ys ++ vs)
+parted : (start : ℕ) (xs ys us vs : List Mark) → xs ≡ map (shifted_mark start) ys
+    → us ≡ map (shifted_mark start) vs → xs ++ us ≡ map (shifted_mark start) (ys ++ vs)
 parted start xs ys us vs exs eus =
-    ap (λ zs. zs ++ us) exs ∙ ap (λ zs. map (shifted_entry start) ys ++ zs) eus
-    ∙ sym (map-append (shifted_entry start) ys vs)
+    ap (λ zs. zs ++ us) exs ∙ ap (λ zs. map (shifted_mark start) ys ++ zs) eus
+    ∙ sym (map-append (shifted_mark start) ys vs)
 
--- the place of the first entry is given by an equation, so that each case is one of numbers
-shifted_from : (close : Op) → ((start : ℕ) → mark close ≡ shifted_entry start (mark close))
+-- the position of the first mark is given by an equation, so that each case is one of numbers
+shifted_from : (close : Op) → ((start : ℕ) → mark close ≡ shifted_mark start (mark close))
     → (start at to : ℕ) → to ≡ at + start → (e : Expr) → IsProper e
-    → flat_at close to e ≡ map (shifted_entry start) (flat_at close at e)
+    → flat_at close to e ≡ map (shifted_mark start) (flat_at close at e)
 shifted_from close c start at to h done p = ap (λ m. m ∷ []) (c start)
 shifted_from close c start at to h (plain m rest) p =
     ap (λ op. (op, m.1) ∷ flat_at close (to + 1) rest) (leaf_after start m.0 p.0)
-    ∙ ap (λ ms. shifted_entry start m ∷ ms)
+    ∙ ap (λ ms. shifted_mark start m ∷ ms)
     (shifted_from close c start (at + 1) (to + 1) (omega arith) rest p.1)
 shifted_from close c start at to h (block r inner rest) p =
     let end : to + 1 + span inner ≡ at + 1 + span inner + start = omega arith in
@@ -84,7 +84,7 @@ add_sub : (n start : ℕ) → n + start - start ≡ n
 add_sub n start = omega arith
 
 option_back : (start : ℕ) (o : Option ℕ)
-    → option_map (λ place. place - start) (option_map (λ place. place + start) o) ≡ o
+    → option_map (λ position. position - start) (option_map (λ position. position + start) o) ≡ o
 option_back start None = refl
 option_back start (Some n) = ap Some (add_sub n start)
 
@@ -95,9 +95,9 @@ op_back start (If r other end) = ap (λ o. If r o (end + start - start)) (option
     ∙ ap (λ n. If r other n) (add_sub end start)
 op_back start op = refl
 
-pub all_back : (start : ℕ) (ms : List Mark) → map (within start) (map (shifted_entry start) ms) ≡ ms
+pub all_back : (start : ℕ) (ms : List Mark) → map (within start) (map (shifted_mark start) ms) ≡ ms
 all_back start [] = refl
-all_back start (m ∷ ms) = ap (λ op. (op, m.1) ∷ map (within start) (map (shifted_entry start) ms))
+all_back start (m ∷ ms) = ap (λ op. (op, m.1) ∷ map (within start) (map (shifted_mark start) ms))
     (op_back start m.0) ∙ ap (λ xs. m ∷ xs) (all_back start ms)
 
 opened_length : (x : Mark) (xs ys : List Mark) (a b : ℕ) → length xs ≡ a → length ys ≡ b
@@ -131,27 +131,28 @@ length_flat close at (if_else r taken other rest) =
       length_flat close (end + 1) rest,
     )
 
--- one more entry of those that stand after others
-taken_next : (ms : List Mark) (place : ℕ) (op : Op) (labels : List ℕ)
-    → option_map (λ m. m.0) (slice_get ms place) ≡ Some op
-    → option_map (λ m. m.1) (slice_get ms place) ≡ Some labels
-    → take (suc place) ms ≡ take place ms ++ (op, labels) ∷ []
-taken_next [] place op labels ho hl = absurd cc
+-- one more mark of those that stand after others
+taken_next : (ms : List Mark) (position : ℕ) (op : Op) (labels : List ℕ)
+    → option_map (λ m. m.0) (slice_get ms position) ≡ Some op
+    → option_map (λ m. m.1) (slice_get ms position) ≡ Some labels
+    → take (suc position) ms ≡ take position ms ++ (op, labels) ∷ []
+taken_next [] position op labels ho hl = absurd cc
 taken_next (m ∷ ms) zero op labels ho hl = ap (λ x. (x, m.1) ∷ []) (same_Some _ _ ho)
     ∙ ap (λ x. (op, x) ∷ []) (same_Some _ _ hl)
-taken_next (m ∷ ms) (suc place) op labels ho hl = ap (λ xs. m ∷ xs) (taken_next ms place op labels ho hl)
+taken_next (m ∷ ms) (suc position) op labels ho hl = ap (λ xs. m ∷ xs)
+    (taken_next ms position op labels ho hl)
 
-pub one_more : (start place next : ℕ) (ms front marks marks' : List Mark) (op op' : Op) (labels : List ℕ)
-    → next ≡ place + 1
-    → option_map (λ m. m.0) (slice_get ms place) ≡ Some op
-    → option_map (λ m. m.1) (slice_get ms place) ≡ Some labels
-    → op' ≡ op_after start op → marks ≡ front ++ map (shifted_entry start) (take place ms)
+pub one_more : (start position next : ℕ) (ms front marks marks' : List Mark) (op op' : Op) (labels : List ℕ)
+    → next ≡ position + 1
+    → option_map (λ m. m.0) (slice_get ms position) ≡ Some op
+    → option_map (λ m. m.1) (slice_get ms position) ≡ Some labels
+    → op' ≡ op_after start op → marks ≡ front ++ map (shifted_mark start) (take position ms)
     → marks' ≡ marks ++ (op', labels) ∷ []
-    → marks' ≡ front ++ map (shifted_entry start) (take next ms)
-one_more start place next ms front marks marks' op op' labels en ho hl eo em em' =
-    let xs : List Mark = map (shifted_entry start) (take place ms) in
+    → marks' ≡ front ++ map (shifted_mark start) (take next ms)
+one_more start position next ms front marks marks' op op' labels en ho hl eo em em' =
+    let xs : List Mark = map (shifted_mark start) (take position ms) in
     em' ∙ ap (λ ys. ys ++ (op', labels) ∷ []) em ∙ append_assoc front xs ((op', labels) ∷ [])
     ∙ ap (λ x. front ++ (xs ++ (x, labels) ∷ [])) eo
-    ∙ ap (λ ys. front ++ ys) (sym (map-append (shifted_entry start) (take place ms) ((op, labels) ∷ [])))
-    ∙ ap (λ ys. front ++ map (shifted_entry start) ys) (sym (taken_next ms place op labels ho hl))
-    ∙ ap (λ n. front ++ map (shifted_entry start) (take n ms)) {x = suc place} (omega (arith, en))
+    ∙ ap (λ ys. front ++ ys) (sym (map-append (shifted_mark start) (take position ms) ((op, labels) ∷ [])))
+    ∙ ap (λ ys. front ++ map (shifted_mark start) ys) (sym (taken_next ms position op labels ho hl))
+    ∙ ap (λ n. front ++ map (shifted_mark start) (take n ms)) {x = suc position} (omega (arith, en))

@@ -1,4 +1,4 @@
--- Entries that are the flattening of an expression.
+-- Marks that are the flattening of an expression.
 use Rattle.std.specs.Prelude.{◌≡◌, List}
 use Rattle.w4_defs.specs.Tree.{Mark, Expr, flat}
 use Rattle.w4_defs.specs.Flattening.{IsProper}

@@ -4,24 +4,24 @@ ghost use Rattle.std.specs.Prelude.{◌+◌, ◌++◌, ◌<◌, ◌≡◌, ◌�
 ghost use Rattle.w4_defs.specs.Flattening.{IsProper};
 ghost use Rattle.w4_defs.specs.Tree.{flat};
 ghost use Rattle.wasm_tree.specs.Layout.{IsBody, StandsAt, mark_of, laid_from, size_with, starts_from};
-ghost use Rattle.wasm_tree.specs.Shifting.{shifted_entry};
+ghost use Rattle.wasm_tree.specs.Shifting.{shifted_mark};
 
 use crate::marks::Marks;
 use crate::parts::FlatBody;
-use crate::places::{op_after, op_within};
+use crate::positions::{op_after, op_within};
 use std::alloc::Global;
 use std::marker::Model;
 use w4_defs::{Locals, Op, OutOfMemory};
 
-/// Where a body stands in the one list, how many entries it has, and its runs of locals.
+/// Where a body stands in the one list, how many marks it has, and its runs of locals.
 #[derive(Debug, Drop)]
-struct BodyPlace {
+struct BodyPosition {
     start: usize,
     count: usize,
     runs: Vec<Locals>,
 }
 
-impl Model for BodyPlace {
+impl Model for BodyPosition {
     ghost use Rattle.wasm_tree.specs.Layout.{Placed};
 
     ghost Value = { Placed };
@@ -29,12 +29,12 @@ impl Model for BodyPlace {
     ghost view = { λ p. record { start = p.start; count = p.count; runs = p.runs.items } };
 }
 
-/// The bodies of all own functions, one after the other. Places count from the first entry of all. A
-/// clause sees the list of the functions.
+/// The bodies of all own functions, one after the other. Positions count from the first mark of all. A clause
+/// sees the list of the functions.
 #[derive(Debug, Drop)]
 pub struct Bodies {
     marks: Marks,
-    places: Vec<BodyPlace>,
+    positions: Vec<BodyPosition>,
 }
 
 impl Model for Bodies {
@@ -50,9 +50,9 @@ impl Model for Bodies {
 
     ghost use Rattle.wasm_tree.specs.Layout.{AreLaid, functions_of};
 
-    ghost view = { λ b. functions_of b.marks b.places.items };
+    ghost view = { λ b. functions_of b.marks b.positions.items };
 
-    ghost invariant = { λ b. AreLaid b.marks b.places.items };
+    ghost invariant = { λ b. AreLaid b.marks b.positions.items };
 }
 
 impl Bodies {
@@ -62,7 +62,7 @@ impl Bodies {
     {
         Ok(Bodies {
             marks: Marks::new(alloc)?,
-            places: Vec::new(alloc),
+            positions: Vec::new(alloc),
         })
     }
 
@@ -70,54 +70,61 @@ impl Bodies {
     pub fn with(self, body: FlatBody) -> Result<Bodies, OutOfMemory>
         ensures { IfOk result (λ b. b ≡ self ++ body ∷ []) }
     {
-        let Bodies { marks, mut places } = self;
+        let Bodies {
+            marks,
+            mut positions,
+        } = self;
         let FlatBody { runs, list } = body;
         let start = marks.len();
-        let entries = list.marks();
-        let count = entries.len();
-        let marks = appended(marks, entries)?;
-        places.push(BodyPlace { start, count, runs })?;
-        Ok(Bodies { marks, places })
+        let flat_marks = list.marks();
+        let count = flat_marks.len();
+        let marks = appended(marks, flat_marks)?;
+        positions.push(BodyPosition { start, count, runs })?;
+        Ok(Bodies { marks, positions })
     }
 
     pub fn len(&self) -> usize
         ensures { result ≡ length self.now }
     {
-        self.places.len()
+        self.positions.len()
     }
 
-    /// The entries of all bodies.
+    /// The marks of all bodies.
     pub fn marks(&self) -> &Marks
-        ensures entries { result.now ≡ laid_from 0 self.now }
+        ensures flat_marks { result.now ≡ laid_from 0 self.now }
         ensures proper { All (λ f. IsProper f.list) self.now }
     {
         &self.marks
     }
 
-    /// The place of the first entry of a body.
-    pub fn start(&self, func: usize) -> usize
+    /// The position of the first mark of a body.
+    pub fn body_start(&self, func: usize) -> usize
         requires { func < length self.now }
         ensures start { slice_get (starts_from 0 self.now) func ≡ Some result }
         ensures stands { StandsAt (laid_from 0 self.now) result (slice_get self.now func) }
     {
-        self.places[func].start
+        self.positions[func].start
     }
 
-    /// How many entries a body has.
-    pub fn count(&self, func: usize) -> usize
+    /// How many marks a body has.
+    pub fn body_size(&self, func: usize) -> usize
         requires { func < length self.now }
         ensures { option_map (λ f. length (flat f.list)) (slice_get self.now func) ≡ Some result }
     {
-        self.places[func].count
+        self.positions[func].count
     }
 
-    /// The operations of a body, with places that count from the first entry of all bodies.
+    /// The operations of a body, with positions that count from the first mark of all bodies.
     pub fn operations(&self, func: usize) -> &[Op]
         requires { func < length self.now }
         ensures value { IsBody (slice_get self.now func) result.now }
         ensures proper { IfSome (slice_get self.now func) (λ f. IsProper f.list) }
     {
-        part(self.marks().ops(), self.start(func), self.count(func))
+        part(
+            self.marks().ops(),
+            self.body_start(func),
+            self.body_size(func),
+        )
     }
 
     /// The runs of locals of a body.
@@ -125,51 +132,51 @@ impl Bodies {
         requires { func < length self.now }
         ensures { option_map (λ f. f.runs) (slice_get self.now func) ≡ Some result.now }
     {
-        &self.places[func].runs
+        &self.positions[func].runs
     }
 
-    /// The entry of a body at a place that counts from the body's first.
-    pub fn op(&self, func: usize, place: usize) -> Op
-        requires { place < size_with (slice_get self.now func) }
-        ensures { option_map (λ m. m.0) (mark_of (slice_get self.now func) place) ≡ Some result }
+    /// The mark of a body at a position that counts from the body's first.
+    pub fn op(&self, func: usize, position: usize) -> Op
+        requires { position < size_with (slice_get self.now func) }
+        ensures { option_map (λ m. m.0) (mark_of (slice_get self.now func) position) ≡ Some result }
     {
-        let start = self.start(func);
+        let start = self.body_start(func);
         let marks = self.marks();
-        let at = place_among(marks.ops(), start, place);
+        let at = position_among(marks.ops(), start, position);
         op_within(marks.op(at), start)
     }
 
-    /// The labels of the entry of a body at a place that counts from the body's first.
-    pub fn labels(&self, func: usize, place: usize) -> &[u32]
-        requires { place < size_with (slice_get self.now func) }
-        ensures { option_map (λ m. m.1) (mark_of (slice_get self.now func) place) ≡ Some result.now }
+    /// The labels of the mark of a body at a position that counts from the body's first.
+    pub fn labels(&self, func: usize, position: usize) -> &[u32]
+        requires { position < size_with (slice_get self.now func) }
+        ensures { option_map (λ m. m.1) (mark_of (slice_get self.now func) position) ≡ Some result.now }
     {
-        let start = self.start(func);
+        let start = self.body_start(func);
         let marks = self.marks();
-        let at = place_among(marks.ops(), start, place);
+        let at = position_among(marks.ops(), start, position);
         marks.labels(at)
     }
 }
 
-/// The entries with those of a body after them.
+/// The marks with those of a body after them.
 fn appended(marks: Marks, body: &Marks) -> Result<Marks, OutOfMemory>
-    ensures { IfOk result (λ m. m ≡ marks ++ map (shifted_entry (length marks)) body.now) }
+    ensures { IfOk result (λ m. m ≡ marks ++ map (shifted_mark (length marks)) body.now) }
 {
     let start = marks.len();
     let mut marks = marks;
-    for place in 0..body.len() {
-        let op = op_after(body.op(place), start)?;
-        marks = marks.with(op, body.labels(place))?;
+    for position in 0..body.len() {
+        let op = op_after(body.op(position), start)?;
+        marks = marks.with(op, body.labels(position))?;
     }
     Ok(marks)
 }
 
-/// A place of one body among those of all operations.
-fn place_among(operations: &[Op], start: usize, place: usize) -> usize
-    requires { start + place < length operations.now }
-    ensures { result ≡ start + place }
+/// A position of one body among those of all operations.
+fn position_among(operations: &[Op], start: usize, position: usize) -> usize
+    requires { start + position < length operations.now }
+    ensures { result ≡ start + position }
 {
-    start + place
+    start + position
 }
 
 fn part(operations: &[Op], start: usize, count: usize) -> &[Op]

@@ -3,7 +3,7 @@
 ghost use Rattle.std.specs.Prelude.{◌<◌, ◌≤◌, ◌≡◌, All, IfSome, Some, length, option_map, slice_get};
 ghost use Rattle.w4_defs.specs.Flattening.{IsProper};
 ghost use Rattle.w4_defs.specs.Tree.{flat};
-ghost use Rattle.wasm_tree.specs.Layout.{IsBody, StandsAt, body_size, body_starts, entries, mark_in};
+ghost use Rattle.wasm_tree.specs.Layout.{IsBody, StandsAt, body_size, body_starts, marks, mark_in};
 ghost use Rattle.wasm_tree.specs.Pool.{label_begins, operations_of, pool_of};
 
 use crate::bodies::Bodies;
@@ -228,7 +228,7 @@ impl Code {
     }
 }
 
-/// Own functions, one by one; places count from the function's first entry.
+/// Own functions, one by one; positions count from the function's first mark.
 impl Code {
     /// The runs of locals, as they are written.
     pub fn runs(&self, func: usize) -> &[Locals]
@@ -238,36 +238,36 @@ impl Code {
         self.bodies.runs(func)
     }
 
-    /// How many entries the flattening has.
+    /// How many marks the flattening has.
     pub fn len(&self, func: usize) -> usize
         requires { func < length self.now.bodies }
         ensures { result ≡ body_size self.now func }
     {
-        self.bodies.count(func)
+        self.bodies.body_size(func)
     }
 
-    /// The entry at a place.
-    pub fn op(&self, func: usize, place: usize) -> Op
-        requires { place < body_size self.now func }
-        ensures { option_map (λ m. m.0) (mark_in self.now func place) ≡ Some result }
+    /// The mark at a position.
+    pub fn op(&self, func: usize, position: usize) -> Op
+        requires { position < body_size self.now func }
+        ensures { option_map (λ m. m.0) (mark_in self.now func position) ≡ Some result }
     {
-        self.bodies.op(func, place)
+        self.bodies.op(func, position)
     }
 
-    /// The labels of the entry at a place: those of a br_table, the default last; none at any other.
-    pub fn labels(&self, func: usize, place: usize) -> &[u32]
-        requires { place < body_size self.now func }
-        ensures { option_map (λ m. m.1) (mark_in self.now func place) ≡ Some result.now }
+    /// The labels of the mark at a position: those of a br_table, the default last; none at any other.
+    pub fn labels(&self, func: usize, position: usize) -> &[u32]
+        requires { position < body_size self.now func }
+        ensures { option_map (λ m. m.1) (mark_in self.now func position) ≡ Some result.now }
     {
-        self.bodies.labels(func, place)
+        self.bodies.labels(func, position)
     }
 }
 
-/// The bodies of all own functions as one list; places count from the first entry of all.
+/// The bodies of all own functions as one list; positions count from the first mark of all.
 impl Code {
     /// The operations of all bodies.
     pub fn operations(&self) -> &[Op]
-        ensures value { result.now ≡ operations_of (entries self.now) }
+        ensures value { result.now ≡ operations_of (marks self.now) }
         ensures proper { All (λ f. IsProper f.list) self.now.bodies }
     {
         self.bodies.marks().ops()
@@ -275,25 +275,25 @@ impl Code {
 
     /// The labels of all br_tables, one after the other.
     pub fn pool(&self) -> &[u32]
-        ensures { result.now ≡ pool_of (entries self.now) }
+        ensures { result.now ≡ pool_of (marks self.now) }
     {
         self.bodies.marks().pool()
     }
 
-    /// For each operation the place in the pool where its labels begin, and at the end the pool's end.
+    /// For each operation the position in the pool where its labels begin, and at the end the pool's end.
     pub fn label_begins(&self) -> &[usize]
-        ensures { result.now ≡ label_begins (entries self.now) }
+        ensures { result.now ≡ label_begins (marks self.now) }
     {
         self.bodies.marks().label_begins()
     }
 
-    /// The place of the first entry of an own function.
+    /// The position of the first mark of an own function.
     pub fn body_start(&self, func: usize) -> usize
         requires { func < length self.now.bodies }
         ensures start { slice_get (body_starts self.now) func ≡ Some result }
-        ensures stands { StandsAt (entries self.now) result (slice_get self.now.bodies func) }
+        ensures stands { StandsAt (marks self.now) result (slice_get self.now.bodies func) }
     {
-        self.bodies.start(func)
+        self.bodies.body_start(func)
     }
 
     /// The operations of one body, a part of the operations of all.

@@ -34,7 +34,7 @@ impl Model for FlatExpression {
 }
 
 impl FlatExpression {
-    /// The expression whose flattening these entries are.
+    /// The expression whose flattening these marks are.
     pub fn new(marks: Marks) -> FlatExpression
         requires { IsFlat marks }
         ensures { result ≡ read_flat marks }
@@ -42,9 +42,9 @@ impl FlatExpression {
         FlatExpression { marks }
     }
 
-    /// The entries.
+    /// The marks.
     pub fn marks(&self) -> &Marks
-        ensures entries { result.now ≡ flat self.now }
+        ensures flat_marks { result.now ≡ flat self.now }
         ensures proper { IsProper self.now }
     {
         &self.marks

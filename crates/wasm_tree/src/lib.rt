@@ -8,7 +8,7 @@ pub mod expression;
 pub mod host;
 pub mod marks;
 pub mod parts;
-pub mod places;
+pub mod positions;
 
 pub use bodies::Bodies;
 pub use code::Code;

@@ -7,8 +7,8 @@ use std::alloc::Global;
 use std::marker::Model;
 use w4_defs::{Op, OutOfMemory};
 
-/// Entries of a flattening: each is an operation with its labels, those of a br_table with the default
-/// last. A clause sees their list.
+/// Marks of a flattening: each is an operation with its labels, those of a br_table with the default last. A
+/// clause sees their list.
 #[derive(Debug, Drop)]
 pub struct Marks {
     ops: Vec<Op>,
@@ -29,7 +29,7 @@ impl Model for Marks {
 }
 
 impl Marks {
-    /// No entries.
+    /// No marks.
     pub fn new(alloc: Global) -> Result<Marks, OutOfMemory>
         ensures { IfOk result (λ m. m ≡ []) }
     {
@@ -42,7 +42,7 @@ impl Marks {
         })
     }
 
-    /// One more entry at the end.
+    /// One more mark at the end.
     pub fn with(self, op: Op, labels: &[u32]) -> Result<Marks, OutOfMemory>
         ensures { IfOk result (λ m. m ≡ self ++ (op, labels.now) ∷ []) }
     {
@@ -58,11 +58,11 @@ impl Marks {
     }
 
     /// Puts another operation in place of one; its labels stay.
-    pub fn set_op(&mut self, place: usize, op: Op)
-        requires { place < length self.old }
-        ensures { self.new ≡ slice_set self.old place (op, (get_or self.old place (op, [])).1) }
+    pub fn set_op(&mut self, position: usize, op: Op)
+        requires { position < length self.old }
+        ensures { self.new ≡ slice_set self.old position (op, (get_or self.old position (op, [])).1) }
     {
-        self.ops[place] = op;
+        self.ops[position] = op;
     }
 
     pub fn len(&self) -> usize
@@ -71,19 +71,19 @@ impl Marks {
         self.ops.len()
     }
 
-    pub fn op(&self, place: usize) -> Op
-        requires { place < length self.now }
-        ensures { option_map (λ m. m.0) (slice_get self.now place) ≡ Some result }
+    pub fn op(&self, position: usize) -> Op
+        requires { position < length self.now }
+        ensures { option_map (λ m. m.0) (slice_get self.now position) ≡ Some result }
     {
-        self.ops[place]
+        self.ops[position]
     }
 
-    /// The labels of the entry at this place.
-    pub fn labels(&self, place: usize) -> &[u32]
-        requires { place < length self.now }
-        ensures { option_map (λ m. m.1) (slice_get self.now place) ≡ Some result.now }
+    /// The labels of the mark at this position.
+    pub fn labels(&self, position: usize) -> &[u32]
+        requires { position < length self.now }
+        ensures { option_map (λ m. m.1) (slice_get self.now position) ≡ Some result.now }
     {
-        stretch(&self.pool, &self.begins, place)
+        stretch(&self.pool, &self.begins, position)
     }
 
     /// All operations.
@@ -93,14 +93,14 @@ impl Marks {
         &self.ops
     }
 
-    /// All labels, one entry's after the other's.
+    /// All labels, one mark's after the other's.
     pub fn pool(&self) -> &[u32]
         ensures { result.now ≡ pool_of self.now }
     {
         &self.pool
     }
 
-    /// For each entry the place in the pool where its labels begin, and at the end that of the pool's end.
+    /// For each mark the position in the pool where its labels begin, and at the end that of the pool's end.
     pub fn label_begins(&self) -> &[usize]
         ensures { result.now ≡ label_begins self.now }
     {
@@ -108,13 +108,13 @@ impl Marks {
     }
 }
 
-/// The part of the pool from the place that stands in the list to the next.
-fn stretch<'a>(pool: &'a [u32], begins: &[usize], place: usize) -> &'a [u32]
-    requires next { place + 1 < length begins.now }
-    requires rises { slice_index begins.now place ≤ slice_index begins.now (place + 1) }
-    requires within { slice_index begins.now (place + 1) ≤ length pool.now }
-    ensures { result.now ≡ slice_range pool.now (slice_index begins.now place)
-        (slice_index begins.now (place + 1)) }
+/// The part of the pool from the position that stands in the list to the next.
+fn stretch<'a>(pool: &'a [u32], begins: &[usize], position: usize) -> &'a [u32]
+    requires next { position + 1 < length begins.now }
+    requires rises { slice_index begins.now position ≤ slice_index begins.now (position + 1) }
+    requires within { slice_index begins.now (position + 1) ≤ length pool.now }
+    ensures { result.now ≡ slice_range pool.now (slice_index begins.now position)
+        (slice_index begins.now (position + 1)) }
 {
-    &pool[begins[place]..begins[place + 1]]
+    &pool[begins[position]..begins[position + 1]]
 }

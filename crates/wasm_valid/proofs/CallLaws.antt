@@ -17,8 +17,8 @@ use Rattle.w4_defs.specs.Lookup.{local_count, imported_function}
 use Rattle.w4_defs.specs.Module.{Signature, Function, Imported, WasmModule}
 use Rattle.w4_defs.specs.Profile.{profile_refusal, has_many_locals, param_count, is_right}
 use Rattle.w4_defs.specs.Program.{instructions, Callee, own_function, host_function, own_callee, own_callees, imported_callee, imported_callees, with_import}
-use Rattle.wasm_tree.specs.Layout.{entries, IsBody, StandsAt}
-use Rattle.wasm_tree.proofs.EntryLaws.{got_all}
+use Rattle.wasm_tree.specs.Layout.{marks, IsBody, StandsAt}
+use Rattle.wasm_tree.proofs.MarkLaws.{got_all}
 use Rattle.wasm_valid.specs.declared.call.Call.{Call}
 use Rattle.wasm_valid.specs.declared.call.Call.TheVariants as call
 use Rattle.w4_defs.specs.declared.operation.Op.{Op}
@@ -223,7 +223,7 @@ gives_of empty (suc (suc n)) e h = absurd (omega (arith, h))
 own_call_of : (m : WasmModule) (func : ℕ) (s : Signature) (o : Option Function) (runs : List Locals)
     (ops : List Op) (kind start params others count reserve : ℕ) (answers : Bool)
     → IsTypeAt m func s → slice_get m.bodies func ≡ o → option_map (λ f. f.runs) o ≡ Some runs → IsBody o ops
-    → IfSome o (λ f. IsProper f.list) → StandsAt (entries m) start o
+    → IfSome o (λ f. IsProper f.list) → StandsAt (marks m) start o
     → kind ≡ number_of_type m.types s → params ≡ length s.params → others ≡ local_count runs
     → result_count answers ≡ length s.results → count ≡ count_by is_instruction ops
     → reserve ≡ params + others + count
@@ -257,7 +257,7 @@ pub own_call_is : (m : WasmModule) (func : ℕ) (s : Signature) (runs : List Loc
     (kind start params others count reserve : ℕ) (answers : Bool)
     → IsTypeAt m func s → option_map (λ f. f.runs) (slice_get m.bodies func) ≡ Some runs
     → IsBody (slice_get m.bodies func) ops → IfSome (slice_get m.bodies func) (λ f. IsProper f.list)
-    → StandsAt (entries m) start (slice_get m.bodies func)
+    → StandsAt (marks m) start (slice_get m.bodies func)
     → kind ≡ number_of_type m.types s → params ≡ length s.params → others ≡ local_count runs
     → result_count answers ≡ length s.results → count ≡ count_by is_instruction ops
     → reserve ≡ params + others + count

@@ -4,7 +4,8 @@ use Rattle.std.specs.Prelude.{slice_get, option_map, IfSome}
 use Rattle.std.proofs.lemmas.Bool.Decides.{nat_tests}
 use Rattle.std.proofs.lemmas.Option.{same_Some}
 use Rattle.w4_defs.specs.declared.operation.Op.{Op}
-use Rattle.w4_defs.specs.declared.operation.Op.TheVariants.{I32Const, I64Const}
+use Rattle.w4_defs.specs.declared.operation.Op.TheVariants.{Basic}
+use Rattle.w4_defs.specs.declared.basic.Basic.TheVariants.{I32Const, I64Const}
 use Rattle.w4_defs.specs.declared.value.ValType.TheVariants.{I32}
 use Rattle.w4_defs.specs.Lookup.{signature_of}
 use Rattle.w4_defs.specs.Module.{DataSegment, WasmModule, nothing_to_nothing}
@@ -43,8 +44,8 @@ start_type m (Some f) h = h
 
 -- an operation that is a constant of type i32
 number_is : (op : Op) → constant_type op ≡ Some I32 → number32 op ≡ constant_number op
-number_is (I32Const n) e = refl
-number_is (I64Const n) e = absurd cc
+number_is (Basic (I32Const n)) e = refl
+number_is (Basic (I64Const n)) e = absurd cc
 number_is op e = refl
 
 -- an offset that is a single i32.const, by the first operation of its flattening
@@ -64,8 +65,8 @@ offset_number (if_else r taken other rest) ops h is = absurd (cc h)
 
 constant_fits : (op : Op) (count size : ℕ) → constant_type op ≡ Some I32
     → exceeds_size (profile.i32_constant op) count size ≡ false → constant_number op + count ≤ size
-constant_fits (I32Const n) count size e h = grind (arith, nat_tests)
-constant_fits (I64Const n) count size e h = absurd cc
+constant_fits (Basic (I32Const n)) count size e h = grind (arith, nat_tests)
+constant_fits (Basic (I64Const n)) count size e h = absurd cc
 constant_fits op count size e h = absurd cc
 
 -- a constant offset of a segment that doesn't pass the end

@@ -3,7 +3,8 @@ use Rattle.std.proofs.Common.{◌≡◌, ℕ, List, Option, Some, None, refl, sy
 use Rattle.std.specs.Prelude.{slice_get, option_map, All}
 use Rattle.std.proofs.lemmas.Option.{same_Some}
 use Rattle.w4_defs.specs.declared.operation.Op.{Op}
-use Rattle.w4_defs.specs.declared.operation.Op.TheVariants.{I32Const, I64Const}
+use Rattle.w4_defs.specs.declared.operation.Op.TheVariants.{Basic}
+use Rattle.w4_defs.specs.declared.basic.Basic.TheVariants.{I32Const, I64Const}
 use Rattle.w4_defs.specs.declared.value.Val.{Val}
 use Rattle.w4_defs.specs.declared.value.ValType.{ValType}
 use Rattle.w4_defs.specs.EntryPoints as entries
@@ -17,8 +18,8 @@ use Rattle.wasm_valid.proofs.NoneLaws.{all_at}
 
 value_is : (op : Op) (t : ValType) → constant_type op ≡ Some t
     → constant_value op ≡ value_of t (constant_number op)
-value_is (I32Const n) t e = ap (λ k. value_of k n) (same_Some _ _ e)
-value_is (I64Const n) t e = ap (λ k. value_of k n) (same_Some _ _ e)
+value_is (Basic (I32Const n)) t e = ap (λ k. value_of k n) (same_Some _ _ e)
+value_is (Basic (I64Const n)) t e = ap (λ k. value_of k n) (same_Some _ _ e)
 value_is op t e = absurd cc
 
 first_is : (e : Expr) (t : ValType) → IsConstant t e

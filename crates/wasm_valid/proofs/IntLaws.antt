@@ -4,7 +4,7 @@ use Rattle.std.specs.Prelude.{All, IfSome, slice_get}
 use Rattle.std.proofs.lemmas.Bool.{and_from, and_parts}
 use Rattle.std.proofs.lemmas.List.{reverse-append}
 use Rattle.std.proofs.lemmas.List.Elements.{All-cons}
-use Rattle.wasm_tree.proofs.EntryLaws.{got_all}
+use Rattle.wasm_tree.proofs.MarkLaws.{got_all}
 use Rattle.w4_defs.specs.declared.value.ValType.{ValType}
 use Rattle.w4_defs.specs.declared.value.ValType.TheVariants.{I32, I64, F32, F64}
 use Rattle.w4_defs.specs.declared.value.GlobalType.{GlobalType}
@@ -149,7 +149,6 @@ row_int has stack.MemoryGrow = int_if has (I32 ∷ []) (I32 ∷ []) (tt, tt) (tt
 row_int has stack.MemoryCopy = int_if has (I32 ∷ I32 ∷ I32 ∷ []) [] (tt, (tt, (tt, tt))) tt
 row_int has stack.MemoryFill = int_if has (I32 ∷ I32 ∷ I32 ∷ []) [] (tt, (tt, (tt, tt))) tt
 row_int has stack.Float = tt
-row_int has stack.NoRow = tt
 
 -- a stack type of what an index names
 named_int : {A : Type 0} (P : A → Type 0) (f : A → Option StackType) (o : Option A) → IfSome o P
@@ -199,7 +198,8 @@ stack_type_int c (op.GlobalGet index) n =
 stack_type_int c (op.GlobalSet index) n =
     named_int (λ g. IsInt g.value) sets (slice_get (global_types c.within) index)
     (got_all (λ g. IsInt g.value) (global_types c.within) index n.globals) sets_int
-stack_type_int c o n = row_int (nat_lt 0 (length (memories_of c.within))) (row o)
+stack_type_int c (op.Basic i) n = row_int (nat_lt 0 (length (memories_of c.within))) (row i)
+stack_type_int c o n = tt
 
 pub label_has_no_float : (c : Context) (label : List ValType) → AreInt label → HasNoFloat c
     → HasNoFloat (with_label label c)

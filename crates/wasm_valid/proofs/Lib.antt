@@ -32,4 +32,4 @@ pub mod OperandLaws
 pub mod ProfileLaws
 pub mod BlockLaws
 pub mod PassSteps
-pub mod BodyEntryLaws
+pub mod BodyMarkLaws

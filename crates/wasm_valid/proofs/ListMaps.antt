@@ -9,7 +9,7 @@ map_step f [] i y e = absurd cc
 map_step f (x ∷ xs) zero y e = ap (λ z. z ∷ []) (same_Some _ _ e)
 map_step f (x ∷ xs) (suc i) y e = ap (λ ys. f x ∷ ys) (map_step f xs i y e)
 
--- what a test or a reading gives of the item at a place
+-- what a test or a reading gives of the item at a position
 pub map_more : {X Y : Type 0} (f : X → Y) (xs : List X) (i : ℕ) (y : Y) (ys zs : List Y)
     → option_map f (slice_get xs i) ≡ Some y → ys ≡ map f (take i xs) → zs ≡ ys ++ y ∷ []
     → zs ≡ map f (take (i + 1) xs)

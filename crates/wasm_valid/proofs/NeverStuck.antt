@@ -101,10 +101,10 @@ run_ends : {H : Type 0} (m : WasmModule) (imports : HostFunctions H) → profile
     → (func : ℕ) (st : Store H) (b : ℕ) → signature_of m func ≡ Some nothing_to_nothing
     → types_of st.globals ≡ own_global_types m
     → EndsWithTypes (own_global_types m) (run_entry m imports func st b)
-run_ends m imports profile valid as_many_bodies answers func st b entry globals =
+run_ends m imports profile valid as_many_bodies answers func st b signature_is globals =
     let prog = program m imports in
     let l = linked m imports profile valid as_many_bodies answers in
-    let p = l.functions func nothing_to_nothing entry in
+    let p = l.functions func nothing_to_nothing signature_is in
     let same = own_values m profile in
     subst (λ types. EndsWithTypes types (run_entry m imports func st b)) same
     (subst (λ callee. EndsWithTypes (map (λ g. g.value) (global_types m)) (enter prog callee st b))
@@ -116,18 +116,18 @@ pub never_stuck : {H : Type 0} (m : WasmModule) (imports : HostFunctions H)
     → (func : ℕ) (st : Store H) (b : ℕ) → signature_of m func ≡ Some nothing_to_nothing
     → types_of st.globals ≡ own_global_types m
     → run_entry m imports func st b ≢ RunStuck
-never_stuck m imports profile valid as_many_bodies answers func st b entry globals h =
+never_stuck m imports profile valid as_many_bodies answers func st b signature_is globals h =
     subst (EndsWithTypes (own_global_types m)) h
-    (run_ends m imports profile valid as_many_bodies answers func st b entry globals)
+    (run_ends m imports profile valid as_many_bodies answers func st b signature_is globals)
 
 pub run_keeps_global_types : {H : Type 0} (m : WasmModule) (imports : HostFunctions H)
     → profile_refusal m ≡ None → IsValid m → length m.functions ≡ length m.bodies → AnswersByType imports
     → (func : ℕ) (st : Store H) (b : ℕ) → signature_of m func ≡ Some nothing_to_nothing
     → types_of st.globals ≡ own_global_types m
     → HasTypes (own_global_types m) (run_entry m imports func st b)
-run_keeps_global_types m imports profile valid as_many_bodies answers func st b entry globals =
+run_keeps_global_types m imports profile valid as_many_bodies answers func st b signature_is globals =
     ends_typed (own_global_types m) (run_entry m imports func st b)
-    (run_ends m imports profile valid as_many_bodies answers func st b entry globals)
+    (run_ends m imports profile valid as_many_bodies answers func st b signature_is globals)
 
 -- the law, said of host functions
 pub never_stuck_with : {H : Type 0} (imports : HostFunctions H) → AnswersByType imports → NeverStuck imports

@@ -10,7 +10,7 @@ use Rattle.w4_defs.specs.Flattening.{IsLeaf, IsProper}
 use Rattle.w4_defs.specs.Typing.{Context, body_context}
 use Rattle.w4_defs.specs.ValueTypes.{result_types}
 use Rattle.w4_defs.specs.AbstractStack.{AbstractStack, empty, stands, stands_in, taken, given, step, stack_after}
-use Rattle.wasm_valid.specs.Pass.{OpenBlock, opened, with_stack, context, blocks_after_entry, blocks_after, PassDecidesBodies}
+use Rattle.wasm_valid.specs.Pass.{OpenBlock, opened, with_stack, context, blocks_after_mark, blocks_after, PassDecidesBodies}
 
 -- the pass goes on where the innermost list has this abstract stack
 abbrev pub resumed : Context → OpenBlock → List OpenBlock → List Mark → Option AbstractStack
@@ -47,7 +47,7 @@ parted c n os ms None = refl
 parted c n os ms (Some s) = closed_if c (opened n.label n.result) os ms (stands s n.result)
 
 leaf_step : (c : Context) (o : Op) (labels : List ℕ) (p : OpenBlock) (os : List OpenBlock) → IsLeaf o
-    → blocks_after_entry c o labels p os ≡ option_map (λ s. with_stack p s ∷ os)
+    → blocks_after_mark c o labels p os ≡ option_map (λ s. with_stack p s ∷ os)
     (step (context c (p ∷ os)) o labels p.stack)
 leaf_step c (op.Block r m) labels p os h = absurd h
 leaf_step c (op.Loop r m) labels p os h = absurd h
@@ -56,7 +56,7 @@ leaf_step c op.Else labels p os h = absurd h
 leaf_step c op.End labels p os h = absurd h
 leaf_step c _ labels p os h = refl
 
--- a list goes on from the abstract stack of the entries before
+-- a list goes on from the abstract stack of the marks before
 went_on : (c : Context) (o : OpenBlock) (os : List OpenBlock) (ms rest : List Mark) (x : Option AbstractStack)
     (f : AbstractStack → Option AbstractStack)
     → ((s : AbstractStack) → blocks_after c rest (with_stack o s ∷ os) ≡ resumed c o os ms (f s))

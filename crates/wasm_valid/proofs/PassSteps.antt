@@ -1,13 +1,10 @@
 -- What each step is, by the operation.
-use Rattle.std.proofs.Common.{◌≡◌, ℕ, Bool, true, false, List, [], ◌∷◌, length, refl}
-use Rattle.std.specs.Prelude.{nat_lt}
+use Rattle.std.proofs.Common.{◌≡◌, ℕ, Bool, true, false, List, [], ◌∷◌, None, refl}
 use Rattle.w4_defs.specs.declared.operation.Op.{Op}
 use Rattle.w4_defs.specs.declared.operation.Op.TheVariants as op
-use Rattle.w4_defs.specs.Lookup.{memories_of}
-use Rattle.w4_defs.specs.OperandTypes.{memory_type}
 use Rattle.w4_defs.specs.Typing.{Context}
 use Rattle.wasm_valid.specs.Pass.{OpenBlock}
-use Rattle.wasm_valid.specs.ControlStack.{direct_type, after_operation, after_entry, after_stack_type}
+use Rattle.wasm_valid.specs.ControlStack.{direct_type, after_operation, after_mark, after_stack_type}
 
 -- an operation that names something of its function or module
 abbrev pub names : Op → Bool
@@ -18,10 +15,10 @@ names (op.LocalSet index) = true
 names (op.LocalTee index) = true
 names (op.GlobalGet index) = true
 names (op.GlobalSet index) = true
+names (op.Basic i) = true
 names _ = false
 
-pub unnamed : (c : Context) (o : Op) → names o ≡ false
-    → memory_type (nat_lt 0 (length (memories_of c.within))) o ≡ direct_type c o
+pub unnamed : (c : Context) (o : Op) → names o ≡ false → None ≡ direct_type c o
 unnamed c op.Nop h = absurd (cc h)
 unnamed c (op.Call func) h = absurd (cc h)
 unnamed c (op.LocalGet index) h = absurd (cc h)
@@ -29,6 +26,7 @@ unnamed c (op.LocalSet index) h = absurd (cc h)
 unnamed c (op.LocalTee index) h = absurd (cc h)
 unnamed c (op.GlobalGet index) h = absurd (cc h)
 unnamed c (op.GlobalSet index) h = absurd (cc h)
+unnamed c (op.Basic i) h = absurd (cc h)
 unnamed c _ h = refl
 
 -- an operation that takes and gives some types alone
@@ -66,7 +64,7 @@ opens_or_closes _ = false
 
 leaf_of : (c : Context) (o : Op) (labels : List ℕ) (p : OpenBlock) (os : List OpenBlock)
     → opens_or_closes o ≡ false
-    → after_operation c o labels (p ∷ os) ≡ after_entry c o labels (p ∷ os)
+    → after_operation c o labels (p ∷ os) ≡ after_mark c o labels (p ∷ os)
 leaf_of c (op.Block r end) labels p os h = absurd (cc h)
 leaf_of c (op.Loop r end) labels p os h = absurd (cc h)
 leaf_of c (op.If r other end) labels p os h = absurd (cc h)
@@ -75,6 +73,6 @@ leaf_of c op.End labels p os h = absurd (cc h)
 leaf_of c _ labels p os h = refl
 
 pub stepped_step : (c : Context) (o : Op) (labels : List ℕ) (os : List OpenBlock) → opens_or_closes o ≡ false
-    → after_operation c o labels os ≡ after_entry c o labels os
+    → after_operation c o labels os ≡ after_mark c o labels os
 stepped_step c o labels [] h = refl
 stepped_step c o labels (p ∷ os) h = leaf_of c o labels p os h

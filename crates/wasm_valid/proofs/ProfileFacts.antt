@@ -37,7 +37,7 @@ pub record NoCause (m : WasmModule) : Type 0 where
   pub imports : list_any (is_wrong m) m.imports ≡ false
   pub memory : list_any is_memory m.imports ≡ true
   pub update : list_any is_update m.exports ≡ true
-  pub entries : list_any (is_wrong_entry m) m.exports ≡ false
+  pub entries_right : list_any (is_wrong_entry m) m.exports ≡ false
   pub elements : list_any (element_passes m) m.elements ≡ false
   pub segments : list_any data_passes m.segments ≡ false
 
@@ -82,7 +82,8 @@ no_cause m e =
       update =
           not-false _ (not_so (not (list_any is_update m.exports)) NoUpdate
           (none_there (causes m) 6 _ e refl));
-      entries = not_so (list_any (is_wrong_entry m) m.exports) WrongEntry (none_there (causes m) 7 _ e refl);
+      entries_right = not_so (list_any (is_wrong_entry m) m.exports) WrongEntry
+          (none_there (causes m) 7 _ e refl);
       elements = within.0;
       segments = within.1;
     }
@@ -105,7 +106,7 @@ right_entry : (named right : Bool) → (named && not right) ≡ false → named 
 right_entry true right h e = not-false right h
 right_entry false right h e = absurd cc
 
--- what is found under an entry's name
+-- what is found under an entry point's name
 abbrev pub Found : WasmModule → Option ℕ → Type 0
 Found m o = IfSome o (λ f. signature_of m f ≡ Some nothing_to_nothing)
 
@@ -117,17 +118,19 @@ found_here m f o h = subst (Found m) (sym h.0) h.1
 found_from : (m : WasmModule) (e : Exported) (rest : Option ℕ) (name : List ℕ) (b : Bool)
     → b ≡ bytes_eq e.name name → is_entry_name name ≡ true → is_wrong_entry m e ≡ false
     → Found m rest → Found m (cond b (if_function e e.kind) rest)
-found_from m e rest name true eb entry right h =
+found_from m e rest name true eb entry_named right h =
     let same : e.name ≡ name = (bytes_eq-Decides e.name name).0 (sym eb) in
-    found_here m e.index _ (entry_of_kind m e e.kind (right_entry _ _ right (ap is_entry_name same ∙ entry)))
-found_from m e rest name false eb entry right h = h
+    found_here m e.index _ (entry_of_kind m e e.kind (right_entry _ _ right
+    (ap is_entry_name same ∙ entry_named)))
+found_from m e rest name false eb entry_named right h = h
 
 pub found : (m : WasmModule) (es : List Exported) (name : List ℕ) → is_entry_name name ≡ true
     → list_any (is_wrong_entry m) es ≡ false → Found m (exported_function_in es name)
-found m [] name entry h = tt
-found m (e ∷ es) name entry h =
+found m [] name entry_named h = tt
+found m (e ∷ es) name entry_named h =
     let p = or_parts _ _ h in
-    found_from m e (exported_function_in es name) name _ refl entry p.0 (found m es name entry p.1)
+    found_from m e (exported_function_in es name) name _ refl entry_named p.0
+    (found m es name entry_named p.1)
 
 there_from : (m : WasmModule) (e : Exported) (rest : Option ℕ) (later : Bool) (b : Bool)
     → b ≡ bytes_eq e.name (codes "update") → is_wrong_entry m e ≡ false
@@ -138,13 +141,13 @@ there_from m e rest later true eb right some h =
     subst (λ (o : Option ℕ). IsSome o) (sym p.0) refl
 there_from m e rest later false eb right some h = h some
 
--- what is found in a list of exports by the name of an entry
+-- what is found in a list of exports by the name of an entry point
 pub entry_point_found : (m : WasmModule) (es : List Exported) (name : List ℕ) (o : Option ℕ)
     → profile_refusal m ≡ None → es ≡ m.exports → is_entry_name name ≡ true → o ≡ exported_function_in es name
     → Found m o
-entry_point_found m es name o none ee entry e =
+entry_point_found m es name o none ee entry_named e =
     subst (Found m) (sym (e ∙ ap (λ xs. exported_function_in xs name) ee))
-    (found m m.exports name entry (no_cause m none).entries)
+    (found m m.exports name entry_named (no_cause m none).entries_right)
 
 pub update_there : (m : WasmModule) (es : List Exported) → list_any is_update es ≡ true
     → list_any (is_wrong_entry m) es ≡ false → IsSome (exported_function_in es (codes "update"))
@@ -159,4 +162,4 @@ pub update_found : (m : WasmModule) (es : List Exported) (o : Option ℕ) → pr
 update_found m es o none ee e =
     let n = no_cause m none in
     subst (λ (x : Option ℕ). IsSome x) (sym (e ∙ ap (λ xs. exported_function_in xs (codes "update")) ee))
-    (update_there m m.exports n.update n.entries)
+    (update_there m m.exports n.update n.entries_right)

@@ -195,7 +195,7 @@ record Two (s t : AbstractStack) : Type 0 where
   pub there : topmost s.unreachable s.operands ≡ Some upper
   pub under : topmost s.unreachable upper.1 ≡ Some lower
   pub common : common_type upper.0 lower.0 ≡ Some both
-  pub made : with_operands s (both ∷ lower.1) ≡ t
+  pub result_is : with_operands s (both ∷ lower.1) ≡ t
 
 two : (s t : AbstractStack) → selected s ≡ Some t → Two s t
 two s t h =
@@ -204,7 +204,7 @@ two s t h =
     some_and_then (λ top. option_map (λ kind. with_operands s (kind ∷ top.1)) (common_type p.0.0 top.0))
     (topmost s.unreachable p.0.1) t p.2 in
     let r = map_some (λ kind. with_operands s (kind ∷ q.0.1)) (common_type p.0.0 q.0.0) t q.2 in
-    record { upper = p.0; lower = q.0; both = r.0; there = p.1; under = q.1; common = r.1; made = r.2 }
+    record { upper = p.0; lower = q.0; both = r.0; there = p.1; under = q.1; common = r.1; result_is = r.2 }
 
 selected_begins : (s t : AbstractStack) (outs : List ValType) → AreInt outs → selected s ≡ Some t
     → stands t outs ≡ true
@@ -214,7 +214,7 @@ selected_begins s t outs i h g =
     let w = two s t h in
     let p =
     first_agrees w.both w.lower.1 s.unreachable (reverse outs)
-    (subst (λ x. stands x outs ≡ true) (sym w.made) g) in
+    (subst (λ x. stands x outs ≡ true) (sym w.result_is) g) in
     let a = common_agrees w.upper.0 w.lower.0 w.both p.0 w.common p.3 in
     let e = uncut outs (p.0 ∷ []) p.1 p.2 in
     let j = subst AreInt e i in
@@ -237,7 +237,7 @@ selected_int s t k h =
     let w = two s t h in
     let a = top_int s.unreachable s.operands w.upper k w.there in
     let b = top_int s.unreachable w.upper.1 w.lower a.1 w.under in
-    subst (λ x. AreIntOperands x.operands) w.made
+    subst (λ x. AreIntOperands x.operands) w.result_is
     (common_int w.upper.0 w.lower.0 w.both a.0 b.0 w.common, b.1)
 
 selected_follows : (s : AbstractStack) (ts : List ValType) (u : ValType) → stands s (ts ++ u ∷ u ∷ []) ≡ true

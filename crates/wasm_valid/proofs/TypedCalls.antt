@@ -50,7 +50,7 @@ pub record NamedAs (m : WasmModule) (functions : List Callee) (func : ℕ) (s : 
 pub record Linked {H : Type 0} (m : WasmModule) (prog : Prog H) : Type 0 where
   pub types : prog.types ≡ m.types
   pub functions : (func : ℕ) (s : Signature) → signature_of m func ≡ Some s → NamedAs m prog.functions func s
-  pub entries : (i func : ℕ) → slice_get prog.table i ≡ Some (Some func) → Named m prog.functions func
+  pub table_typed : (i func : ℕ) → slice_get prog.table i ≡ Some (Some func) → Named m prog.functions func
   pub answers : AnswersByType prog.host_functions
   pub one_table : length (tables_of m) ≤ 1
 
@@ -163,28 +163,28 @@ module _ {H : Type 0} (c : Context) (outs tops : List ValType) where
         (λ t. k)
     call_typed_fits s no_function env ops ls st b less ready h g l k = absurd ready
 
-    call_entry_fits : (s : Signature) (i : ℕ) (entry : Option ℕ) (env : Env) (ops ls : List Val)
-        (st : Store H) (b : ℕ) → b < n → slice_get prog.table i ≡ Some entry
+    call_element_fits : (s : Signature) (i : ℕ) (element : Option ℕ) (env : Env) (ops ls : List Val)
+        (st : Store H) (b : ℕ) → b < n → slice_get prog.table i ≡ Some element
         → types_of ops ≡ reverse s.params ++ tops → reverse outs ≡ reverse s.results ++ tops
         → types_of ls ≡ c.locals → types_of st.globals ≡ global_values c
-        → OutcomeFits c outs (call_table_element prog e s entry env ops ls st b)
-    call_entry_fits s i None env ops ls st b less found h g l k = k
-    call_entry_fits s i (Some func) env ops ls st b less found h g l k =
-        let p = linked.entries i func found in
+        → OutcomeFits c outs (call_table_element prog e s element env ops ls st b)
+    call_element_fits s i None env ops ls st b less found h g l k = k
+    call_element_fits s i (Some func) env ops ls st b less found h g l k =
+        let p = linked.table_typed i func found in
         where_some_fits c outs Stuck (slice_get prog.functions func) p.callee
         (λ x. call_typed prog e s x env ops ls st b) p.found
         (call_typed_fits s p.callee env ops ls st b less p.ready h g l k)
 
     -- an index past the table's end traps
-    call_place_fits : (s : Signature) (i : ℕ) (found : Option (Option ℕ)) (env : Env) (ops ls : List Val)
+    call_index_fits : (s : Signature) (i : ℕ) (found : Option (Option ℕ)) (env : Env) (ops ls : List Val)
         (st : Store H) (b : ℕ) → b < n → slice_get prog.table i ≡ found
         → types_of ops ≡ reverse s.params ++ tops → reverse outs ≡ reverse s.results ++ tops
         → types_of ls ≡ c.locals → types_of st.globals ≡ global_values c
         → OutcomeFits c outs (where_some (Trap cause.Table st) found
-        (λ entry. call_table_element prog e s entry env ops ls st b))
-    call_place_fits s i None env ops ls st b less found h g l k = k
-    call_place_fits s i (Some entry) env ops ls st b less found h g l k =
-        call_entry_fits s i entry env ops ls st b less found h g l k
+        (λ element. call_table_element prog e s element env ops ls st b))
+    call_index_fits s i None env ops ls st b less found h g l k = k
+    call_index_fits s i (Some element) env ops ls st b less found h g l k =
+        call_element_fits s i element env ops ls st b less found h g l k
 
     pub call_indirect_fits : (t table : ℕ) (s : Signature) (env : Env) (ops ls : List Val) (st : Store H)
         (b : ℕ) → b < n
@@ -196,6 +196,6 @@ module _ {H : Type 0} (c : Context) (outs tops : List ValType) where
         where_some_fits c outs Stuck (slice_get prog.types t) s _
         (ap (λ types. slice_get types t) linked.types ∙ found)
         (on_i32_fits c outs (reverse s.params ++ tops) ops _ h (λ i ops below.
-        call_place_fits s i (slice_get prog.table i) env ops ls st b less refl below g l k))
+        call_index_fits s i (slice_get prog.table i) env ops ls st b less refl below g l k))
     call_indirect_fits t (suc table) s env ops ls st b less small found h g l k =
         absurd (omega (arith, linked.one_table))

@@ -115,7 +115,7 @@ drop_suits t tops locals ops ls page h l =
 
 -- ---- labels
 
--- a place in the labels of a br_table
+-- a position in the labels of a br_table
 label_at : (c : Context) (label : List ValType) (labels : List ℕ) (i : ℕ) → i < length labels
     → AreLabels c label labels
     → (l : ℕ) × (slice_get labels i ≡ Some l) × (slice_get c.labels l ≡ Some label)
@@ -165,9 +165,9 @@ module _ {H : Type 0} (c : Context) (outs : List ValType) where
       → OutcomeFits c outs (branch_table env labels ops ls st b)
   branch_table_fits env labels label below ops ls st b m some are h k g =
       on_i32_fits c outs (reverse label ++ below) ops _ h (λ i ops rest.
-      let place = min i (length labels - 1) in
-      let p = label_at c label labels place (omega arith) are in
-      where_some_fits c outs Stuck (slice_get labels place) p.0 (λ l. branch env l ops ls st b) p.1
+      let position = min i (length labels - 1) in
+      let p = label_at c label labels position (omega arith) are in
+      where_some_fits c outs Stuck (slice_get labels position) p.0 (λ l. branch env l ops ls st b) p.1
       (branch_fits env p.0 label below ops ls st b m p.2 rest k g))
 
   pub return_fits : (env : Env) (below : List ValType) (ops ls : List Val) (st : Store H) (b : ℕ)

@@ -82,7 +82,7 @@ all_named m profile valid as_many_bodies =
 
 -- ---- the table
 
--- each entry that is filled is an index below this bound
+-- each element that is filled is an index below this bound
 abbrev Filled : ℕ → List (Option ℕ) → Type 0
 Filled bound table = (i func : ℕ) → slice_get table i ≡ Some (Some func) → func < bound
 
@@ -140,7 +140,7 @@ pub linked : {H : Type 0} (m : WasmModule) (imports : HostFunctions H) → profi
 linked m imports profile valid as_many_bodies answers = record {
   types = refl;
   functions = all_named m profile valid as_many_bodies;
-  entries = λ i func h.
+  table_typed = λ i func h.
       let less =
       filled_table m (empty_table m.tables) m.elements valid.0.elements
       (filled_empty (length (function_indices m)) m.tables) i func h in

@@ -9,11 +9,13 @@ use Rattle.w4_defs.specs.declared.value.ValType.{ValType}
 use Rattle.w4_defs.specs.declared.value.ValType.TheVariants.{I32}
 use Rattle.w4_defs.specs.declared.operation.Op.{Op}
 use Rattle.w4_defs.specs.declared.operation.Op.TheVariants as op
+use Rattle.w4_defs.specs.declared.basic.Basic.{Basic}
+use Rattle.w4_defs.specs.declared.basic.Basic.TheVariants.{MemoryCopy, MemoryFill}
 use Rattle.w4_defs.specs.Tree.{Expr, done, plain, block, loop, if_then, if_else}
 use Rattle.w4_defs.specs.Module.{WasmModule}
 use Rattle.w4_defs.specs.Lookup.{signature_of, global_types, tables_of, memories_of}
 use Rattle.w4_defs.specs.ValueTypes.{result_arity, result_types}
-use Rattle.w4_defs.specs.OperandTypes.{stack_type_if, gives, unary_type, memory_type}
+use Rattle.w4_defs.specs.OperandTypes.{stack_type_if, gives, unary_type, basic_type}
 use Rattle.w4_defs.specs.Typing.{Context, with_label, HasType, OperationHasType, branches, calls, calls_indirectly, consumes, sets}
 use Rattle.w4_defs.specs.Outcome.{Store, Stuck}
 use Rattle.w4_defs.specs.Program.{Prog}
@@ -58,14 +60,14 @@ chosen_typed false c x y ts h k = k
 module _ {H : Type 0} (c : Context) (prog : Prog H) (e : Evaluator H) (n : ℕ) (fits : Evaluates c.within n e)
     (linked : Linked c.within prog) where
   -- a memory or numeric instruction
-  plain_fits : (o : Op) (a given tops outs : List ValType) (ops ls : List Val) (st : Store H) (b : ℕ)
-      → memory_type (nat_lt 0 (length (memories_of c.within))) o ≡ Some (a, given)
+  plain_fits : (i : Basic) (a given tops outs : List ValType) (ops ls : List Val) (st : Store H) (b : ℕ)
+      → basic_type (nat_lt 0 (length (memories_of c.within))) i ≡ Some (a, given)
       → types_of ops ≡ reverse a ++ tops → reverse outs ≡ reverse given ++ tops → types_of ls ≡ c.locals
       → types_of st.globals ≡ global_values c
-      → OutcomeFits c outs (outcome_of_effect (effect o ops ls st.page) st b)
-  plain_fits o a given tops outs ops ls st b t h g l k =
-      settle_fits c outs (reverse given ++ tops) (types_of ls) (effect o ops ls st.page) st b
-      ((plain_sound (nat_lt 0 (length (memories_of c.within))) o
+      → OutcomeFits c outs (outcome_of_effect (effect (op.Basic i) ops ls st.page) st b)
+  plain_fits i a given tops outs ops ls st b t h g l k =
+      settle_fits c outs (reverse given ++ tops) (types_of ls) (effect (op.Basic i) ops ls st.page) st b
+      ((plain_sound (nat_lt 0 (length (memories_of c.within))) i
       (a, given) t).suits tops ops ls st.page h) g l k
 
   simple_fits : (o : Op) (labels : List ℕ) (env : Env) (a given tops outs : List ValType)
@@ -155,18 +157,19 @@ module _ {H : Type 0} (c : Context) (prog : Prog H) (e : Evaluator H) (n : ℕ) 
       let q = stack_type_parts p.0.mutable (p.0.value ∷ []) [] a given p.2 in
       set_global_fits c outs index p.0 tops ops ls st b p.1
       (retyped (types_of ops) a (p.0.value ∷ []) tops h q.0) (retyped (reverse outs) given [] tops g q.1) l k
-  simple_fits op.MemoryCopy labels env a given tops outs ops ls st b less m t h g l k =
+  simple_fits (op.Basic MemoryCopy) labels env a given tops outs ops ls st b less m t h g l k =
       settle_after_fits c outs (further_units ops) (reverse given ++ tops) (types_of ls)
-      (effect op.MemoryCopy ops ls st.page) st b
-      ((plain_sound (nat_lt 0 (length (memories_of c.within))) op.MemoryCopy
+      (effect (op.Basic MemoryCopy) ops ls st.page) st b
+      ((plain_sound (nat_lt 0 (length (memories_of c.within))) MemoryCopy
       (a, given) t).suits tops ops ls st.page h) g l k
-  simple_fits op.MemoryFill labels env a given tops outs ops ls st b less m t h g l k =
+  simple_fits (op.Basic MemoryFill) labels env a given tops outs ops ls st b less m t h g l k =
       settle_after_fits c outs (further_units ops) (reverse given ++ tops) (types_of ls)
-      (effect op.MemoryFill ops ls st.page) st b
-      ((plain_sound (nat_lt 0 (length (memories_of c.within))) op.MemoryFill
+      (effect (op.Basic MemoryFill) ops ls st.page) st b
+      ((plain_sound (nat_lt 0 (length (memories_of c.within))) MemoryFill
       (a, given) t).suits tops ops ls st.page h) g l k
-  simple_fits o labels env a given tops outs ops ls st b less m t h g l k =
-      plain_fits o a given tops outs ops ls st b t h g l k
+  simple_fits (op.Basic i) labels env a given tops outs ops ls st b less m t h g l k =
+      plain_fits i a given tops outs ops ls st b t h g l k
+  simple_fits o labels env a given tops outs ops ls st b less m t h g l k = absurd (cc t)
 
   module _ (keeps : Keeps n e) where
     -- a list inside and then the rest

@@ -78,7 +78,7 @@ are_of_typed ts vs h = subst (λ ts. have_types ts vs ≡ true) h (are_of_own vs
 pub same_kinds : (v w : Val) → type_of v ≡ type_of w → same_value_type v w ≡ true
 same_kinds v w h = subst (λ t. same_type (type_of v) t ≡ true) h (same_type_self (type_of v))
 
--- ---- one value by its place
+-- ---- one value by its position
 
 -- a value of this type stands there
 pub record Typed (vs : List Val) (i : ℕ) (t : ValType) : Type 0 where

@@ -7,7 +7,7 @@ use Rattle.w4_defs.specs.Module.{Signature, WasmModule}
 use Rattle.w4_defs.specs.Profile.{profile_refusal}
 use Rattle.w4_defs.specs.Program.{callees, table_of}
 use Rattle.w4_defs.specs.Validity.{IsValid}
-use Rattle.wasm_tree.specs.Layout.{entries}
+use Rattle.wasm_tree.specs.Layout.{marks}
 use Rattle.wasm_valid.specs.declared.call.Call.{Call}
 use Rattle.wasm_valid.specs.declared.entry_point.Entry.{Entry}
 use Rattle.wasm_valid.specs.declared.entry_point.Entry.TheVariants.{Update, CrtStart, Initialize, Start}
@@ -32,4 +32,4 @@ pub record IsKept (m : WasmModule) (filled : List (Option ℕ)) (firsts : List V
   pub globals : firsts ≡ first_globals m
   pub calls : AreCalls m (callees m) functions
   pub numbers : operands ≡ type_numbers m
-  pub bound : length (entries m) < 2 ^ 32
+  pub bound : length (marks m) < 2 ^ 32

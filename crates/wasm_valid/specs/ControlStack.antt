@@ -9,7 +9,7 @@ use Rattle.w4_defs.specs.declared.operation.Op.TheVariants.{BrIf, CallIndirect}
 use Rattle.w4_defs.specs.OperandTypes.{StackType}
 use Rattle.w4_defs.specs.Typing.{Context, only_type}
 use Rattle.w4_defs.specs.AbstractStack.{OperandType, AbstractStack, topmost, with_operands, stands, taken, passed, is_label, step}
-use Rattle.wasm_valid.specs.Pass.{OpenBlock, opened, with_stack, context, label_types, chosen_list, closed, blocks_after_entry}
+use Rattle.wasm_valid.specs.Pass.{OpenBlock, opened, with_stack, context, label_types, chosen_list, closed, blocks_after_mark}
 use Rattle.wasm_valid.specs.declared.control_stack.ControlFrame.{ControlFrame}
 
 -- the innermost abstract stack is replaced by what the function gives, if it gives one
@@ -58,9 +58,9 @@ abbrev pub Becomes : Bool → List OpenBlock → Option (List OpenBlock) → Typ
 Becomes went after asked = asked ≡ cond went (Some after) None
 
 -- a step of the pass, and one of an operation that opens and closes no block
-abbrev pub after_entry : Context → Op → List ℕ → List OpenBlock → Option (List OpenBlock)
-after_entry c op labels [] = None
-after_entry c op labels (o ∷ os) = blocks_after_entry c op labels o os
+abbrev pub after_mark : Context → Op → List ℕ → List OpenBlock → Option (List OpenBlock)
+after_mark c op labels [] = None
+after_mark c op labels (o ∷ os) = blocks_after_mark c op labels o os
 
 abbrev pub after_operation : Context → Op → List ℕ → List OpenBlock → Option (List OpenBlock)
 after_operation c op labels os = at_top (step (context c os) op labels) os

@@ -1,4 +1,4 @@
--- Instructions among the entries of a flattening (Core Specification, section 5.4): all but `else` and `end`.
+-- Instructions among the marks of a flattening (Core Specification, section 5.4): all but `else` and `end`.
 use Rattle.std.specs.Prelude.{◌≡◌, Bool, true, false}
 use Rattle.std.specs.List.{count_by}
 use Rattle.w4_defs.specs.declared.operation.Op.{Op}

@@ -7,9 +7,8 @@ pub mod Constants
 pub mod Counting
 pub mod Segments
 pub mod Instructions
-pub mod InstructionTable
 pub mod Ready
 pub mod ControlStack
 pub mod StackTypes
-pub mod BodyEntries
+pub mod BodyMarks
 pub mod Untyped

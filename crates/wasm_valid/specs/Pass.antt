@@ -1,5 +1,5 @@
--- The pass over the entries of a flattening: one abstract stack for each open block, the innermost first. An
--- entry that opens a block begins an abstract stack, and one that closes it asks whether the abstract stack
+-- The pass over the marks of a flattening: one abstract stack for each open block, the innermost first. A
+-- mark that opens a block begins an abstract stack, and one that closes it asks whether the abstract stack
 -- stands for the block's results.
 use Rattle.std.specs.Prelude.{◌≡◌, ℕ, cond, List, [], ◌∷◌, Option, Some, None, option_map, option_and_then}
 use Rattle.w4_defs.specs.declared.value.ValType.{ValType}
@@ -47,22 +47,22 @@ abbrev pub opened_if : Option ValType → OpenBlock → List OpenBlock → Optio
 opened_if None o os = chosen_list [] o os
 opened_if (Some t) o os = None
 
--- the open lists after an entry
-abbrev pub blocks_after_entry : Context → Op → List ℕ → OpenBlock → List OpenBlock → Option (List OpenBlock)
-blocks_after_entry c (Block r end) labels o os = Some (opened (result_types r) (result_types r) ∷ o ∷ os)
-blocks_after_entry c (Loop r end) labels o os = Some (opened [] (result_types r) ∷ o ∷ os)
-blocks_after_entry c (If r None end) labels o os = opened_if r o os
-blocks_after_entry c (If r (Some other) end) labels o os = chosen_list (result_types r) o os
-blocks_after_entry c Else labels o os =
+-- the open lists after a mark
+abbrev pub blocks_after_mark : Context → Op → List ℕ → OpenBlock → List OpenBlock → Option (List OpenBlock)
+blocks_after_mark c (Block r end) labels o os = Some (opened (result_types r) (result_types r) ∷ o ∷ os)
+blocks_after_mark c (Loop r end) labels o os = Some (opened [] (result_types r) ∷ o ∷ os)
+blocks_after_mark c (If r None end) labels o os = opened_if r o os
+blocks_after_mark c (If r (Some other) end) labels o os = chosen_list (result_types r) o os
+blocks_after_mark c Else labels o os =
     cond (stands o.stack o.result) (Some (opened o.label o.result ∷ os)) None
-blocks_after_entry c End labels o os = closed o os
-blocks_after_entry c op labels o os =
+blocks_after_mark c End labels o os = closed o os
+blocks_after_mark c op labels o os =
     option_map (λ s. with_stack o s ∷ os) (step (context c (o ∷ os)) op labels o.stack)
 
 abbrev pub blocks_after : Context → List Mark → List OpenBlock → Option (List OpenBlock)
 blocks_after c [] os = Some os
 blocks_after c (m ∷ ms) [] = None
-blocks_after c (m ∷ ms) (o ∷ os) = option_and_then (blocks_after c ms) (blocks_after_entry c m.0 m.1 o os)
+blocks_after c (m ∷ ms) (o ∷ os) = option_and_then (blocks_after c ms) (blocks_after_mark c m.0 m.1 o os)
 
 -- the pass over a body comes to its end, with no list open, if and only if the body's abstract stack stands
 -- for the function's results; else it stops

@@ -10,7 +10,7 @@ use w4_defs::{OutOfMemory, ValType};
 /// The result says whether the control stack allows the step; where it doesn't, it is of no further use.
 impl<'a> ControlStack<'a> {
     /// A block or loop: its list is opened.
-    pub fn begin(
+    pub fn open_block(
         &mut self,
         label: &'a [ValType],
         results: &'a [ValType],

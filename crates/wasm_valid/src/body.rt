@@ -1,4 +1,4 @@
-//! Whether an own function's body has its type, by one pass over its entries.
+//! Whether an own function's body has its type, by one pass over its marks.
 
 ghost use Rattle.std.specs.Prelude.{◌<◌, ◌≡◌, ◌↔◌, IfOk, IfSome, IsTrue, None, Some, [], length, option_map, slice_get};
 ghost use Rattle.w4_defs.specs.Flattening.{IsProper};
@@ -6,7 +6,7 @@ ghost use Rattle.w4_defs.specs.Lookup.{function_indices};
 ghost use Rattle.w4_defs.specs.Profile.{profile_refusal};
 ghost use Rattle.w4_defs.specs.Validity.{IsTypedAt};
 ghost use Rattle.wasm_valid.specs.AbstractStackLaw.{body_stands};
-ghost use Rattle.wasm_valid.specs.BodyEntries.{body_entries};
+ghost use Rattle.wasm_valid.specs.BodyMarks.{body_marks};
 ghost use Rattle.wasm_valid.specs.Pass.{blocks_after};
 
 use crate::control_stack::ControlStack;
@@ -16,7 +16,7 @@ use w4_defs::{FuncType, OutOfMemory};
 use wasm_tree::Code;
 
 /// Whether own function `func`, counted from 0, has the type that its type index names (Core Specification,
-/// section 3.4.1). `functions` has the type index of each function, imports first. Each entry and each label
+/// section 3.4.1). `functions` has the type index of each function, imports first. Each mark and each label
 /// is looked at once.
 pub fn body_has_type(
     alloc: Global,
@@ -62,13 +62,17 @@ fn goes_through<'a>(
 ) -> Result<bool, OutOfMemory>
     requires { func < length code.now.bodies }
     ensures value { IfOk result (λ r.
-        IsTrue r ↔ (blocks_after scope.now (body_entries code.now func) control.entry ≡ Some [])) }
+        IsTrue r ↔ (blocks_after scope.now (body_marks code.now func) control.entry ≡ Some [])) }
     ensures proper { IfSome (slice_get code.now.bodies func) (λ f. IsProper f.list) }
 {
     let operations = code.body(func);
     let mut control = control;
-    for place in 0..operations.len() {
-        if !scope.check_entry(operations[place], code.labels(func, place), &mut control)? {
+    for position in 0..operations.len() {
+        if !scope.check_mark(
+            operations[position],
+            code.labels(func, position),
+            &mut control,
+        )? {
             return Ok(false);
         }
     }

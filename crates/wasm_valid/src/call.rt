@@ -2,11 +2,11 @@
 
 use w4_defs::Import;
 
-/// A function of the module or of the host. `type_number` is the number of its type: the place of the first
+/// A function of the module or of the host. `type_number` is the number of its type: the index of the first
 /// equal type, so that two functions have one type if and only if their numbers are equal.
 #[derive(Clone, Copy, PartialEq, Eq, Debug)]
 pub enum Call {
-    /// A function of the module. `start` is the place of its first operation among those of all bodies,
+    /// A function of the module. `start` is the position of its first operation among those of all bodies,
     /// `params` how many parameters it has, `zeros` how many further locals, `answers` whether it has a
     /// result, and `reserve` its parameters, locals and instructions together.
     Own {

@@ -120,7 +120,7 @@ fn local_count(runs: &[Locals]) -> usize
     count
 }
 
-/// How many of the entries are instructions.
+/// How many of the marks are instructions.
 fn instruction_count(ops: &[Op]) -> usize
     ensures { result ≡ count_by is_instruction ops.now }
 {

@@ -5,7 +5,7 @@ ghost use Rattle.std.specs.Prelude.{◌≡◌, None, Option, Some};
 ghost use Rattle.w4_defs.specs.Validity.{IsConstant, constant_type};
 ghost use Rattle.wasm_valid.specs.Constants.{first_number32, number32, only_constant};
 
-use w4_defs::{Op, ValType};
+use w4_defs::{Basic, Op, ValType};
 use wasm_tree::FlatExpression;
 
 /// Whether the expression is a single constant of this type.
@@ -30,8 +30,8 @@ fn constant_type(op: Op) -> Option<ValType>
     ensures { result ≡ constant_type op }
 {
     match op {
-        Op::I32Const { .. } => Some(ValType::I32),
-        Op::I64Const { .. } => Some(ValType::I64),
+        Op::Basic(Basic::I32Const { .. }) => Some(ValType::I32),
+        Op::Basic(Basic::I64Const { .. }) => Some(ValType::I64),
         _ => None,
     }
 }
@@ -59,7 +59,7 @@ fn number32(op: Op) -> u32
     ensures { result ≡ number32 op }
 {
     match op {
-        Op::I32Const { value } => value,
+        Op::Basic(Basic::I32Const { value }) => value,
         _ => 0,
     }
 }

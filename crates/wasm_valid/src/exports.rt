@@ -49,9 +49,9 @@ struct IsThere {
 impl Rule<Export> for IsThere {
     ghost use Rattle.wasm_valid.specs.Counting.{IsCounted};
 
-    ghost keeps = { λ r e. IsCounted r.counts e.kind e.index };
+    ghost keeps_rule = { λ r e. IsCounted r.counts e.kind e.index };
 
-    fn keeps(&self, export: &Export) -> bool {
+    fn keeps_rule(&self, export: &Export) -> bool {
         (export.index as usize) < count_of(self.counts, export.kind)
     }
 }
@@ -76,9 +76,9 @@ struct IsOther<'a> {
 impl<'a> Rule<Export> for IsOther<'a> {
     ghost use Rattle.std.specs.Prelude.{◌≢◌};
 
-    ghost keeps = { λ r e. e.name ≢ r.name.now };
+    ghost keeps_rule = { λ r e. e.name ≢ r.name.now };
 
-    fn keeps(&self, export: &Export) -> bool {
+    fn keeps_rule(&self, export: &Export) -> bool {
         &export.name[..] != self.name
     }
 }

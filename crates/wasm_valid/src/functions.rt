@@ -57,9 +57,9 @@ pub struct IsBelow {
 impl Rule<u32> for IsBelow {
     ghost use Rattle.std.specs.Prelude.{◌<◌};
 
-    ghost keeps = { λ r index. index < r.count };
+    ghost keeps_rule = { λ r index. index < r.count };
 
-    fn keeps(&self, index: &u32) -> bool {
+    fn keeps_rule(&self, index: &u32) -> bool {
         (*index as usize) < self.count
     }
 }
@@ -68,9 +68,9 @@ impl Rule<ImportEntry> for IsBelow {
     ghost use Rattle.std.specs.Prelude.{◌<◌, IfSome};
     ghost use Rattle.w4_defs.specs.Lookup.{imported_function};
 
-    ghost keeps = { λ r i. IfSome (imported_function i.kind) (λ index. index < r.count) };
+    ghost keeps_rule = { λ r i. IfSome (imported_function i.kind) (λ index. index < r.count) };
 
-    fn keeps(&self, import: &ImportEntry) -> bool {
+    fn keeps_rule(&self, import: &ImportEntry) -> bool {
         match import.kind {
             ImportKind::Func { index } => (index as usize) < self.count,
             _ => true,
@@ -84,9 +84,9 @@ struct HasFirstValue;
 impl Rule<FlatGlobal> for HasFirstValue {
     ghost use Rattle.w4_defs.specs.Validity.{IsConstant};
 
-    ghost keeps = { λ _ g. IsConstant g.global.value g.first };
+    ghost keeps_rule = { λ _ g. IsConstant g.global.value g.first };
 
-    fn keeps(&self, global: &FlatGlobal) -> bool {
+    fn keeps_rule(&self, global: &FlatGlobal) -> bool {
         is_constant(global.global.value, &global.first)
     }
 }

@@ -6,7 +6,7 @@ ghost use Rattle.w4_defs.specs.Validity.{IsConstant};
 ghost use Rattle.wasm_valid.specs.Constants.{constant_value, first_constant};
 
 use std::alloc::Global;
-use w4_defs::{Op, OutOfMemory, Val};
+use w4_defs::{Basic, Op, OutOfMemory, Val};
 use wasm_tree::Code;
 
 /// The first value of each global.
@@ -35,8 +35,8 @@ fn constant_value(op: Op) -> Val
     ensures { result ≡ constant_value op }
 {
     match op {
-        Op::I32Const { value } => Val::I32(value),
-        Op::I64Const { value } => Val::I64(value),
+        Op::Basic(Basic::I32Const { value }) => Val::I32(value),
+        Op::Basic(Basic::I64Const { value }) => Val::I64(value),
         _ => Val::I32(0),
     }
 }

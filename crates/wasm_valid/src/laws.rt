@@ -17,14 +17,13 @@ pub fn stack_decides_bodies()
     ensures { StackDecidesBodies }
 {}
 
-/// The pass over the entries of a body, with one abstract stack for each open list, comes to the end with
-/// none open if and only if the body's abstract stack stands for the function's results.
+/// The pass over the marks of a body, with one abstract stack for each open list, comes to the end with none
+/// open if and only if the body's abstract stack stands for the function's results.
 pub fn pass_decides_bodies()
     ensures { PassDecidesBodies }
 {}
 
-/// The entries of a flattening besides each `else` and each `end` are as many as the instructions of its
-/// tree.
+/// The marks of a flattening besides each `else` and each `end` are as many as the instructions of its tree.
 pub fn instructions_are_counted()
     ensures { InstructionsAreCounted }
 {}

@@ -15,7 +15,6 @@ mod entry_point;
 mod exports;
 mod functions;
 mod globals;
-mod instruction_table;
 mod labels;
 mod laws;
 mod limits;

@@ -31,9 +31,9 @@ impl Rule<ImportEntry> for TableLimits {
     ghost use Rattle.w4_defs.specs.Lookup.{imported_table};
     ghost use Rattle.w4_defs.specs.Validity.{AreLimits};
 
-    ghost keeps = { λ _ i. IfSome (imported_table i.kind) AreLimits };
+    ghost keeps_rule = { λ _ i. IfSome (imported_table i.kind) AreLimits };
 
-    fn keeps(&self, import: &ImportEntry) -> bool {
+    fn keeps_rule(&self, import: &ImportEntry) -> bool {
         match import.kind {
             ImportKind::Table { limits } => are_limits(limits),
             _ => true,
@@ -44,9 +44,9 @@ impl Rule<ImportEntry> for TableLimits {
 impl Rule<Limits> for TableLimits {
     ghost use Rattle.w4_defs.specs.Validity.{AreLimits};
 
-    ghost keeps = { λ _ l. AreLimits l };
+    ghost keeps_rule = { λ _ l. AreLimits l };
 
-    fn keeps(&self, limits: &Limits) -> bool {
+    fn keeps_rule(&self, limits: &Limits) -> bool {
         are_limits(*limits)
     }
 }
@@ -59,9 +59,9 @@ impl Rule<ImportEntry> for MemoryLimits {
     ghost use Rattle.w4_defs.specs.Lookup.{imported_memory};
     ghost use Rattle.w4_defs.specs.Validity.{AreMemoryLimits};
 
-    ghost keeps = { λ _ i. IfSome (imported_memory i.kind) AreMemoryLimits };
+    ghost keeps_rule = { λ _ i. IfSome (imported_memory i.kind) AreMemoryLimits };
 
-    fn keeps(&self, import: &ImportEntry) -> bool {
+    fn keeps_rule(&self, import: &ImportEntry) -> bool {
         match import.kind {
             ImportKind::Memory { limits } => are_memory_limits(limits),
             _ => true,
@@ -72,9 +72,9 @@ impl Rule<ImportEntry> for MemoryLimits {
 impl Rule<Limits> for MemoryLimits {
     ghost use Rattle.w4_defs.specs.Validity.{AreMemoryLimits};
 
-    ghost keeps = { λ _ l. AreMemoryLimits l };
+    ghost keeps_rule = { λ _ l. AreMemoryLimits l };
 
-    fn keeps(&self, limits: &Limits) -> bool {
+    fn keeps_rule(&self, limits: &Limits) -> bool {
         are_memory_limits(*limits)
     }
 }

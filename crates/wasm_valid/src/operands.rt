@@ -73,7 +73,7 @@ impl<'a> ControlStack<'a> {
     }
 
     /// Takes two operands that one type agrees with, and gives what they have in common.
-    pub fn select(&mut self) -> Result<bool, OutOfMemory>
+    pub fn take_common(&mut self) -> Result<bool, OutOfMemory>
         ensures { IfOk result (λ went. Becomes went self.new (at_top selected self.old)) }
     {
         let Some(upper) = self.pop() else {

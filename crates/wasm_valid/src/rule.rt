@@ -7,17 +7,17 @@ ghost use Rattle.std.specs.Prelude.{All};
 pub trait Rule<T> {
     ghost use Rattle.std.specs.Bool.{Decides};
 
-    ghost keeps: { Self → T → Type 0 };
+    ghost keeps_rule: { Self → T → Type 0 };
 
-    fn keeps(&self, item: &T) -> bool
-        ensures { Decides result (keeps self.now item.now) };
+    fn keeps_rule(&self, item: &T) -> bool
+        ensures { Decides result (keeps_rule self.now item.now) };
 }
 
 pub fn all<T, R: Rule<T>>(rule: &R, items: &[T]) -> bool
-    ensures { Decides result (All (R.keeps rule.now) items.now) }
+    ensures { Decides result (All (R.keeps_rule rule.now) items.now) }
 {
     for i in 0..items.len() {
-        if !rule.keeps(&items[i]) {
+        if !rule.keeps_rule(&items[i]) {
             return false;
         }
     }

@@ -2,14 +2,14 @@
 
 ghost use Rattle.std.specs.Prelude.{◌++◌, ◌≡◌, ◌∷◌, IfOk, None, [], length, nat_lt, option_map, replicate, slice_get};
 ghost use Rattle.w4_defs.specs.Lookup.{function_indices, global_types, local_types, memories_of, signature_of, tables_of};
-ghost use Rattle.w4_defs.specs.OperandTypes.{memory_type};
+ghost use Rattle.w4_defs.specs.OperandTypes.{basic_type};
 ghost use Rattle.w4_defs.specs.Profile.{profile_refusal};
 ghost use Rattle.wasm_valid.specs.StackTypes.{shown};
 
 use crate::stack_types::{StackType, table_stack_type};
 use std::alloc::Global;
 use std::marker::Model;
-use w4_defs::{FuncType, GlobalType, ImportKind, Locals, Op, OutOfMemory, ValType};
+use w4_defs::{Basic, FuncType, GlobalType, ImportKind, Locals, OutOfMemory, ValType};
 use wasm_tree::Code;
 
 /// The module and the types of the parameters, of the further locals and of the results. A clause sees the
@@ -115,11 +115,11 @@ impl<'a> Scope<'a> {
     }
 
     /// The types of a memory or numeric instruction. Each module within the profile imports a memory.
-    pub fn table_stack_type(&self, op: Op) -> Option<StackType<'static>>
-        ensures { shown result ≡ memory_type (nat_lt 0 (length (memories_of self.now.within))) op }
+    pub fn table_stack_type(&self, basic: Basic) -> Option<StackType<'static>>
+        ensures { shown result ≡ basic_type (nat_lt 0 (length (memories_of self.now.within))) basic }
     {
         let _code = self.code;
-        table_stack_type(op)
+        table_stack_type(basic)
     }
 
     /// A function type.

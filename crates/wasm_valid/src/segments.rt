@@ -36,9 +36,9 @@ struct IsElement {
 impl Rule<FlatElement> for IsElement {
     ghost use Rattle.wasm_valid.specs.Segments.{IsCountedElement};
 
-    ghost keeps = { λ r s. IsCountedElement r.counts s };
+    ghost keeps_rule = { λ r s. IsCountedElement r.counts s };
 
-    fn keeps(&self, segment: &FlatElement) -> bool {
+    fn keeps_rule(&self, segment: &FlatElement) -> bool {
         let functions = IsBelow {
             count: self.counts.functions,
         };
@@ -57,9 +57,9 @@ struct IsData {
 impl Rule<FlatSegment> for IsData {
     ghost use Rattle.wasm_valid.specs.Segments.{IsCountedData};
 
-    ghost keeps = { λ r s. IsCountedData r.counts s };
+    ghost keeps_rule = { λ r s. IsCountedData r.counts s };
 
-    fn keeps(&self, segment: &FlatSegment) -> bool {
+    fn keeps_rule(&self, segment: &FlatSegment) -> bool {
         segment.memory == 0
             && 0 < self.counts.memories
             && is_constant(ValType::I32, &segment.offset)

@@ -8,7 +8,7 @@ use crate::operands::same_type;
 use std::alloc::Global;
 use w4_defs::{FuncType, OutOfMemory, ValType};
 
-/// The number of each type: the place of the first equal one.
+/// The number of each type: the index of the first equal one.
 pub fn type_numbers(alloc: Global, types: &[FuncType]) -> Result<Vec<u32>, OutOfMemory>
     requires { length types.now < 2 ^ 32 }
     ensures { IfOk result (λ numbers. numbers.items ≡ map (number_of_type types.now) types.now) }
@@ -20,7 +20,7 @@ pub fn type_numbers(alloc: Global, types: &[FuncType]) -> Result<Vec<u32>, OutOf
     Ok(numbers)
 }
 
-/// The place of the first equal type; the number of all types where none is equal.
+/// The index of the first equal type; the number of all types where none is equal.
 pub fn number_of_type(types: &[FuncType], signature: &FuncType) -> u32
     requires { length types.now < 2 ^ 32 }
     ensures { result ≡ number_of_type types.now signature.now }

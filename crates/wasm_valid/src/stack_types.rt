@@ -3,13 +3,12 @@
 
 ghost use Rattle.std.specs.Prelude.{◌^◌, ◌≡◌, ◌∷◌, Some, [], nat_le, true};
 ghost use Rattle.w4_defs.specs.InstructionTable.{value_type_of};
-ghost use Rattle.w4_defs.specs.OperandTypes.{load_type, memory_type, row_type, store_type};
+ghost use Rattle.w4_defs.specs.OperandTypes.{load_type, basic_type, row_type, store_type};
 ghost use Rattle.w4_defs.specs.ValueTypes.{result_types};
 ghost use Rattle.w4_defs.specs.declared.value.ValType.TheVariants.{I32};
 ghost use Rattle.wasm_valid.specs.StackTypes.{shown};
 
-use crate::instruction_table::row;
-use w4_defs::{IntegerType, Op, Row, ValType};
+use w4_defs::{Basic, IntegerType, Row, ValType};
 
 /// The types of the operands that are taken, and of those that are given, from the bottom to the top.
 #[derive(Clone, Copy)]
@@ -161,13 +160,13 @@ fn row_stack_type(row: Row) -> Option<StackType<'static>>
         Row::MemoryCopy => Some(fills()),
         Row::MemoryFill => Some(fills()),
         Row::Float => None,
-        Row::NoRow => None,
     }
 }
 
-/// The types of a memory or numeric instruction, where there is a memory; None at any other.
-pub fn table_stack_type(op: Op) -> Option<StackType<'static>>
-    ensures { shown result ≡ memory_type true op }
+/// The types of a memory or numeric instruction, where there is a memory.
+pub fn table_stack_type(basic: Basic) -> Option<StackType<'static>>
+    ensures { shown result ≡ basic_type true basic }
 {
-    row_stack_type(row(op))
+    let (_, row) = basic.table_row();
+    row_stack_type(row)
 }

@@ -1,11 +1,11 @@
-//! The steps of the pass: what each entry of a body does to the control stack.
+//! The steps of the pass: what each mark of a body does to the control stack.
 
 ghost use Rattle.std.specs.Prelude.{◌≡◌, ◌∷◌, IfOk, Some, [], option_and_then, slice_get};
 ghost use Rattle.w4_defs.specs.Lookup.{signature_of};
 ghost use Rattle.w4_defs.specs.OperandTypes.{gives, unary_type};
 ghost use Rattle.w4_defs.specs.AbstractStack.{after_branch, anything, selected};
 ghost use Rattle.w4_defs.specs.Typing.{branches, calls, consumes, only_type, sets};
-ghost use Rattle.wasm_valid.specs.ControlStack.{Becomes, after_stack_type, after_entry, after_operation, at_top, chosen_if, direct_type, shared, with_condition};
+ghost use Rattle.wasm_valid.specs.ControlStack.{Becomes, after_stack_type, after_mark, after_operation, at_top, chosen_if, direct_type, shared, with_condition};
 ghost use Rattle.wasm_valid.specs.Pass.{label_types};
 ghost use Rattle.wasm_valid.specs.StackTypes.{shown};
 
@@ -17,22 +17,22 @@ use w4_defs::{GlobalType, Op, OutOfMemory, ValType};
 
 /// The result says whether the control stack allows the step; where it doesn't, it is of no further use.
 impl<'a> Scope<'a> {
-    /// One entry of the body, with its labels.
-    pub fn check_entry(
+    /// One mark of the body, with its labels.
+    pub fn check_mark(
         &self,
         op: Op,
         labels: &[u32],
         control: &mut ControlStack<'a>,
     ) -> Result<bool, OutOfMemory>
         ensures { IfOk result
-            (λ went. Becomes went control.new (after_entry self.now op labels.now control.old)) }
+            (λ went. Becomes went control.new (after_mark self.now op labels.now control.old)) }
     {
         match op {
-            Op::Block { result: block, .. } => control.begin(
+            Op::Block { result: block, .. } => control.open_block(
                 result_types(block),
                 result_types(block),
             ),
-            Op::Loop { result: block, .. } => control.begin(&[], result_types(block)),
+            Op::Loop { result: block, .. } => control.open_block(&[], result_types(block)),
             Op::If {
                 result: block,
                 other,
@@ -44,7 +44,7 @@ impl<'a> Scope<'a> {
         }
     }
 
-    /// An operation: an entry that opens and closes no block.
+    /// An operation: a mark that opens and closes no block.
     fn check_operation(
         &self,
         op: Op,
@@ -62,7 +62,7 @@ impl<'a> Scope<'a> {
             Op::Return => Ok(control.branch(self.results())),
             Op::CallIndirect { signature, table } => self.call_indirect(signature, table, control),
             Op::Drop => Ok(control.drop_top()),
-            Op::Select => select(control),
+            Op::Select => check_select(control),
             _ => self.pass(op, control),
         }
     }
@@ -87,12 +87,13 @@ impl<'a> Scope<'a> {
                 gives: &[],
             }),
             Op::Call { func } => self.call(func),
-            Op::LocalGet { index } => gives(self.local(index)),
-            Op::LocalSet { index } => takes(self.local(index)),
-            Op::LocalTee { index } => keeps(self.local(index)),
-            Op::GlobalGet { index } => read(self.global(index)),
-            Op::GlobalSet { index } => written(self.global(index)),
-            _ => self.table_stack_type(op),
+            Op::LocalGet { index } => gives_type(self.local(index)),
+            Op::LocalSet { index } => takes_type(self.local(index)),
+            Op::LocalTee { index } => unary_type_of(self.local(index)),
+            Op::GlobalGet { index } => global_get_type(self.global(index)),
+            Op::GlobalSet { index } => global_set_type(self.global(index)),
+            Op::Basic(basic) => self.table_stack_type(basic),
+            _ => None,
         }
     }
 
@@ -132,7 +133,7 @@ impl<'a> Scope<'a> {
     }
 }
 
-fn gives(block: Option<ValType>) -> Option<StackType<'static>>
+fn gives_type(block: Option<ValType>) -> Option<StackType<'static>>
     ensures { shown result ≡ option_and_then gives block }
 {
     match block {
@@ -144,7 +145,7 @@ fn gives(block: Option<ValType>) -> Option<StackType<'static>>
     }
 }
 
-fn takes(block: Option<ValType>) -> Option<StackType<'static>>
+fn takes_type(block: Option<ValType>) -> Option<StackType<'static>>
     ensures { shown result ≡ option_and_then consumes block }
 {
     match block {
@@ -156,7 +157,7 @@ fn takes(block: Option<ValType>) -> Option<StackType<'static>>
     }
 }
 
-fn keeps(block: Option<ValType>) -> Option<StackType<'static>>
+fn unary_type_of(block: Option<ValType>) -> Option<StackType<'static>>
     ensures { shown result ≡ option_and_then unary_type block }
 {
     match block {
@@ -168,22 +169,22 @@ fn keeps(block: Option<ValType>) -> Option<StackType<'static>>
     }
 }
 
-fn read(global: Option<GlobalType>) -> Option<StackType<'static>>
+fn global_get_type(global: Option<GlobalType>) -> Option<StackType<'static>>
     ensures { shown result ≡ option_and_then (λ g. gives g.value) global }
 {
     match global {
-        Some(global) => gives(Some(global.value)),
+        Some(global) => gives_type(Some(global.value)),
         None => None,
     }
 }
 
-fn written(global: Option<GlobalType>) -> Option<StackType<'static>>
+fn global_set_type(global: Option<GlobalType>) -> Option<StackType<'static>>
     ensures { shown result ≡ option_and_then sets global }
 {
     match global {
         Some(global) => {
             if global.mutable {
-                takes(Some(global.value))
+                takes_type(Some(global.value))
             } else {
                 None
             }
@@ -252,11 +253,11 @@ fn branch_table(labels: &[u32], control: &mut ControlStack) -> bool
     control.branch(types)
 }
 
-fn select(control: &mut ControlStack) -> Result<bool, OutOfMemory>
+fn check_select(control: &mut ControlStack) -> Result<bool, OutOfMemory>
     ensures { IfOk result (λ went. Becomes went control.new (with_condition selected control.old)) }
 {
     if !control.take_all(one(ValType::I32)) {
         return Ok(false);
     }
-    control.select()
+    control.take_common()
 }

@@ -24,7 +24,7 @@ pub fn filled_table(alloc: Global, code: &Code) -> Result<Vec<Option<u32>>, OutO
     Ok(table)
 }
 
-/// As many empty entries as the first table has at least.
+/// As many empty elements as the first table has at least.
 fn empty_table(alloc: Global, tables: &[Limits]) -> Result<Vec<Option<u32>>, OutOfMemory>
     ensures { IfOk result (λ table. table.items ≡ empty_table tables.now) }
 {
@@ -34,7 +34,7 @@ fn empty_table(alloc: Global, tables: &[Limits]) -> Result<Vec<Option<u32>>, Out
     }
 }
 
-/// Puts these functions into the table from a place on.
+/// Puts these functions into the table from a position on.
 fn put_functions(table: &mut [Option<u32>], offset: usize, functions: &[u32])
     requires { offset + length functions.now ≤ length table.old }
     ensures { table.new ≡ put_functions table.old offset functions.now }

@@ -8,6 +8,7 @@ pub mod InstructionLaws
 pub mod ItemLaws
 pub mod SectionLaws
 pub mod ModuleLaws
+pub mod ShapeLaws
 pub mod ShortestLaws
 pub mod PartLaws
 pub mod SequenceLaws

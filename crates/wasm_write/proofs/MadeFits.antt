@@ -6,7 +6,8 @@ use Rattle.std.specs.List.{range_with_len, AllByRecursion}
 use Rattle.std.proofs.lemmas.List.Elements.{All-from_recursion}
 use Rattle.w4_defs.specs.declared.module.Locals.{Locals}
 use Rattle.w4_defs.specs.declared.operation.Op.{Op}
-use Rattle.w4_defs.specs.declared.operation.Op.TheVariants.{LocalGet, I32Const, I32Load, I32Load8U, I32Store, Call, I32Add}
+use Rattle.w4_defs.specs.declared.operation.Op.TheVariants.{LocalGet, Call, Basic}
+use Rattle.w4_defs.specs.declared.basic.Basic.TheVariants.{I32Const, I32Load, I32Load8U, I32Store, I32Add}
 use Rattle.w4_defs.specs.BinaryNumber.{LastUnsigned, LastSigned}
 use Rattle.w4_defs.specs.BinaryModule.{preamble}
 use Rattle.w4_defs.specs.Tree.{Expr, mark, sequence}
@@ -37,7 +38,7 @@ local-short : (n : ℕ) → n < 2 ^ 32 → IsShort (LocalGet n)
 unfolding IsShort
 local-short n h = ((refl, h), omega (arith, index_short n h))
 
-constant-short : (n : ℕ) → n < 2 ^ 32 → IsShort (I32Const n)
+constant-short : (n : ℕ) → n < 2 ^ 32 → IsShort (Basic (I32Const n))
 unfolding IsShort
 constant-short n h = ((refl, h), omega (arith, constant_short n h))
 
@@ -45,15 +46,15 @@ call-short : (n : ℕ) → n < 2 ^ 32 → IsShort (Call n)
 unfolding IsShort
 call-short n h = ((refl, h), omega (arith, index_short n h))
 
-load-short : IsShort (I32Load 2 0)
+load-short : IsShort (Basic (I32Load 2 0))
 unfolding IsShort unsigned_bytes
 load-short = ((refl, (omega arith, omega arith)), omega arith)
 
-byte-short : IsShort (I32Load8U 0 0)
+byte-short : IsShort (Basic (I32Load8U 0 0))
 unfolding IsShort unsigned_bytes
 byte-short = ((refl, (omega arith, omega arith)), omega arith)
 
-store-short : IsShort (I32Store 2 0)
+store-short : IsShort (Basic (I32Store 2 0))
 unfolding IsShort unsigned_bytes
 store-short = ((refl, (omega arith, omega arith)), omega arith)
 
@@ -87,7 +88,7 @@ all_short =
     )
 
 chosen-short : (drawn : ℕ) → IsShort (chosen drawn)
-chosen-short drawn = All-from_recursion IsShort operations all_short (drawn % 11) I32Add (omega arith)
+chosen-short drawn = All-from_recursion IsShort operations all_short (drawn % 11) (Basic I32Add) (omega arith)
 
 -- ---- lists
 
@@ -209,7 +210,7 @@ plain-short list short =
 
 small-list : ℕ → ℕ → List Op
 small-list number g =
-    LocalGet 0 ∷ LocalGet 1 ∷ chosen (draw number (3 * g)) ∷ I32Const (draw number (3 * g + 1))
+    LocalGet 0 ∷ LocalGet 1 ∷ chosen (draw number (3 * g)) ∷ Basic (I32Const (draw number (3 * g + 1)))
     ∷ chosen (draw number (3 * g + 2)) ∷ []
 
 small-list-short : (number g : ℕ) → AllByRecursion IsShort (small-list number g)

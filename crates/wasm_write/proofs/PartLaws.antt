@@ -1,4 +1,4 @@
--- A section is there if and only if it has entries.
+-- A section is there if and only if it has items.
 use Rattle.std.proofs.Common.{◌≡◌, ◌≢◌, ℕ, List, [], ◌∷◌, length, Some, None, refl, arith}
 use Rattle.w4_defs.specs.EncodeType.{vector_bytes}
 use Rattle.w4_defs.specs.EncodeModule.{part}

@@ -3,7 +3,8 @@
 use Rattle.std.specs.Prelude.{ℕ, ◌%◌, List, [], ◌∷◌, map, pos, false}
 use Rattle.std.specs.List.{range_with_len}
 use Rattle.w4_defs.specs.declared.console.Input.{Input}
-use Rattle.w4_defs.specs.declared.operation.Op.TheVariants.{LocalGet, I32Const}
+use Rattle.w4_defs.specs.declared.operation.Op.TheVariants.{LocalGet, Basic}
+use Rattle.w4_defs.specs.declared.basic.Basic.TheVariants.{I32Const}
 use Rattle.w4_defs.specs.Tree.{sequence}
 use Rattle.w4_defs.specs.Module.{Function}
 use Rattle.w4_defs.specs.Generator.{chosen, draw, made_frames}
@@ -12,7 +13,7 @@ use Rattle.w4_defs.specs.Generator.{chosen, draw, made_frames}
 abbrev pub function_of_draws : ℕ → ℕ → ℕ → Function
 function_of_draws first value second = record {
   runs = [];
-  list = sequence (LocalGet 0 ∷ LocalGet 1 ∷ chosen first ∷ I32Const value ∷ chosen second ∷ []);
+  list = sequence (LocalGet 0 ∷ LocalGet 1 ∷ chosen first ∷ Basic (I32Const value) ∷ chosen second ∷ []);
 }
 
 -- the input of a draw

@@ -2,6 +2,8 @@
 use Rattle.std.specs.Prelude.{◌≡◌, ℕ, List, [], ◌∷◌, ◌++◌, length, flat_map}
 use Rattle.std.specs.Int.{w32, w64, to_le_bytes}
 use Rattle.w4_defs.specs.declared.instruction.Instr.{Instr}
+use Rattle.w4_defs.specs.declared.instruction_table.Row.{Row}
+use Rattle.w4_defs.specs.declared.instruction_table.Row.TheVariants.{Const}
 use Rattle.w4_defs.specs.Tree.{Expr}
 use Rattle.w4_defs.specs.View.{before, expression_of}
 use Rattle.wasm_write.specs.declared.instruction_table.Encoding.{Encoding}
@@ -40,7 +42,7 @@ IsEncodedAs i e =
     (close : ℕ) (rest : Expr)
     → list_bytes close (before i rest) ≡ head_bytes e ++ (inner_bytes e ++ list_bytes close rest)
 
--- the instruction is encoded by one byte
-abbrev pub IsOpcode : Instr → ℕ → Type 0
-IsOpcode i code =
-    (close : ℕ) (rest : Expr) → list_bytes close (before i rest) ≡ code ∷ list_bytes close rest
+-- a row whose immediate isn't a constant
+abbrev pub HasNoConstant : Row → Type 0
+HasNoConstant (Const t value) = ⊥
+HasNoConstant _ = Unit {0}

@@ -5,11 +5,17 @@
 use Rattle.std.specs.Prelude.{◌≡◌, ℕ, ◌^◌, ◌<◌, ◌≤◌, List, [], length, All, IfSome, IsUtf8}
 use Rattle.w4_defs.specs.declared.value.Limits.{Limits}
 use Rattle.w4_defs.specs.declared.operation.Op.{Op}
-use Rattle.w4_defs.specs.declared.operation.Op.TheVariants.{Block, Loop, If, Else, End, BrTable, Br, BrIf, Call, CallIndirect, LocalGet, LocalSet, LocalTee, GlobalGet, GlobalSet, I32Load, I64Load, I32Load8S, I32Load8U, I32Load16S, I32Load16U, I64Load8S, I64Load8U, I64Load16S, I64Load16U, I64Load32S, I64Load32U, I32Store, I64Store, I32Store8, I32Store16, I64Store8, I64Store16, I64Store32, FloatMemory, I32Const, I64Const, F32Const, F64Const, FloatPlain, FloatCut}
+use Rattle.w4_defs.specs.declared.operation.Op.TheVariants as op
+use Rattle.w4_defs.specs.declared.operation.Op.TheVariants.{Block, Loop, If, Else, End, BrTable, Br, BrIf, Call, CallIndirect, LocalGet, LocalSet, LocalTee, GlobalGet, GlobalSet}
+use Rattle.w4_defs.specs.declared.basic.Basic.{Basic}
+use Rattle.w4_defs.specs.declared.basic.Basic.TheVariants.{F32Const, F64Const, FloatMemory, FloatPlain, FloatCut}
+use Rattle.w4_defs.specs.declared.instruction_table.IntegerType.TheVariants.{I32, I64}
+use Rattle.w4_defs.specs.declared.instruction_table.Row.{Row}
+use Rattle.w4_defs.specs.declared.instruction_table.Row.TheVariants.{Const, Load, Store}
 use Rattle.w4_defs.specs.declared.module.ImportKind.{ImportKind}
 use Rattle.w4_defs.specs.declared.module.ImportKind.TheVariants as imports
-use Rattle.w4_defs.specs.BinaryNumeric.{IsFloatCode}
-use Rattle.w4_defs.specs.BinaryMemory.{IsFloatAccess}
+use Rattle.w4_defs.specs.BinaryBasic.{IsFloatCode, IsFloatAccess}
+use Rattle.w4_defs.specs.InstructionTable.{row}
 use Rattle.w4_defs.specs.Lookup.{local_count}
 use Rattle.w4_defs.specs.Module.{Signature, Imported, Exported, Global, ElementSegment, DataSegment, Function, WasmModule}
 use Rattle.w4_defs.specs.Tree.{Expr, done, plain, block, loop, if_then, if_else}
@@ -30,6 +36,21 @@ NameFits codes = IndexFits (length codes) × IsUtf8 codes
 abbrev pub ImmediateFits : ℕ → ℕ → Type 0
 ImmediateFits align offset = IndexFits align × IndexFits offset
 
+abbrev pub RowFits : Row → Type 0
+RowFits (Const I32 value) = value < 2 ^ 32
+RowFits (Const I64 value) = value < 2 ^ 64
+RowFits (Load t bytes sign align offset) = ImmediateFits align offset
+RowFits (Store t bytes align offset) = ImmediateFits align offset
+RowFits _ = Unit {0}
+
+abbrev pub BasicFits : Basic → Type 0
+BasicFits (F32Const bits) = bits < 2 ^ 32
+BasicFits (F64Const bits) = bits < 2 ^ 64
+BasicFits (FloatMemory code align offset) = IsFloatAccess code × ImmediateFits align offset
+BasicFits (FloatPlain code) = IsFloatCode code
+BasicFits (FloatCut code) = code ≤ 7
+BasicFits i = RowFits (row i)
+
 -- an instruction that holds no list and has no labels
 abbrev pub OperationFits : Op → Type 0
 OperationFits (Br label) = label < 2 ^ 32
@@ -41,32 +62,7 @@ OperationFits (LocalSet index) = index < 2 ^ 32
 OperationFits (LocalTee index) = index < 2 ^ 32
 OperationFits (GlobalGet index) = index < 2 ^ 32
 OperationFits (GlobalSet index) = index < 2 ^ 32
-OperationFits (I32Load align offset) = ImmediateFits align offset
-OperationFits (I64Load align offset) = ImmediateFits align offset
-OperationFits (I32Load8S align offset) = ImmediateFits align offset
-OperationFits (I32Load8U align offset) = ImmediateFits align offset
-OperationFits (I32Load16S align offset) = ImmediateFits align offset
-OperationFits (I32Load16U align offset) = ImmediateFits align offset
-OperationFits (I64Load8S align offset) = ImmediateFits align offset
-OperationFits (I64Load8U align offset) = ImmediateFits align offset
-OperationFits (I64Load16S align offset) = ImmediateFits align offset
-OperationFits (I64Load16U align offset) = ImmediateFits align offset
-OperationFits (I64Load32S align offset) = ImmediateFits align offset
-OperationFits (I64Load32U align offset) = ImmediateFits align offset
-OperationFits (I32Store align offset) = ImmediateFits align offset
-OperationFits (I64Store align offset) = ImmediateFits align offset
-OperationFits (I32Store8 align offset) = ImmediateFits align offset
-OperationFits (I32Store16 align offset) = ImmediateFits align offset
-OperationFits (I64Store8 align offset) = ImmediateFits align offset
-OperationFits (I64Store16 align offset) = ImmediateFits align offset
-OperationFits (I64Store32 align offset) = ImmediateFits align offset
-OperationFits (FloatMemory code align offset) = IsFloatAccess code × ImmediateFits align offset
-OperationFits (I32Const value) = value < 2 ^ 32
-OperationFits (I64Const value) = value < 2 ^ 64
-OperationFits (F32Const bits) = bits < 2 ^ 32
-OperationFits (F64Const bits) = bits < 2 ^ 64
-OperationFits (FloatPlain code) = IsFloatCode code
-OperationFits (FloatCut code) = code ≤ 7
+OperationFits (op.Basic i) = BasicFits i
 OperationFits (Block result end) = ⊥
 OperationFits (Loop result end) = ⊥
 OperationFits (If result other end) = ⊥

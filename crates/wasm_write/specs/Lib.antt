@@ -1,6 +1,5 @@
 -- The bytes that the writer gives, for each value.
 pub mod EncodingForms
-pub mod InstructionTable
 pub mod OpenLists
 pub mod Fits
 pub mod Sections

@@ -1,4 +1,4 @@
--- The sections of a module, of which those without entries are left out.
+-- The sections of a module, of which those without items are left out.
 use Rattle.std.specs.Prelude.{ℕ, ◌<◌, ◌≤◌, ◌==◌, if◌then◌else◌, List, [], ◌∷◌, Option, Some, None, option_map}
 use Rattle.w4_defs.specs.BinarySection.{Section}
 use Rattle.w4_defs.specs.Module.{WasmModule}

@@ -14,7 +14,7 @@ ghost use Rattle.wasm_write.specs.Sequences.{AppendsOperations, IsOperation};
 use crate::made_module::{SMALL_FUNCTIONS, module_around};
 use crate::module::write_module;
 use std::alloc::Global;
-use w4_defs::{Body, Input, Instr, OutOfMemory};
+use w4_defs::{Basic, Body, Input, Instr, OutOfMemory};
 
 /// A made cart, the budget of its reset and of each frame, and its inputs.
 #[derive(Debug, Drop)]
@@ -60,17 +60,17 @@ fn choice(drawn: u32) -> Instr
     ensures { IsOperation result (chosen drawn) }
 {
     match drawn % 11 {
-        0 => Instr::I32Add,
-        1 => Instr::I32Sub,
-        2 => Instr::I32Mul,
-        3 => Instr::I32And,
-        4 => Instr::I32Or,
-        5 => Instr::I32Xor,
-        6 => Instr::I32Shl,
-        7 => Instr::I32ShrS,
-        8 => Instr::I32ShrU,
-        9 => Instr::I32Rotl,
-        _ => Instr::I32Rotr,
+        0 => Instr::Basic(Basic::I32Add),
+        1 => Instr::Basic(Basic::I32Sub),
+        2 => Instr::Basic(Basic::I32Mul),
+        3 => Instr::Basic(Basic::I32And),
+        4 => Instr::Basic(Basic::I32Or),
+        5 => Instr::Basic(Basic::I32Xor),
+        6 => Instr::Basic(Basic::I32Shl),
+        7 => Instr::Basic(Basic::I32ShrS),
+        8 => Instr::Basic(Basic::I32ShrU),
+        9 => Instr::Basic(Basic::I32Rotl),
+        _ => Instr::Basic(Basic::I32Rotr),
     }
 }
 
@@ -87,7 +87,7 @@ fn function_of_draws(
     list.push(Instr::LocalGet { index: 0 })?;
     list.push(Instr::LocalGet { index: 1 })?;
     list.push(choice(first))?;
-    list.push(Instr::I32Const { value })?;
+    list.push(Instr::Basic(Basic::I32Const { value }))?;
     list.push(choice(second))?;
     let runs = Vec::new(alloc);
     Ok(Body { runs, list })
@@ -109,22 +109,22 @@ fn step(list: &mut Vec<Instr>, g: u32) -> Result<(), OutOfMemory>
     ensures { IfOk result (λ _. AppendsOperations list.old.items (step_of g) list.new.items) }
 {
     let address = WORDS + 4 * g;
-    list.push(Instr::I32Const { value: address })?;
-    list.push(Instr::I32Const { value: address })?;
-    list.push(Instr::I32Load {
+    list.push(Instr::Basic(Basic::I32Const { value: address }))?;
+    list.push(Instr::Basic(Basic::I32Const { value: address }))?;
+    list.push(Instr::Basic(Basic::I32Load {
         align: 2,
         offset: 0,
-    })?;
-    list.push(Instr::I32Const { value: 22 })?;
-    list.push(Instr::I32Load8U {
+    }))?;
+    list.push(Instr::Basic(Basic::I32Const { value: 22 }))?;
+    list.push(Instr::Basic(Basic::I32Load8U {
         align: 0,
         offset: 0,
-    })?;
+    }))?;
     list.push(Instr::Call { func: g + 1 })?;
-    list.push(Instr::I32Store {
+    list.push(Instr::Basic(Basic::I32Store {
         align: 2,
         offset: 0,
-    })?;
+    }))?;
     Ok(())
 }
 
@@ -143,11 +143,11 @@ fn steps(list: &mut Vec<Instr>) -> Result<(), OutOfMemory>
 fn byte_of_word(list: &mut Vec<Instr>, address: u32) -> Result<(), OutOfMemory>
     ensures { IfOk result (λ _. AppendsOperations list.old.items (byte_at address) list.new.items) }
 {
-    list.push(Instr::I32Const { value: address })?;
-    list.push(Instr::I32Load8U {
+    list.push(Instr::Basic(Basic::I32Const { value: address }))?;
+    list.push(Instr::Basic(Basic::I32Load8U {
         align: 0,
         offset: 0,
-    })?;
+    }))?;
     Ok(())
 }
 

@@ -3,7 +3,7 @@
 #![tactic(auto, unfolding(w4_defs::specs::View::before))]
 
 ghost use Rattle.std.specs.Prelude.{IfOk, length, ℕ, ◌<◌, ◌≡◌, ◌≤◌};
-ghost use Rattle.w4_defs.specs.BinaryNumeric.{IsFloatCode};
+ghost use Rattle.w4_defs.specs.BinaryBasic.{IsFloatCode};
 ghost use Rattle.w4_defs.specs.View.{expression_of};
 ghost use Rattle.w4_defs.specs.EncodeInstruction.{expression_bytes};
 ghost use Rattle.wasm_write.specs.Fits.{ExpressionFits, ModuleFits};
@@ -15,8 +15,8 @@ use std::alloc::Global;
 use std::process::Abort;
 use std::test::Fail;
 use w4_defs::{
-    Body, Element, Export, ExportKind, FuncType, GlobalEntry, GlobalType, ImportEntry, ImportKind,
-    Instr, Limits, Locals, Module, Segment, ValType,
+    Basic, Body, Element, Export, ExportKind, FuncType, GlobalEntry, GlobalType, ImportEntry,
+    ImportKind, Instr, Limits, Locals, Module, Segment, ValType,
 };
 use wasm_read::{ReadRefusal, at_most_one, read_module};
 use wasm_tree::Code;
@@ -129,17 +129,17 @@ fn made_cart_of_0_begins_with_the_worked_function(rt: HostRuntime) -> Result<(),
 #[test]
 fn comparisons_of_i32_have_the_opcodes_of_the_standard(rt: HostRuntime) -> Result<(), Fail> {
     let list = [
-        Instr::I32Eqz,
-        Instr::I32Eq,
-        Instr::I32Ne,
-        Instr::I32LtS,
-        Instr::I32LtU,
-        Instr::I32GtS,
-        Instr::I32GtU,
-        Instr::I32LeS,
-        Instr::I32LeU,
-        Instr::I32GeS,
-        Instr::I32GeU,
+        Instr::Basic(Basic::I32Eqz),
+        Instr::Basic(Basic::I32Eq),
+        Instr::Basic(Basic::I32Ne),
+        Instr::Basic(Basic::I32LtS),
+        Instr::Basic(Basic::I32LtU),
+        Instr::Basic(Basic::I32GtS),
+        Instr::Basic(Basic::I32GtU),
+        Instr::Basic(Basic::I32LeS),
+        Instr::Basic(Basic::I32LeU),
+        Instr::Basic(Basic::I32GeS),
+        Instr::Basic(Basic::I32GeU),
     ];
     let want = b"\x45\x46\x47\x48\x49\x4a\x4b\x4c\x4d\x4e\x4f";
     check_list(&rt, rt.alloc(), list, want)
@@ -148,17 +148,17 @@ fn comparisons_of_i32_have_the_opcodes_of_the_standard(rt: HostRuntime) -> Resul
 #[test]
 fn comparisons_of_i64_have_the_opcodes_of_the_standard(rt: HostRuntime) -> Result<(), Fail> {
     let list = [
-        Instr::I64Eqz,
-        Instr::I64Eq,
-        Instr::I64Ne,
-        Instr::I64LtS,
-        Instr::I64LtU,
-        Instr::I64GtS,
-        Instr::I64GtU,
-        Instr::I64LeS,
-        Instr::I64LeU,
-        Instr::I64GeS,
-        Instr::I64GeU,
+        Instr::Basic(Basic::I64Eqz),
+        Instr::Basic(Basic::I64Eq),
+        Instr::Basic(Basic::I64Ne),
+        Instr::Basic(Basic::I64LtS),
+        Instr::Basic(Basic::I64LtU),
+        Instr::Basic(Basic::I64GtS),
+        Instr::Basic(Basic::I64GtU),
+        Instr::Basic(Basic::I64LeS),
+        Instr::Basic(Basic::I64LeU),
+        Instr::Basic(Basic::I64GeS),
+        Instr::Basic(Basic::I64GeU),
     ];
     let want = b"\x50\x51\x52\x53\x54\x55\x56\x57\x58\x59\x5a";
     check_list(&rt, rt.alloc(), list, want)
@@ -167,24 +167,24 @@ fn comparisons_of_i64_have_the_opcodes_of_the_standard(rt: HostRuntime) -> Resul
 #[test]
 fn arithmetic_of_i32_has_the_opcodes_of_the_standard(rt: HostRuntime) -> Result<(), Fail> {
     let list = [
-        Instr::I32Clz,
-        Instr::I32Ctz,
-        Instr::I32Popcnt,
-        Instr::I32Add,
-        Instr::I32Sub,
-        Instr::I32Mul,
-        Instr::I32DivS,
-        Instr::I32DivU,
-        Instr::I32RemS,
-        Instr::I32RemU,
-        Instr::I32And,
-        Instr::I32Or,
-        Instr::I32Xor,
-        Instr::I32Shl,
-        Instr::I32ShrS,
-        Instr::I32ShrU,
-        Instr::I32Rotl,
-        Instr::I32Rotr,
+        Instr::Basic(Basic::I32Clz),
+        Instr::Basic(Basic::I32Ctz),
+        Instr::Basic(Basic::I32Popcnt),
+        Instr::Basic(Basic::I32Add),
+        Instr::Basic(Basic::I32Sub),
+        Instr::Basic(Basic::I32Mul),
+        Instr::Basic(Basic::I32DivS),
+        Instr::Basic(Basic::I32DivU),
+        Instr::Basic(Basic::I32RemS),
+        Instr::Basic(Basic::I32RemU),
+        Instr::Basic(Basic::I32And),
+        Instr::Basic(Basic::I32Or),
+        Instr::Basic(Basic::I32Xor),
+        Instr::Basic(Basic::I32Shl),
+        Instr::Basic(Basic::I32ShrS),
+        Instr::Basic(Basic::I32ShrU),
+        Instr::Basic(Basic::I32Rotl),
+        Instr::Basic(Basic::I32Rotr),
     ];
     let want = b"\x67\x68\x69\x6a\x6b\x6c\x6d\x6e\x6f\x70\x71\x72\x73\x74\x75\x76\x77\x78";
     check_list(&rt, rt.alloc(), list, want)
@@ -193,24 +193,24 @@ fn arithmetic_of_i32_has_the_opcodes_of_the_standard(rt: HostRuntime) -> Result<
 #[test]
 fn arithmetic_of_i64_has_the_opcodes_of_the_standard(rt: HostRuntime) -> Result<(), Fail> {
     let list = [
-        Instr::I64Clz,
-        Instr::I64Ctz,
-        Instr::I64Popcnt,
-        Instr::I64Add,
-        Instr::I64Sub,
-        Instr::I64Mul,
-        Instr::I64DivS,
-        Instr::I64DivU,
-        Instr::I64RemS,
-        Instr::I64RemU,
-        Instr::I64And,
-        Instr::I64Or,
-        Instr::I64Xor,
-        Instr::I64Shl,
-        Instr::I64ShrS,
-        Instr::I64ShrU,
-        Instr::I64Rotl,
-        Instr::I64Rotr,
+        Instr::Basic(Basic::I64Clz),
+        Instr::Basic(Basic::I64Ctz),
+        Instr::Basic(Basic::I64Popcnt),
+        Instr::Basic(Basic::I64Add),
+        Instr::Basic(Basic::I64Sub),
+        Instr::Basic(Basic::I64Mul),
+        Instr::Basic(Basic::I64DivS),
+        Instr::Basic(Basic::I64DivU),
+        Instr::Basic(Basic::I64RemS),
+        Instr::Basic(Basic::I64RemU),
+        Instr::Basic(Basic::I64And),
+        Instr::Basic(Basic::I64Or),
+        Instr::Basic(Basic::I64Xor),
+        Instr::Basic(Basic::I64Shl),
+        Instr::Basic(Basic::I64ShrS),
+        Instr::Basic(Basic::I64ShrU),
+        Instr::Basic(Basic::I64Rotl),
+        Instr::Basic(Basic::I64Rotr),
     ];
     let want = b"\x79\x7a\x7b\x7c\x7d\x7e\x7f\x80\x81\x82\x83\x84\x85\x86\x87\x88\x89\x8a";
     check_list(&rt, rt.alloc(), list, want)
@@ -219,14 +219,14 @@ fn arithmetic_of_i64_has_the_opcodes_of_the_standard(rt: HostRuntime) -> Result<
 #[test]
 fn conversions_have_the_opcodes_of_the_standard(rt: HostRuntime) -> Result<(), Fail> {
     let list = [
-        Instr::I32WrapI64,
-        Instr::I64ExtendI32S,
-        Instr::I64ExtendI32U,
-        Instr::I32Extend8S,
-        Instr::I32Extend16S,
-        Instr::I64Extend8S,
-        Instr::I64Extend16S,
-        Instr::I64Extend32S,
+        Instr::Basic(Basic::I32WrapI64),
+        Instr::Basic(Basic::I64ExtendI32S),
+        Instr::Basic(Basic::I64ExtendI32U),
+        Instr::Basic(Basic::I32Extend8S),
+        Instr::Basic(Basic::I32Extend16S),
+        Instr::Basic(Basic::I64Extend8S),
+        Instr::Basic(Basic::I64Extend16S),
+        Instr::Basic(Basic::I64Extend32S),
     ];
     let want = b"\xa7\xac\xad\xc0\xc1\xc2\xc3\xc4";
     check_list(&rt, rt.alloc(), list, want)
@@ -249,18 +249,18 @@ fn accesses(alloc: Global, opcodes: &[u8]) -> Result<Vec<u8>, Fail> {
 fn loads_have_the_opcodes_of_the_standard(rt: HostRuntime) -> Result<(), Fail> {
     let (align, offset) = (1, 130);
     let list = [
-        Instr::I32Load { align, offset },
-        Instr::I64Load { align, offset },
-        Instr::I32Load8S { align, offset },
-        Instr::I32Load8U { align, offset },
-        Instr::I32Load16S { align, offset },
-        Instr::I32Load16U { align, offset },
-        Instr::I64Load8S { align, offset },
-        Instr::I64Load8U { align, offset },
-        Instr::I64Load16S { align, offset },
-        Instr::I64Load16U { align, offset },
-        Instr::I64Load32S { align, offset },
-        Instr::I64Load32U { align, offset },
+        Instr::Basic(Basic::I32Load { align, offset }),
+        Instr::Basic(Basic::I64Load { align, offset }),
+        Instr::Basic(Basic::I32Load8S { align, offset }),
+        Instr::Basic(Basic::I32Load8U { align, offset }),
+        Instr::Basic(Basic::I32Load16S { align, offset }),
+        Instr::Basic(Basic::I32Load16U { align, offset }),
+        Instr::Basic(Basic::I64Load8S { align, offset }),
+        Instr::Basic(Basic::I64Load8U { align, offset }),
+        Instr::Basic(Basic::I64Load16S { align, offset }),
+        Instr::Basic(Basic::I64Load16U { align, offset }),
+        Instr::Basic(Basic::I64Load32S { align, offset }),
+        Instr::Basic(Basic::I64Load32U { align, offset }),
     ];
     let want = accesses(
         rt.alloc(),
@@ -273,13 +273,13 @@ fn loads_have_the_opcodes_of_the_standard(rt: HostRuntime) -> Result<(), Fail> {
 fn stores_have_the_opcodes_of_the_standard(rt: HostRuntime) -> Result<(), Fail> {
     let (align, offset) = (1, 130);
     let list = [
-        Instr::I32Store { align, offset },
-        Instr::I64Store { align, offset },
-        Instr::I32Store8 { align, offset },
-        Instr::I32Store16 { align, offset },
-        Instr::I64Store8 { align, offset },
-        Instr::I64Store16 { align, offset },
-        Instr::I64Store32 { align, offset },
+        Instr::Basic(Basic::I32Store { align, offset }),
+        Instr::Basic(Basic::I64Store { align, offset }),
+        Instr::Basic(Basic::I32Store8 { align, offset }),
+        Instr::Basic(Basic::I32Store16 { align, offset }),
+        Instr::Basic(Basic::I64Store8 { align, offset }),
+        Instr::Basic(Basic::I64Store16 { align, offset }),
+        Instr::Basic(Basic::I64Store32 { align, offset }),
     ];
     let want = accesses(rt.alloc(), b"\x36\x37\x3a\x3b\x3c\x3d\x3e")?;
     check_list(&rt, rt.alloc(), list, want.as_slice())
@@ -290,10 +290,10 @@ fn instructions_of_the_whole_memory_are_encoded_as_the_standard_says(
     rt: HostRuntime,
 ) -> Result<(), Fail> {
     let list = [
-        Instr::MemorySize,
-        Instr::MemoryGrow,
-        Instr::MemoryCopy,
-        Instr::MemoryFill,
+        Instr::Basic(Basic::MemorySize),
+        Instr::Basic(Basic::MemoryGrow),
+        Instr::Basic(Basic::MemoryCopy),
+        Instr::Basic(Basic::MemoryFill),
     ];
     let want = b"\x3f\x00\x40\x00\xfc\x0a\x00\x00\xfc\x0b\x00";
     check_list(&rt, rt.alloc(), list, want)
@@ -303,26 +303,26 @@ fn instructions_of_the_whole_memory_are_encoded_as_the_standard_says(
 fn accesses_of_floats_have_the_opcodes_of_the_standard(rt: HostRuntime) -> Result<(), Fail> {
     let (align, offset) = (1, 130);
     let list = [
-        Instr::FloatMemory {
+        Instr::Basic(Basic::FloatMemory {
             code: 0x2a,
             align,
             offset,
-        },
-        Instr::FloatMemory {
+        }),
+        Instr::Basic(Basic::FloatMemory {
             code: 0x2b,
             align,
             offset,
-        },
-        Instr::FloatMemory {
+        }),
+        Instr::Basic(Basic::FloatMemory {
             code: 0x38,
             align,
             offset,
-        },
-        Instr::FloatMemory {
+        }),
+        Instr::Basic(Basic::FloatMemory {
             code: 0x39,
             align,
             offset,
-        },
+        }),
     ];
     let want = accesses(rt.alloc(), b"\x2a\x2b\x38\x39")?;
     check_list(&rt, rt.alloc(), list, want.as_slice())
@@ -332,17 +332,17 @@ fn accesses_of_floats_have_the_opcodes_of_the_standard(rt: HostRuntime) -> Resul
 fn instructions_of_floats_are_encoded_as_the_standard_says(rt: HostRuntime) -> Result<(), Fail> {
     let bits = 0x3ff0_0000_0000_0000;
     let list = [
-        Instr::F32Const { bits: 0x3f80_0000 },
-        Instr::F64Const { bits },
-        Instr::FloatPlain { code: 0xa0 },
-        Instr::FloatCut { code: 0 },
-        Instr::FloatCut { code: 1 },
-        Instr::FloatCut { code: 2 },
-        Instr::FloatCut { code: 3 },
-        Instr::FloatCut { code: 4 },
-        Instr::FloatCut { code: 5 },
-        Instr::FloatCut { code: 6 },
-        Instr::FloatCut { code: 7 },
+        Instr::Basic(Basic::F32Const { bits: 0x3f80_0000 }),
+        Instr::Basic(Basic::F64Const { bits }),
+        Instr::Basic(Basic::FloatPlain { code: 0xa0 }),
+        Instr::Basic(Basic::FloatCut { code: 0 }),
+        Instr::Basic(Basic::FloatCut { code: 1 }),
+        Instr::Basic(Basic::FloatCut { code: 2 }),
+        Instr::Basic(Basic::FloatCut { code: 3 }),
+        Instr::Basic(Basic::FloatCut { code: 4 }),
+        Instr::Basic(Basic::FloatCut { code: 5 }),
+        Instr::Basic(Basic::FloatCut { code: 6 }),
+        Instr::Basic(Basic::FloatCut { code: 7 }),
     ];
     let want = b"\x43\x00\x00\x80\x3f\x44\x00\x00\x00\x00\x00\x00\xf0\x3f\xa0\
         \xfc\x00\xfc\x01\xfc\x02\xfc\x03\xfc\x04\xfc\x05\xfc\x06\xfc\x07";
@@ -354,7 +354,12 @@ fn check_float_opcodes(rt: &impl Abort, alloc: Global, first: u8, end: u8) -> Re
     requires { (code : ℕ) → first ≤ code → code < end → IsFloatCode code }
 {
     for code in first..end {
-        check_list(rt, alloc, [Instr::FloatPlain { code }], &[code])?;
+        check_list(
+            rt,
+            alloc,
+            [Instr::Basic(Basic::FloatPlain { code })],
+            &[code],
+        )?;
     }
     Ok(())
 }
@@ -371,11 +376,11 @@ fn instructions_of_floats_have_the_opcodes_of_the_standard(rt: HostRuntime) -> R
 #[test]
 fn constants_have_signed_numbers_in_their_shortest_encoding(rt: HostRuntime) -> Result<(), Fail> {
     let list = [
-        Instr::I32Const { value: 160 },
-        Instr::I32Const { value: 65_533 },
-        Instr::I32Const { value: u32::MAX },
-        Instr::I64Const { value: 64 },
-        Instr::I64Const { value: 1 << 63 },
+        Instr::Basic(Basic::I32Const { value: 160 }),
+        Instr::Basic(Basic::I32Const { value: 65_533 }),
+        Instr::Basic(Basic::I32Const { value: u32::MAX }),
+        Instr::Basic(Basic::I64Const { value: 64 }),
+        Instr::Basic(Basic::I64Const { value: 1 << 63 }),
     ];
     let want = b"\x41\xa0\x01\x41\xfd\xff\x03\x41\x7f\x42\xc0\x00\
         \x42\x80\x80\x80\x80\x80\x80\x80\x80\x80\x7f";
@@ -513,7 +518,7 @@ const fn sizes(least: u32, greatest: Option<u32>) -> Limits {
 }
 
 fn constant(alloc: Global, value: u32) -> Result<Vec<Instr>, Fail> {
-    Ok(vec![in alloc; Instr::I32Const { value }]?)
+    Ok(vec![in alloc; Instr::Basic(Basic::I32Const { value })]?)
 }
 
 fn types(alloc: Global) -> Result<Vec<FuncType>, Fail> {

@@ -1,4 +1,4 @@
-//! What no clause says: that the clauses mean the bytes of the memory map and the worked pictures.
+//! What no clause says: that the clauses mean the bytes of the memory map and the worked drawings.
 
 ghost use Rattle.std.specs.Prelude.{◌<◌};
 
@@ -40,7 +40,7 @@ fn blits_paint_the_worked_cases(rt: HostRuntime) {
     assert!(rt; shows(&page, 0, 1, [0x93, 0x03]), "out of the framebuffer");
 }
 
-/// The first bytes of the screen's first four rows, after the picture 1000 0110 of 4 by 2 pixels, one bit
+/// The first bytes of the screen's first four rows, after the sprite 1000 0110 of 4 by 2 pixels, one bit
 /// each, was painted with these flags.
 fn turned(page: &mut PageBytes, flags: u32) -> [u8; 4] {
     page.fill(0);

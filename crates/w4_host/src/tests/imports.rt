@@ -107,7 +107,7 @@ fn shapes_are_drawn_by_their_imports(rt: HostRuntime) -> Result<(), Fail> {
 }
 
 #[test]
-fn pictures_are_drawn_by_their_imports(rt: HostRuntime) -> Result<(), Fail> {
+fn sprites_are_drawn_by_their_imports(rt: HostRuntime) -> Result<(), Fail> {
     let font = zero_font()?;
     let mut host = board(&font);
     let page = &mut Box::new(rt.alloc(), [0u8; 65536])?;
@@ -159,14 +159,14 @@ fn disk_is_reached_by_its_imports(rt: HostRuntime) -> Result<(), Fail> {
 
 /// The two texts of a board's logs, one after another.
 fn texts(alloc: Global, board: Board) -> Result<Vec<u8>, Fail> {
-    let made = FrameRecord {
+    let frame_record = FrameRecord {
         tones: board.tones,
         traces: board.traces,
         sounds: board.channels.sounds(0),
     };
     let mut out = Vec::new(alloc);
-    schedule_text(alloc, 1, &made, &mut out)?;
-    trace_text(alloc, 1, &made, &mut out)?;
+    schedule_text(alloc, 1, &frame_record, &mut out)?;
+    trace_text(alloc, 1, &frame_record, &mut out)?;
     Ok(out)
 }
 

@@ -1,4 +1,4 @@
-//! What no clause says: that the clauses mean the worked pictures, and that a line has the points of the
+//! What no clause says: that the clauses mean the worked drawings, and that a line has the points of the
 //! WASM-4 runtime's loop.
 
 use std::boxed::Box;

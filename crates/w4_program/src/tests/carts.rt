@@ -3,7 +3,7 @@
 use std::alloc::Global;
 use std::test::Fail;
 use w4_blit::Font;
-use w4_commands::accept;
+use w4_cart::accept;
 use w4_defs::Input;
 use wasm_valid::Cart;
 

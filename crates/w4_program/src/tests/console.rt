@@ -35,9 +35,9 @@ const LOADING: [u8; 67] = [
 fn started(alloc: Global, cart: &Cart, font: &Font) -> Result<Console, Fail>
     ensures { IfOk result (λ console. HasGlobals cart.now console) }
 {
-    let mut made = FrameRecord::new();
+    let mut frame_record = FrameRecord::new();
     let mut console = Console::new(alloc, cart)?;
-    console.reset(cart, font, &[7], 100_000, &mut made);
+    console.reset(cart, font, &[7], 100_000, &mut frame_record);
     Ok(console)
 }
 
@@ -61,8 +61,8 @@ fn counted<L: Ledger>(console: &mut Console, cart: &Cart, font: &Font, input: &I
     ensures globals { HasGlobals cart.now console.new }
 {
     let mut steps = Steps::<L>::new(blank);
-    let mut made = FrameRecord::new();
-    console.frame(cart, font, input, 100_000, &mut made, &mut steps);
+    let mut frame_record = FrameRecord::new();
+    console.frame(cart, font, input, 100_000, &mut frame_record, &mut steps);
 }
 
 /// One frame.

@@ -9,12 +9,12 @@ use std::thread::Threads;
 use w4_commands::Status;
 use w4_defs::OutOfMemory;
 
-/// Edits, an undo too many, and what they print after two images.
+/// Edits, an undo too many, and what they write after two images.
 const UNDONE: &str = "set 0 27 0 0 0 0 0 0\nshow 1\nundo\nshow 1\nundo\nstate 1\n";
 
 const UNDONE_TEXT: &str = "refused nothing to undo\nstate 1 of 2 halt running disk 0 kept 0\n";
 
-/// One order of each kind, and what they print after two images. The disk is empty.
+/// One order of each kind, and what they write after two images. The disk is empty.
 const EACH_KIND: &str =
     "set 0 27 0 0 0 0 0 0\ninsert 1 0 0 0 0 0 0 0\ndelete 1\nundo\nredo\nkeep 1\n\
     keep-every 2\ndrop 1\nsettle 1\nshow 1\nfilm 1 1 1\ntones 1 1\ntraces 1 1\ndisk 1\nstate 1\n";
@@ -46,7 +46,7 @@ fn printed(alloc: Global, first: &[u8], second: &[u8], text: &str) -> Result<Vec
 
 /// Tests that the edit by this script fails at each call in turn, until a run has fewer calls and is done.
 ///
-/// The first four calls read. A run that fails has printed a first part of what the whole run prints, and has
+/// The first four calls read. A run that fails has written a first part of what the whole run writes, and has
 /// made no file. Only the last call of the whole run, which makes the file, comes after all is printed.
 fn check_each_call<R: Threads + Sync + Abort>(
     rt: &R,

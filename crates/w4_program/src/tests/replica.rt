@@ -8,7 +8,7 @@ use std::marker::Brand;
 use std::sync::ledger::{Blank, Ledger};
 use std::test::Fail;
 use w4_defs::Steps;
-use w4_netplay::{NetOrder, NetRefusal, Packet, Replica, read_log};
+use w4_netplay::{NetRefusal, Packet, Replica};
 use w4_record::Recording;
 
 /// A replica to which nothing has come yet.
@@ -68,28 +68,5 @@ fn late_pads_are_shown(rt: HostRuntime) -> Result<(), Fail> {
     assert_eq!(rt; replica.deliver(&packet(0, 26)), Err(conflict));
     assert_eq!(rt; replica.count(), 2);
     assert_eq!(rt; replica.editor().kept_count(), 2);
-    Ok(())
-}
-
-#[test]
-fn a_log_is_read(rt: HostRuntime) -> Result<(), Fail> {
-    let orders = read_log(
-        rt.alloc(),
-        b"pad 0 1 228\nnext\n# next\nkeep 1\nshow 2\nstate 2",
-    )?;
-    assert!(rt;
-        orders.as_slice()
-            == [
-                NetOrder::Pad {
-                    packet: packet(1, 228)
-                },
-                NetOrder::Next,
-                NetOrder::Keep { p: 1 },
-                NetOrder::Show { p: 2 },
-                NetOrder::StateAt { p: 2 },
-            ]
-            .as_slice(),
-        "orders"
-    );
     Ok(())
 }

@@ -10,9 +10,8 @@ use std::sync::ledger::{Blank, Ledger};
 use std::test::Fail;
 use w4_defs::Steps;
 use w4_editor::Editor;
-use w4_inspect::{Ask, RamRefusal, Search, Test, read_query, watch};
+use w4_inspect::{RamRefusal, Search, Test, watch};
 use w4_record::Recording;
-use w4_script::ScriptRefusal;
 
 /// An editor of two frames whose first pads are 5 and 9.
 fn editor(alloc: Global) -> Result<Editor, Fail> {
@@ -79,31 +78,5 @@ fn a_search_finds_what_rose(rt: HostRuntime) -> Result<(), Fail> {
         let search = searched::<Brand>(rt.alloc(), &mut editor, test, Blank::new(1));
         assert!(rt; search.is_ok_and(|search| search.found() == found));
     }
-    Ok(())
-}
-
-#[test]
-fn a_query_is_read(rt: HostRuntime) -> Result<(), Fail> {
-    let query = b"watch 160 1 0 2\n# the byte that rose\nstart 1 1\nmore 2\nis 2 9\r\nlist";
-    let requests = read_query(rt.alloc(), query)?;
-    let (more, is) = (Test::More, Test::Is { value: 9 });
-    assert!(rt;
-        requests.as_slice()
-            == [
-                Ask::Watch {
-                    address: 160,
-                    width: 1,
-                    a: 0,
-                    b: 2
-                },
-                Ask::Start { width: 1, p: 1 },
-                Ask::Narrow { p: 2, test: more },
-                Ask::Narrow { p: 2, test: is },
-                Ask::List,
-            ]
-            .as_slice()
-    );
-    let bad = read_query(rt.alloc(), b"list\nstart 3 1\n").err();
-    assert_eq!(rt; bad, Some(ScriptRefusal::BadLine(2)));
     Ok(())
 }

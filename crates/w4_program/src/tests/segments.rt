@@ -35,13 +35,13 @@ const BLANK_IMAGE: [u8; 32] = [
 
 /// A gate that holds piece 0 until piece 1 has passed, but for no longer than `TURNS`.
 #[derive(Drop)]
-struct Holder {
+pub(super) struct Holder {
     passed: AtomicU64,
     seen: AtomicU64,
 }
 
 impl Holder {
-    fn new() -> Holder {
+    pub(super) fn new() -> Holder {
         Holder {
             passed: AtomicU64::new(0),
             seen: AtomicU64::new(0),
@@ -58,7 +58,7 @@ impl Holder {
     }
 
     /// Whether piece 0 saw piece 1 pass.
-    fn saw(&self) -> bool {
+    pub(super) fn saw(&self) -> bool {
         self.seen.load(Ordering::SeqCst) == 1
     }
 }

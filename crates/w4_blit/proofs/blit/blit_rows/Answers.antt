@@ -5,14 +5,14 @@ use Rattle.w4_defs.specs.Blit.{width_on_screen, height_on_screen}
 use Rattle.w4_defs.proofs.PaintLaws.{paint_off, paint_step, paint_ext}
 use Rattle.w4_pixels.proofs.ClippingLaws.{boxed_no_row, row_more, boxed_down, boxed_all}
 use Rattle.w4_pixels.specs.Clipping.{clipped}
-use Rattle.w4_blit.specs.Snapshot.{with_snapshot}
+use Rattle.w4_blit.specs.FramebufferCopy.{with_copy}
 use Rattle.w4_blit.specs.Unclipped.{cells_painter}
-use Rattle.w4_blit.proofs.SnapshotLaws.{with_copied_bytes-paint}
+use Rattle.w4_blit.proofs.FramebufferCopyLaws.{with_copied_bytes-paint}
 use Rattle.w4_blit.proofs.blit.blit_rows.Goals as goal
 
 pub loop-v-init : goal.loop-v-init
 loop-v-init c =
-    let f = cells_painter (with_snapshot c.args.page.now c.args.snapshot.now) c.args.picture.now
+    let f = cells_painter (with_copy c.args.page.now c.args.copy.now) c.args.sprite.now
     (to_z w32 (of_z w32 c.args.x)) (to_z w32 (of_z w32 c.args.y)) in
     let columns = c.screen_part-left.result in
     let rows = c.screen_part-top.result in (
@@ -24,12 +24,12 @@ loop-v-init c =
 pub loop-v-preserved : goal.loop-v-preserved
 loop-v-preserved c =
     let page = c.args.page.now in
-    let snapshot = c.args.snapshot.now in
-    let f = cells_painter (with_snapshot page snapshot) c.args.picture.now (to_z w32 (of_z w32 c.args.x))
+    let copy = c.args.copy.now in
+    let f = cells_painter (with_copy page copy) c.args.sprite.now (to_z w32 (of_z w32 c.args.x))
     (to_z w32 (of_z w32 c.args.y)) in
-    let same : with_snapshot c.loop-v.page snapshot ≡ with_snapshot page snapshot =
+    let same : with_copy c.loop-v.page copy ≡ with_copy page copy =
     rw c.loop-v.invariant.0
-    (with_copied_bytes-paint page 160 snapshot
+    (with_copied_bytes-paint page 160 copy
     (clipped f c.screen_part-left.result.0 c.screen_part-left.result.1 c.screen_part-top.result.0
     c.loop-v.v)) in (
       rw (c.blit_row.ensures, same, c.loop-v.invariant.0)
@@ -43,16 +43,16 @@ pub returns : goal.returns
 returns c =
     let x = c.args.x in
     let y = c.args.y in
-    let picture = c.args.picture.now in
+    let sprite = c.args.sprite.now in
     let left = c.screen_part-left.result in
     let top = c.screen_part-top.result in
-    let f = cells_painter (with_snapshot c.args.page.now c.args.snapshot.now) picture x y in
+    let f = cells_painter (with_copy c.args.page.now c.args.copy.now) sprite x y in
     let same_x : to_z w32 (of_z w32 x) ≡ x = to_z-of_z w32 x c.ranges.x in
     let same_y : to_z w32 (of_z w32 y) ≡ y = to_z-of_z w32 y c.ranges.y in
     let before = simp (same_x, same_y) at c.loop-v.invariant.0 in
     before ∙ paint_ext c.args.page.now _ _ c.told-page (λ a b ha hb.
     boxed_down f left.0 left.1 top.0 top.1 c.loop-v.v a b c.loop-v-test.false c.loop-v.invariant.1
-    ∙ boxed_all f x (x +ℤ pos (width_on_screen picture)) y (y +ℤ pos (height_on_screen picture)) left.0
+    ∙ boxed_all f x (x +ℤ pos (width_on_screen sprite)) y (y +ℤ pos (height_on_screen sprite)) left.0
     left.1 top.0 top.1 a b
     (c.screen_part-left.ensures.first a ha ∙ ap (λ z. int_le z (pos a)) same_x)
     (c.screen_part-left.ensures.end a ha ∙ ap (λ z. int_le (z +ℤ pos c.width_on_screen.result) (pos a))

@@ -1,6 +1,7 @@
-use Rattle.std.proofs.Common.{◌≡◌, ℕ, ◌+◌, ◌-◌, ◌*◌, get_or, ap, ◌∙◌, rules, w64, to_z, of_z}
+use Rattle.std.proofs.Common.{◌≡◌, ℕ, ◌+◌, ◌-◌, ◌*◌, get_or, ap, refl, ◌∙◌, rules, w64, to_z, of_z}
 use Rattle.std.specs.Prelude.{pos, ◌-ℤ◌}
 use Rattle.w4_defs.specs.Shapes.{natural}
+use Rattle.w4_defs.specs.Colours.{palette_index}
 use Rattle.w4_defs.proofs.PaintLaws.{paint_ext}
 use Rattle.w4_blit.proofs.TextLaws.{row_of_glyph}
 use Rattle.w4_blit.proofs.glyphs.glyph_row.Goals as goal
@@ -20,7 +21,5 @@ returns c =
     c.byte.ensures ∙ ap (λ (n : ℕ). get_or font (n + c.offset.result) 0) first
     ∙ ap (λ (n : ℕ). get_or font (8 * (g.code - 32) + n) 0) below in
     put ∙ paint_ext c.args.page.now _ _ c.told-page
-    (λ a b ha hb. row_of_glyph font g.colors g.code c.byte.result c.entry_of.result
-    c.entry_of-2.result g.x
-    g.y c.args.left c.args.right c.args.v a b bits c.entry_of.ensures.value
-    c.entry_of-2.ensures.value)
+    (λ a b ha hb. row_of_glyph font g.colors g.code c.byte.result (palette_index g.colors 1)
+    (palette_index g.colors 2) g.x g.y c.args.left c.args.right c.args.v a b bits refl refl)

@@ -1,24 +1,25 @@
 use Rattle.std.proofs.Common.{get_or, sym, ap, inl, inr, ◌∙◌, arith}
-use Rattle.w4_blit.proofs.SnapshotLaws.{kept_outside, kept_inside, kept_past}
+use Rattle.w4_blit.proofs.FramebufferCopyLaws.{kept_outside, kept_inside, kept_past}
 use Rattle.w4_blit.proofs.source.byte_at.Goals as goal
 
 pub returns-then-at-ge65536 : goal.returns-then-at-ge65536
 returns-then-at-ge65536 c =
-    sym (kept_past c.args.page.now c.args.first c.args.kept.now c.args.at (omega arith))
+    sym (kept_past c.args.page.now c.args.first c.args.copy_bytes.now c.args.at (omega arith))
 
 pub returns-then-at-ge6560 : goal.returns-then-at-ge6560
 returns-then-at-ge6560 c =
-    sym (kept_outside c.args.page.now c.args.first c.args.kept.now c.args.at (omega arith)
+    sym (kept_outside c.args.page.now c.args.first c.args.copy_bytes.now c.args.at (omega arith)
     (inr (omega arith)))
 
 pub returns-then-at-lt160 : goal.returns-then-at-lt160
 returns-then-at-lt160 c =
-    sym (kept_outside c.args.page.now c.args.first c.args.kept.now c.args.at (omega arith)
+    sym (kept_outside c.args.page.now c.args.first c.args.copy_bytes.now c.args.at (omega arith)
     (inl (omega arith)))
 
 pub returns-else-at-lt160 : goal.returns-else-at-lt160
 returns-else-at-lt160 c =
-    c.kept_byte.ensures
-    ∙ ap (λ i. get_or c.args.kept.now i 0) c.saturating_sub.ensures
-    ∙ sym (kept_inside c.args.page.now c.args.first c.args.kept.now c.args.at (omega arith) (omega arith)
+    c.copied_byte.ensures
+    ∙ ap (λ i. get_or c.args.copy_bytes.now i 0) c.saturating_sub.ensures
+    ∙ sym (kept_inside c.args.page.now c.args.first c.args.copy_bytes.now c.args.at (omega arith)
+    (omega arith)
     (omega arith))

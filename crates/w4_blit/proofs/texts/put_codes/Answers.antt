@@ -5,8 +5,8 @@ use Rattle.std.specs.Option.{option_or}
 use Rattle.w4_defs.specs.Framebuffer.{Painter, over, paint}
 use Rattle.w4_defs.specs.Text.{codes_painter, glyph_painter, text_codes}
 use Rattle.w4_defs.proofs.PaintLaws.{paint_off, paint-paint, paint_step, length-paint}
-use Rattle.w4_blit.specs.Snapshot.{with_copied_bytes}
-use Rattle.w4_blit.proofs.SnapshotLaws.{with_copied_bytes-paint}
+use Rattle.w4_blit.specs.FramebufferCopy.{with_copied_bytes}
+use Rattle.w4_blit.proofs.FramebufferCopyLaws.{with_copied_bytes-paint}
 use Rattle.w4_blit.proofs.TextLaws.{below_screen, code_first, either_below}
 use Rattle.w4_blit.proofs.texts.put_codes.Goals as goal
 
@@ -22,7 +22,7 @@ loop-k-init c =
 
 pub returns-then-pen-ge-SCREEN_END : goal.returns-then-pen-ge-SCREEN_END
 returns-then-pen-ge-SCREEN_END c =
-    let page = with_copied_bytes c.args.page.now c.args.first c.args.kept.now in
+    let page = with_copied_bytes c.args.page.now c.args.first c.args.copy_bytes.now in
     let codes = drop c.loop-k.k (text_codes page c.args.source) in
     let pen = c.loop-k.pen in
     let same_x : to_z w64 (of_z w64 c.args.x) ≡ c.args.x = to_z-of_z w64 c.args.x c.ranges.x in
@@ -40,12 +40,13 @@ returns-then-pen-ge-SCREEN_END c =
 pub code_at-code-requires : goal.code_at-code-requires
 code_at-code-requires c =
     let first = c.args.first in
-    let kept = c.args.kept.now in
+    let copy_bytes = c.args.copy_bytes.now in
     let f : Painter = c.loop-k.invariant.painted.0 in
     let painted : c.loop-k.page ≡ paint c.args.page.now f = c.loop-k.invariant.painted.1 in
-    let same : with_copied_bytes c.loop-k.page first kept ≡ with_copied_bytes c.args.page.now first kept =
-    ap (λ (p : List ℕ). with_copied_bytes p first kept) painted
-    ∙ with_copied_bytes-paint c.args.page.now first kept f in
+    let same : with_copied_bytes c.loop-k.page first copy_bytes
+    ≡ with_copied_bytes c.args.page.now first copy_bytes =
+    ap (λ (p : List ℕ). with_copied_bytes p first copy_bytes) painted
+    ∙ with_copied_bytes-paint c.args.page.now first copy_bytes f in
     record {
       there = rw same (omega (arith, c.requires.count));
       small = omega (arith, c.requires.few);
@@ -54,8 +55,8 @@ code_at-code-requires c =
 pub loop-k-preserved : goal.loop-k-preserved
 loop-k-preserved c =
     let first = c.args.first in
-    let kept = c.args.kept.now in
-    let page = with_copied_bytes c.args.page.now first kept in
+    let copy_bytes = c.args.copy_bytes.now in
+    let page = with_copied_bytes c.args.page.now first copy_bytes in
     let codes = text_codes page c.args.source in
     let font = c.args.font.now in
     let k = c.loop-k.k in
@@ -63,9 +64,9 @@ loop-k-preserved c =
     let left = to_z w64 (of_z w64 c.args.x) in
     let f : Painter = c.loop-k.invariant.painted.0 in
     let painted : c.loop-k.page ≡ paint c.args.page.now f = c.loop-k.invariant.painted.1 in
-    let same : with_copied_bytes c.loop-k.page first kept ≡ page =
-    ap (λ (p : List ℕ). with_copied_bytes p first kept) painted
-    ∙ with_copied_bytes-paint c.args.page.now first kept f in
+    let same : with_copied_bytes c.loop-k.page first copy_bytes ≡ page =
+    ap (λ (p : List ℕ). with_copied_bytes p first copy_bytes) painted
+    ∙ with_copied_bytes-paint c.args.page.now first copy_bytes f in
     let count : c.args.count ≡ length codes = c.requires.count in
     let code : c.code_at-code.result ≡ get_or codes k 0 = c.code_at-code.ensures
     ∙ ap (λ (p : List ℕ). get_or (text_codes p c.args.source) k 0) same in
@@ -100,7 +101,7 @@ loop-k-preserved c =
 
 pub returns : goal.returns
 returns c =
-    let page = with_copied_bytes c.args.page.now c.args.first c.args.kept.now in
+    let page = with_copied_bytes c.args.page.now c.args.first c.args.copy_bytes.now in
     let codes = text_codes page c.args.source in
     let none : drop c.loop-k.k codes ≡ [] =
     drop_all c.loop-k.k codes (omega (arith, c.requires.count)) in

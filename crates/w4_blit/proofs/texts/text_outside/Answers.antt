@@ -1,6 +1,6 @@
 use Rattle.std.proofs.Common.{◌≡◌, ◌∙◌, length, sym, ap, w64, to_z, of_z, refl, arith}
 use Rattle.std.proofs.lemmas.Int.{ints}
-use Rattle.w4_blit.proofs.SnapshotLaws.{behind_codes}
+use Rattle.w4_blit.proofs.FramebufferCopyLaws.{behind_codes}
 use Rattle.w4_blit.proofs.texts.text_outside.Goals as goal
 
 pub returns : goal.returns

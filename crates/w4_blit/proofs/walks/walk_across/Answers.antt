@@ -4,11 +4,11 @@ use Rattle.w4_blit.specs.Walks.{as_good_as}
 use Rattle.w4_blit.proofs.WalkLaws.{good_across}
 use Rattle.w4_blit.proofs.walks.walk_across.Goals as goal
 
-pub returns-clause-place : goal.returns-clause-place
-returns-clause-place c = λ n.
-    let picture = c.args.picture.now in
-    let start : as_good_as c.near.result (source_row picture c.args.below * picture.stride + picture.src_x) =
+pub returns-clause-pixel : goal.returns-clause-pixel
+returns-clause-pixel c = λ n.
+    let sprite = c.args.sprite.now in
+    let start : as_good_as c.near.result (source_row sprite c.args.below * sprite.stride + sprite.src_x) =
     rw (sym c.row_of.ensures.value, sym c.from.ensures, sym c.from-2.ensures, sym c.from-3.ensures)
-    c.near.ensures.place in
-    good_across picture c.near.result n c.args.below c.has_flag.result c.requires.upright c.has_flag.ensures
+    c.near.ensures.pixel in
+    good_across sprite c.near.result n c.args.below c.has_flag.result c.requires.upright c.has_flag.ensures
     start

@@ -4,12 +4,12 @@ use Rattle.w4_blit.specs.Walks.{as_good_as}
 use Rattle.w4_blit.proofs.WalkLaws.{good_down}
 use Rattle.w4_blit.proofs.walks.walk_down.Goals as goal
 
-pub returns-clause-place : goal.returns-clause-place
-returns-clause-place c = λ n. rw c.from-4.ensures (
-    let picture = c.args.picture.now in
+pub returns-clause-pixel : goal.returns-clause-pixel
+returns-clause-pixel c = λ n. rw c.from-4.ensures (
+    let sprite = c.args.sprite.now in
     let start : as_good_as c.near.result
-    (picture.src_y * picture.stride + source_column picture c.args.below) =
+    (sprite.src_y * sprite.stride + source_column sprite c.args.below) =
     rw (sym c.column_of.ensures.value, sym c.from.ensures, sym c.from-2.ensures, sym c.from-3.ensures)
-    c.near.ensures.place in
-    good_down picture c.near.result n c.args.below c.has_flag.result c.requires.turned c.has_flag.ensures
+    c.near.ensures.pixel in
+    good_down sprite c.near.result n c.args.below c.has_flag.result c.requires.turned c.has_flag.ensures
     start)

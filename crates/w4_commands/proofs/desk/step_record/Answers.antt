@@ -11,15 +11,15 @@ returns-clause-shows g c =
     let stepped = rw c.in-Ok.is at c.step.follows.holds-at-none.0 in
     shows_at c.args.editor.now c.step.follows.lender-at-none (Some (stepped.place + 1)) stepped.same
 
-pub returns-clause-made : goal.returns-clause-made
-returns-clause-made g c =
+pub returns-clause-frame_record : goal.returns-clause-frame_record
+returns-clause-frame_record g c =
     let old = c.args.editor.now in
     let stepped = rw c.in-Ok.is at c.step.follows.holds-at-none.0 in
     let here = same_place old.at stepped.place (c.args.place - 1) stepped.at c.requires.at in
     let next : stepped.place + 1 ≡ c.args.place = omega (arith, here, c.requires.some) in
-    subst (λ p. option_map (λ (moment : Moment). moment.made)
+    subst (λ p. option_map (λ (moment : Moment). moment.frame_record)
     (run (editing_setup old) old.disk old.session.current.inputs p)
-    ≡ Some (record_of c.step.new.made)) next stepped.record_is
+    ≡ Some (record_of c.step.new.frame_record)) next stepped.record_is
 
 pub unreachable-requires : goal.unreachable-requires
 unreachable-requires g c =

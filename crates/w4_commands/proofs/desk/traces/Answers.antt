@@ -3,28 +3,28 @@ use Rattle.w4_defs.specs.FrameTexts.{trace_text}
 use Rattle.w4_defs.specs.Run.{run}
 use Rattle.w4_devices.specs.Records.{record_of}
 use Rattle.w4_editor.specs.Editing.{editing_setup}
-use Rattle.w4_commands.proofs.TellLaws.{reset_record, traces_of_record}
+use Rattle.w4_commands.proofs.PlaceAnswerLaws.{reset_record, traces_of_record}
 use Rattle.w4_commands.proofs.desk.traces.Goals as goal
 
 pub returns-then-place-eq0-clause-text : goal.returns-then-place-eq0-clause-text
 returns-then-place-eq0-clause-text g c =
     let old = c.args.desk.now.editor in
-    let made = record_of c.reset_frame.result.now in
+    let frame_record = record_of c.reset_frame.result.now in
     let text = c.in_ok-trace_text.ensures.text
-    ∙ ap (λ (bytes : List ℕ). bytes ++ trace_text c.args.place made) c.new-text.ensures.items in
+    ∙ ap (λ (bytes : List ℕ). bytes ++ trace_text c.args.place frame_record) c.new-text.ensures.items in
     traces_of_record c.args.place
-    (run (editing_setup old) old.disk old.session.current.inputs c.args.place) made
+    (run (editing_setup old) old.disk old.session.current.inputs c.args.place) frame_record
     (rw c.if-place-eq0.true
-    (reset_record (editing_setup old) old.disk old.session.current.inputs made c.reset_frame.ensures))
+    (reset_record (editing_setup old) old.disk old.session.current.inputs frame_record c.reset_frame.ensures))
     ∙ ap (λ (bytes : List ℕ). Some bytes) (sym text)
 
 pub returns-clause-text : goal.returns-clause-text
 returns-clause-text g c =
     let old = c.args.desk.now.editor in
-    let made = record_of c.make_record.new.desk.made in
+    let frame_record = record_of c.make_record.new.desk.frame_record in
     let text = c.in_ok-trace_text-2.ensures.text
-    ∙ ap (λ (bytes : List ℕ). bytes ++ trace_text c.args.place made) c.new-text.ensures.items in
+    ∙ ap (λ (bytes : List ℕ). bytes ++ trace_text c.args.place frame_record) c.new-text.ensures.items in
     traces_of_record c.args.place
-    (run (editing_setup old) old.disk old.session.current.inputs c.args.place) made
-    c.in_ok-make_record.ensures.made
+    (run (editing_setup old) old.disk old.session.current.inputs c.args.place) frame_record
+    c.in_ok-make_record.ensures.frame_record
     ∙ ap (λ (bytes : List ℕ). Some bytes) (sym text)

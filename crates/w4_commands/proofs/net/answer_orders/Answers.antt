@@ -1,15 +1,15 @@
 use Rattle.std.proofs.Common.{ap, drop, get_or, refl}
 use Rattle.std.proofs.lemmas.Result.{err_from_is_err_and}
 use Rattle.w4_editor.specs.Editing.{editing_setup}
-use Rattle.w4_house.proofs.WorldLaws.{front_none, printing_none, printing_then}
+use Rattle.w4_house.proofs.WorldLaws.{front_none, writing_none, writing_then}
 use Rattle.w4_defs.specs.Answers.{Answered}
 use Rattle.w4_defs.specs.Endings.{manner_of}
 use Rattle.w4_defs.specs.LogAnswers.{NetSession, net_answer, net_answers}
-use Rattle.w4_commands.specs.Replicas.{net_session}
-use Rattle.w4_commands.proofs.AnswerLaws.{answers-out-step, answers-stop, answers-end}
+use Rattle.w4_commands.specs.NetAnswers.{net_session}
+use Rattle.w4_commands.proofs.ScriptAnswerLaws.{answers-out-step, answers-stop, answers-end}
 use Rattle.w4_commands.proofs.OwesLaws.{there_begins, there_nothing}
-use Rattle.w4_commands.proofs.RollingLaws.{heard_at_first, net_stopped_at_first, past_log}
-use Rattle.w4_commands.proofs.SessionLaws.{rest_none, rest_then}
+use Rattle.w4_commands.proofs.NetAnswerLaws.{heard_at_first, net_stopped_at_first, past_log}
+use Rattle.w4_editor.proofs.PlaceLaws.{rest_none, rest_then}
 use Rattle.w4_commands.proofs.net.answer_orders.Goals as goal
 
 pub loop-order-init : goal.loop-order-init
@@ -18,7 +18,7 @@ loop-order-init g c =
     let first = c.args.replica.now in (
       there_begins world (net_answers (editing_setup first.editor) (net_session first) c.args.orders.now).out,
       rest_none first.editor,
-      printing_none world,
+      writing_none world,
     )
 
 pub loop-order-preserved : goal.loop-order-preserved
@@ -38,7 +38,7 @@ loop-order-preserved g c =
           (net_answers setup (net_session first) c.args.orders.now).out c.loop-order-test.true one.session
           one.out c.loop-order.invariant.0,
       rest_then first.editor now.editor next.editor rest one.rest,
-      printing_then begin before after c.loop-order.invariant.2 c.in_ok-answer_order.ensures.rest,
+      writing_then begin before after c.loop-order.invariant.2 c.in_ok-answer_order.ensures.rest,
     )
 
 pub returns-clause-out : goal.returns-clause-out

@@ -1,9 +1,9 @@
 use Rattle.std.proofs.Common.{drop}
 use Rattle.w4_editor.specs.Editing.{editing_setup}
-use Rattle.w4_defs.specs.World.{LeavesPrinting}
-use Rattle.w4_commands.specs.Editors.{KeepsRest}
+use Rattle.w4_defs.specs.World.{LeavesWriting}
+use Rattle.w4_editor.specs.PlaceSession.{KeepsRest}
 use Rattle.w4_defs.specs.LogAnswers.{net_answers}
-use Rattle.w4_commands.specs.Replicas.{net_session}
+use Rattle.w4_commands.specs.NetAnswers.{net_session}
 use Rattle.w4_commands.proofs.OwesLaws.{OwesThere}
 use Rattle.w4_commands.proofs.net.answer_orders.Given as goal
 
@@ -16,4 +16,4 @@ invariant-loop-order g l =
     (net_answers setup (net_session l.replica) (drop l.order-index l.orders)).out
     (net_answers setup (net_session first) l.orders).out
     × KeepsRest first.editor l.replica.editor
-    × LeavesPrinting (g.H.House.world l.fn.house) (g.H.House.world l.house)
+    × LeavesWriting (g.H.House.world l.fn.house) (g.H.House.world l.house)

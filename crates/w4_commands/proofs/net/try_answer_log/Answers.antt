@@ -3,12 +3,12 @@ use Rattle.w4_defs.specs.declared.netplay.NetOrder.{NetOrder}
 use Rattle.w4_defs.specs.KeptList.{state_at}
 use Rattle.w4_editor.specs.Editing.{editing_setup}
 use Rattle.w4_defs.specs.LogAnswers.{net_answers}
-use Rattle.w4_commands.specs.Replicas.{net_session}
+use Rattle.w4_commands.specs.NetAnswers.{net_session}
 use Rattle.w4_defs.specs.ToolOutputs.{net_text}
 use Rattle.w4_commands.specs.Views.{net_loaded_view}
-use Rattle.w4_commands.specs.Causes.{Printed}
+use Rattle.w4_commands.specs.Causes.{Written}
 use Rattle.w4_commands.proofs.OwesLaws.{there_as}
-use Rattle.w4_commands.proofs.RollingLaws.{netplay_begins, blank_as}
+use Rattle.w4_commands.proofs.NetAnswerLaws.{netplay_begins, blank_as}
 use Rattle.w4_commands.proofs.net.try_answer_log.Goals as goal
 
 pub returns-clause-out : goal.returns-clause-out
@@ -24,7 +24,7 @@ returns-clause-out g c =
     c.in_ok-replica.ensures.frames c.in_ok-replica.ensures.editor in
     let old = g.H.House.world c.args.house.now in
     let new = g.H.House.world c.answer_orders.new.house in
-    there_as (λ text. Printed old new c.answer_orders.result text)
+    there_as (λ text. Written old new c.answer_orders.result text)
     (net_answers (editing_setup r.editor) (net_session r) c.as_slice.result.now).out
     (net_text c.args.file.cart c.args.budget.units (net_loaded_view c.args.loaded))
     ((λ i. (net_answers (sym first.0 i) (sym first.1 i) c.args.loaded.orders.items).out)

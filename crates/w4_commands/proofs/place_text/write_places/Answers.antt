@@ -4,7 +4,7 @@ use Rattle.std.proofs.Common.{◌+◌, ◌-◌, List, ℕ, Option, refl, arith}
 use Rattle.std.proofs.lemmas.Result.{err_from_is_err_and}
 use Rattle.w4_defs.specs.Run.{run}
 use Rattle.w4_defs.specs.World.{Appends}
-use Rattle.w4_house.proofs.WorldLaws.{printing_then}
+use Rattle.w4_house.proofs.WorldLaws.{writing_then}
 use Rattle.w4_defs.specs.Endings.{manner_of}
 use Rattle.w4_commands.specs.Causes.{StopsWriting}
 use Rattle.w4_commands.specs.Scenes.{scene_setup, stage_moment}
@@ -28,7 +28,7 @@ loop-place-init g c =
           (rw c.run_to.ensures.0 refl) c.in_ok-write_place.ensures.out)
           (there_begins first whole),
       c.requires.order,
-      rw (c.in_ok-write_place.ensures.console, c.in_ok-write_place.ensures.made) c.run_to.ensures,
+      rw (c.in_ok-write_place.ensures.console, c.in_ok-write_place.ensures.frame_record) c.run_to.ensures,
       c.in_ok-write_place.ensures.rest,
     )
 
@@ -49,8 +49,8 @@ loop-place-preserved g c =
           (rw c.step.ensures.0 refl) c.in_ok-write_place-2.ensures.out)
           c.loop-place.invariant.0,
       omega (arith, c.loop-place-test.true),
-      rw (c.in_ok-write_place-2.ensures.console, c.in_ok-write_place-2.ensures.made) c.step.ensures,
-      printing_then first now next c.loop-place.invariant.3 c.in_ok-write_place-2.ensures.rest,
+      rw (c.in_ok-write_place-2.ensures.console, c.in_ok-write_place-2.ensures.frame_record) c.step.ensures,
+      writing_then first now next c.loop-place.invariant.3 c.in_ok-write_place-2.ensures.rest,
     )
 
 pub returns-clause-out : goal.returns-clause-out

@@ -1,6 +1,6 @@
 use Rattle.std.proofs.Common.{◌+◌, ◌-◌, ◌≤◌}
 use Rattle.w4_defs.specs.Run.{run}
-use Rattle.w4_defs.specs.World.{LeavesPrinting}
+use Rattle.w4_defs.specs.World.{LeavesWriting}
 use Rattle.w4_commands.specs.Scenes.{IsAtPlace, scene_setup}
 use Rattle.w4_defs.specs.PlaceTexts.{as_it_stands, place_text, place_texts}
 use Rattle.w4_commands.proofs.OwesLaws.{OwesThere}
@@ -19,4 +19,4 @@ invariant-loop-place g l =
     l.from (l.to + 1 - l.from))
     × (l.place ≤ l.to)
     × IsAtPlace l.scene l.inputs l.place l.stage
-    × LeavesPrinting (g.H.House.world l.fn.house) (g.H.House.world l.house)
+    × LeavesWriting (g.H.House.world l.fn.house) (g.H.House.world l.house)

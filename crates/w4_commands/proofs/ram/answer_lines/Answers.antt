@@ -1,15 +1,15 @@
 use Rattle.std.proofs.Common.{ap, drop, get_or, None, Option}
 use Rattle.std.proofs.lemmas.Result.{err_from_is_err_and}
 use Rattle.w4_defs.specs.Search.{Search}
-use Rattle.w4_house.proofs.WorldLaws.{printing_none, printing_then}
+use Rattle.w4_house.proofs.WorldLaws.{writing_none, writing_then}
 use Rattle.w4_defs.specs.Answers.{Answered}
 use Rattle.w4_defs.specs.PlaceTexts.{as_it_stands}
 use Rattle.w4_defs.specs.Endings.{manner_of}
-use Rattle.w4_commands.specs.Queries.{editor_pages}
+use Rattle.w4_commands.specs.RamAnswers.{editor_pages}
 use Rattle.w4_defs.specs.QueryAnswers.{ram_answer, ram_answers}
-use Rattle.w4_commands.proofs.AnswerLaws.{answers-out-step, answers-stop, answers-end}
+use Rattle.w4_commands.proofs.ScriptAnswerLaws.{answers-out-step, answers-stop, answers-end}
 use Rattle.w4_commands.proofs.OwesLaws.{there_begins, there_nothing}
-use Rattle.w4_commands.proofs.RamLaws.{told_at_first, ram_stopped_at_first, past_query}
+use Rattle.w4_commands.proofs.RamAnswerLaws.{line_answered_at_first, ram_stopped_at_first, past_query}
 use Rattle.w4_commands.proofs.SessionLaws.{shows_none, shows_then}
 use Rattle.w4_commands.proofs.ram.answer_lines.Goals as goal
 
@@ -18,7 +18,7 @@ loop-line-init g c =
     let world = g.H.House.world c.args.house.now in (
       there_begins world (ram_answers (editor_pages c.args.editor.now) None c.args.lines.now).out,
       shows_none c.args.editor.now,
-      printing_none world,
+      writing_none world,
     )
 
 pub loop-line-preserved : goal.loop-line-preserved
@@ -32,14 +32,15 @@ loop-line-preserved g c =
     let after = g.H.House.world c.answer_line.new.house in
     let shows = c.loop-line.invariant.1 in
     let line = get_or c.args.lines.now c.loop-line.line-index past_query in
-    let one = told_at_first before after first now next c.loop-line.search c.answer_line.new.search line shows
+    let one = line_answered_at_first before after first now next c.loop-line.search c.answer_line.new.search
+    line shows
     c.in_ok-answer_line.ensures.told in (
       answers-out-step begin before after (ram_answer as_it_stands pages) c.loop-line.search
           c.answer_line.new.search c.args.lines.now c.loop-line.line-index past_query
           (ram_answers pages None c.args.lines.now).out c.loop-line-test.true one.search one.out
           c.loop-line.invariant.0,
       shows_then first now next shows one.shows,
-      printing_then begin before after c.loop-line.invariant.2 c.in_ok-answer_line.ensures.rest,
+      writing_then begin before after c.loop-line.invariant.2 c.in_ok-answer_line.ensures.rest,
     )
 
 pub returns-clause-out : goal.returns-clause-out

@@ -1,7 +1,7 @@
 use Rattle.std.proofs.Common.{None, drop}
-use Rattle.w4_defs.specs.World.{LeavesPrinting}
-use Rattle.w4_commands.specs.Editors.{OnlyShows}
-use Rattle.w4_commands.specs.Queries.{editor_pages}
+use Rattle.w4_defs.specs.World.{LeavesWriting}
+use Rattle.w4_commands.specs.ScriptAnswers.{OnlyShows}
+use Rattle.w4_commands.specs.RamAnswers.{editor_pages}
 use Rattle.w4_defs.specs.QueryAnswers.{ram_answers}
 use Rattle.w4_commands.proofs.OwesLaws.{OwesThere}
 use Rattle.w4_commands.proofs.ram.answer_lines.Given as goal
@@ -13,4 +13,4 @@ invariant-loop-line g l =
     OwesThere (g.H.House.world l.fn.house) (g.H.House.world l.house)
     (ram_answers pages l.search (drop l.line-index l.lines)).out (ram_answers pages None l.lines).out
     × OnlyShows l.fn.editor l.editor
-    × LeavesPrinting (g.H.House.world l.fn.house) (g.H.House.world l.house)
+    × LeavesWriting (g.H.House.world l.fn.house) (g.H.House.world l.house)

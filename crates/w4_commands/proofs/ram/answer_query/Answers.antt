@@ -1,8 +1,8 @@
 use Rattle.w4_defs.specs.Endings.{manner_of}
-use Rattle.w4_commands.proofs.EndLaws.{prints_stopped}
+use Rattle.w4_commands.proofs.EndLaws.{writes_stopped}
 use Rattle.w4_commands.proofs.ram.answer_query.Goals as goal
 
-pub returns-in-Err-clause-prints : goal.returns-in-Err-clause-prints
-returns-in-Err-clause-prints g c = λ text is.
-    prints_stopped (g.H.House.world c.args.house.now) (g.H.House.world c.try_answer_query.new.house)
+pub returns-in-Err-clause-writes_out : goal.returns-in-Err-clause-writes_out
+returns-in-Err-clause-writes_out g c = λ text is.
+    writes_stopped (g.H.House.world c.args.house.now) (g.H.House.world c.try_answer_query.new.house)
     (manner_of c.in-Err.status) text (c.in-Err.ensures.out text is)

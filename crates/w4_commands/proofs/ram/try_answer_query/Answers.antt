@@ -3,11 +3,11 @@ use Rattle.std.proofs.lemmas.Result.{err_from_is_err_and}
 use Rattle.w4_defs.specs.declared.inspect.Ask.{Ask}
 use Rattle.w4_editor.specs.Editing.{Editing}
 use Rattle.w4_house.proofs.WorldLaws.{front_none}
-use Rattle.w4_commands.specs.Queries.{editor_pages}
+use Rattle.w4_commands.specs.RamAnswers.{editor_pages}
 use Rattle.w4_defs.specs.QueryAnswers.{ram_answers}
 use Rattle.w4_defs.specs.ToolOutputs.{ram_text}
 use Rattle.w4_commands.specs.Views.{ram_loaded_view}
-use Rattle.w4_commands.specs.Causes.{Printed}
+use Rattle.w4_commands.specs.Causes.{Written}
 use Rattle.w4_commands.proofs.OwesLaws.{there_as}
 use Rattle.w4_commands.proofs.ram.try_answer_query.Goals as goal
 
@@ -16,7 +16,7 @@ returns-clause-out g c =
     let editor = c.in_ok-editor.editor in
     let old = g.H.House.world c.args.house.now in
     let new = g.H.House.world c.answer_lines.new.house in
-    there_as (λ text. Printed old new c.answer_lines.result text)
+    there_as (λ text. Written old new c.answer_lines.result text)
     (ram_answers (editor_pages editor) None c.as_slice.result.now).out
     (ram_text c.args.cart (ram_loaded_view c.args.loaded))
     (sym (ap (λ (e : Editing). (ram_answers (editor_pages e) None c.args.loaded.lines.items).out)

@@ -1,4 +1,4 @@
-use Rattle.w4_commands.proofs.BitLaws.{bit_of}
+use Rattle.w4_editor.proofs.BitLaws.{bit_of}
 use Rattle.w4_commands.proofs.SummaryLaws.{lit_more, lit_all}
 use Rattle.w4_commands.proofs.summary.lit_pixels.Goals as goal
 

@@ -5,7 +5,7 @@ use Rattle.w4_devices.proofs.format.formatted_line.Goals as goal
 
 pub loop-i-preserved-then-byte-ne37 : goal.loop-i-preserved-then-byte-ne37
 loop-i-preserved-then-byte-ne37 c = record {
-  kept = cut_kept _ _ c.add.ensures;
+  cut_line = cut_kept _ _ c.add.ensures;
   rest = step_byte c.args.page.now c.args.format.now c.loop-i.line c.add.new.self c.loop-i.i c.loop-i.at
       c.loop-i-test.true c.if-byte-ne37.true c.add.ensures ∙ c.loop-i.invariant.rest;
   within = omega arith;
@@ -14,9 +14,10 @@ loop-i-preserved-then-byte-ne37 c = record {
 
 pub loop-i-preserved-then-i-format : goal.loop-i-preserved-then-i-format
 loop-i-preserved-then-i-format c = record {
-  kept = cut_kept _ _ c.show.ensures;
-  rest = step_place c.args.page.now c.args.format.now c.loop-i.line c.show.new.line c.loop-i.i c.loop-i.at
-      c.argument_len-at.result c.if-i-format.true c.if-byte-ne37.false c.show.ensures
+  cut_line = cut_kept _ _ c.add_argument.ensures;
+  rest = step_place c.args.page.now c.args.format.now c.loop-i.line c.add_argument.new.line c.loop-i.i
+      c.loop-i.at
+      c.argument_len-at.result c.if-i-format.true c.if-byte-ne37.false c.add_argument.ensures
       c.argument_len-at.ensures.bytes ∙ c.loop-i.invariant.rest;
   within = omega arith;
   place = omega arith;

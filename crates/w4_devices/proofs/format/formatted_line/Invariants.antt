@@ -4,7 +4,7 @@ use Rattle.w4_devices.proofs.format.formatted_line.Given as goal
 
 abbrev pub invariant-loop-i : goal.invariant-loop-i
 invariant-loop-i l = record {
-  kept : line_of l.line ≡ l.line;
+  cut_line : line_of l.line ≡ l.line;
   rest : line_of (l.line ++ formatted l.page (drop l.i l.format) l.at)
       ≡ line_of (formatted l.page l.format l.args);
   within : l.i ≤ length l.format;

@@ -5,7 +5,7 @@ use Rattle.w4_devices.proofs.source.units_line.Given as goal
 
 abbrev pub invariant-loop-i : goal.invariant-loop-i
 invariant-loop-i l = record {
-  kept : line_of l.line ≡ l.line;
+  cut_line : line_of l.line ≡ l.line;
   rest : line_of (l.line ++ map traced_unit (units (drop l.i l.bytes)))
       ≡ line_of (map traced_unit (units l.bytes));
   within : l.i ≤ length l.bytes;

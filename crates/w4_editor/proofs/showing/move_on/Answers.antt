@@ -12,7 +12,7 @@ returns-clause-moment g c =
     let setup = setup_of c.args.player.now in
     let state = c.args.player.now.state in
     let input = c.index.result.now in
-    let next = moment c.frame.new.self.state c.frame.new.made in
+    let next = moment c.frame.new.self.state c.frame.new.frame_record in
     let read = c.index.ensures ∙ ap (λ (r : Recording). get_or r.frames c.args.p input) c.recording.view_is in
     moves_on setup c.args.recording.now.frames c.args.p state input next c.requires
     (subst (λ (x : Input). frame setup state x ≡ Some next) read c.frame.ensures.frame)

@@ -5,5 +5,5 @@ use Rattle.w4_image.proofs.ppm.fill_quads.Given as goal
 abbrev pub invariant-loop-byte : goal.invariant-loop-byte
 invariant-loop-byte l = record {
   whole : length l.quads ≡ 256;
-  made : (k : ℕ) → k < l.byte → get_or l.quads k [] ≡ quad_colours l.colors k;
+  quads_before : (k : ℕ) → k < l.byte → get_or l.quads k [] ≡ quad_colours l.colors k;
 }

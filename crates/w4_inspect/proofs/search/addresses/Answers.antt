@@ -6,6 +6,7 @@ use Rattle.w4_inspect.proofs.search.addresses.Goals as goal
 pub returns-clause-value : goal.returns-clause-value
 returns-clause-value c =
     let all = YieldsList-from_range 0 (65537 - c.args.width) (65537 - c.args.width) refl (omega arith) in
-    let made : IfOk c.collect.result (λ made. made.items ≡ addresses c.args.width) =
+    let addresses_are : IfOk c.collect.result (λ addresses_are. addresses_are.items ≡ addresses c.args.width)
+    =
     items_from_collect c.collect.result c.collect.ensures.ran all in
-    rw c.in_ok-all.was at made
+    rw c.in_ok-all.was at addresses_are

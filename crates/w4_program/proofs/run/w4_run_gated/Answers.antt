@@ -22,7 +22,7 @@ returns g c =
     let result = c.report.result in
     let words = map string_bytes c.args.words.now in
     let step : Files → Result Output Status → Type 0 =
-    λ files made. Outputs words files made in
+    λ files output. Outputs words files output in
     let ends =
     ends_reported old mid new c.obey-status.result result step c.report.ensures.rest
     c.report.ensures.status c.obey-status.ensures.ends in

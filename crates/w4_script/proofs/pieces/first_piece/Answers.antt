@@ -1,6 +1,5 @@
-use Rattle.std.proofs.Common.{sym, ap, ◌∙◌, ◌+◌, ◌∷◌, take}
+use Rattle.std.proofs.Common.{sym, ◌+◌}
 use Rattle.std.proofs.lemmas.List.{take_rest}
-use Rattle.w4_defs.specs.Lines.{pieces}
 use Rattle.w4_script.proofs.PieceLaws.{piece_at_mark, piece_to_end}
 use Rattle.w4_script.proofs.pieces.first_piece.Goals as goal
 

@@ -1,5 +1,5 @@
 use Rattle.std.proofs.Common.{length, subst, sym}
-use Rattle.w4_segments.specs.Batching.{item_row, AreDealtOut, AreOfHands}
+use Rattle.w4_segments.specs.Batching.{item_row, AreDealtOut, AreOfWorkers}
 use Rattle.w4_segments.proofs.BatchLaws.{batch_rows}
 use Rattle.w4_segments.proofs.batching.batch.Goals as goal
 
@@ -12,5 +12,5 @@ returns g c =
     batch_rows args.cart.now args.font.now args.digest.now args.items.now c.in_order.result
     (c.in_order.ensures wanted
     (subst (AreDealtOut wanted count) (sym c.as_slice.ensures.value)
-    (subst (λ n. AreOfHands wanted count n dealt) (sym c.in_ok-dealt.ensures.many)
+    (subst (λ n. AreOfWorkers wanted count n dealt) (sym c.in_ok-dealt.ensures.many)
     c.in_ok-dealt.ensures.rows)))

@@ -26,4 +26,4 @@ returns-clause-row g c =
     c.in-Ok.ensures.read
     (sym (ap (λ (r : Recording). r.digest) c.recording.view_is)
     ∙ bytes_agree c.recording.inside.digest c.args.digest.now (sym c.if-ne.false ∙ c.ne.ensures))
-    ∙ c.run.ensures.row
+    ∙ c.run_recording.ensures.row

@@ -7,7 +7,7 @@ use Rattle.w4_segments.proofs.batching.rows_of.Given as goal
 
 abbrev pub invariant-loop-at : goal.invariant-loop-at
 invariant-loop-at g l =
-    HasGlobals l.cart l.runner.console
+    HasGlobals l.cart l.worker.console
     × (l.at ≡ l.first + length l.rows.items * l.stride)
     × ((j : ℕ) (d : BatchRow) → j < length l.rows.items
     → item_row l.cart l.font l.digest l.items (l.first + j * l.stride)

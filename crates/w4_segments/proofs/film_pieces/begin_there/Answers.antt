@@ -15,15 +15,16 @@ returns-clause-filming g c =
     let now = c.settle_rounds.new.editor in
     let first = c.last_up_to-first.result in
     let last = c.last_up_to-last.result in
-    let hired = c.in_ok-team.team in
-    let team = c.settle_rounds.new.team in
+    let hired = c.in_ok-worker_list.worker_list in
+    let worker_list = c.settle_rounds.new.worker_list in
     let places = c.settle_rounds.ensures.keeps.recording.places in
     let many = places.many in
     let inputs = keeps_count c.args.editor.now now c.settle_rounds.ensures.keeps.recording in
     let cart = keeps_cart c.args.editor.now now c.settle_rounds.ensures.keeps.recording in
-    let as_hired : length team ≡ hired.len = c.settle_rounds.ensures.many ∙ c.as_mut_slice.ensures.len in
-    let as_asked : hired.len ≡ c.min-hands.result = c.in_ok-team.ensures.many in
-    let least = c.min-hands.ensures in
+    let as_hired : length worker_list ≡ hired.len = c.settle_rounds.ensures.many
+    ∙ c.as_mut_slice.ensures.len in
+    let as_asked : hired.len ≡ c.min-worker_count.result = c.in_ok-worker_list.ensures.many in
+    let least = c.min-worker_count.ensures in
     let most = c.max.ensures in
     let order = c.requires.order in
     let some = c.requires.some in
@@ -38,8 +39,8 @@ returns-clause-filming g c =
       | inr le ↦ le
     ] in
     subst (λ (workers : List Worker). CanGoOn workers c.args.a (c.args.b + 1) first first first now)
-    (sym (take_at team (drop (length team) hired.items) hired.len as_hired))
-    (film_begun now team c.args.a (c.args.b + 1) first
+    (sym (take_at worker_list (drop (length worker_list) hired.items) hired.len as_hired))
+    (film_begun now worker_list c.args.a (c.args.b + 1) first
     (omega (arith, as_hired, as_asked, least, most, some, rises))
     (omega (arith, as_hired, as_asked, least, few))
     (omega (arith, order))
@@ -50,5 +51,6 @@ returns-clause-filming g c =
     let high = c.last_up_to-last.ensures.above i past (omega (arith, lt, many)) in
     let same = places.places i in
     omega (arith, high, same)))
-    (subst (λ (m : WasmModule). All (HasCartTypes m) team) (sym cart) c.in_ok-settle_rounds.ensures.types)
+    (subst (λ (m : WasmModule). All (HasCartTypes m) worker_list) (sym cart)
+    c.in_ok-settle_rounds.ensures.types)
     (omega (arith, inside, kept)))

@@ -10,44 +10,50 @@ use Rattle.w4_segments.proofs.rounds.settle_round.Goals as goal
 pub returns-then-is_idle-clause-none : goal.returns-then-is_idle-clause-none
 returns-then-is_idle-clause-none g c _ =
     let e = c.args.editor.now in
-    let many = c.deal.ensures.many in
+    let many = c.deal_segments.ensures.many in
     let some = c.requires.some in
     all_before e.session.current.kept c.args.last c.is_consistent.ensures.kept.first_linked
-    (idle_linked e c.args.last c.args.team.now c.deal.new.team c.deal.ensures (omega (arith, many, some))
+    (idle_linked e c.args.last c.args.worker_list.now c.deal_segments.new.worker_list c.deal_segments.ensures
+    (omega (arith, many, some))
     (c.is_idle.ensures.idle c.if-is_idle.true))
 
 pub play_all-requires-after_bounds : goal.play_all-requires-after_bounds
 play_all-requires-after_bounds g c κs within =
     let e = c.args.editor.now in
-    subst (λ (m : WasmModule). All (CanPlay m c.recording.result.now.frames) c.deal.new.team) (sym
+    subst (λ (m : WasmModule). All (CanPlay m c.recording.result.now.frames) c.deal_segments.new.worker_list)
+    (sym
     c.cart.ensures)
-    (subst (λ (r : Recording). All (CanPlay e.cart r.frames) c.deal.new.team) (sym c.recording.ensures)
-    (dealt_can_play e.disk e c.args.last c.args.team.now c.deal.new.team c.is_consistent.ensures
+    (subst (λ (r : Recording). All (CanPlay e.cart r.frames) c.deal_segments.new.worker_list)
+    (sym c.recording.ensures)
+    (dealt_can_play e.disk e c.args.last c.args.worker_list.now c.deal_segments.new.worker_list
+    c.is_consistent.ensures
     c.requires.there
-    c.deal.ensures))
+    c.deal_segments.ensures))
 
 pub take_all-requires-clause-played : goal.take_all-requires-clause-played
 take_all-requires-clause-played g c =
     let e = c.args.editor.now in
-    dealt_computed e c.args.last c.args.team.now c.deal.new.team c.play_all.new.team c.deal.ensures
+    dealt_computed e c.args.last c.args.worker_list.now c.deal_segments.new.worker_list
+    c.play_all.new.worker_list c.deal_segments.ensures
     (subst (λ (m : WasmModule). EachDid (HasPlayed (console_setup m e.font e.budget) e.session.current.inputs)
-    c.deal.new.team c.play_all.new.team) c.cart.ensures
+    c.deal_segments.new.worker_list c.play_all.new.worker_list) c.cart.ensures
     (subst (λ font. EachDid (HasPlayed (console_setup c.cart.result.now font e.budget)
     e.session.current.inputs)
-    c.deal.new.team c.play_all.new.team) c.font.ensures
+    c.deal_segments.new.worker_list c.play_all.new.worker_list) c.font.ensures
     (subst (λ (r : Recording). EachDid (HasPlayed (console_setup c.cart.result.now c.font.result.now
     r.budget) r.frames)
-    c.deal.new.team c.play_all.new.team) c.recording.ensures c.play_all.ensures)))
+    c.deal_segments.new.worker_list c.play_all.new.worker_list) c.recording.ensures c.play_all.ensures)))
 
 pub returns-clause-front : goal.returns-clause-front
 returns-clause-front g c _ m lt linked =
     let e = c.args.editor.now in
-    let many = c.deal.ensures.many in
+    let many = c.deal_segments.ensures.many in
     let some = c.requires.some in
     let first = c.is_idle.ensures.busy c.if-is_idle.false in
     front_lengthens (console_setup c.cart.result.now c.font.result.now c.recording.result.now.budget)
     c.recording.result.now.frames e c.args.last
-    c.args.team.now c.deal.new.team c.play_all.new.team c.take_all.new.editor c.deal.ensures
+    c.args.worker_list.now c.deal_segments.new.worker_list c.play_all.new.worker_list c.take_all.new.editor
+    c.deal_segments.ensures
     c.play_all.ensures
     c.in_ok-take_all.ensures.front
     (omega (arith, many, some)) first.0 first.1

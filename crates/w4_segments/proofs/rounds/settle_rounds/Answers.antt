@@ -25,7 +25,7 @@ loop-preserved g c =
       c.in_ok-settle_round.ensures.front found c.loop.counter c.loop-test.true c.loop.invariant.0,
       keeps_both c.args.editor.now now c.settle_round.new.editor before c.settle_round.ensures.keeps,
       c.settle_round.ensures.many ∙ c.loop.invariant.2,
-      subst (λ (e : Editing). All (HasCartTypes e.cart) c.settle_round.new.team) before.recording.same
+      subst (λ (e : Editing). All (HasCartTypes e.cart) c.settle_round.new.worker_list) before.recording.same
           c.in_ok-settle_round.ensures.types,
       omega (arith, counted, so_far),
     )

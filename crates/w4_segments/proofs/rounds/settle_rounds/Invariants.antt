@@ -11,6 +11,6 @@ abbrev pub invariant-loop : goal.invariant-loop
 invariant-loop g l =
     AreLinked l.counter l.editor.session.current.kept
     × KeepsShown l.fn.editor l.editor
-    × (length {A = Worker} l.team ≡ length {A = Worker} l.fn.team)
-    × All (HasCartTypes l.fn.editor.cart) l.team
+    × (length {A = Worker} l.worker_list ≡ length {A = Worker} l.fn.worker_list)
+    × All (HasCartTypes l.fn.editor.cart) l.worker_list
     × RunsAtMost l.fn.rounds l.rounds l.counter

@@ -70,12 +70,12 @@ loop-step-init c =
     simp (to_z-of_z w32 a.y1 c.ranges.y1, to_z-of_z w32 a.y2 c.ranges.y2) at c.axis_at-y.ensures in
     let x_bits : to_z w64 (of_z w64 c.axis_at-x.result) ≡ c.axis_at-x.result = omega (arith, ints) in
     let y_bits : to_z w64 (of_z w64 c.axis_at-y.result) ≡ c.axis_at-y.result = omega (arith, ints) in
-    let made : IsPixel (to_z w64 (of_z w64 c.axis_at-x.result)) (to_z w64 (of_z w64 c.axis_at-y.result))
+    let is_pixel : IsPixel (to_z w64 (of_z w64 c.axis_at-x.result)) (to_z w64 (of_z w64 c.axis_at-y.result))
     c.number_of-number.result = c.number_of-number.ensures in
     let column : IsPixel (toward a.x1 a.x2 (moved c.distance-wide.result c.distance-high.result a.first))
     (to_z w64 (of_z w64 c.axis_at-y.result)) c.number_of-number.result =
     subst (λ (z : ℤ). IsPixel z (to_z w64 (of_z w64 c.axis_at-y.result)) c.number_of-number.result)
-    (x_bits ∙ x) made
+    (x_bits ∙ x) is_pixel
     in
     let both : IsPixel (toward a.x1 a.x2 (moved c.distance-wide.result c.distance-high.result a.first))
     (toward a.y1 a.y2 (moved c.distance-high.result c.distance-wide.result a.first))
@@ -91,7 +91,7 @@ loop-step-init c =
           (λ u v hu hv. steps_none _ _ a.first u v (Some a.index));
       sum = c.slope_at-slope.ensures.sum;
       rest = c.slope_at-slope.ensures.rest;
-      place = λ h. (simp (
+      pixel_is = λ h. (simp (
         to_z-of_z w32 a.x1 c.ranges.x1,
         to_z-of_z w32 a.x2 c.ranges.x2,
         to_z-of_z w32 a.y1 c.ranges.y1,
@@ -100,10 +100,10 @@ loop-step-init c =
     }
 
 pub put_pixel-requires-clause-number : goal.put_pixel-requires-clause-number
-put_pixel-requires-clause-number c = (c.loop-step.invariant.place c.loop-step-test.true).0
+put_pixel-requires-clause-number c = (c.loop-step.invariant.pixel_is c.loop-step-test.true).0
 
 pub next_number-number-requires-clause-number : goal.next_number-number-requires-clause-number
-next_number-number-requires-clause-number c = (c.loop-step.invariant.place c.loop-step-test.true).0
+next_number-number-requires-clause-number c = (c.loop-step.invariant.pixel_is c.loop-step-test.true).0
 
 pub next_slope-next-requires-clause-moved : goal.next_slope-next-requires-clause-moved
 next_slope-next-requires-clause-moved c =
@@ -139,7 +139,7 @@ loop-step-preserved c =
       to_z-of_z w32 a.x2 c.ranges.x2,
       to_z-of_z w32 a.y1 c.ranges.y1,
       to_z-of_z w32 a.y2 c.ranges.y2,
-    ) at (c.loop-step.invariant.place c.loop-step-test.true) in
+    ) at (c.loop-step.invariant.pixel_is c.loop-step-test.true) in
     let less : c.min-less.result ≡ min (apart a.x1 a.x2) (apart a.y1 a.y2) =
     omega (arith, wide, tall, c.min-less.ensures) in
     let most : c.max-most.result ≡ max (max (apart a.x1 a.x2) (apart a.y1 a.y2)) 1 =
@@ -167,7 +167,8 @@ loop-step-preserved c =
     slope_moved c.loop-step.slope.moved c.loop-step.slope.rest step c.min-less.result c.max-most.result
     own other (omega arith) (omega arith) (omega arith) (omega arith)
     c.loop-step.invariant.sum c.loop-step.invariant.rest in
-    let place : step + 1 < a.end → IsPixel (xs (step + 1)) (ys (step + 1)) c.next_number-number.result = λ h.
+    let pixel_is : step + 1 < a.end → IsPixel (xs (step + 1)) (ys (step + 1)) c.next_number-number.result = λ
+    h.
     (
     let later : c.next_slope-next.result.moved ≡ moved own other (step + 1) =
     slope_moved c.next_slope-next.result.moved c.next_slope-next.result.rest (step + 1) c.min-less.result
@@ -199,12 +200,12 @@ loop-step-preserved c =
       ) painted;
       sum = sum;
       rest = c.next_slope-next.ensures.rest;
-      place = λ h. (simp (
+      pixel_is = λ h. (simp (
         to_z-of_z w32 a.x1 c.ranges.x1,
         to_z-of_z w32 a.x2 c.ranges.x2,
         to_z-of_z w32 a.y1 c.ranges.y1,
         to_z-of_z w32 a.y2 c.ranges.y2,
-      ) (place h));
+      ) (pixel_is h));
     }
 
 pub returns : goal.returns

@@ -12,7 +12,7 @@ invariant-loop-step l = record {
       l.first l.step (Some l.index));
   sum : l.slope.moved * l.most + l.slope.rest ≡ l.step * l.less + (l.most - 1) / 2;
   rest : l.slope.rest < l.most;
-  place : l.step < l.end → IsPixel
+  pixel_is : l.step < l.end → IsPixel
       (toward l.x1 l.x2 (moved (apart l.x1 l.x2) (apart l.y1 l.y2) l.step))
       (toward l.y1 l.y2 (moved (apart l.y1 l.y2) (apart l.x1 l.x2) l.step)) l.number;
 }

@@ -23,8 +23,8 @@ returns c =
     let m = c.args.code.now in
     let memory = sym (c.any.ensures ∙ ap (list_any is_memory) c.imports.ensures) in
     let update = sym (c.any-2.ensures ∙ ap (list_any is_update) c.exports.ensures) in
-    let entry = sym (c.any-3.ensures ∙ ap (list_any (is_wrong_entry m)) c.exports-2.ensures) in
+    let no_wrong_entry = sym (c.any-3.ensures ∙ ap (list_any (is_wrong_entry m)) c.exports-2.ensures) in
     c.segment_refusal.ensures ∙ ap (option_map SegmentOutside) c.first_outside.ensures ∙ last _
-    ∙ cause_passed _ _ _ (entry ∙ c.if-any.false)
+    ∙ cause_passed _ _ _ (no_wrong_entry ∙ c.if-any.false)
     ∙ cause_passed _ _ _ (ap not (update ∙ c.if-not-any-2.false))
     ∙ cause_passed _ _ _ (ap not (memory ∙ c.if-not-any.false))

@@ -1,6 +1,6 @@
 use Rattle.std.proofs.Common.{◌≡◌, ℕ, suc, ◌-◌, reverse, None, ap, sym, ◌∙◌, arith}
 use Rattle.std.proofs.lemmas.Result.{err_from_is_err_and}
-use Rattle.wasm_read.specs.ReadExpression.{is_one_end, entry_with_places, matched}
+use Rattle.wasm_read.specs.ReadExpression.{is_one_end, mark_with_positions, matched}
 use Rattle.wasm_read.proofs.LoopLaws.{refused, turn_filled, turn_stopped, unmatched_left}
 use Rattle.wasm_read.proofs.brackets.matched.Goals as goal
 
@@ -12,7 +12,7 @@ returns-in_err-op c =
     let p = err_from_is_err_and c.from_residual.result c.from_residual.ensures.1 in
     let stopped = turn_stopped i c.loop-at.at c.args.marks c.loop-at.marks (reverse c.loop-at.closes.items)
     c.op.result there (omega arith) inv.long inv.before inv.after c.op.ensures in
-    rw (p.1, p.2) (refused (entry_with_places i c.op.result (reverse c.loop-at.closes.items) ≡ None)
+    rw (p.1, p.2) (refused (mark_with_positions i c.op.result (reverse c.loop-at.closes.items) ≡ None)
     (matched c.args.marks ≡ None) stopped c.in_err-op.field-0.0 c.in_err-op.ensures)
 
 pub loop-at-preserved : goal.loop-at-preserved

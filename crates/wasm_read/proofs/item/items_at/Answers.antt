@@ -6,18 +6,20 @@ use Rattle.wasm_read.proofs.item.items_at.Goals as goal
 
 pub returns-in_err-item : goal.returns-in_err-item
 returns-in_err-item g c =
-    let read = g.T.Item.reads in
+    let read_item = g.T.Item.reads in
     let left : c.args.count - c.loop.counter ≡ suc (c.args.count - (c.loop.counter + 1)) = omega arith in
     let p = err_from_is_err_and c.from_residual.result c.from_residual.ensures.1 in
-    rw (p.1, p.2) (refused (read c.loop.rest.now ≡ None) (items_at read c.args.count c.args.bytes.now ≡ None)
-    (items_none read c.loop.items.items _ _ c.loop.rest.now _ c.loop.invariant left)
+    rw (p.1, p.2) (refused (read_item c.loop.rest.now ≡ None)
+    (items_at read_item c.args.count c.args.bytes.now ≡ None)
+    (items_none read_item c.loop.items.items _ _ c.loop.rest.now _ c.loop.invariant left)
     c.in_err-item.field-0.0 c.in_err-item.ensures)
 
 pub loop-preserved : goal.loop-preserved
 loop-preserved g c =
-    let read = g.T.Item.reads in
+    let read_item = g.T.Item.reads in
     let left : c.args.count - c.loop.counter ≡ suc (c.args.count - (c.loop.counter + 1)) = omega arith in
-    ap (λ xs. after_items xs (items_at read (c.args.count - (c.loop.counter + 1)) c.in_ok-item.after.now))
+    ap (λ xs. after_items xs (items_at read_item (c.args.count - (c.loop.counter + 1))
+    c.in_ok-item.after.now))
     c.in_ok-push.ensures.items
-    ∙ items_more read c.loop.items.items c.in_ok-item.item _ _ c.loop.rest.now c.in_ok-item.after.now _
+    ∙ items_more read_item c.loop.items.items c.in_ok-item.item _ _ c.loop.rest.now c.in_ok-item.after.now _
     c.loop.invariant left c.in_ok-item.ensures

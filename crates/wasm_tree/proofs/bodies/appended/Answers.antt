@@ -2,8 +2,8 @@ use Rattle.std.proofs.Common.{refl}
 use Rattle.wasm_tree.proofs.ShiftLaws.{one_more}
 use Rattle.wasm_tree.proofs.bodies.appended.Goals as goal
 
-pub loop-place-preserved : goal.loop-place-preserved
-loop-place-preserved c =
-    one_more c.len-start.result c.loop-place.place _ c.args.body.now c.args.marks c.loop-place.marks
+pub loop-position-preserved : goal.loop-position-preserved
+loop-position-preserved c =
+    one_more c.len-start.result c.loop-position.position _ c.args.body.now c.args.marks c.loop-position.marks
     c.in_ok-marks.marks c.op.result c.in_ok-op.op c.labels.result.now refl
-    c.op.ensures c.labels.ensures c.in_ok-op.ensures c.loop-place.invariant c.in_ok-marks.ensures
+    c.op.ensures c.labels.ensures c.in_ok-op.ensures c.loop-position.invariant c.in_ok-marks.ensures

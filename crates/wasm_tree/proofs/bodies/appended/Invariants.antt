@@ -1,6 +1,6 @@
 use Rattle.std.proofs.Common.{◌≡◌, ◌++◌, map, take}
-use Rattle.wasm_tree.specs.Shifting.{shifted_entry}
+use Rattle.wasm_tree.specs.Shifting.{shifted_mark}
 use Rattle.wasm_tree.proofs.bodies.appended.Given as goal
 
-abbrev pub invariant-loop-place : goal.invariant-loop-place
-invariant-loop-place l = l.marks ≡ l.fn.marks ++ map (shifted_entry l.start) (take l.place l.body)
+abbrev pub invariant-loop-position : goal.invariant-loop-position
+invariant-loop-position l = l.marks ≡ l.fn.marks ++ map (shifted_mark l.start) (take l.position l.body)

@@ -5,7 +5,7 @@ use Rattle.w4_defs.specs.Validity.{IsTypedAt}
 use Rattle.wasm_valid.specs.AbstractStackLaw.{body_stands}
 use Rattle.wasm_valid.proofs.ProfileFacts.{no_cause}
 use Rattle.std.proofs.lemmas.Result.{IfOk-weaker}
-use Rattle.wasm_valid.proofs.BodyEntryLaws.{body_is_typed, untyped}
+use Rattle.wasm_valid.proofs.BodyMarkLaws.{body_is_typed, untyped}
 use Rattle.wasm_valid.proofs.body.body_has_type.Goals as goal
 
 pub returns-in-Some : goal.returns-in-Some

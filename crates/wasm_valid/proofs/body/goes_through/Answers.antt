@@ -1,14 +1,14 @@
 use Rattle.std.proofs.Common.{◌∙◌, ◌+◌, sym, arith, drop, refl}
 use Rattle.std.specs.Prelude.{slice_get}
-use Rattle.wasm_valid.specs.BodyEntries.{body_entries}
-use Rattle.wasm_valid.proofs.BodyEntryLaws.{as_many, entry_next, entry_stop, entry_on, stopped, ended_with_none_open, past_all}
+use Rattle.wasm_valid.specs.BodyMarks.{body_marks}
+use Rattle.wasm_valid.proofs.BodyMarkLaws.{as_many, mark_next, mark_stop, mark_on, stopped, ended_with_none_open, past_all}
 use Rattle.wasm_valid.proofs.body.goes_through.Goals as goal
 
 pub labels-requires : goal.labels-requires
 labels-requires c =
     omega (
       arith,
-      c.loop-place-test.true,
+      c.loop-position-test.true,
       as_many (slice_get c.args.code.now.bodies c.args.func) c.body-operations.result.now
           c.body-operations.ensures.value c.body-operations.ensures.proper,
     )
@@ -16,38 +16,40 @@ labels-requires c =
 pub returns-then-not-branch-clause-value : goal.returns-then-not-branch-clause-value
 returns-then-not-branch-clause-value c =
     let m = c.args.code.now in
-    let place = c.loop-place.place in
-    let rest = drop (place + 1) (body_entries m c.args.func) in
+    let position = c.loop-position.position in
+    let rest = drop (position + 1) (body_marks m c.args.func) in
     stopped _ _ refl
-    (sym c.loop-place.invariant
-    ∙ entry_stop c.args.scope.now (drop place (body_entries m c.args.func)) rest c.loop-place.control
-    c.check_entry.new.control c.in_ok-check_entry.field-0
-    (entry_next c.args.scope.now (slice_get m.bodies c.args.func) c.body-operations.result.now place _
-    c.labels.result.now c.loop-place.control c.check_entry.new.control c.in_ok-check_entry.field-0
-    c.body-operations.ensures.value c.body-operations.ensures.proper c.loop-place-test.true c.labels.ensures
-    c.in_ok-check_entry.ensures)
+    (sym c.loop-position.invariant
+    ∙ mark_stop c.args.scope.now (drop position (body_marks m c.args.func)) rest c.loop-position.control
+    c.check_mark.new.control c.in_ok-check_mark.field-0
+    (mark_next c.args.scope.now (slice_get m.bodies c.args.func) c.body-operations.result.now position _
+    c.labels.result.now c.loop-position.control c.check_mark.new.control c.in_ok-check_mark.field-0
+    c.body-operations.ensures.value c.body-operations.ensures.proper c.loop-position-test.true
+    c.labels.ensures
+    c.in_ok-check_mark.ensures)
     c.if-not-branch.true)
 
-pub loop-place-preserved : goal.loop-place-preserved
-loop-place-preserved c =
+pub loop-position-preserved : goal.loop-position-preserved
+loop-position-preserved c =
     let m = c.args.code.now in
-    let place = c.loop-place.place in
-    let rest = drop (place + 1) (body_entries m c.args.func) in
-    entry_on c.args.scope.now (drop place (body_entries m c.args.func)) rest c.loop-place.control
-    c.check_entry.new.control c.in_ok-check_entry.field-0
-    (entry_next c.args.scope.now (slice_get m.bodies c.args.func) c.body-operations.result.now place _
-    c.labels.result.now c.loop-place.control c.check_entry.new.control c.in_ok-check_entry.field-0
-    c.body-operations.ensures.value c.body-operations.ensures.proper c.loop-place-test.true c.labels.ensures
-    c.in_ok-check_entry.ensures)
+    let position = c.loop-position.position in
+    let rest = drop (position + 1) (body_marks m c.args.func) in
+    mark_on c.args.scope.now (drop position (body_marks m c.args.func)) rest c.loop-position.control
+    c.check_mark.new.control c.in_ok-check_mark.field-0
+    (mark_next c.args.scope.now (slice_get m.bodies c.args.func) c.body-operations.result.now position _
+    c.labels.result.now c.loop-position.control c.check_mark.new.control c.in_ok-check_mark.field-0
+    c.body-operations.ensures.value c.body-operations.ensures.proper c.loop-position-test.true
+    c.labels.ensures
+    c.in_ok-check_mark.ensures)
     c.if-not-branch.false
-    ∙ c.loop-place.invariant
+    ∙ c.loop-position.invariant
 
 pub returns-clause-value : goal.returns-clause-value
 returns-clause-value c =
     let m = c.args.code.now in
-    ended_with_none_open c.loop-place.control c.is_open.result _
-    (sym c.loop-place.invariant
+    ended_with_none_open c.loop-position.control c.is_open.result _
+    (sym c.loop-position.invariant
     ∙ past_all c.args.scope.now (slice_get m.bodies c.args.func) c.body-operations.result.now
-    c.loop-place.place c.loop-place.control
-    c.body-operations.ensures.value c.body-operations.ensures.proper c.loop-place-test.false)
+    c.loop-position.position c.loop-position.control
+    c.body-operations.ensures.value c.body-operations.ensures.proper c.loop-position-test.false)
     c.is_open.ensures

@@ -2,9 +2,9 @@ use Rattle.std.proofs.Common.{◌≡◌, ◌∙◌, ◌∷◌, [], Bool, Some, a
 use Rattle.std.specs.Prelude.{◌↔◌, slice_get, IsTrue}
 use Rattle.wasm_valid.specs.Pass.{opened, blocks_after}
 use Rattle.wasm_valid.specs.AbstractStackLaw.{body_stands}
-use Rattle.wasm_valid.specs.BodyEntries.{body_entries}
+use Rattle.wasm_valid.specs.BodyMarks.{body_marks}
 use Rattle.std.proofs.lemmas.Result.{IfOk-weaker}
-use Rattle.wasm_valid.proofs.BodyEntryLaws.{decided}
+use Rattle.wasm_valid.proofs.BodyMarkLaws.{decided}
 use Rattle.wasm_valid.proofs.body.has_type.Goals as goal
 
 pub returns : goal.returns
@@ -14,7 +14,7 @@ returns c =
     let func = c.args.func in
     IfOk-weaker c.goes_through.result
     (λ (r : Bool). IsTrue r
-    ↔ (blocks_after c.in_ok-scope.scope (body_entries m func) c.new-control.result ≡ Some []))
+    ↔ (blocks_after c.in_ok-scope.scope (body_marks m func) c.new-control.result ≡ Some []))
     (λ r. option_map (body_stands m s) (slice_get m.bodies func) ≡ Some r)
     (λ r h. decided m s (slice_get m.bodies func) c.runs.result.now c.in_ok-scope.scope c.new-control.result r
     c.runs.ensures c.goes_through.ensures.proper

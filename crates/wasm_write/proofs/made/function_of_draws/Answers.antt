@@ -1,6 +1,7 @@
 use Rattle.std.proofs.Common.{◌≡◌, ◌∙◌, ◌∷◌, [], List, ap, sym}
 use Rattle.w4_defs.specs.declared.operation.Op.{Op}
-use Rattle.w4_defs.specs.declared.operation.Op.TheVariants.{LocalGet, I32Const}
+use Rattle.w4_defs.specs.declared.operation.Op.TheVariants.{LocalGet, Basic}
+use Rattle.w4_defs.specs.declared.basic.Basic.TheVariants.{I32Const}
 use Rattle.w4_defs.specs.Generator.{chosen}
 use Rattle.w4_defs.specs.Tree.{sequence}
 use Rattle.w4_defs.specs.View.{before, expression_of}
@@ -13,7 +14,7 @@ pub returns : goal.returns
 unfolding before
 returns c =
     let last : List Op = chosen c.args.second ∷ [] in
-    let four : List Op = I32Const c.args.value ∷ last in
+    let four : List Op = Basic (I32Const c.args.value) ∷ last in
     let three : List Op = chosen c.args.first ∷ four in
     let whole : List Op = LocalGet 0 ∷ LocalGet 1 ∷ three in
     let list : expression_of c.push-5.new.self.items ≡ sequence whole =

@@ -9,8 +9,11 @@ use Rattle.w4_console.proofs.console.Console.frame.Goals as goal
 pub returns-clause-frame : goal.returns-clause-frame
 returns-clause-frame g c =
     let setup = console_setup c.args.cart.now c.args.font.now c.args.budget in
-    subst (λ (s : State). frame setup s c.args.input.now ≡ Some (moment c.record.new.state c.record.new.made))
+    subst (λ (s : State). frame setup s c.args.input.now
+    ≡ Some (moment c.record.new.state c.record.new.frame_record))
     c.self.view_is
-    (framed setup c.self.inside.state c.args.input.now (so_far c.begin.new.state c.begin.new.made)
-    (so_far c.update.new.state c.update.new.made) (moment c.record.new.state c.record.new.made)
-    c.begin.ensures.begun c.update.ensures.update c.record.ensures.recorded)
+    (framed setup c.self.inside.state c.args.input.now (so_far c.begin_frame.new.state
+    c.begin_frame.new.frame_record)
+    (so_far c.update.new.state c.update.new.frame_record)
+    (moment c.record.new.state c.record.new.frame_record)
+    c.begin_frame.ensures.begun c.update.ensures.update c.record.ensures.recorded)

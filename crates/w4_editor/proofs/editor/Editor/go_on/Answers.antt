@@ -37,10 +37,10 @@ returns-clause-ok g c =
     let here = c.in-Some.ensures.some in
     let next =
     c.move_on.ensures.moment inside.recording.disk (run_here _ _ _ _ _ _ _ c.self.invariant p here.0) in
-    subst (λ (old : Editing). IsStepped (record_of c.move_on.new.made) old
+    subst (λ (old : Editing). IsStepped (record_of c.move_on.new.frame_record) old
     (view c.move_on.new.player inside.recording inside.kept.items inside.older inside.newer
     (Some (p + 1)))) c.self.view_is
     (is_stepped inside.player inside.recording inside.kept.items inside.older inside.newer inside.at
     inside.reset_frame c.self.invariant c.move_on.new.player c.move_on.ensures.same p here.0 here.1
-    (record_of c.move_on.new.made)
-    (ap (option_map (λ (m : Moment). m.made)) next))
+    (record_of c.move_on.new.frame_record)
+    (ap (option_map (λ (m : Moment). m.frame_record)) next))

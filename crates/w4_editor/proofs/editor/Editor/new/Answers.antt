@@ -18,9 +18,9 @@ invariant_of-result-3 c =
     } in
     let entry = c.new-2.result in
     subst (λ (p : Player). IsEditor p r c.push.new.self.items c.in_ok-with_capacity.field-0
-    c.in_ok-with_capacity-2.field-0 (Some 0) c.reset.new.made) (sym c.player.view_is)
+    c.in_ok-with_capacity-2.field-0 (Some 0) c.reset.new.frame_record) (sym c.player.view_is)
     (opens player r c.push.new.self.items c.in_ok-with_capacity.field-0 c.in_ok-with_capacity-2.field-0
-    c.reset.new.made
+    c.reset.new.frame_record
     (sym c.in_ok-player.ensures.budget ∙ sym (ap (λ (p : Player). p.budget) c.reset.ensures.same))
     c.recording.invariant.few_frames
     c.reset.ensures.globals

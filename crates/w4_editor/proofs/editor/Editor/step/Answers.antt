@@ -8,7 +8,8 @@ returns g c = (
   (refl, λ _. tt, (c.in_ok-go_on.ensures.ok, tt)),
   record {
     stepped = tt;
-    state = next_state (record_of c.go_on.new.made) c.args.self.now c.go_on.new.self c.state.result.now
+    state = next_state (record_of c.go_on.new.frame_record) c.args.self.now c.go_on.new.self
+        c.state.result.now
         c.in_ok-go_on.ensures.ok c.state.ensures;
     ticks = c.in_ok-go_on.ensures.ticks;
     idle = tt;

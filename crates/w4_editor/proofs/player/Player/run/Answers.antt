@@ -14,9 +14,10 @@ loop-input-preserved g c =
     let so_far = c.loop-input.invariant in
     let ticks_so_far = so_far.3 in (
       fold_more (setup_of first) first.state now.state
-          (moment next.state c.frame.new.made) c.args.inputs.now i _
+          (moment next.state c.frame.new.frame_record) c.args.inputs.now i _
           c.loop-input-test.true so_far.0
-          (frame_as_first first now _ (moment next.state c.frame.new.made) so_far.1 c.frame.ensures.frame),
+          (frame_as_first first now _ (moment next.state c.frame.new.frame_record) so_far.1
+          c.frame.ensures.frame),
       still_in_state first now next so_far.1 c.frame.ensures.same,
       c.frame.ensures.globals,
       omega (arith, ticks, ticks_so_far),

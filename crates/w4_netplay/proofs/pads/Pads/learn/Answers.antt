@@ -13,9 +13,9 @@ returns c =
     (sym c.self.view_is) c.requires in
     let range = in_range (known_in frames) packet accepted in
     let frame_in : packet.frame < length frames = omega (arith, range.1, c.self.invariant) in
-    ap (λ pads. known_in (set frames packet.frame pads)) c.put.ensures.put
+    ap (λ pads. known_in (set frames packet.frame pads)) c.put_known.ensures.put
     ∙ learns frames packet c.index_mut.result.now
     (slice_get-get_or frames packet.frame c.index_mut.result.now frame_in
     ∙ ap Some (sym c.index_mut.ensures.value))
-    frame_in (omega (arith, range.0, c.put.ensures.four)) accepted
+    frame_in (omega (arith, range.0, c.put_known.ensures.four)) accepted
     ∙ ap (λ (f : List (List (Option ℕ))). learned (known_in f) packet) c.self.view_is

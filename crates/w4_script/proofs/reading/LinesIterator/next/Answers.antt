@@ -1,6 +1,6 @@
-use Rattle.std.proofs.Common.{◌≡◌, ◌+◌, ◌∷◌, length, false, true, sym, ap, ◌∙◌, rules}
-use Rattle.w4_defs.specs.Lines.{is_skipped, lines_from, pieces}
-use Rattle.w4_script.specs.Left.{words_left, lines_left}
+use Rattle.std.proofs.Common.{◌≡◌, length, false, true, sym, ap, ◌∙◌, rules}
+use Rattle.w4_defs.specs.Lines.{is_skipped}
+use Rattle.w4_script.specs.Left.{words_left}
 use Rattle.w4_script.proofs.LineLaws.{line_before, skipped_before, no_lines}
 use Rattle.w4_script.proofs.reading.LinesIterator.next.Goals as goal
 

@@ -15,14 +15,14 @@ pub returns : goal.returns
 returns g c =
     let e = c.args.editor.now in
     let film = c.args.self.now in
-    let dealt = c.deal.new.team in
-    let new = c.film_all.new.team in
+    let dealt = c.deal_pieces.new.worker_list in
+    let new = c.film_all.new.worker_list in
     let passed = c.requires.filming.passed in
     let none = c.if-self.false in
-    let same : film.made ≡ film.next = omega (arith, passed, none) in
-    let pieces : ArePieces e film.first film.end film.made film.team.items dealt =
-    subst (λ (team : List Worker). ArePieces e film.first film.end film.made team dealt)
-    c.as_mut_slice-team.ensures.value c.in_ok-deal.ensures in
+    let same : film.filmed ≡ film.next = omega (arith, passed, none) in
+    let pieces : ArePieces e film.first film.end film.filmed film.worker_list.items dealt =
+    subst (λ (worker_list : List Worker). ArePieces e film.first film.end film.filmed worker_list dealt)
+    c.as_mut_slice-worker_list.ensures.value c.in_ok-deal_pieces.ensures in
     let did : EachDid (HasFilmed (editing_setup e) e.disk e.session.current.inputs) dealt new =
     subst (λ (m : WasmModule). EachDid (HasFilmed (console_setup m e.font e.budget) e.disk
     e.session.current.inputs) dealt new) c.cart.ensures
@@ -30,14 +30,15 @@ returns g c =
     e.session.current.inputs) dealt new) c.font.ensures
     (subst (λ (r : Recording). EachDid (HasFilmed (console_setup c.cart.result.now c.font.result.now
     r.budget) r.disk r.frames) dealt new) c.recording.ensures c.film_all.ensures)) in
-    let more = round_more e film.team.items film.first film.end film.entry film.next film.made
+    let more = round_more e film.worker_list.items film.first film.end film.first_entry film.next film.filmed
     c.requires.filming dealt new same c.requires.more c.is_consistent.ensures.kept.few pieces did in
-    let back : take film.team.len (new ++ drop (length new) film.team.items) ≡ new =
-    take_at new (drop (length new) film.team.items) film.team.len
-    (did.many ∙ c.in_ok-deal.ensures.many ∙ c.as_mut_slice-team.ensures.len) in
+    let back : take film.worker_list.len (new ++ drop (length new) film.worker_list.items) ≡ new =
+    take_at new (drop (length new) film.worker_list.items) film.worker_list.len
+    (did.many ∙ c.in_ok-deal_pieces.ensures.many ∙ c.as_mut_slice-worker_list.ensures.len) in
     record {
-      filming = subst (λ (team : List Worker). CanGoOn team film.first film.end film.entry film.next
-          (film.made + length new) e) (sym back) more.0;
+      filming = subst (λ (worker_list : List Worker). CanGoOn worker_list film.first film.end film.first_entry
+          film.next
+          (film.filmed + length new) e) (sym back) more.0;
       first = refl;
       end = refl;
       next = refl;

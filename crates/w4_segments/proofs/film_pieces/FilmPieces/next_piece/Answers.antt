@@ -20,7 +20,8 @@ pub returns-clause-filming : goal.returns-clause-filming
 returns-clause-filming g c =
     let now = c.make_next.new.self in
     let has = c.in_ok-make_next.ensures in
-    piece_less c.args.editor.now now.team.items now.first now.end now.entry now.next now.made has.filming
+    piece_less c.args.editor.now now.worker_list.items now.first now.end now.first_entry now.next now.filmed
+    has.filming
     has.some
 
 pub returns-clause-piece : goal.returns-clause-piece
@@ -35,6 +36,8 @@ returns-clause-piece g c _ =
     ∙ left_begins e now.first now.end c.is_consistent.ensures.kept.true_links.rising now.next
     ∙ ap
     (λ xs. joined xs (images_between e (piece_begin (entries_of e) now.first now.end (now.next + 1)) now.end))
-    (piece_handed_out e now.team.items now.first now.end now.entry now.next now.made has.filming has.some
-    (length c.as_slice.result.now - (now.made - now.next))
-    (ap (λ (team : List Worker). length team - (now.made - now.next)) c.as_slice.ensures.value))
+    (piece_handed_out e now.worker_list.items now.first now.end now.first_entry now.next now.filmed
+    has.filming has.some
+    (length c.as_slice.result.now - (now.filmed - now.next))
+    (ap (λ (worker_list : List Worker). length worker_list - (now.filmed - now.next))
+    c.as_slice.ensures.value))

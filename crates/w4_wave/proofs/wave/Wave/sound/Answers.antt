@@ -53,9 +53,11 @@ loop-tick-preserved c =
     second.ensures.part.right third.ensures.part.right fourth.ensures.part.right right
     c.sum-right.ensures).1 in
     record {
-      whole = c.put.array_long;
-      so_far = samples_more wave (after_ticks wave tick) c.loop-tick.out c.put.new.out c.sample.result tick
-          c.loop-tick-test.true c.loop-tick.invariant.whole refl (c.sample.ensures ∙ bytes) c.put.ensures
+      whole = c.put_sample.array_long;
+      so_far = samples_more wave (after_ticks wave tick) c.loop-tick.out c.put_sample.new.out c.sample.result
+          tick
+          c.loop-tick-test.true c.loop-tick.invariant.whole refl (c.sample.ensures ∙ bytes)
+          c.put_sample.ensures
           c.loop-tick.invariant.so_far;
     }
 

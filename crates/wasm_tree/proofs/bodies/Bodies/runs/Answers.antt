@@ -8,7 +8,7 @@ index-requires c =
     omega (
       arith,
       c.requires,
-      c.self.inside.places.ok,
+      c.self.inside.positions.ok,
       ap length (layout_shown _ _ fs c.self.invariant c.self.view_is).2,
       placed_length 0 fs,
     )

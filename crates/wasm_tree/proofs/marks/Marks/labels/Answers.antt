@@ -14,24 +14,24 @@ pub stretch-requires-clause-rises : goal.stretch-requires-clause-rises
 stretch-requires-clause-rises c =
     let ms = c.args.self.now in
     let begins = c.deref-2.ensures.value ∙ (pool_shown _ _ _ ms c.self.invariant c.self.view_is).1 in
-    rw begins (stretch ms c.args.place 0 0 c.requires).rises
+    rw begins (stretch ms c.args.position 0 0 c.requires).rises
 
 pub stretch-requires-clause-within : goal.stretch-requires-clause-within
 stretch-requires-clause-within c =
     let ms = c.args.self.now in
     let begins = c.deref-2.ensures.value ∙ (pool_shown _ _ _ ms c.self.invariant c.self.view_is).1 in
     let pool = c.deref.ensures.value ∙ (pool_shown _ _ _ ms c.self.invariant c.self.view_is).2 in
-    rw (begins, pool) (stretch ms c.args.place 0 0 c.requires).within
+    rw (begins, pool) (stretch ms c.args.position 0 0 c.requires).within
 
 pub returns : goal.returns
 returns c =
     let ms = c.args.self.now in
     let begins = c.deref-2.ensures.value ∙ (pool_shown _ _ _ ms c.self.invariant c.self.view_is).1 in
     let pool = c.deref.ensures.value ∙ (pool_shown _ _ _ ms c.self.invariant c.self.view_is).2 in
-    let place = c.args.place in
-    (stretch ms place 0 0 c.requires).labels
+    let position = c.args.position in
+    (stretch ms position 0 0 c.requires).labels
     ∙ ap Some
     (sym (c.stretch.ensures
-    ∙ ap (λ xs. slice_range xs (get_or c.deref-2.result.now place 0)
-    (get_or c.deref-2.result.now (place + 1) 0)) pool
-    ∙ ap (λ bs. slice_range (pool_of ms) (get_or bs place 0) (get_or bs (place + 1) 0)) begins))
+    ∙ ap (λ xs. slice_range xs (get_or c.deref-2.result.now position 0)
+    (get_or c.deref-2.result.now (position + 1) 0)) pool
+    ∙ ap (λ bs. slice_range (pool_of ms) (get_or bs position 0) (get_or bs (position + 1) 0)) begins))

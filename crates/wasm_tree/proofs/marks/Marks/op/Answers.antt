@@ -15,6 +15,6 @@ index-requires c =
 pub returns : goal.returns
 returns c =
     let ms = c.args.self.now in
-    operation_of_mark ms c.args.place c.index.result.now c.requires
-    (c.index.ensures ∙ ap (λ xs. get_or xs c.args.place c.index.result.now)
+    operation_of_mark ms c.args.position c.index.result.now c.requires
+    (c.index.ensures ∙ ap (λ xs. get_or xs c.args.position c.index.result.now)
     (pool_shown _ _ _ ms c.self.invariant c.self.view_is).0)

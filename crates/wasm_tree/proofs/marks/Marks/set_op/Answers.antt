@@ -16,12 +16,13 @@ index_mut-requires c =
 pub invariant_of-self : goal.invariant_of-self
 invariant_of-self c =
     let ms = c.args.self.now in
-    let h = set _ _ _ c.args.place c.args.op ms (pool_shown _ _ _ ms c.self.invariant c.self.view_is) in
-    (slice_set ms c.args.place (c.args.op, (get_or ms c.args.place (c.args.op, [])).1), h.0, h.1, h.2)
+    let h = set _ _ _ c.args.position c.args.op ms (pool_shown _ _ _ ms c.self.invariant c.self.view_is) in
+    (slice_set ms c.args.position (c.args.op, (get_or ms c.args.position (c.args.op, [])).1), h.0, h.1, h.2)
 
 pub returns : goal.returns
 returns c =
     let ms = c.args.self.now in
-    let h = set _ _ _ c.args.place c.args.op ms (pool_shown _ _ _ ms c.self.invariant c.self.view_is) in
-    pools _ _ _ (slice_set ms c.args.place (c.args.op, (get_or ms c.args.place (c.args.op, [])).1)) h.0 h.1
+    let h = set _ _ _ c.args.position c.args.op ms (pool_shown _ _ _ ms c.self.invariant c.self.view_is) in
+    pools _ _ _ (slice_set ms c.args.position (c.args.op, (get_or ms c.args.position (c.args.op, [])).1)) h.0
+    h.1
     h.2

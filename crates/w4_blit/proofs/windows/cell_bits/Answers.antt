@@ -1,0 +1,25 @@
+use Rattle.std.proofs.Common.{◌≡◌, ℕ, ◌+◌, ◌<◌, ◌∙◌, sym, subst, arith}
+use Rattle.w4_defs.specs.Blit.{source_value}
+use Rattle.w4_blit.specs.FramebufferCopy.{with_copy}
+use Rattle.w4_blit.specs.Strips.{HasValue}
+use Rattle.w4_blit.specs.Walks.{walked}
+use Rattle.w4_blit.proofs.WindowLaws.{forward_walk}
+use Rattle.w4_blit.proofs.windows.cell_bits.Goals as goal
+
+pub returns-else-walk-clause-values : goal.returns-else-walk-clause-values
+returns-else-walk-clause-values c = λ d hl hn.
+    let page = with_copy c.args.page.now c.args.copy.now in
+    let sprite = c.args.sprite.now in
+    let walk = c.args.walk in
+    let n = c.args.n in
+    let bits = c.sixteen_from-bits.result in
+    let sum : walk.start + n + d ≡ walk.start + (n + d) = omega arith in
+    let cell : walk.start + n + d ≡ walked walk (n + d) =
+    sum ∙ sym (forward_walk walk (n + d) c.requires.pace c.if-walk.false) in
+    let there : 0 + d < 16 = omega arith in
+    let same : d ≡ 0 + d = omega arith in
+    let value = source_value page sprite (walk.start + n + d) in
+    let has : HasValue bits (0 + d) value =
+    subst (λ (k : ℕ). HasValue bits k value) same (c.sixteen_from-bits.ensures.values d (omega arith)) in
+    subst (λ (p : ℕ). HasValue c.moved_bits.result (c.args.low + d) (source_value page sprite p)) cell
+    (c.moved_bits.ensures.values d value there hl has)

@@ -1,0 +1,91 @@
+use Rattle.std.proofs.Common.{[], Some, refl, sym, subst, ◌∙◌}
+use Rattle.w4_editor.specs.Editing.{editing_setup}
+use Rattle.w4_segments.specs.FilmPieces.{images_left}
+use Rattle.w4_segments.specs.Filming.{IsFilmRefusal}
+use Rattle.w4_defs.specs.Film.{film_refusal}
+use Rattle.w4_defs.specs.declared.film_refusal.FilmRefusal.{FilmRefusal}
+use Rattle.w4_defs.specs.declared.film_refusal.FilmRefusal.TheVariants.{FilmTooLong, NoFrame}
+use Rattle.w4_defs.specs.ScriptAnswers.{film_refusal_words, film_text, no_frame, refused_line}
+use Rattle.w4_defs.specs.PlaceTexts.{as_it_stands}
+use Rattle.w4_defs.specs.World.{Appends}
+use Rattle.w4_commands.specs.Causes.{Written}
+use Rattle.w4_editor.specs.PlaceSession.{place_session}
+use Rattle.w4_commands.proofs.ScriptAnswerLaws.{on_ok}
+use Rattle.w4_commands.proofs.FilmAnswerLaws.{film_shown, film_refused, film_past, film_of_none}
+use Rattle.w4_commands.proofs.OwesLaws.{there_is}
+use Rattle.w4_commands.proofs.SessionLaws.{appends_nothing, only_shows, refused_place, shows_none, told, answered_on}
+use Rattle.w4_commands.proofs.film_answer.answer_film.Goals as goal
+
+pub returns-then-to-last_place-clause-answered : goal.returns-then-to-last_place-clause-answered
+returns-then-to-last_place-clause-answered g c =
+    let old = c.args.editor.now in
+    let s = place_session old in
+    let text = film_text as_it_stands (editing_setup old) old.disk s c.args.a c.args.b in
+    refused_place c.refuse.result (g.H.House.world c.args.house.now) (g.H.House.world c.refuse.new.house) old
+    no_frame text
+    (film_past (editing_setup old) old.disk s c.args.a c.args.b
+    (rw (← c.last_place.ensures.last) c.if-to-last_place.true))
+    c.refuse.ensures.out
+
+pub returns-then-from-to-clause-answered : goal.returns-then-from-to-clause-answered
+returns-then-from-to-clause-answered g c =
+    let old = c.args.editor.now in
+    let s = place_session old in
+    let world = g.H.House.world c.args.house.now in
+    let text = film_text as_it_stands (editing_setup old) old.disk s c.args.a c.args.b in
+    told world world old old text (shows_none old)
+    (there_is (λ out. Appends world.out world.out out) text []
+    (film_of_none (editing_setup old) old.disk s c.args.a c.args.b c.if-from-to.true
+    (rw (← c.last_place.ensures.last) c.if-to-last_place.false))
+    (appends_nothing world [] refl))
+
+pub returns-in-Ok-clause-answered : goal.returns-in-Ok-clause-answered
+returns-in-Ok-clause-answered g c =
+    let old = c.args.editor.now in
+    let new = c.begin.new.editor in
+    let s = place_session old in
+    let text = film_text as_it_stands (editing_setup old) old.disk s c.args.a c.args.b in
+    answered_on c.write_film.result (g.H.House.world c.args.house.now)
+    (g.H.House.world c.write_film.new.house)
+    old new (images_left c.in-Ok.film new) text
+    (film_shown (editing_setup old) old.disk s c.args.a c.args.b c.in-Ok.ensures.accepted
+    ∙ sym c.in-Ok.ensures.images)
+    (on_ok c.write_film.result (only_shows old new c.in-Ok.ensures.keeps.recording)) c.write_film.ensures.out
+
+pub returns-in-Err-NoFrame-clause-answered : goal.returns-in-Err-NoFrame-clause-answered
+returns-in-Err-NoFrame-clause-answered g c =
+    let old = c.args.editor.now in
+    let new = c.begin.new.editor in
+    let s = place_session old in
+    let before = g.H.House.world c.args.house.now in
+    let after = g.H.House.world c.refuse-in-Err-NoFrame.new.house in
+    let refused : IsFilmRefusal (film_refusal c.args.a c.args.b s.current.inputs) NoFrame =
+    subst (λ (r : FilmRefusal). IsFilmRefusal (film_refusal c.args.a c.args.b s.current.inputs) r)
+    c.in-Err-NoFrame.field-0-is c.in-Err-NoFrame.ensures.refused in
+    answered_on c.refuse-in-Err-NoFrame.result before after old new (Some no_frame)
+    (film_text as_it_stands (editing_setup old) old.disk s c.args.a c.args.b)
+    (film_refused (editing_setup old) old.disk s c.args.a c.args.b NoFrame (λ e. cc)
+    refused)
+    (on_ok c.refuse-in-Err-NoFrame.result (only_shows old new c.in-Err-NoFrame.ensures.keeps.recording))
+    (there_is (λ out. Written before after c.refuse-in-Err-NoFrame.result out) (Some no_frame) no_frame refl
+    c.refuse-in-Err-NoFrame.ensures.out)
+
+pub returns-in-Err-FilmTooLong-clause-answered : goal.returns-in-Err-FilmTooLong-clause-answered
+returns-in-Err-FilmTooLong-clause-answered g c =
+    let old = c.args.editor.now in
+    let new = c.begin.new.editor in
+    let s = place_session old in
+    let before = g.H.House.world c.args.house.now in
+    let after = g.H.House.world c.write_bytes.new.house in
+    let line = refused_line (film_refusal_words FilmTooLong) in
+    let refused : IsFilmRefusal (film_refusal c.args.a c.args.b s.current.inputs) FilmTooLong =
+    subst (λ (r : FilmRefusal). IsFilmRefusal (film_refusal c.args.a c.args.b s.current.inputs) r)
+    c.in-Err-FilmTooLong.field-0-is c.in-Err-FilmTooLong.ensures.refused in
+    answered_on c.write_bytes.result before after old new (Some line)
+    (film_text as_it_stands (editing_setup old) old.disk s c.args.a c.args.b)
+    (film_refused (editing_setup old) old.disk s c.args.a c.args.b FilmTooLong (λ e. cc)
+    refused)
+    (on_ok c.write_bytes.result
+    (only_shows old new c.in-Err-FilmTooLong.ensures.keeps.recording))
+    (there_is (λ out. Written before after c.write_bytes.result out) (Some line) line refl
+    c.write_bytes.ensures.out)

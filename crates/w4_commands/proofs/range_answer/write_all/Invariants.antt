@@ -1,0 +1,15 @@
+use Rattle.std.proofs.Common.{◌+◌, ◌-◌}
+use Rattle.w4_defs.specs.World.{LeavesWriting}
+use Rattle.w4_commands.specs.ScriptAnswers.{OnlyShows, text_by}
+use Rattle.w4_defs.specs.PlaceTexts.{place_texts}
+use Rattle.w4_commands.proofs.OwesLaws.{OwesThere}
+use Rattle.w4_commands.proofs.range_answer.write_all.Given as goal
+
+-- what was written so far and the texts of the places that are left make the whole
+abbrev pub invariant-loop-place : goal.invariant-loop-place
+invariant-loop-place g l =
+    let text = text_by l.fn.desk.editor l.wanted in
+    OwesThere (g.H.House.world l.fn.house) (g.H.House.world l.house)
+    (place_texts text l.place (l.b + 1 - l.place)) (place_texts text l.a (l.b + 1 - l.a))
+    × OnlyShows l.fn.desk.editor l.desk.editor
+    × LeavesWriting (g.H.House.world l.fn.house) (g.H.House.world l.house)

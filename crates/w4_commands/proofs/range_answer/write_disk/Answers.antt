@@ -1,0 +1,28 @@
+use Rattle.w4_defs.specs.Run.{run}
+use Rattle.w4_editor.specs.Editing.{editing_setup}
+use Rattle.w4_commands.specs.Causes.{Written}
+use Rattle.w4_commands.specs.ScriptAnswers.{text_by}
+use Rattle.w4_defs.specs.declared.place_text.PlaceText.TheVariants.{DiskBytes}
+use Rattle.w4_commands.proofs.ScriptAnswerLaws.{on_ok}
+use Rattle.w4_commands.proofs.OwesLaws.{there_is}
+use Rattle.w4_commands.proofs.SessionLaws.{only_shows}
+use Rattle.w4_commands.proofs.PlaceAnswerLaws.{disk_of_state}
+use Rattle.w4_commands.proofs.range_answer.write_disk.Goals as goal
+
+pub returns-in-Ok-clause-out : goal.returns-in-Ok-clause-out
+returns-in-Ok-clause-out g c =
+    let old = c.args.editor.now in
+    there_is
+    (λ text.
+    Written (g.H.House.world c.args.house.now) (g.H.House.world c.print_disk.new.house) c.print_disk.result
+    text)
+    (text_by old DiskBytes c.args.place) c.in-Ok.state.now.disk
+    (disk_of_state c.args.place
+    (run (editing_setup old) old.disk old.session.current.inputs c.args.place) c.in-Ok.state.now
+    c.in-Ok.ensures.state)
+    c.print_disk.ensures.out
+
+pub returns-in-Ok-clause-shows : goal.returns-in-Ok-clause-shows
+returns-in-Ok-clause-shows g c =
+    let shown = rw c.in-Ok.is at c.show.follows.holds-at-none.0 in
+    on_ok c.print_disk.result (only_shows c.args.editor.now c.show.follows.lender-at-none shown.recording)

@@ -1,0 +1,48 @@
+use Rattle.std.proofs.Common.{sym, subst}
+use Rattle.std.specs.Prelude.{ℕ}
+use Rattle.w4_defs.specs.Session.{Session}
+use Rattle.w4_editor.specs.Editing.{editing_setup}
+use Rattle.w4_defs.specs.Answers.{Answered}
+use Rattle.w4_commands.specs.ScriptAnswers.{GivesAnswer}
+use Rattle.w4_editor.specs.PlaceSession.{place_session}
+use Rattle.w4_commands.proofs.ChangeAnswerLaws.{change_answers}
+use Rattle.w4_defs.specs.declared.place_text.PlaceText.TheVariants.{Image, DiskBytes}
+use Rattle.w4_commands.proofs.PlaceAnswerLaws.{one_range}
+use Rattle.w4_commands.proofs.script_answers.answer.Goals as goal
+
+pub returns-in-Show-clause-answered : goal.returns-in-Show-clause-answered
+returns-in-Show-clause-answered g c =
+    rw c.in-Show.is
+    (one_range c.answer_range.result (g.H.House.world c.args.house.now)
+    (g.H.House.world c.answer_range.new.house)
+    c.args.desk.now.editor c.answer_range.new.desk.editor Image c.in-Show.p c.answer_range.ensures.answered)
+
+pub returns-in-Film-clause-answered : goal.returns-in-Film-clause-answered
+returns-in-Film-clause-answered g c = rw c.in-Film.is c.answer_film.ensures.answered
+
+pub returns-in-Tones-clause-answered : goal.returns-in-Tones-clause-answered
+returns-in-Tones-clause-answered g c = rw c.in-Tones.is c.answer_range-in-Tones.ensures.answered
+
+pub returns-in-Traces-clause-answered : goal.returns-in-Traces-clause-answered
+returns-in-Traces-clause-answered g c = rw c.in-Traces.is c.answer_range-in-Traces.ensures.answered
+
+pub returns-in-DiskAt-clause-answered : goal.returns-in-DiskAt-clause-answered
+returns-in-DiskAt-clause-answered g c =
+    rw c.in-DiskAt.is
+    (one_range c.answer_range-in-DiskAt.result (g.H.House.world c.args.house.now)
+    (g.H.House.world c.answer_range-in-DiskAt.new.house) c.args.desk.now.editor
+    c.answer_range-in-DiskAt.new.desk.editor DiskBytes c.in-DiskAt.p
+    c.answer_range-in-DiskAt.ensures.answered)
+
+pub returns-in-StateAt-clause-answered : goal.returns-in-StateAt-clause-answered
+returns-in-StateAt-clause-answered g c = rw c.in-StateAt.is c.answer_state.ensures.answered
+
+pub returns-in_default-clause-answered : goal.returns-in_default-clause-answered
+returns-in_default-clause-answered g c =
+    let old = c.args.desk.now.editor in
+    let other = c.in_default in
+    subst (λ (a : Answered (Session ℕ)). GivesAnswer (g.H.House.world c.args.house.now)
+    (g.H.House.world c.answer_change.new.house) c.answer_change.result old c.answer_change.new.editor a)
+    (sym (change_answers (editing_setup old) old.disk (place_session old) c.args.order.now other.not-Show
+    other.not-Film other.not-Tones other.not-Traces other.not-DiskAt other.not-StateAt))
+    c.answer_change.ensures.answered

@@ -1,0 +1,191 @@
+//! `batch`: the lines of the recordings of a list.
+
+ghost use Rattle.std.specs.Prelude.{◌≡◌, ◌++◌, IfOk, OnOk, Some, length, map, string_bytes};
+ghost use Rattle.std.specs.Option.{ForSome};
+ghost use Rattle.w4_defs.specs.Meaning.{RunsHaveMeaning};
+ghost use Rattle.w4_defs.specs.declared.batch.BatchRow.TheVariants.{Bad, Ran, WrongCart};
+ghost use Rattle.w4_defs.specs.World.{LeavesWriting};
+ghost use Rattle.w4_defs.specs.Causes.{Ends, LeavesErr};
+ghost use Rattle.w4_commands.specs.Causes.{MakesOf, Written, WritesOut};
+ghost use Rattle.w4_defs.specs.Endings.{manner_of};
+ghost use Rattle.w4_defs.specs.BatchRows.{row_text, rows_text};
+ghost use Rattle.w4_defs.specs.ToolOutputs.{batch_output, batch_text};
+ghost use Rattle.w4_commands.specs.Views.{batch_loaded_view, batch_view, cart_view};
+
+use crate::forms::BatchNames;
+use crate::load_tools::{BatchLoaded, load_batch};
+use crate::state_line::add_halt;
+use crate::summary::add_hexadecimal;
+use crate::text::{add_number, add_words};
+use crate::workers::Workers;
+use crate::writing::write_bytes;
+use std::alloc::Global;
+use std::thread::Threads;
+use w4_cart::CartFile;
+use w4_defs::batch::BatchRow;
+use w4_defs::{Halt, OutOfMemory, Status};
+use w4_house::House;
+use w4_segments::{Gate, batch};
+
+/// What a recording that was run has come to.
+#[derive(Clone, Copy)]
+struct Outcome {
+    frames: u32,
+    halt: Halt,
+    image: [u8; 32],
+    disk: u32,
+}
+
+/// `batch CART FONT LIST WORKERS`.
+#[tactic(auto, unfolding(w4_defs::specs::ToolOutputs::batch_output))]
+pub fn run_list<R: Threads + Sync, H: House, G: Gate + Sync>(
+    rt: &R,
+    alloc: Global,
+    house: &mut H,
+    file: &CartFile,
+    names: BatchNames<'_>,
+    gate: &G,
+) -> Status
+    requires meaning { RunsHaveMeaning file.now.cart }
+    ensures ends { Ends (H.world house.old) (H.world house.new) (manner_of result)
+        (MakesOf (λ files. batch_output (batch_view names.entry) (cart_view file.now) files)) }
+    ensures formed { result ≡ Status.Usage → ⊥ }
+    ensures err { LeavesErr (H.world house.old) (H.world house.new) }
+{
+    match load_batch(alloc, house, names) {
+        Ok(loaded) => write_batch(rt, alloc, house, file, &loaded, names.workers, gate),
+        Err(status) => status,
+    }
+}
+
+/// Runs the recordings, and writes the line of each.
+fn write_batch<R: Threads + Sync, H: House, G: Gate + Sync>(
+    rt: &R,
+    alloc: Global,
+    house: &mut H,
+    file: &CartFile,
+    loaded: &BatchLoaded,
+    workers: Workers,
+    gate: &G,
+) -> Status
+    requires { length loaded.now.recordings.items ≡ length loaded.now.names.items }
+    ensures writes_out { ForSome (batch_text (cart_view file.now) (batch_loaded_view loaded.now))
+        (λ text. WritesOut (H.world house.old) (H.world house.new) (manner_of result) text) }
+    ensures rest { LeavesWriting (H.world house.old) (H.world house.new) }
+{
+    match try_write_batch(rt, alloc, house, file, loaded, workers, gate) {
+        Ok(()) => Status::Done,
+        Err(status) => status,
+    }
+}
+
+/// Runs the recordings, and writes the line of each. Errors: the status that ends the run.
+fn try_write_batch<R: Threads + Sync, H: House, G: Gate + Sync>(
+    rt: &R,
+    alloc: Global,
+    house: &mut H,
+    file: &CartFile,
+    loaded: &BatchLoaded,
+    workers: Workers,
+    gate: &G,
+) -> Result<(), Status>
+    requires { length loaded.now.recordings.items ≡ length loaded.now.names.items }
+    ensures out { ForSome (batch_text (cart_view file.now) (batch_loaded_view loaded.now))
+        (λ text. Written (H.world house.old) (H.world house.new) result text) }
+    ensures rest { LeavesWriting (H.world house.old) (H.world house.new) }
+{
+    let CartFile { cart, digest } = file;
+    let items = loaded.recordings.as_slice();
+    let worker_count = workers.count as usize;
+    let rows = batch(
+        rt,
+        alloc,
+        cart,
+        &loaded.font,
+        digest,
+        items,
+        worker_count,
+        gate,
+    )?;
+    write_rows(alloc, house, loaded.names.as_slice(), rows.as_slice())
+}
+
+/// Writes the lines of all rows, in the order of the names.
+fn write_rows<H: House>(
+    alloc: Global,
+    house: &mut H,
+    names: &[String],
+    rows: &[BatchRow],
+) -> Result<(), Status>
+    requires { length rows.now ≡ length names.now }
+    ensures out { ForSome (rows_text (map string_bytes names.now) (map (λ row. Some row) rows.now))
+        (λ text. Written (H.world house.old) (H.world house.new) result text) }
+    ensures rest { LeavesWriting (H.world house.old) (H.world house.new) }
+{
+    for i in 0..names.len() {
+        let line = row_line(alloc, names[i].as_str(), &rows[i])?;
+        write_bytes(alloc, house, line.as_slice())?;
+    }
+    Ok(())
+}
+
+/// The line of a row.
+fn row_line(alloc: Global, name: &str, row: &BatchRow) -> Result<Vec<u8>, OutOfMemory>
+    ensures { IfOk result (λ line. line.items ≡ row_text name.now row.now) }
+{
+    let mut line = Vec::new(alloc);
+    match row {
+        BatchRow::Bad => add_bad(&mut line, name)?,
+        BatchRow::WrongCart => add_wrong_cart(&mut line, name)?,
+        BatchRow::Ran {
+            frames,
+            halt,
+            image,
+            disk,
+        } => {
+            let outcome = Outcome {
+                frames: *frames,
+                halt: *halt,
+                image: *image,
+                disk: *disk,
+            };
+            add_outcome(&mut line, name, outcome)?;
+        }
+    }
+    Ok(line)
+}
+
+/// Adds two texts, one after the other.
+fn add_two(line: &mut Vec<u8>, first: &[u8], second: &[u8]) -> Result<(), OutOfMemory>
+    ensures { OnOk result (line.new.items ≡ line.old.items ++ (first.now ++ second.now)) }
+{
+    add_words(line, first)?;
+    add_words(line, second)
+}
+
+fn add_bad(line: &mut Vec<u8>, name: &str) -> Result<(), OutOfMemory>
+    ensures { OnOk result (line.new.items ≡ line.old.items ++ row_text name.now Bad) }
+{
+    add_two(line, name.as_bytes(), b" bad\n")
+}
+
+fn add_wrong_cart(line: &mut Vec<u8>, name: &str) -> Result<(), OutOfMemory>
+    ensures { OnOk result (line.new.items ≡ line.old.items ++ row_text name.now WrongCart) }
+{
+    add_two(line, name.as_bytes(), b" wrong cart\n")
+}
+
+fn add_outcome(line: &mut Vec<u8>, name: &str, outcome: Outcome) -> Result<(), OutOfMemory>
+    ensures { OnOk result (line.new.items ≡ line.old.items ++ row_text name.now
+        (Ran outcome.frames outcome.halt outcome.image outcome.disk)) }
+{
+    add_words(line, name.as_bytes())?;
+    add_number(line, u64::from(outcome.frames))?;
+    add_words(line, b" halt ")?;
+    add_halt(line, outcome.halt)?;
+    add_words(line, b" image ")?;
+    add_hexadecimal(line, &outcome.image)?;
+    add_words(line, b" disk")?;
+    add_number(line, u64::from(outcome.disk))?;
+    add_words(line, b"\n")
+}

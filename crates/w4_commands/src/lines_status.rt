@@ -1,0 +1,37 @@
+//! The status that a refused file of lines ends a run with.
+
+ghost use Rattle.std.specs.Prelude.{◌≡◌};
+ghost use Rattle.w4_commands.specs.Reads.{lines_refused, lines_status};
+
+use w4_defs::{ScriptKind, Status};
+use w4_script::ScriptRefusal;
+
+/// A kind of file of lines, by how it is refused.
+#[derive(Clone, Copy)]
+pub enum LinesFile {
+    /// A script, a log or a query.
+    Script,
+    /// A list of names.
+    List,
+}
+
+/// The status of what the lines are refused for.
+fn lines_refused(file: LinesFile, kind: ScriptKind) -> Status
+    ensures { result ≡ lines_refused file kind }
+{
+    match file {
+        LinesFile::Script => Status::ScriptRefused(kind),
+        LinesFile::List => Status::ListRefused(kind),
+    }
+}
+
+/// The status of a refusal.
+pub fn lines_status(file: LinesFile, refusal: ScriptRefusal) -> Status
+    ensures { result ≡ lines_status file refusal }
+{
+    match refusal {
+        ScriptRefusal::TooLong => lines_refused(file, ScriptKind::TooLong),
+        ScriptRefusal::BadLine(number) => lines_refused(file, ScriptKind::BadLine(number)),
+        ScriptRefusal::OutOfMemory => Status::OutOfMemory,
+    }
+}

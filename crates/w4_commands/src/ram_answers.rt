@@ -1,0 +1,200 @@
+//! The answer of one line of a query.
+
+ghost use Rattle.std.specs.Prelude.{◌≡◌, ◌≢◌, ◌⊎◌, ◌++◌, ◌∷◌, ◌≤◌, IfOk, OnOk, codes, decimal};
+ghost use Rattle.std.specs.Option.{ForSome};
+ghost use Rattle.w4_defs.specs.FrameTexts.{line_end, numbered};
+ghost use Rattle.w4_defs.specs.PlaceTexts.{as_it_stands};
+ghost use Rattle.w4_defs.specs.World.{LeavesWriting};
+ghost use Rattle.w4_script.specs.Requests.{IsRequest};
+ghost use Rattle.w4_inspect.specs.Widths.{IsWidth};
+ghost use Rattle.w4_inspect.specs.declared.refusal.RamRefusal.TheVariants.{OutOfMemory as MemoryRefused};
+ghost use Rattle.w4_defs.specs.ScriptAnswers.{no_frame};
+ghost use Rattle.w4_commands.specs.Causes.{Written, WritesNothing};
+ghost use Rattle.w4_commands.specs.ScriptAnswers.{OnlyShows};
+ghost use Rattle.w4_commands.specs.RamAnswers.{GivesLineAnswer, ask_answer, editor_pages};
+ghost use Rattle.w4_defs.specs.QueryAnswers.{answer_narrow, answer_start, found_text, list_text, watch_text};
+
+use crate::text::{add_number, add_words};
+use crate::writing::write_bytes;
+use itoa::Buffer;
+use std::alloc::Global;
+use std::sync::ledger::Ledger;
+use w4_defs::inspect::{Ask, Test};
+use w4_defs::{OutOfMemory, Status, Steps};
+use w4_editor::Editor;
+use w4_house::House;
+use w4_inspect::{RamRefusal, Search, watch};
+
+/// Answers one line.
+pub fn answer_line<L: Ledger, H: House>(
+    alloc: Global,
+    house: &mut H,
+    editor: &mut Editor,
+    search: &mut Option<Search>,
+    line: &Ask,
+    steps: &mut Steps<L>,
+) -> Result<(), Status>
+    requires { IsRequest line.now }
+    ensures told { GivesLineAnswer (H.world house.old) (H.world house.new) result
+        editor.old editor.new search.new
+        (ask_answer editor.old search.old line.now) }
+    ensures rest { LeavesWriting (H.world house.old) (H.world house.new) }
+{
+    match *line {
+        Ask::Watch {
+            address,
+            width,
+            a,
+            b,
+        } => answer_watch(alloc, house, editor, address, width, a, b, steps),
+        Ask::Start { width, p } => answer_start(alloc, house, editor, search, width, p, steps),
+        Ask::Narrow { p, test } => answer_narrow(alloc, house, editor, search, p, test, steps),
+        Ask::List => answer_list(alloc, house, search),
+    }
+}
+
+/// Writes the values at an address.
+fn answer_watch<L: Ledger, H: House>(
+    alloc: Global,
+    house: &mut H,
+    editor: &mut Editor,
+    address: u32,
+    width: u32,
+    a: u32,
+    b: u32,
+    steps: &mut Steps<L>,
+) -> Result<(), Status>
+    requires width { IsWidth width }
+    requires order { a ≤ b }
+    ensures out { ForSome (watch_text as_it_stands (editor_pages editor.old) address width a b)
+        (λ text. Written (H.world house.old) (H.world house.new) result text) }
+    ensures shows { OnOk result (OnlyShows editor.old editor.new) }
+    ensures rest { LeavesWriting (H.world house.old) (H.world house.new) }
+{
+    match watch(alloc, editor, address, width, a as usize, b as usize, steps) {
+        Ok(values) => {
+            let line = watched_line(alloc, address, values.as_slice())?;
+            write_bytes(alloc, house, line.as_slice())
+        }
+        Err(RamRefusal::NoFrame) => write_bytes(alloc, house, b"refused no frame\n"),
+        Err(RamRefusal::Outside) => write_bytes(alloc, house, b"refused outside\n"),
+        Err(RamRefusal::OutOfMemory) => Err(Status::OutOfMemory),
+    }
+}
+
+/// The line of the values at an address.
+fn watched_line(alloc: Global, address: u32, values: &[u32]) -> Result<Vec<u8>, OutOfMemory>
+    ensures { IfOk result (λ line. line.items ≡ numbered (codes "watch") (address ∷ values.now)) }
+{
+    let mut line = Vec::new(alloc);
+    add_words(&mut line, b"watch")?;
+    add_number(&mut line, u64::from(address))?;
+    for value in values {
+        add_number(&mut line, u64::from(*value))?;
+    }
+    add_words(&mut line, b"\n")?;
+    Ok(line)
+}
+
+/// Writes the line of a place that isn't there. Where it is memory that was refused, the run ends.
+fn refuse_place<H: House>(alloc: Global, house: &mut H, refusal: RamRefusal) -> Result<(), Status>
+    ensures out { Written (H.world house.old) (H.world house.new) result no_frame }
+    ensures cause { (refusal ≢ MemoryRefused)
+        ⊎ WritesNothing (H.world house.old) (H.world house.new) result }
+    ensures rest { LeavesWriting (H.world house.old) (H.world house.new) }
+{
+    match refusal {
+        RamRefusal::OutOfMemory => Err(Status::OutOfMemory),
+        _ => write_bytes(alloc, house, b"refused no frame\n"),
+    }
+}
+
+/// Begins a search, unless it is refused.
+fn answer_start<L: Ledger, H: House>(
+    alloc: Global,
+    house: &mut H,
+    editor: &mut Editor,
+    search: &mut Option<Search>,
+    width: u32,
+    p: u32,
+    steps: &mut Steps<L>,
+) -> Result<(), Status>
+    requires { IsWidth width }
+    ensures told { GivesLineAnswer (H.world house.old) (H.world house.new) result
+        editor.old editor.new search.new
+        (answer_start as_it_stands (editor_pages editor.old) search.old width p) }
+    ensures rest { LeavesWriting (H.world house.old) (H.world house.new) }
+{
+    match Search::start(alloc, editor, width, p as usize, steps) {
+        Ok(begun) => {
+            *search = Some(begun);
+            Ok(())
+        }
+        Err(refusal) => refuse_place(alloc, house, refusal),
+    }
+}
+
+/// Narrows the search that stands, unless there is none or it is refused.
+fn answer_narrow<L: Ledger, H: House>(
+    alloc: Global,
+    house: &mut H,
+    editor: &mut Editor,
+    search: &mut Option<Search>,
+    p: u32,
+    test: Test,
+    steps: &mut Steps<L>,
+) -> Result<(), Status>
+    ensures told { GivesLineAnswer (H.world house.old) (H.world house.new) result
+        editor.old editor.new search.new
+        (answer_narrow as_it_stands (editor_pages editor.old) search.old p test) }
+    ensures rest { LeavesWriting (H.world house.old) (H.world house.new) }
+{
+    match search {
+        None => write_bytes(alloc, house, b"refused no search\n"),
+        Some(standing) => match standing.narrow(alloc, editor, p as usize, test, steps) {
+            Ok(()) => Ok(()),
+            Err(refusal) => refuse_place(alloc, house, refusal),
+        },
+    }
+}
+
+/// Writes the addresses that the search has left, unless there is none.
+fn answer_list<H: House>(
+    alloc: Global,
+    house: &mut H,
+    search: &Option<Search>,
+) -> Result<(), Status>
+    ensures out { Written (H.world house.old) (H.world house.new) result
+        (list_text search.now) }
+    ensures rest { LeavesWriting (H.world house.old) (H.world house.new) }
+{
+    match search {
+        None => write_bytes(alloc, house, b"refused no search\n"),
+        Some(standing) => {
+            let lines = found_lines(alloc, standing.found())?;
+            write_bytes(alloc, house, lines.as_slice())
+        }
+    }
+}
+
+/// How many addresses there are, and a line of each.
+fn found_lines(alloc: Global, addresses: &[u32]) -> Result<Vec<u8>, OutOfMemory>
+    ensures { IfOk result (λ lines. lines.items ≡ found_text addresses.now) }
+{
+    let mut lines = Vec::new(alloc);
+    add_words(&mut lines, b"found")?;
+    add_number(&mut lines, addresses.len() as u64)?;
+    add_words(&mut lines, b"\n")?;
+    for address in addresses {
+        add_address(&mut lines, *address)?;
+    }
+    Ok(lines)
+}
+
+/// Adds a line with an address.
+fn add_address(lines: &mut Vec<u8>, address: u32) -> Result<(), OutOfMemory>
+    ensures { OnOk result (lines.new.items ≡ lines.old.items ++ (decimal address ++ line_end)) }
+{
+    lines.extend_from_slice(Buffer::new().format(address).as_bytes())?;
+    add_words(lines, b"\n")
+}

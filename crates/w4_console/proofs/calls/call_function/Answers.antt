@@ -1,0 +1,50 @@
+use Rattle.std.proofs.Common.{◌≡◌, ap, ◌∙◌}
+use Rattle.std.proofs.lemmas.List.{with_items_is}
+use Rattle.std.specs.Vec.{with_items}
+use Rattle.w4_defs.specs.Lookup.{own_global_types}
+use Rattle.w4_defs.specs.Outcome.{Store}
+use Rattle.w4_defs.specs.RunLaws.{types_of}
+use Rattle.w4_defs.specs.State.{Board, State, LoggedState}
+use Rattle.w4_console.specs.ConsoleCalls.{so_far}
+use Rattle.w4_console.proofs.CallLaws.{called, still_runs}
+use Rattle.w4_console.proofs.GlobalLaws.{values_as_long}
+use Rattle.w4_console.proofs.calls.call_function.Goals as goal
+
+-- the globals that are handed to the machine, and those that it leaves
+handed : (c : goal.After-rest_after) → c.deref_mut.result.now ≡ c.board_of-board.new.state.globals
+handed c = c.deref_mut.ensures.value ∙ ap (λ (s : State). s.globals) c.state.view_is
+
+first_types : (c : goal.After-rest_after)
+    → types_of c.deref_mut.result.now ≡ own_global_types c.args.cart.now
+first_types c =
+    ap types_of (handed c) ∙ ap (λ (st : Store Board). types_of st.globals) c.board_of-board.ensures
+    ∙ c.requires.globals
+
+types_kept : (c : goal.After-rest_after)
+    → (with_items c.state.inside.globals c.invoke-ending.new.globals).items ≡ c.invoke-ending.new.globals
+types_kept c =
+    with_items_is c.state.inside.globals c.invoke-ending.new.globals
+    (values_as_long c.invoke-ending.new.globals c.deref_mut.result.now
+    (own_global_types c.args.cart.now) c.invoke-ending.ensures.globals
+    (first_types c)
+    ∙ c.deref_mut.ensures.len)
+
+pub returns-clause-called : goal.returns-clause-called
+returns-clause-called c =
+    called c.args.cart.now c.args.font.now c.args.function (so_far c.args.state.now c.args.frame_record.now)
+    (so_far c.put_back.new.state c.put_back.new.frame_record) c.args.budget c.invoke-ending.result
+    c.board_of-board.new.state c.state.inside.page c.invoke-ending.new.page c.deref_mut.result.now
+    c.invoke-ending.new.globals (with_items c.state.inside.globals c.invoke-ending.new.globals).items
+    c.board_of-board.result c.invoke-ending.new.host c.rest_after.result c.halt_after.result
+    c.board_of-board.ensures (ap (λ (s : State). s.page) c.state.view_is) (handed c)
+    c.invoke-ending.ensures.ends (types_kept c) c.rest_after.ensures c.halt_after.ensures c.put_back.ensures
+
+pub returns-clause-running : goal.returns-clause-running
+returns-clause-running c =
+    still_runs c.invoke-ending.result c.rest_after.result c.halt_after.result c.put_back.new.state.halt
+    c.rest_after.ensures c.halt_after.ensures (ap (λ (u : LoggedState). u.state.halt) c.put_back.ensures)
+
+pub returns-clause-globals : goal.returns-clause-globals
+returns-clause-globals c =
+    ap (λ (u : LoggedState). types_of u.state.globals) c.put_back.ensures ∙ ap types_of (types_kept c)
+    ∙ c.invoke-ending.ensures.globals

@@ -1,0 +1,28 @@
+use Rattle.std.proofs.Common.{Bool, cond, sym, ap, ◌∙◌}
+use Rattle.w4_defs.specs.Session.{keep_refusal, places_alone, with_kept, with_list}
+use Rattle.w4_editor.specs.PlaceSession.{place_session}
+use Rattle.w4_editor.proofs.PlaceLaws.{accepted_is, kept_made, kept_rest}
+use Rattle.w4_editor.proofs.keep_every.keep_wanted.Goals as goal
+
+pub returns-then-not-is_wanted-clause-kept : goal.returns-then-not-is_wanted-clause-kept
+returns-then-not-is_wanted-clause-kept g c =
+    let s = place_session c.args.editor.now in
+    ap (λ (b : Bool). with_list s (cond b (with_kept places_alone c.args.place s.current.kept)
+    s.current.kept))
+    (sym c.if-not-is_wanted.true ∙ c.is_wanted.ensures)
+
+pub returns-in-Ok-clause-kept : goal.returns-in-Ok-clause-kept
+returns-in-Ok-clause-kept g c =
+    let s = place_session c.args.editor.now in
+    let p = c.args.place in
+    accepted_is (keep_refusal places_alone p s.current)
+    (with_list s (with_kept places_alone p s.current.kept)) (place_session c.keep.new.self)
+    (kept_made c.places_decide.ensures p c.args.steps.now c.keep.new.steps c.args.editor.now c.keep.new.self
+    c.in-Ok.ensures.ok)
+    ∙ ap (λ (b : Bool). with_list s (cond b (with_kept places_alone p s.current.kept) s.current.kept))
+    (sym c.if-not-is_wanted.false ∙ c.is_wanted.ensures)
+
+pub returns-in-Ok-clause-rest : goal.returns-in-Ok-clause-rest
+returns-in-Ok-clause-rest g c =
+    kept_rest c.args.place c.args.steps.now c.keep.new.steps c.args.editor.now c.keep.new.self
+    c.in-Ok.ensures.ok

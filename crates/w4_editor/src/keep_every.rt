@@ -1,0 +1,117 @@
+//! Keeping each multiple of a number, once it is known that there is room for all of them.
+
+ghost use Rattle.std.specs.Prelude.{◌≡◌, ◌%◌, ◌≤◌, ◌==◌, OnOk, length, nat_le};
+ghost use Rattle.w4_defs.specs.Session.{is_kept, keep_every, places_alone, with_list};
+ghost use Rattle.w4_editor.specs.PlaceSession.{IsChanged, KeepsRest, all_to_keep, is_fresh_multiple, place_session, with_multiple};
+
+use crate::editor::Editor;
+use crate::places::last_place;
+use crate::showing::MOST_KEPT;
+use std::alloc::Global;
+use std::sync::ledger::Ledger;
+use w4_defs::editing_laws::places_decide;
+use w4_defs::{EditRefusal, OutOfMemory, Steps};
+
+/// Keeps each multiple of a number that isn't kept, in rising order. Errors: FullSnapshots, before any is
+/// kept, where more than 1,024 places would be; OutOfMemory.
+pub fn keep_every<L: Ledger>(
+    alloc: Global,
+    editor: &mut Editor,
+    every: u32,
+    steps: &mut Steps<L>,
+) -> Result<(), EditRefusal>
+    ensures { IsChanged result editor.old editor.new (keep_every every (place_session editor.old)) }
+{
+    if !has_room(editor, every) {
+        return Err(EditRefusal::FullSnapshots);
+    }
+    keep_all(alloc, editor, every, steps)?;
+    Ok(())
+}
+
+/// Whether at most 1,024 places would be kept.
+fn has_room(editor: &Editor, every: u32) -> bool
+    ensures { result ≡ nat_le (length (all_to_keep every (place_session editor.now))) 1024 }
+{
+    let last = last_place(editor);
+    let mut count = editor.kept_count();
+    for place in 0..last + 1 {
+        if count > MOST_KEPT {
+            return false;
+        }
+        count += usize::from(is_wanted(editor, every, place));
+    }
+    count <= MOST_KEPT
+}
+
+/// Keeps each multiple that isn't kept yet.
+fn keep_all<L: Ledger>(
+    alloc: Global,
+    editor: &mut Editor,
+    every: u32,
+    steps: &mut Steps<L>,
+) -> Result<(), OutOfMemory>
+    requires room { length (all_to_keep every (place_session editor.old)) ≤ 1024 }
+    ensures kept { OnOk result (place_session editor.new
+        ≡ with_list (place_session editor.old) (all_to_keep every (place_session editor.old))) }
+    ensures rest { OnOk result (KeepsRest editor.old editor.new) }
+{
+    let last = last_place(editor);
+    for place in 0..last + 1 {
+        keep_wanted(alloc, editor, every, place, steps)?;
+    }
+    Ok(())
+}
+
+/// Keeps a place if it is a multiple that isn't kept yet.
+fn keep_wanted<L: Ledger>(
+    alloc: Global,
+    editor: &mut Editor,
+    every: u32,
+    place: usize,
+    steps: &mut Steps<L>,
+) -> Result<(), OutOfMemory>
+    requires place { place ≤ length (place_session editor.old).current.inputs }
+    requires room { length (with_multiple every place (place_session editor.old).current.kept) ≤ 1024 }
+    ensures kept { OnOk result (place_session editor.new ≡ with_list (place_session editor.old)
+        (with_multiple every place (place_session editor.old).current.kept)) }
+    ensures rest { OnOk result (KeepsRest editor.old editor.new) }
+{
+    places_decide();
+    if !is_wanted(editor, every, place) {
+        return Ok(());
+    }
+    match editor.keep(alloc, place, steps) {
+        Ok(()) => Ok(()),
+        Err(_) => Err(OutOfMemory),
+    }
+}
+
+/// Whether a place is a multiple that isn't kept yet.
+fn is_wanted(editor: &Editor, every: u32, place: usize) -> bool
+    ensures { result ≡ is_fresh_multiple every place (place_session editor.now).current.kept }
+{
+    is_multiple(place, every) && !is_kept(editor, place)
+}
+
+/// Whether a place is a multiple of a number; 0 has the multiple 0 alone.
+fn is_multiple(place: usize, every: u32) -> bool
+    ensures { result ≡ (place % every == 0) }
+{
+    if every == 0 {
+        return place == 0;
+    }
+    place % every as usize == 0
+}
+
+/// Whether a place is kept.
+fn is_kept(editor: &Editor, place: usize) -> bool
+    ensures { result ≡ is_kept places_alone place (place_session editor.now).current.kept }
+{
+    for i in 0..editor.kept_count() {
+        if editor.kept_place(i) == place {
+            return true;
+        }
+    }
+    false
+}

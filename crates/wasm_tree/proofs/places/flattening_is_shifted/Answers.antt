@@ -1,5 +1,0 @@
-use Rattle.wasm_tree.proofs.ShiftLaws.{flattening_shifted}
-use Rattle.wasm_tree.proofs.places.flattening_is_shifted.Goals as goal
-
-pub returns : goal.returns
-returns c = flattening_shifted
