@@ -65,9 +65,9 @@ def store(address, instructions):
     return constant(address) + instructions + hexed("36 02 00")
 
 
-def importing(functions, instructions, data=()):
+def importing(functions, instructions, data=(), variables=0):
     """A cart whose `update` does this. It imports functions of `env`: each has its name and how many i32 it
-    takes and gives. `data` has addresses and the bytes that stand there at first.
+    takes and gives. `data` has addresses and the bytes that stand there at first. `variables` are of i32.
     """
     def name(text):
         return number(len(text)) + text.encode()
@@ -84,7 +84,7 @@ def importing(functions, instructions, data=()):
         section(2, number(len(imports)) + b"".join(imports)),
         section(3, hexed("01 00")),
         section(7, b"\x01" + name("update") + b"\x00" + number(len(functions))),
-        code(b"\x00" + instructions + b"\x0b"),
+        code((number(1) + number(variables) + b"\x7f" if variables else b"\x00") + instructions + b"\x0b"),
         section(11, number(len(segments)) + b"".join(segments)) if segments else b"",
     ])
 
@@ -96,6 +96,13 @@ FIRST = with_body("00 41 a0 01 41 16 2d 00 00 3a 00 00 0b")
 ADDS = " 41 80 c0 00 41 80 c0 00 28 02 00 41 16 28 02 00 6a 36 02 00 "
 
 NESTED = FRONT + EXPORTS + code(b"\x00" + b"\x02\x40" * 20_000 + b"\x0b" * 20_001)
+
+
+
+def counts_down(turns):
+    """A cart whose frame counts down from a number of turns, and takes 5 units for each and 3 more."""
+    return with_body("01 01 7f" + constant(turns).hex() + "21 00 03 40 20 00 41 01 6b 22 00 0d 00 0b 0b")
+
 
 TONE = ("tone", 4, 0)
 DISKW = ("diskw", 2, 1)
@@ -124,12 +131,62 @@ TONES = [
 ]
 
 
+def blits_by_pad():
+    """What `update` does: 52 times 3 rows of cells, each three rows below the one before; the lowest four bits of
+    pad 1 are the flags, the others the width less 1. At x from -12 to 12, and then from 148 to 174.
+    """
+    number_of, pad = constant(0x1A00) + hexed("2d 00 00"), constant(22) + hexed("2d 00 00")
+    less, same, sum_of, product, choice = map(hexed, ("49", "71", "6a", "6c", "1b"))
+    colors = constant(0x1B00) + number_of + constant(3) + same + constant(2) + product + sum_of + hexed("2f 01 00")
+    x = (number_of + constant(-12) + sum_of + number_of + constant(123) + sum_of
+         + number_of + constant(25) + less + choice)
+    y = number_of + constant(3) + product
+    width = pad + constant(4) + hexed("76") + constant(1) + sum_of
+    blit = (constant(0x2000) + x + y + width + constant(3) + number_of + constant(7) + same + constant(1)
+            + constant(19) + pad + constant(15) + same + hexed("10 00"))
+    begins = constant(0x1A00) + constant(0) + hexed("3a 00 00")
+    more = constant(0x1A00) + number_of + constant(1) + sum_of + hexed("3a 00 00")
+    again = number_of + constant(52) + less + hexed("0d 00")
+    return begins + hexed("03 40") + constant(0x14) + colors + hexed("3b 01 00") + blit + more + again + b"\x0b"
+
+
 def plays_by_pad():
     """What `update` does: where pad 1 isn't 0, it plays the tone of that number."""
     pad = constant(22) + hexed("2d 00 00")
     loads = b"".join(
         pad + constant(4) + hexed("74") + b"\x28\x02" + number(0x2000 - 16 + 4 * at) for at in range(4))
     return pad + hexed("04 40") + loads + call(0) + b"\x0b"
+
+
+def draws_by_pad():
+    """What `update` does: it paints the screen in palette index 2, and then shapes in the indices 1 and 3.
+    Pad 1 says which: 1 and 2 horizontal lines, 3 and 4 vertical ones, 5 and 6 rectangles, 7 and 8 ovals,
+    of the widths 1 to 12 at each place from -12 to 12, and as far from the screen's other side.
+    """
+    step, shape, pad = hexed("20 00"), hexed("20 01"), constant(22) + hexed("2d 00 00")
+    low = shape + constant(12) + hexed("6e") + constant(12) + hexed("6b")
+    high = shape + constant(12) + hexed("6e") + constant(136) + hexed("6a")
+    size = shape + constant(12) + hexed("70") + constant(1) + hexed("6a")
+
+    def both(function, of):
+        return b"".join(of(place) + hexed("10") + number(function) for place in (low, high))
+
+    def where(pads, instructions):
+        pair = pad + constant(1) + hexed("6b") + constant(2) + hexed("6e")
+        return pair + constant(pads) + hexed("46 04 40") + instructions + b"\x0b"
+
+    def colors(word):
+        return constant(20) + constant(word) + hexed("3b 01 00")
+
+    second = pad + constant(1) + hexed("6b") + constant(2) + hexed("70")
+    return (colors(0x03) + call(2, 0, 0, 160, 160) + colors(0x42) + hexed("03 40")
+            + step + second + constant(150) + hexed("6c 6a 21 01")
+            + where(0, both(0, lambda place: place + step + size))
+            + where(1, both(1, lambda place: step + place + size))
+            + where(2, both(2, lambda place: place + step + size + constant(5)))
+            + where(3, both(3, lambda place: place + step + size + constant(5)))
+            + step + constant(1) + hexed("6a 22 00") + constant(150) + hexed("48 0d 00 0b"))
+
 
 CARTS = {
     "smallest": with_body("00 0b"),
@@ -205,9 +262,22 @@ CARTS = {
     "copies-the-palette": with_body("00 41 05 41 04 41 03 fc 0a 00 00 0b"),
     "copy-past-the-page": with_body("00 41 fd ff 03 41 00 41 04 fc 0a 00 00 0b"),
 
+    # frames of 300,003 units and of 60,003; and one that takes what 1,400 of the first take
+    "counts-down": counts_down(60_000),
+    "counts-down-from-12000": counts_down(12_000),
+    "counts-down-once": counts_down(84_000_000),
+    # the number of frames so far, at 8,192 and in the first bytes of the framebuffer
+    "counts-frames": with_body("00 41 80 c0 00 41 80 c0 00 28 02 00 41 01 6a 36 02 00"
+                               "41 a0 01 41 80 c0 00 28 02 00 36 02 00 0b"),
+    "draws-by-pad": importing(
+        [("hline", 3, 0), ("vline", 3, 0), ("rect", 4, 0), ("oval", 4, 0)], draws_by_pad(), variables=2),
     # DRAW_COLORS is 0x0002; `A`, a newline and `B` at (0, 0)
     "letters": importing(
         [("text", 3, 0)], call(0, 0x2000, 0, 0), [(0x14, b"\x02\x00"), (0x2000, b"A\nB\x00")]),
+    "blits-by-pad": importing(
+        [("blitSub", 9, 0)], blits_by_pad(),
+        [(0x1B00, struct.pack("<4H", 0x1342, 0x4021, 0x2403, 0xFED0)),
+         (0x2000, bytes((i * i * 7 + i * 5 + 27) % 256 for i in range(64)))]),
     # `_start` calls the tone: 440 to 220 hertz, attack 4, sustain 2, release 4, volume 50
     "one-tone": hexed("""
         00 61 73 6d 01 00 00 00 01 0b 02 60 00 00 60 04 7f 7f 7f 7f 00 02 1a 02 03 65 6e 76 04 74 6f 6e 65
@@ -469,6 +539,8 @@ RECORDINGS = {
     "copies-the-palette": recording("copies-the-palette", 100_000, [0]),
     "copy-past-the-page": recording("copy-past-the-page", 100_000, [0]),
     "letters": recording("letters", 100_000, [0]),
+    "draws-by-pad": recording("draws-by-pad", 1_000_000, range(1, 9)),
+    "blits-by-pad": recording("blits-by-pad", 10_000_000, range(192)),
     "one-tone": recording("one-tone", 100_000, [0] * 10),
     "65-tones": recording("65-tones", 100_000, [0]),
     "65-tones-and-a-stop": recording("65-tones-and-a-stop", 100_000, [0]),
@@ -497,6 +569,12 @@ RECORDINGS = {
     "smallest-longest-and-a-byte":
         recording_2("smallest", 100_000, [0] * 36_000, [0] * 36_000, bytes(1_024)) + b"\x00",
     "writes-a-disk-at-the-end": recording("writes-a-disk-at-the-end", 100_000, [0], b"xyz"),
+    "counts-down-of-1000": recording("counts-down", 400_000, [0] * 1_000),
+    "counts-down-from-12000-of-400":
+        recording("counts-down-from-12000", 400_000, [k % 256 for k in range(400)]),
+    "counts-down-once": recording("counts-down-once", 500_000_000, [0]),
+    "counts-frames-of-600": recording("counts-frames", 100_000, [0] * 600),
+    "counts-frames-of-1024": recording("counts-frames", 100_000, [0] * 1_024),
 }
 
 # The same file by a name of 255 bytes, and by one of 256.
@@ -518,7 +596,50 @@ LISTS = {
     "65537-bytes-of-a-name": b"a" * 65_537,
 }
 
+# the numbers of an input after its first pad
+ZEROS = b" 0 0 0 0 0 0"
+
+
+def answers_again(times):
+    """A script that changes an input again and again, and asks for all that there is of the last place."""
+    answers = b"settle 2\nshow 400\ndisk 400\nstate 400\ntones 400 400\ntraces 400 400\n"
+    changes = [b"set 0 %d" % pad + ZEROS + b"\n" for pad in [1, 0] * (times // 2)]
+    return b"keep-every 1\n" + b"".join(change + answers for change in changes)
+
+
+def late_pads(frames):
+    """A log of a session whose every fifth place is kept. A packet of the second player comes each 40 frames,
+    30 frames late."""
+    lines = []
+    for k in range(frames):
+        lines += [b"pad 0 %d %d" % (k, k % 256), b"next", b"state %d" % (k + 1)]
+        if k % 5 == 4:
+            lines += [b"keep %d" % (k + 1)]
+        if k % 40 == 39:
+            lines += [b"pad 1 %d %d" % (k - 30, k // 40 + 1), b"show %d" % (k + 1)]
+    return b"\n".join(lines) + b"\n"
+
+
+def made_edits(workers):
+    """Kept places, three edits of inputs of zeros, and a film, by so many workers."""
+    edits = b"set 100 0" + ZEROS + b"\ninsert 200 0" + ZEROS + b"\ndelete 300\n"
+    return b"keep-every 60\n" + edits + b"settle %d\nfilm 500 600 %d\n" % (workers, workers)
+
+
+SCRIPTS = {
+    "400-changes": b"keep-every 1\n" + (b"set 0 0" + ZEROS + b"\nstate 1000\nfilm 1000 1000 1\n") * 400,
+    "answers-again": answers_again(200),
+    "undone-again": b"keep-every 1\nset 0 1" + ZEROS + b"\nstate 400\n"
+                    + b"undo\nstate 400\nredo\nstate 400\n" * 200
+                    + b"drop 200\nkeep 200\nstate 400\n" * 200 + b"undo\n",
+    "made-edits-by-1": made_edits(1),
+    "made-edits-by-3": made_edits(3),
+    "made-edits-by-4": made_edits(4),
+    "made-edits-by-16": made_edits(16),
+}
+
 LOGS = {
+    "late-pads": late_pads(400),
     "36001-nexts": b"next\n" * 36_001,
     "1024-keeps": b"next\n" * 1_024 + b"".join(b"keep %d\n" % place for place in range(1, 1_025)),
 }
@@ -537,10 +658,11 @@ def main():
         write(f"results/{named(body)}.wasm", two_bodies("", body))
     for name, bytes_of in RECORDINGS.items():
         write(f"recordings/{name}.w4rec", bytes_of)
-    cart, recording_of_it = made(14)
-    write("carts/made-14.wasm", cart)
-    write("recordings/made-14.w4rec", recording_of_it)
-    for folder, files in (("lists", LISTS), ("logs", LOGS)):
+    for maker in (7, 14):
+        cart, recording_of_it = made(maker)
+        write(f"carts/made-{maker}.wasm", cart)
+        write(f"recordings/made-{maker}.w4rec", recording_of_it)
+    for folder, files in (("lists", LISTS), ("logs", LOGS), ("scripts", SCRIPTS)):
         for name, text in files.items():
             write(f"{folder}/{name}.txt", text)
     write("font.bin", bytes(1_792))

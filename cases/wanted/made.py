@@ -1,6 +1,7 @@
 #!/usr/bin/env python3
-"""Writes the lines that `make` is to write for some numbers, beside it: the rules of docs/MADE-CARTS.md are
-simulated here, without WebAssembly, and the cart's length is that of `examples/made/make_cart.py`.
+"""Writes the lines that `make` is to write for some numbers, beside it, and the recordings that edits of made
+carts leave, and prints the sums of the films after these edits: the rules of docs/MADE-CARTS.md are simulated
+here, without WebAssembly, and the cart's length is that of `examples/made/make_cart.py`.
 """
 import hashlib
 import os
@@ -41,22 +42,61 @@ def rectangle(x, y, width, height):
     return screen
 
 
-def lines(number):
+def runs(number, edit=lambda pads: None):
+    """The words of the cart at each place, from place 1 on, where gamepad 1 was changed by an edit."""
     drawn = make_cart.draws(number)
     functions = [(next(drawn) % 11, next(drawn), next(drawn) % 11) for _ in range(64)]
+    pads = [next(drawn) % 256 for _ in range(600)]
+    edit(pads)
     words = [0] * 64
-    for _ in range(600):
-        pad = next(drawn) % 256
-        for g, (first, value, second) in enumerate(functions):
-            words[g] = OPERATIONS[second](OPERATIONS[first](words[g], pad) & MASK, value) & MASK
-    screen = rectangle(*(word % 256 for word in words[:4]))
-    image = b"P6\n160 160\n255\n" + b"".join(PALETTE[index] for row in screen for index in row)
+    for pad in pads:
+        words = [OPERATIONS[second](OPERATIONS[first](word, pad) & MASK, value) & MASK
+                 for word, (first, value, second) in zip(words, functions)]
+        yield words
+
+
+def image(screen):
+    return b"P6\n160 160\n255\n" + b"".join(PALETTE[index] for row in screen for index in row)
+
+
+def screen_of(words):
+    return rectangle(*(word % 256 for word in words[:4]))
+
+
+def lines(number):
+    *_, words = runs(number)
+    screen = screen_of(words)
     cart, _ = make_cart.made(number)
     lit = sum(index != 0 for row in screen for index in row)
     return (f"cart {len(cart)}\nframes 600\nhalt running\nlit {lit}\n"
-            f"image {hashlib.sha256(image).hexdigest()}\n")
+            f"image {hashlib.sha256(image(screen)).hexdigest()}\n")
+
+
+def edit_three(inputs, nothing=0):
+    """The edits of the scripts `made-edits-by-..`: `set 100`, `insert 200` of zeros, and `delete 300`."""
+    inputs[100] = nothing
+    inputs.insert(200, nothing)
+    del inputs[300]
+
+
+def edited(number):
+    """The recording of a made cart after these edits, of version 2."""
+    _, recording = make_cart.made(number)
+    front, frames = recording[:47], [recording[at:at + 10] for at in range(47, len(recording), 10)]
+    edit_three(frames, bytes(10))
+    return front + b"".join(frames)
+
+
+def film(number, first, last):
+    """Images of a made cart after these edits."""
+    words = [None, *runs(number, edit_three)]
+    return b"".join(image(screen_of(words[place])) for place in range(first, last + 1))
 
 
 for number in (0, 7, 14, 37, 43, 2**32 - 1):
     with open(os.path.join(HERE, f"made-{number}.txt"), "w", encoding="ascii") as file:
         file.write(lines(number))
+for number in (7, 14):
+    with open(os.path.join(HERE, "recordings", f"made-{number}-edited.w4rec"), "wb") as file:
+        file.write(edited(number))
+    print(hashlib.sha256(film(number, 500, 600)).hexdigest(), f"places 500 to 600 of made cart {number}")

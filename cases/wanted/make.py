@@ -1,33 +1,18 @@
 #!/usr/bin/env python3
-"""Writes the outputs beside it that cases want, from the rules of the console and not from the program.
-
-An image is a PPM file of 160 by 160 pixels. A pixel's entry stands in two bits of the framebuffer, the lowest
-bits of a byte leftmost, and names one of the palette's four colors.
-"""
+"""Writes the outputs beside it that cases want, from the rules of the console and not from the program."""
 import hashlib
 import os
+import sys
 
 HERE = os.path.dirname(os.path.abspath(__file__))
-PALETTE = ["e0f8cf", "86c06c", "306850", "071821"]
+sys.dont_write_bytecode = True
+sys.path.insert(0, HERE)
+from images import PALETTE, image, of_framebuffer  # noqa: E402
 
 
 def write(name, data):
     with open(os.path.join(HERE, name), "wb") as file:
         file.write(data)
-
-
-def image(entry_of, palette=PALETTE):
-    """The image whose pixel (x, y) has this entry."""
-    colors = [bytes.fromhex(color) for color in palette]
-    return b"P6\n160 160\n255\n" + b"".join(colors[entry_of(x, y)] for y in range(160) for x in range(160))
-
-
-def of_framebuffer(front):
-    """The entries of a framebuffer that begins with these bytes and is clear after them."""
-    def entry_of(x, y):
-        byte, place = divmod(160 * y + x, 4)
-        return front[byte] >> 2 * place & 3 if byte < len(front) else 0
-    return entry_of
 
 
 def written(recording):
@@ -42,9 +27,11 @@ def written(recording):
 # The recordings that edits of cases leave.
 INPUTS = os.path.join(HERE, os.pardir, "inputs")
 LEFT = """
-calls-itself-of-4095 calls-itself-of-4096 copy-past-the-page divides-by-zero endless-loop fills-of-103 fills-of-104
-first first-1-1-2 first-27 first-of-1 first-of-3 loads-by-pad loads-by-pad-0 loads-by-pad-1 nested-blocks-of-19999
-nested-blocks-of-20000 smallest smallest-of-120-and-a-pad smallest-of-9 store-past-the-page three-nops-of-2 three-nops-of-3 unreachable writes-a-long-disk
+calls-itself-of-4095 calls-itself-of-4096 copy-past-the-page counts-down-from-12000-of-400 counts-down-of-1000
+counts-frames-of-1024 counts-frames-of-600 divides-by-zero endless-loop fills-of-103 fills-of-104 first
+first-1-1-2 first-27 first-of-1 first-of-3 loads-by-pad loads-by-pad-0 loads-by-pad-1 nested-blocks-of-19999
+nested-blocks-of-20000 smallest smallest-of-120-and-a-pad smallest-of-9 store-past-the-page three-nops-of-2
+three-nops-of-3 unreachable writes-a-long-disk
 """
 for folder, names in (("recordings", [name + ".w4rec" for name in LEFT.split()]),
                       ("machine", sorted(os.listdir(os.path.join(INPUTS, "machine"))))):
@@ -66,6 +53,36 @@ write("pads-1-2-4-8.ppm", image(of_framebuffer(b"\x01\x02\x04\x08")))
 write("pads-1-0-4-8.ppm", image(of_framebuffer(b"\x01\x00\x04\x08")))
 # Two letters of a font of zeros, which is all ink, one below the other: 8 by 16 pixels in the second color.
 write("letters.ppm", image(lambda x, y: 1 if x < 8 and y < 16 else 0))
+
+
+def blits_of(pad):
+    """What the cart `blits-by-pad` shows where this is pad 1, drawn cell by cell."""
+    sprite = bytes((i * i * 7 + i * 5 + 27) % 256 for i in range(64)) + bytes(64)
+    flags, width, screen = pad % 16, pad // 16 + 1, {}
+    turned = flags // 8 % 2
+    for k in range(52):
+        left, colors = k - 12 if k < 25 else k + 123, (0x1342, 0x4021, 0x2403, 0xFED0)[k % 4]
+        for i in range(width):
+            for j in range(3):
+                column = k % 8 + (width - 1 - i if flags // 2 % 2 != turned else i)
+                pixel = 19 * (1 + (2 - j if flags // 4 % 2 else j)) + column
+                if flags % 2:
+                    value = sprite[pixel // 4] >> (6 - 2 * (pixel % 4)) & 3
+                else:
+                    value = sprite[pixel // 8] >> (7 - pixel % 8) & 1
+                nibble = colors >> 4 * value & 15
+                if nibble:
+                    at = (left + j, 3 * k + i) if turned else (left + i, 3 * k + j)
+                    screen[at] = (nibble - 1) % 4
+    return image(lambda x, y: screen.get((x, y), 0))
+
+
+# 192 images: all flags, and the widths 1 to 12. The case has their sum.
+blits = hashlib.sha256()
+for pad_1 in range(192):
+    blits.update(blits_of(pad_1))
+print("blits-by-pad, out-sha256", blits.hexdigest())
+
 # 128 as a signed byte is -128: the bytes 80 ff ff ff.
 write("extended.ppm", image(of_framebuffer(bytes.fromhex("80ffffff"))))
 # Each byte of the framebuffer is 0x55.
@@ -73,6 +90,44 @@ write("filled.ppm", image(lambda x, y: 1))
 # The palette's first entry is spelled cf f8 e0 00 at address 4. The three bytes from 4 on are copied to 5,
 # so that it is cf cf f8 e0: blue, green, red.
 write("palette.ppm", image(lambda x, y: 0, ["f8cfcf"] + PALETTE[1:]))
+
+# Shapes of the widths 1 to 12 at each place from -12 to 12, and as far from the screen's other side, on a
+# page of entry 2.
+def hline(x, y, length):
+    return {(x + i, y): 1 for i in range(length)}
+
+
+def vline(x, y, length):
+    return {(x, y + i): 1 for i in range(length)}
+
+
+def rect(x, y, w, h):
+    return {(x + i, y + j): 3 if i in (0, w - 1) or j in (0, h - 1) else 1
+            for i in range(w) for j in range(h)}
+
+
+def oval(x, y, w, h):
+    """A cell is within where its middle is in the ellipse, and at the edge where a neighbour isn't within."""
+    def within(i, j):
+        return ((2 * i + 1 - w) * h) ** 2 + ((2 * j + 1 - h) * w) ** 2 <= (w * h) ** 2
+
+    def inner(i, j):
+        return within(i - 1, j) and within(i + 1, j) and within(i, j - 1) and within(i, j + 1)
+    return {(x + i, y + j): 1 if inner(i, j) else 3 for i in range(w) for j in range(h) if within(i, j)}
+
+
+def drawn(pad):
+    entries = {}
+    for step in range(150):
+        place, size = divmod(150 * ((pad - 1) % 2) + step, 12)
+        for x in (place - 12, place + 136):
+            draw = [lambda: hline(x, step, size + 1), lambda: vline(step, x, size + 1),
+                    lambda: rect(x, step, size + 1, 5), lambda: oval(x, step, size + 1, 5)][(pad - 1) // 2]
+            entries.update(draw())
+    return image(lambda x, y: entries.get((x, y), 2))
+
+
+print("draws-by-pad:", hashlib.sha256(b"".join(map(drawn, range(1, 9)))).hexdigest())
 
 # The disk that a recording brings; `abc` and the zeros that follow it in the page, cut at the disk's limit;
 # and the last six bytes of a page that nothing was written to.
@@ -87,6 +142,23 @@ write("65-tones.txt", "\n".join(["frame 0", "frame 1", *lines, "dropped 1", "sou
 
 # 33 traces of `a` in a frame.
 write("33-traces.txt", b"frame 0\nframe 1\n" + b"trace a\n" * 32 + b"dropped 1\n")
+
+
+def state(place, of, kept):
+    """The state line of a cart that runs and has no disk."""
+    return f"state {place} of {of} halt running disk 0 kept {' '.join(map(str, kept))}\n"
+
+
+# The script `1024-places`: each second place of 1,024, of which the last becomes 1,023; then 1,024 places;
+# then the last one without place 5.
+EACH_SECOND, FULL = [*range(0, 1_024, 2), 1_023], "refused full\n"
+write("1024-places.txt", (
+    FULL + state(0, 1_024, [0]) + FULL + state(1_023, 1_023, EACH_SECOND) + state(1_023, 1_023, range(1_024))
+    + FULL + "refused kept\nrefused no frame\n" + FULL + FULL
+    + state(1_024, 1_024, [place for place in range(1_025) if place != 5])).encode())
+
+# The last of 1,024 places, by its number.
+write("1024-frames.ppm", image(of_framebuffer((1_024).to_bytes(4, "little"))))
 
 # The rows of 256 recordings of two frames of zeros.
 CLEAR = hashlib.sha256(image(of_framebuffer(b""))).hexdigest()
