@@ -8,7 +8,7 @@ ghost use Rattle.w4_defs.specs.Framebuffer.{paint};
 use w4_defs::PageBytes;
 use w4_pixels::entry_of;
 
-/// Sixteen palette indices, two bits each, the first in the lowest bits. The mask has ones where one is given.
+/// Sixteen palette indices of two bits, the first in the lowest. The mask has ones where one is given.
 #[derive(Clone, Copy)]
 pub(crate) struct Strip {
     pub indices: u32,

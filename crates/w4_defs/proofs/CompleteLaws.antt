@@ -94,25 +94,29 @@ script_there : (files : Files) (name : List ℕ) (orders : List Order)
     → HasLines files name 1048577 script_of orders → script_in files name ≡ Ok orders
 unfolding script_in orders_of
 script_there files name orders has =
-    judged_there 1048576 orders_of files name has.bytes orders has.there (ap (lines_or ScriptRefused) has.read_as)
+    judged_there 1048576 orders_of files name has.bytes orders has.there
+    (ap (lines_or ScriptRefused) has.read_as)
 
 log_there : (files : Files) (name : List ℕ) (orders : List NetOrder)
     → HasLines files name 1048577 net_log_of orders → log_in files name ≡ Ok orders
 unfolding log_in log_orders
 log_there files name orders has =
-    judged_there 1048576 log_orders files name has.bytes orders has.there (ap (lines_or ScriptRefused) has.read_as)
+    judged_there 1048576 log_orders files name has.bytes orders has.there
+    (ap (lines_or ScriptRefused) has.read_as)
 
 query_there : (files : Files) (name : List ℕ) (lines : List Ask)
     → HasLines files name 1048577 query_of lines → query_in files name ≡ Ok lines
 unfolding query_in query_lines
 query_there files name lines has =
-    judged_there 1048576 query_lines files name has.bytes lines has.there (ap (lines_or ScriptRefused) has.read_as)
+    judged_there 1048576 query_lines files name has.bytes lines has.there
+    (ap (lines_or ScriptRefused) has.read_as)
 
 names_there : (files : Files) (name : List ℕ) (names : List (List ℕ))
     → HasLines files name 65537 names_of names → names_in files name ≡ Ok names
 unfolding names_in listed_names
 names_there files name names has =
-    judged_there 65536 listed_names files name has.bytes names has.there (ap (lines_or ListRefused) has.read_as)
+    judged_there 65536 listed_names files name has.bytes names has.there
+    (ap (lines_or ListRefused) has.read_as)
 
 edit_there : (files : Files) (words : EditWords) (digest : List ℕ) (run : Played) (orders : List Order)
     → HasRun files words.run digest run → HasLines files words.script 1048577 script_of orders

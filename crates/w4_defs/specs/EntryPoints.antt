@@ -1,6 +1,6 @@
--- What a console takes of a cart besides its code and its data segments: the functions that it calls, the start
--- function and those of three exported names (WASM-4 reference; the order in which a reset calls them is a
--- project rule), and the first values of the globals.
+-- What a console takes of a cart besides its code and its data segments: the functions that it calls, the
+-- start function and those of three exported names (WASM-4 reference; the order in which a reset calls them
+-- is a project rule), and the first values of the globals.
 use Rattle.std.specs.Prelude.{ℕ, List, [], ◌∷◌, map, Option, Some, None, bytes_eq, codes, if◌then◌else◌}
 use Rattle.w4_defs.specs.declared.value.Val.{Val}
 use Rattle.w4_defs.specs.declared.module.ExportKind.{ExportKind}

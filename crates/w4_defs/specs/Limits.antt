@@ -1,5 +1,5 @@
--- The limits of files, recordings, sessions and films (project rules) that more than one definition may need. A
--- file is judged by its first bytes, one more than its limit.
+-- The limits of files, recordings, sessions and films (project rules) that more than one definition may need.
+-- A file is judged by its first bytes, one more than its limit.
 use Rattle.std.specs.Prelude.{ℕ}
 
 -- the bytes of a cart

@@ -98,7 +98,7 @@ over_session s answered = record { out = answered.out; session = record s { sess
 abbrev pub over_search : LiveSession → Answered (Option Search) → Answered LiveSession
 over_search s answered = record { out = answered.out; session = record s { search = answered.session } }
 
--- what is answer_events of a place of the recording as it is
+-- what is answered of a place of the recording as it is
 abbrev pub answer_at : PieceForm → LiveSession → ℕ → Option (List ℕ) → Answered LiveSession
 answer_at form s last out = answer_text s (if_place form s.session last out)
 
@@ -160,7 +160,7 @@ pub record LiveStep : Type 0 where
   pub session : LiveSession
   pub saves : List SaveEnd
 
--- what a session is new_live_session on: a cart, a recording with a font, and the name OUT
+-- what a session is opened on: a cart, a recording with a font, and the name OUT
 pub record Opened : Type 0 where
   pub cart : WasmModule
   pub run : Played
@@ -193,7 +193,8 @@ save_step o s [] = record { events = Some (save_events o s Replaced); session = 
 save_step o s (end ∷ saves) = record { events = Some (save_events o s end); session = s; saves = saves }
 
 abbrev pub answer_step : List SaveEnd → Answered LiveSession → LiveStep
-answer_step saves answered = record { events = answer_events answered.out; session = answered.session; saves = saves }
+answer_step saves answered =
+    record { events = answer_events answered.out; session = answered.session; saves = saves }
 
 abbrev pub order_step : Opened → LiveSession → List SaveEnd → LiveOrder → LiveStep
 order_step o s saves live.Save = save_step o s saves
@@ -207,7 +208,7 @@ line_step o s saves NoOrder =
     answer_step saves (answer_text s (Some (framed (refused_line (codes "no order")))))
 line_step o s saves (Asks order) = order_step o s saves order
 
--- what is edited after these lines, whatever was answer_events
+-- what is edited after these lines, whatever was answered
 abbrev pub session_after : Opened → LiveSession → List SaveEnd → List (List ℕ) → LiveSession
 session_after o s saves [] = s
 session_after o s saves (line ∷ lines) =

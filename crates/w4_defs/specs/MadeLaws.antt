@@ -1,5 +1,5 @@
--- What holds of generated carts and their inputs, for every number: the profile lets the module through and it
--- is valid; each draw has 16 bits; and there are 600 inputs.
+-- What holds of generated carts and their inputs, for every number: the profile lets the module through and
+-- it is valid; each draw has 16 bits; and there are 600 inputs.
 use Rattle.std.specs.Prelude.{◌≡◌, ℕ, ◌^◌, ◌<◌, length, None}
 use Rattle.w4_defs.specs.Profile.{profile_refusal}
 use Rattle.w4_defs.specs.Validity.{IsValid}

@@ -44,9 +44,9 @@ pub record KeepsPromise (old new : World) (words : List (List ℕ)) (result : St
       → StepRefuses old (ListRefused kind) (Outputs words)
   -- A read failed, or a file whose turn came is absent.
   pub read_fault : result ≡ ReadFault → ReadFails old new (Outputs words)
-  -- It comes only where a write failed, and the definition makes an output. Standard output has got a first part of its
-  -- bytes, and no file has changed; or it has got all of them, and the files are the definition's: OUT has
-  -- all its bytes, and no other file has changed.
+  -- It comes only where a write failed, and the definition makes an output. Standard output has got a first
+  -- part of its bytes, and no file has changed; or it has got all of them, and the files are the
+  -- definition's: OUT has all its bytes, and no other file has changed.
   pub write_fault : result ≡ WriteFault → Rises old.write_faults new.write_faults
   pub write_fault_made : result ≡ WriteFault → ForSome old.files (λ files. (made : Output)
       × Outputs words files (Ok made) × WritesPart old new made)

@@ -159,8 +159,8 @@ EncodingLength = (r : Recording) → IsRecording r →
 abbrev pub LongestEncoding : Type 0
 LongestEncoding = (r : Recording) (bytes : List ℕ) → IsEncoded r bytes → length bytes ≤ recording_limit
 
--- ---- worked cases: frames with button 2 of gamepad 1 down and the mouse at (-1, 2) with its left button, of a
--- budget of 256
+-- ---- worked cases: frames with button 2 of gamepad 1 down and the mouse at (-1, 2) with its left button,
+-- of a budget of 256
 
 abbrev case_input : Bool → Input
 case_input reset =

@@ -120,7 +120,8 @@ MinorStepIsCeiling = (t less most : ℕ) → 0 < most →
 abbrev pub moved : ℕ → ℕ → ℕ → ℕ
 moved own other t = if nat_le other own then t else minor_step t own other
 
--- the points of a line that starts at its first end, the first and one more for each step of the greater distance
+-- the points of a line that starts at its first end, the first and one more for each step of the greater
+-- distance
 abbrev pub line_from : ℤ → ℤ → ℤ → ℤ → Option ℕ → Painter
 line_from x1 y1 x2 y2 = points_painter
     (λ t. toward x1 x2 (moved (apart x1 x2) (apart y1 y2) t))

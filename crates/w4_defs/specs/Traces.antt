@@ -27,8 +27,8 @@ traced page (Utf16 ptr len) = map traced_unit (text_codes page (Utf16 ptr len))
 abbrev pub trace_line : List ℕ → TextSource → List ℕ
 trace_line page source = line_of (traced page source)
 
--- what tracef writes for % and a letter, whose argument stands at this address: c a byte, d a signed
--- decimal, x hexadecimal, s the text whose address the argument is, f a fixed word; any other letter is itself
+-- what tracef writes for % and a letter, whose argument stands at this address: c a byte, d a signed decimal,
+-- x hexadecimal, s the text whose address the argument is, f a fixed word; any other letter is itself
 abbrev pub argument_text : List ℕ → ℕ → ℕ → List ℕ
 argument_text page letter at =
     if letter == 99 then word_at page at % 256 ∷ []

@@ -290,8 +290,9 @@ fn end_inward(cells: Cells, columns: Columns, limit: u64, from: usize) -> usize
     columns.middle
 }
 
-/// Whether the cell at column `s`, counted from one left of the screen, is within, by its row's limit. It isn't
-/// inlined, since LLVM would then look at sixteen cells at a time, and most searches end at the first or second.
+/// Whether the cell at column `s`, counted from one left of the screen, is within, by its row's limit. It
+/// isn't inlined, since LLVM would then look at sixteen cells at a time, and most searches end at the first
+/// or second.
 #[inline(never)]
 fn within(cells: Cells, s: usize, limit: u64) -> bool
     requires wide { cells.w < 2147483648 }

@@ -293,18 +293,20 @@ drop_operand-requires g c = (plain_needs _ _ _ _ _ _ _ _ op.Drop tt
     (known (marks c.args.cart.now) c.args.position _ _ c.requires.op c.in-Drop.is) c.requires.going).0
 
 pub returns-in-Drop-clause-goes : goal.returns-in-Drop-clause-goes
-returns-in-Drop-clause-goes g c = plain_stepped _ _ _ _ _ _ _ _ op.Drop c.drop_operand.result _ _ _ tt
-    (known (marks c.args.cart.now) c.args.position _ _ c.requires.op c.in-Drop.is) c.flow_after.ensures
-    c.drop_operand.ensures.did c.drop_operand.ensures.grows
+returns-in-Drop-clause-goes g c =
+    plain_stepped _ _ _ _ _ _ _ _ op.Drop c.drop_operand.result _ _ _ tt
+    (known (marks c.args.cart.now) c.args.position _ _ c.requires.op c.in-Drop.is)
+    c.flow_after.ensures c.drop_operand.ensures.did c.drop_operand.ensures.grows
 
 pub select-requires : goal.select-requires
 select-requires g c = (plain_needs _ _ _ _ _ _ _ _ op.Select tt
     (known (marks c.args.cart.now) c.args.position _ _ c.requires.op c.in-Select.is) c.requires.going).0
 
 pub returns-in-Select-clause-goes : goal.returns-in-Select-clause-goes
-returns-in-Select-clause-goes g c = plain_stepped _ _ _ _ _ _ _ _ op.Select c.select.result _ _ _ tt
-    (known (marks c.args.cart.now) c.args.position _ _ c.requires.op c.in-Select.is) c.flow_after-in-Select.ensures
-    c.select.ensures.did c.select.ensures.grows
+returns-in-Select-clause-goes g c =
+    plain_stepped _ _ _ _ _ _ _ _ op.Select c.select.result _ _ _ tt
+    (known (marks c.args.cart.now) c.args.position _ _ c.requires.op c.in-Select.is)
+    c.flow_after-in-Select.ensures c.select.ensures.did c.select.ensures.grows
 
 pub local_get-requires-clause-ready : goal.local_get-requires-clause-ready
 local_get-requires-clause-ready g c = (plain_needs _ _ _ _ _ _ _ _ (op.LocalGet c.in-LocalGet.index) tt
@@ -315,27 +317,30 @@ local_get-requires-clause-room g c = (plain_needs _ _ _ _ _ _ _ _ (op.LocalGet c
     (known (marks c.args.cart.now) c.args.position _ _ c.requires.op c.in-LocalGet.is) c.requires.going).1
 
 pub returns-in-LocalGet-clause-goes : goal.returns-in-LocalGet-clause-goes
-returns-in-LocalGet-clause-goes g c = plain_stepped _ _ _ _ _ _ _ _ (op.LocalGet c.in-LocalGet.index) c.local_get.result _ _ _ tt
-    (known (marks c.args.cart.now) c.args.position _ _ c.requires.op c.in-LocalGet.is) c.flow_after-in-LocalGet.ensures
-    c.local_get.ensures.did c.local_get.ensures.grows
+returns-in-LocalGet-clause-goes g c =
+    plain_stepped _ _ _ _ _ _ _ _ (op.LocalGet c.in-LocalGet.index) c.local_get.result _ _ _ tt
+    (known (marks c.args.cart.now) c.args.position _ _ c.requires.op c.in-LocalGet.is)
+    c.flow_after-in-LocalGet.ensures c.local_get.ensures.did c.local_get.ensures.grows
 
 pub local_set-requires : goal.local_set-requires
 local_set-requires g c = (plain_needs _ _ _ _ _ _ _ _ (op.LocalSet c.in-LocalSet.index) tt
     (known (marks c.args.cart.now) c.args.position _ _ c.requires.op c.in-LocalSet.is) c.requires.going).0
 
 pub returns-in-LocalSet-clause-goes : goal.returns-in-LocalSet-clause-goes
-returns-in-LocalSet-clause-goes g c = plain_stepped _ _ _ _ _ _ _ _ (op.LocalSet c.in-LocalSet.index) c.local_set.result _ _ _ tt
-    (known (marks c.args.cart.now) c.args.position _ _ c.requires.op c.in-LocalSet.is) c.flow_after-in-LocalSet.ensures
-    c.local_set.ensures.did c.local_set.ensures.grows
+returns-in-LocalSet-clause-goes g c =
+    plain_stepped _ _ _ _ _ _ _ _ (op.LocalSet c.in-LocalSet.index) c.local_set.result _ _ _ tt
+    (known (marks c.args.cart.now) c.args.position _ _ c.requires.op c.in-LocalSet.is)
+    c.flow_after-in-LocalSet.ensures c.local_set.ensures.did c.local_set.ensures.grows
 
 pub local_tee-requires : goal.local_tee-requires
 local_tee-requires g c = (plain_needs _ _ _ _ _ _ _ _ (op.LocalTee c.in-LocalTee.index) tt
     (known (marks c.args.cart.now) c.args.position _ _ c.requires.op c.in-LocalTee.is) c.requires.going).0
 
 pub returns-in-LocalTee-clause-goes : goal.returns-in-LocalTee-clause-goes
-returns-in-LocalTee-clause-goes g c = plain_stepped _ _ _ _ _ _ _ _ (op.LocalTee c.in-LocalTee.index) c.local_tee.result _ _ _ tt
-    (known (marks c.args.cart.now) c.args.position _ _ c.requires.op c.in-LocalTee.is) c.flow_after-in-LocalTee.ensures
-    c.local_tee.ensures.did c.local_tee.ensures.grows
+returns-in-LocalTee-clause-goes g c =
+    plain_stepped _ _ _ _ _ _ _ _ (op.LocalTee c.in-LocalTee.index) c.local_tee.result _ _ _ tt
+    (known (marks c.args.cart.now) c.args.position _ _ c.requires.op c.in-LocalTee.is)
+    c.flow_after-in-LocalTee.ensures c.local_tee.ensures.did c.local_tee.ensures.grows
 
 pub basic_effect-requires : goal.basic_effect-requires
 basic_effect-requires g c = let k = plain_needs _ _ _ _ _ _ _ _ (op.Basic c.in-Basic.basic)
