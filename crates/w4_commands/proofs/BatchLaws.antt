@@ -4,7 +4,8 @@ use Rattle.std.specs.Option.{ForSome}
 use Rattle.std.proofs.Math.ListN.{drop_of_length-le}
 use Rattle.w4_defs.specs.declared.batch.BatchRow.{BatchRow}
 use Rattle.w4_defs.specs.AllThere.{joined}
-use Rattle.w4_defs.specs.World.{World, Appends}
+use Rattle.w4_defs.specs.World.{World}
+use Rattle.w4_commands.specs.Causes.{AppendsOut}
 use Rattle.w4_commands.specs.Causes.{StopsWriting}
 use Rattle.w4_defs.specs.Endings.{Manner}
 use Rattle.w4_defs.specs.BatchRows.{row_text, rows_text}
@@ -28,13 +29,13 @@ rows-next names rows i row lt less is =
 
 pub rows-more : (first now next : World) (names : List (List ℕ)) (rows : List (Option BatchRow)) (i : ℕ)
     (row : BatchRow) (whole : Option (List ℕ)) → i < length names → i < length rows
-    → get_or rows i None ≡ Some row → Appends now.out next.out (row_text (get_or names i []) row)
+    → get_or rows i None ≡ Some row → AppendsOut now.events next.events (row_text (get_or names i []) row)
     → OwesThere first now (lines_from names rows i) whole
     → OwesThere first next (lines_from names rows (i + 1)) whole
 rows-more first now next names rows i row whole lt less is more so_far =
     let line = row_text (get_or names i []) row in
     there_less first now next (Some line) (lines_from names rows (i + 1)) whole
-    (there_is (λ text. Appends now.out next.out text) (Some line) line refl more)
+    (there_is (λ text. AppendsOut now.events next.events text) (Some line) line refl more)
     (subst (λ (owed : Option (List ℕ)). OwesThere first now owed whole)
     (rows-next names rows i row lt less is) so_far)
 
@@ -53,6 +54,6 @@ rows-stop first now next why names rows i row whole lt less is le so_far h =
 
 pub rows-all : (first now : World) (names : List (List ℕ)) (rows : List (Option BatchRow)) (i : ℕ)
     (whole : Option (List ℕ)) → length names ≤ i → OwesThere first now (lines_from names rows i) whole
-    → ForSome whole (λ text. Appends first.out now.out text)
+    → ForSome whole (λ text. AppendsOut first.events now.events text)
 rows-all first now names rows i whole le so_far =
     there_nothing first now (lines_from names rows i) whole (rw (drop_of_length-le names le) refl) so_far

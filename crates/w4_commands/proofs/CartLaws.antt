@@ -5,8 +5,8 @@ use Rattle.w4_defs.specs.declared.refusal.CartKind.{CartKind}
 use Rattle.sha2.specs.Sha256.{sha256}
 use Rattle.w4_defs.specs.Cart.{IsCart, IsRefused, IsInvalid}
 use Rattle.w4_defs.specs.World.{World}
-use Rattle.w4_defs.specs.declared.status.Status.TheVariants.{CartRefused}
-use Rattle.w4_defs.specs.Endings.{Manner, AllWritten, NoCommand, ReadFailed, WriteFailed, MemoryRefused, Refused}
+use Rattle.w4_defs.specs.declared.status.Refusal.TheVariants.{CartRefused}
+use Rattle.w4_defs.specs.Endings.{Manner, ReadFailed, InputFailed, WriteFailed, MemoryRefused, Refused}
 use Rattle.w4_defs.specs.Output.{CartFile, CartIn, reading}
 use Rattle.w4_defs.specs.Causes.{StepRefuses}
 use Rattle.w4_commands.specs.Causes.{ResultsIn, Stops}
@@ -20,8 +20,7 @@ use Rattle.wasm_read.specs.Unique.{AtMostOneModule}
 pub cart_unread : (old new : World) (why : Manner) (name : List ℕ)
     → Stops old new why (ResultsIn (λ files. reading files name 65537))
     → Stops old new why (λ files cart. CartIn name files cart)
-cart_unread old new AllWritten name h = h
-cart_unread old new NoCommand name h = h
+cart_unread old new InputFailed name h = h
 cart_unread old new ReadFailed name (inl rise) = inl rise
 cart_unread old new ReadFailed name (inr (files, texts, none)) = inr (files, texts, rw none refl)
 cart_unread old new WriteFailed name h = h

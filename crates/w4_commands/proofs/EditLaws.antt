@@ -1,5 +1,7 @@
 -- From the editor that an edit opens to the recording that it leaves.
-use Rattle.std.proofs.Common.{◌≡◌, ◌⊎◌, ℕ, List, inl, inr, ap, ◌∙◌, subst}
+use Rattle.std.proofs.Common.{◌≡◌, ◌≤◌, ℕ, List, [], ◌∷◌, ◌++◌, length, inl, inr, ap, ◌∙◌, refl, sym, subst, append_assoc}
+use Rattle.std.proofs.Math.Seq.{take-length}
+use Rattle.std.proofs.lemmas.List.{append-nil}
 use Rattle.std.specs.Prelude.{Result, Ok, Err}
 use Rattle.std.specs.Option.{ForSome}
 use Rattle.w4_defs.specs.declared.order.Order.{Order}
@@ -8,16 +10,19 @@ use Rattle.w4_defs.specs.Recording.{encoding}
 use Rattle.w4_defs.specs.Session.{Session}
 use Rattle.w4_defs.specs.State.{State}
 use Rattle.w4_editor.specs.Editing.{Editing, new_editing, current_recording}
-use Rattle.w4_defs.specs.World.{World, Appends, AppendsFront, LeavesWriting, LeavesSaving, Puts, PutsOrLeaves}
-use Rattle.w4_house.proofs.WorldLaws.{front_whole, rises_later}
-use Rattle.w4_defs.specs.declared.status.Status.{Status}
-use Rattle.w4_commands.specs.Causes.{Carried, Carries, Saved, StopsSaving, StopsWriting}
+use Rattle.w4_defs.specs.World.{NotSaved, Saved, World, Rises, Does, FailsToSave, LeavesWriting, wrote}
+use Rattle.w4_commands.specs.Causes.{AppendsOut, Carried, Replaces, StopsCarrying, StopsSaving, StopsWriting, write_refusal}
+use Rattle.w4_house.specs.declared.calls.WriteRefusal.{WriteRefusal}
+use Rattle.w4_house.specs.declared.calls.WriteRefusal.TheVariants.{Failed, OutOfMemory}
+use Rattle.w4_house.proofs.WorldLaws.{does_then, reading_none, rises_later}
+use Rattle.w4_commands.proofs.OutLaws.{front_does, out_whole, written_does}
+use Rattle.w4_defs.specs.declared.status.Refusal.{Refusal}
 use Rattle.w4_commands.specs.ScriptAnswers.{IsAnswered, answers_by, recording_by}
-use Rattle.w4_defs.specs.Endings.{Manner, AllWritten, NoCommand, ReadFailed, WriteFailed, MemoryRefused, Refused, manner_of}
+use Rattle.w4_defs.specs.Endings.{Manner, ReadFailed, InputFailed, WriteFailed, MemoryRefused, Refused, manner_of}
 use Rattle.w4_defs.specs.Output.{Loaded, edit_answers, edited_recording}
 
 -- what was carried out at the editor that a file opens was carried out for the file
-pub opened_carried : {X : Type 0} (before after : World) (result : Result X Status) (cart : WasmModule)
+pub opened_carried : {X : Type 0} (before after : World) (result : Result X Refusal) (cart : WasmModule)
     (l : Loaded) (e : Editing) (state : State) (name : List ℕ)
     → e ≡ new_editing cart l.run.font l.run.recording state
     → ForSome (answers_by e l.orders).out
@@ -31,14 +36,15 @@ opened_carried before after result cart l e state name is h =
     is h
 
 -- the answers stopped, so that no file was begun
-pub carries_stopped : (old new : World) (why : Manner) (out name bytes : List ℕ) → new.files ≡ old.files
-    → StopsWriting old new why out → Carries old new why out name bytes
-carries_stopped old new AllWritten out name bytes same h = absurd h
-carries_stopped old new NoCommand out name bytes same h = h
-carries_stopped old new ReadFailed out name bytes same h = h
-carries_stopped old new WriteFailed out name bytes same h = (h.0, inl (h.1, same))
-carries_stopped old new MemoryRefused out name bytes same h = (h, same)
-carries_stopped old new (Refused refusal) out name bytes same h = h
+pub carries_stopped : (old new : World) (why : Manner) (out name bytes : List ℕ) → LeavesWriting old new
+    → StopsWriting old new why out → StopsCarrying old new why out name bytes
+carries_stopped old new InputFailed out name bytes rest h = absurd h
+carries_stopped old new ReadFailed out name bytes rest h = h
+carries_stopped old new WriteFailed out name bytes rest h =
+    (h.0, inl (front_does old old new out (reading_none old) rest h.1))
+carries_stopped old new MemoryRefused out name bytes rest h =
+    front_does old old new out (reading_none old) rest h
+carries_stopped old new (Refused refusal) out name bytes rest h = h
 
 pub recording_left : (before mid : World) (old new : Editing) (orders : List Order)
     → IsAnswered before mid old new (answers_by old orders) → current_recording new ≡ recording_by old orders
@@ -47,45 +53,54 @@ recording_left before mid old new orders answered =
     ∙ ap (λ (s : Session ℕ). record (current_recording old) { frames = s.current.inputs }) answered.session
 
 -- all answers are written, and memory ran out before the file was begun
-pub carries_answers : (before mid : World) (out name bytes : List ℕ) → Appends before.out mid.out out
-    → mid.files ≡ before.files → Carries before mid MemoryRefused out name bytes
-carries_answers before mid out name bytes written same = (front_whole before.out mid.out out written, same)
+pub carries_answers : (before mid : World) (out name bytes : List ℕ) → AppendsOut before.events mid.events out
+    → LeavesWriting before mid → StopsCarrying before mid MemoryRefused out name bytes
+carries_answers before mid out name bytes written rest =
+    front_does before before mid out (reading_none before) rest
+    (out_whole before.events mid.events out written)
 
--- where a save failed after them, the files are those from before the answers, or it has been made
-kept_or_saved : (before mid after : World) (out name bytes : List ℕ) → LeavesWriting before mid
-    → Appends before.out after.out out → PutsOrLeaves mid.files after.files name bytes
-    → (AppendsFront before.out after.out out × (after.files ≡ before.files))
-    ⊎ (Appends before.out after.out out × Puts before.files after.files name bytes)
-kept_or_saved before mid after out name bytes leaves written (inl same) =
-    inl (front_whole before.out after.out out written, same ∙ leaves.files)
-kept_or_saved before mid after out name bytes leaves written (inr puts) =
-    inr (written, subst (λ files. Puts files after.files name bytes) leaves.files puts)
+-- then the file was replaced, or it wasn't
+module _ (before mid after : World) (out name bytes : List ℕ) (does : Does before mid (wrote out)) where
+  saved_stopped : (why : Manner) → before.write_faults ≤ mid.write_faults
+      → StopsSaving mid after why name bytes → StopsCarrying before after why out name bytes
+  saved_stopped InputFailed le h = absurd h
+  saved_stopped ReadFailed le h = h
+  saved_stopped WriteFailed le (rise, inl fails) = (
+    rises_later before.write_faults mid.write_faults after.write_faults le rise,
+    inr (inl (does_then before mid after (wrote out) (NotSaved name ∷ []) does fails)),
+  )
+  saved_stopped WriteFailed le (rise, inr fails) = (
+    rises_later before.write_faults mid.write_faults after.write_faults le rise,
+    inr (inr (subst (Does before after)
+        (sym (append_assoc (wrote out) (Saved name bytes ∷ []) (NotSaved name ∷ [])))
+        (does_then before mid after (wrote out) (Saved name bytes ∷ NotSaved name ∷ []) does fails))),
+  )
+  saved_stopped MemoryRefused le h = (
+    length (wrote out),
+    subst (Does before after) (append-nil (wrote out) ∙ sym (take-length (wrote out)))
+        (does_then before mid after (wrote out) [] does h),
+  )
+  saved_stopped (Refused refusal) le h = h
 
--- then the file was saved, or it wasn't
-saved_stopped : (before mid after : World) (why : Manner) (out name bytes : List ℕ)
-    → LeavesWriting before mid → Appends before.out after.out out
-    → StopsSaving mid after why name bytes → Carries before after why out name bytes
-saved_stopped before mid after AllWritten out name bytes leaves written h = absurd h
-saved_stopped before mid after NoCommand out name bytes leaves written h = h
-saved_stopped before mid after ReadFailed out name bytes leaves written h = h
-saved_stopped before mid after WriteFailed out name bytes leaves written h = (
-  rises_later before.write_faults mid.write_faults after.write_faults leaves.later h.0,
-  kept_or_saved before mid after out name bytes leaves written h.1,
-)
-saved_stopped before mid after MemoryRefused out name bytes leaves written h =
-    (front_whole before.out after.out out written, h ∙ leaves.files)
-saved_stopped before mid after (Refused refusal) out name bytes leaves written h = h
+  pub carried_replaced : {X : Type 0} (result : Result X Refusal) → before.write_faults ≤ mid.write_faults
+      → Replaces mid after result name bytes → Carried before after result out name bytes
+  carried_replaced (Ok x) le h = does_then before mid after (wrote out) (Saved name bytes ∷ []) does h
+  carried_replaced (Err why) le h = saved_stopped (manner_of why) le h
 
-pub carried_saved : {X : Type 0} (result : Result X Status) (before mid after : World)
+pub carried_saved : {X : Type 0} (result : Result X Refusal) (before mid after : World)
     (out name bytes wanted : List ℕ)
-    → LeavesWriting before mid → LeavesSaving mid after → Appends before.out mid.out out → bytes ≡ wanted
-    → Saved mid after result name bytes → Carried before after result out name wanted
-carried_saved (Ok x) before mid after out name bytes wanted leaves rest written e h = (
-  (λ texts told. rest.out ∙ written texts told),
-  subst (λ files. Puts files after.files name wanted) leaves.files
-      (subst (λ xs. Puts mid.files after.files name xs) e h),
-)
-carried_saved (Err why) before mid after out name bytes wanted leaves rest written e h =
-    saved_stopped before mid after (manner_of why) out name wanted leaves
-    (λ texts told. rest.out ∙ written texts told)
-    (subst (λ xs. StopsSaving mid after (manner_of why) name xs) e h)
+    → LeavesWriting before mid → AppendsOut before.events mid.events out → bytes ≡ wanted
+    → Replaces mid after result name bytes → Carried before after result out name wanted
+carried_saved result before mid after out name bytes wanted rest written e h =
+    carried_replaced before mid after out name wanted
+    (written_does before before mid out (reading_none before) rest written) result rest.later
+    (subst (λ xs. Replaces mid after result name xs) e h)
+
+-- replacing a file was refused
+pub save_refused : (old new : World) (why : WriteRefusal) (name bytes : List ℕ)
+    → (why ≡ Failed → Rises old.write_faults new.write_faults)
+    → (why ≡ Failed → FailsToSave old new [] (Saved name bytes ∷ []))
+    → (why ≡ OutOfMemory → Does old new [])
+    → StopsSaving old new (manner_of (write_refusal why)) name bytes
+save_refused old new Failed name bytes rise fails none = (rise refl, fails refl)
+save_refused old new OutOfMemory name bytes rise fails none = none refl

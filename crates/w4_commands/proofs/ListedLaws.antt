@@ -5,14 +5,14 @@ use Rattle.std.proofs.Math.ListN.{drop_of_length-le}
 use Rattle.std.proofs.lemmas.List.{append-nil, get_or-map, length-map}
 use Rattle.w4_defs.specs.World.{World, LeavesReading}
 use Rattle.w4_house.proofs.WorldLaws.{rises_later}
-use Rattle.w4_defs.specs.declared.status.Status.{Status}
-use Rattle.w4_defs.specs.Endings.{Manner, AllWritten, NoCommand, ReadFailed, WriteFailed, MemoryRefused, Refused}
+use Rattle.w4_defs.specs.declared.status.Refusal.{Refusal}
+use Rattle.w4_defs.specs.Endings.{Manner, ReadFailed, InputFailed, WriteFailed, MemoryRefused, Refused}
 use Rattle.w4_defs.specs.Output.{◌>>=◌, reading}
 use Rattle.w4_defs.specs.ToolOutputs.{listed_files}
 use Rattle.w4_commands.specs.Causes.{ResultsIn, Stops}
 
 -- what was read before, and what the files that are left come to
-abbrev pub after_files : List (List ℕ) → Result (List (List ℕ)) Status → Result (List (List ℕ)) Status
+abbrev pub after_files : List (List ℕ) → Result (List (List ℕ)) Refusal → Result (List (List ℕ)) Refusal
 after_files before (Ok more) = Ok (before ++ more)
 after_files before (Err status) = Err status
 
@@ -21,7 +21,7 @@ abbrev pub StillOwes : World → List (List ℕ) → List (List ℕ) → List (L
 StillOwes old before left all =
     ForSome old.files (λ files. listed_files all files ≡ after_files before (listed_files left files))
 
-regroup_files : (before : List (List ℕ)) (bytes : List ℕ) (more : Result (List (List ℕ)) Status)
+regroup_files : (before : List (List ℕ)) (bytes : List ℕ) (more : Result (List (List ℕ)) Refusal)
     → after_files before (more >>= λ others. Ok (bytes ∷ others)) ≡ after_files (before ++ bytes ∷ []) more
 regroup_files before bytes (Ok more) = ap (λ files. Ok files) (sym (append_assoc before (bytes ∷ []) more))
 regroup_files before bytes (Err status) = refl
@@ -57,8 +57,7 @@ pub owes_stops : (old now after : World) (why : Manner) (before : List (List ℕ
     → Stops now after why (ResultsIn (λ files. reading files (get_or all i []) 361072))
     → Stops old after why (ResultsIn (λ files. listed_files all files))
 unfolding listed_files
-owes_stops old now after AllWritten before all i lt leaves owed h = h
-owes_stops old now after NoCommand before all i lt leaves owed h = h
+owes_stops old now after InputFailed before all i lt leaves owed h = h
 owes_stops old now after ReadFailed before all i lt leaves owed (inl rise) =
     inl (rises_later old.read_faults now.read_faults after.read_faults leaves.later rise)
 owes_stops old now after ReadFailed before all i lt leaves owed (inr (files, told, e)) =

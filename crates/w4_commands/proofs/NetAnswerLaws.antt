@@ -23,7 +23,8 @@ use Rattle.w4_defs.specs.Session.{place_refusal, places_alone, with_kept}
 use Rattle.w4_defs.specs.State.{State}
 use Rattle.w4_editor.specs.Editing.{Editing, editing_setup, new_editing}
 use Rattle.w4_editor.specs.Showing.{IsCauseOrMemory}
-use Rattle.w4_defs.specs.World.{World, Appends}
+use Rattle.w4_defs.specs.World.{World}
+use Rattle.w4_commands.specs.Causes.{AppendsOut}
 use Rattle.w4_defs.specs.declared.net_refusal.NetRefusal.{NetRefusal}
 use Rattle.w4_defs.specs.declared.net_refusal.NetRefusal.TheVariants as net
 use Rattle.w4_netplay.specs.Pads.{known_in}
@@ -34,7 +35,7 @@ use Rattle.w4_defs.specs.Answers.{Answered, answer_text, carried_out}
 use Rattle.w4_commands.specs.Causes.{Written, StopsWriting, WritesNothing}
 use Rattle.w4_editor.specs.PlaceSession.{KeepsRest}
 use Rattle.w4_defs.specs.Endings.{Manner, manner_of}
-use Rattle.w4_defs.specs.declared.status.Status.{Status}
+use Rattle.w4_defs.specs.declared.status.Refusal.{Refusal}
 use Rattle.w4_defs.specs.LogAnswers.{NetSession, first_session, net_answer, answer_keep, answer_next, answer_packet, if_passed, net_words, predicted_image, predicted_state}
 use Rattle.w4_commands.specs.NetAnswers.{IsHeard, GivesHeard, net_session}
 use Rattle.w4_commands.proofs.OwesLaws.{stops_untold, there_is}
@@ -69,25 +70,25 @@ same_netplay old new same =
 
 pub heard_text : (before after : World) (old new : Netplay) (out : Option (List ℕ))
     (wanted : Answered NetSession)
-    → wanted ≡ answer_text (net_session old) out → ForSome out (λ text. Appends before.out after.out text)
+    → wanted ≡ answer_text (net_session old) out → ForSome out (λ text. AppendsOut before.events after.events text)
     → KeepsNetplay old new → IsHeard before after old new wanted
 heard_text before after old new out wanted is written keeps =
     subst (λ (a : Answered NetSession). IsHeard before after old new a) (sym is)
     (record { out = written; session = session_kept old new keeps; rest = keeps.rest })
 
-pub heard_on_text : {X : Type 0} (result : Result X Status) (before after : World) (old new : Netplay)
+pub heard_on_text : {X : Type 0} (result : Result X Refusal) (before after : World) (old new : Netplay)
     (out : List ℕ) (wanted : Answered NetSession)
     → wanted ≡ answer_text (net_session old) (Some out) → Written before after result out
     → KeepsNetplay old new → GivesHeard before after result old new wanted
 heard_on_text (Ok x) before after old new out wanted is written keeps =
     heard_text before after old new (Some out) wanted is
-    (there_is (λ text. Appends before.out after.out text) (Some out) out refl written) keeps
+    (there_is (λ text. AppendsOut before.events after.events text) (Some out) out refl written) keeps
 heard_on_text (Err why) before after old new out wanted is written keeps =
     there_is (λ text. StopsWriting before after (manner_of why) text) wanted.out out
     (ap (λ (a : Answered NetSession). a.out) is) written
 
 -- a refusal that is told, unless it is memory's
-pub net_refused_on_text : {X Other : Type 0} (result : Result X Status) (before after : World)
+pub net_refused_on_text : {X Other : Type 0} (result : Result X Refusal) (before after : World)
     (old new : Netplay)
     (out : List ℕ) (wanted : Answered NetSession)
     → Other ⊎ WritesNothing before after result
@@ -106,7 +107,7 @@ heard_alone world old new wanted is rest =
     subst (λ (a : Answered NetSession). IsHeard world world old new a) (sym is)
     (record {
       out =
-          there_is (λ text. Appends world.out world.out text) (Some []) [] refl
+          there_is (λ text. AppendsOut world.events world.events text) (Some []) [] refl
           (appends_nothing world [] refl);
       session = refl;
       rest = rest;

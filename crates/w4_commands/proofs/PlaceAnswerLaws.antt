@@ -14,7 +14,7 @@ use Rattle.w4_defs.specs.State.{State, Moment, FrameRecord}
 use Rattle.w4_editor.specs.Editing.{Editing, editing_setup}
 use Rattle.w4_defs.specs.World.{World}
 use Rattle.w4_defs.specs.declared.place_text.PlaceText.{PlaceText}
-use Rattle.w4_defs.specs.PlaceTexts.{as_it_stands, place_text}
+use Rattle.w4_defs.specs.PlaceTexts.{PieceForm, as_it_stands, moment_text, place_text}
 use Rattle.w4_defs.specs.declared.place_text.PlaceText.TheVariants.{Schedule, Traces, DiskBytes}
 use Rattle.w4_defs.proofs.OptionLaws.{some_same}
 use Rattle.w4_defs.proofs.TextsOfStates.{state_of}
@@ -22,16 +22,16 @@ use Rattle.w4_defs.specs.ScriptAnswers.{if_place, range_text, no_frame}
 use Rattle.w4_defs.specs.Answers.{answer_text}
 use Rattle.w4_commands.specs.ScriptAnswers.{GivesAnswer, text_by}
 use Rattle.w4_editor.specs.PlaceSession.{place_session}
-use Rattle.w4_defs.specs.declared.status.Status.{Status}
+use Rattle.w4_defs.specs.declared.status.Refusal.{Refusal}
 use Rattle.w4_editor.proofs.KeepEveryLaws.{places_from}
 use Rattle.w4_commands.proofs.PlaceTextLaws.{text-alone}
 
 -- ---- one place
 
-pub disk_of_state : (p : ℕ) (m : Option Moment) (s : State) → state_of m ≡ Some s
-    → place_text as_it_stands DiskBytes p m ≡ Some s.disk
-disk_of_state p (Some moment) s e = ap (λ (x : State). Some x.disk) (some_same moment.state s e)
-disk_of_state p None s e = absurd cc
+pub disk_of_state : (form : PieceForm) (p : ℕ) (m : Option Moment) (s : State) → state_of m ≡ Some s
+    → place_text form DiskBytes p m ≡ Some (form s.disk)
+disk_of_state form p (Some moment) s e = ap (λ (x : State). Some (form x.disk)) (some_same moment.state s e)
+disk_of_state form p None s e = absurd cc
 
 abbrev pub record_in : Option Moment → Option FrameRecord
 record_in m = option_map (λ (moment : Moment). moment.frame_record) m
@@ -58,15 +58,28 @@ pub reset_record : (setup : Setup) (disk : List ℕ) (inputs : List Input) (r : 
     → record_in (reset setup disk) ≡ Some r → record_in (run setup disk inputs 0) ≡ Some r
 reset_record setup disk inputs r e = same_record (reset setup disk) r e
 
+-- the run of an editor's recording up to a place
+abbrev pub run_at : Editing → ℕ → Option Moment
+run_at e p = run (editing_setup e) e.disk e.session.current.inputs p
+
+-- a text in a form
+pub text_formed : (form : PieceForm) (wanted : PlaceText) (p : ℕ) (m : Option Moment) (text : List ℕ)
+    → place_text as_it_stands wanted p m ≡ Some text → place_text form wanted p m ≡ Some (form text)
+text_formed form wanted p (Some moment) text e =
+    ap (λ (bytes : List ℕ). Some (form bytes)) (some_same (moment_text wanted p moment) text e)
+text_formed form wanted p None text e = absurd cc
+
 -- ---- the last place
 
-pub if_place-past : (s : Session ℕ) (last : ℕ) (text : Option (List ℕ)) → length s.current.inputs < last
-    → if_place as_it_stands s last text ≡ Some no_frame
-if_place-past s last text lt = rw (lt-leb last (length s.current.inputs) lt) refl
+pub if_place-past : (form : PieceForm) (s : Session ℕ) (last : ℕ) (text : Option (List ℕ))
+    → length s.current.inputs < last
+    → if_place form s last text ≡ Some (form no_frame)
+if_place-past form s last text lt = rw (lt-leb last (length s.current.inputs) lt) refl
 
-pub if_place-within : (s : Session ℕ) (last : ℕ) (text : Option (List ℕ)) → last ≤ length s.current.inputs
-    → if_place as_it_stands s last text ≡ text
-if_place-within s last text le = rw (le-leb last (length s.current.inputs) le) refl
+pub if_place-within : (form : PieceForm) (s : Session ℕ) (last : ℕ) (text : Option (List ℕ))
+    → last ≤ length s.current.inputs
+    → if_place form s last text ≡ text
+if_place-within form s last text le = rw (le-leb last (length s.current.inputs) le) refl
 
 -- ---- numbers one after another
 
@@ -93,13 +106,14 @@ numbers-all text whole entries i le so_far =
     sym none ∙ so_far
 
 -- the answer for one place is that for a range
-pub one_range : {X : Type 0} (result : Result X Status) (before after : World) (old new : Editing)
+pub one_range : (form : PieceForm) {X : Type 0} (result : Result X Refusal) (before after : World)
+    (old new : Editing)
     (wanted : PlaceText) (p : ℕ)
     → GivesAnswer before after result old new
-    (answer_text (place_session old) (if_place as_it_stands (place_session old) p
-    (range_text as_it_stands (editing_setup old) old.disk (place_session old) wanted p p)))
+    (answer_text (place_session old) (if_place form (place_session old) p
+    (range_text form (editing_setup old) old.disk (place_session old) wanted p p)))
     → GivesAnswer before after result old new (answer_text (place_session old)
-    (if_place as_it_stands (place_session old) p (text_by old wanted p)))
-one_range result before after old new wanted p h =
+    (if_place form (place_session old) p (text_by form old wanted p)))
+one_range form result before after old new wanted p h =
     subst (λ text. GivesAnswer before after result old new (answer_text (place_session old)
-    (if_place as_it_stands (place_session old) p text))) (text-alone (text_by old wanted) p) h
+    (if_place form (place_session old) p text))) (text-alone (text_by form old wanted) p) h

@@ -2,7 +2,8 @@
 use Rattle.std.proofs.Common.{◌≡◌, ℕ, zero, suc, ◌+◌, ◌-◌, ◌<◌, ◌≤◌, List, Option, Some, None, [], refl, ap, subst, arith, append-nil}
 use Rattle.std.specs.Option.{ForSome}
 use Rattle.w4_defs.specs.AllThere.{joined}
-use Rattle.w4_defs.specs.World.{World, Appends}
+use Rattle.w4_defs.specs.World.{World}
+use Rattle.w4_commands.specs.Causes.{AppendsOut}
 use Rattle.w4_commands.specs.Causes.{StopsWriting}
 use Rattle.w4_defs.specs.Endings.{Manner}
 use Rattle.w4_defs.specs.PlaceTexts.{place_texts}
@@ -13,7 +14,7 @@ texts-next : (text : ℕ → Option (List ℕ)) (at end : ℕ) → at < end
 texts-next text at end lt = let k : end - at ≡ suc (end - (at + 1)) = omega arith in rw k refl
 
 pub texts-more : (first now next : World) (text : ℕ → Option (List ℕ)) (whole : Option (List ℕ)) (at end : ℕ)
-    → at < end → ForSome (text at) (λ written. Appends now.out next.out written)
+    → at < end → ForSome (text at) (λ written. AppendsOut now.events next.events written)
     → OwesThere first now (place_texts text at (end - at)) whole
     → OwesThere first next (place_texts text (at + 1) (end - (at + 1))) whole
 texts-more first now next text whole at end lt h so_far =
@@ -33,7 +34,7 @@ texts-stop first now next why text whole at end lt le so_far h =
 pub texts-all : (first now : World) (text : ℕ → Option (List ℕ)) (whole : Option (List ℕ)) (at end : ℕ)
     → end ≤ at
     → OwesThere first now (place_texts text at (end - at)) whole
-    → ForSome whole (λ all. Appends first.out now.out all)
+    → ForSome whole (λ all. AppendsOut first.events now.events all)
 texts-all first now text whole at end le so_far =
     let k : end - at ≡ 0 = omega arith in
     there_nothing first now (place_texts text at (end - at)) whole (rw k refl) so_far

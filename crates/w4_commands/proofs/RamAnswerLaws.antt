@@ -7,10 +7,11 @@ use Rattle.w4_defs.specs.declared.inspect.Ask.{Ask}
 use Rattle.w4_defs.specs.declared.inspect.Ask.TheVariants.{Watch}
 use Rattle.w4_defs.specs.declared.inspect.Test.{Test}
 use Rattle.w4_defs.specs.FrameTexts.{numbered}
-use Rattle.w4_defs.specs.PlaceTexts.{as_it_stands}
+use Rattle.w4_defs.specs.PlaceTexts.{PieceForm, as_it_stands}
 use Rattle.w4_defs.specs.Search.{Search, begin, narrow}
-use Rattle.w4_editor.specs.Editing.{Editing}
-use Rattle.w4_defs.specs.World.{World, Appends}
+use Rattle.w4_editor.specs.Editing.{Editing, current_recording}
+use Rattle.w4_defs.specs.World.{World}
+use Rattle.w4_commands.specs.Causes.{AppendsOut}
 use Rattle.w4_inspect.specs.Pages.{page_at}
 use Rattle.w4_inspect.specs.Refusals.{IsRefusal, no_frame_refusal, watch_refusal}
 use Rattle.w4_inspect.specs.Watching.{watched}
@@ -21,7 +22,7 @@ use Rattle.w4_defs.specs.Answers.{Answered, answer_text, carried_out}
 use Rattle.w4_commands.specs.Causes.{Written, StopsWriting, WritesNothing}
 use Rattle.w4_commands.specs.ScriptAnswers.{OnlyShows}
 use Rattle.w4_defs.specs.Endings.{Manner, manner_of}
-use Rattle.w4_defs.specs.declared.status.Status.{Status}
+use Rattle.w4_defs.specs.declared.status.Refusal.{Refusal}
 use Rattle.w4_commands.specs.RamAnswers.{IsLineAnswered, GivesLineAnswer, ask_answer, editor_pages}
 use Rattle.w4_defs.specs.QueryAnswers.{Pages, answer_narrow, answer_start, outside, pages_of, ram_answer, searched, watch_text}
 use Rattle.w4_defs.proofs.OptionLaws.{some_same}
@@ -57,7 +58,7 @@ place_is_there e p none =
 pub line_answered_text : (before after : World) (old new : Editing) (search : Option Search)
     (out : Option (List ℕ))
     (wanted : Answered (Option Search)) → wanted ≡ answer_text search out
-    → ForSome out (λ text. Appends before.out after.out text) → OnlyShows old new
+    → ForSome out (λ text. AppendsOut before.events after.events text) → OnlyShows old new
     → IsLineAnswered before after old new search wanted
 line_answered_text before after old new search out wanted is written shows =
     subst (λ (a : Answered (Option Search)). IsLineAnswered before after old new search a) (sym is)
@@ -69,33 +70,39 @@ pub line_answered_alone : (world : World) (old new : Editing) (search : Option S
     → wanted ≡ carried_out search → OnlyShows old new → IsLineAnswered world world old new search wanted
 line_answered_alone world old new search wanted is shows =
     line_answered_text world world old new search (Some []) wanted is
-    (there_is (λ text. Appends world.out world.out text) (Some []) [] refl (appends_nothing world [] refl))
+    (there_is (λ text. AppendsOut world.events world.events text) (Some []) [] refl
+    (appends_nothing world [] refl))
     shows
 
-pub line_answered_on : {X : Type 0} (result : Result X Status) (before after : World) (old new : Editing)
+pub line_answered_on : {X : Type 0} (result : Result X Refusal) (before after : World) (old new : Editing)
     (search : Option Search) (out : Option (List ℕ)) (wanted : Answered (Option Search))
     → wanted ≡ answer_text search out → ForSome out (λ text. Written before after result text)
-    → OnOk result (OnlyShows old new) → GivesLineAnswer before after result old new search wanted
-line_answered_on (Ok x) before after old new search out wanted is written shows =
+    → OnOk result (OnlyShows old new) → current_recording new ≡ current_recording old
+    → GivesLineAnswer before after result old new search wanted
+line_answered_on (Ok x) before after old new search out wanted is written shows kept =
     line_answered_text before after old new search out wanted is written shows
-line_answered_on (Err why) before after old new search out wanted is written shows =
-    subst (λ (a : Answered (Option Search)). ForSome a.out (λ text. StopsWriting before after (manner_of why)
-    text)) (sym is) written
+line_answered_on (Err why) before after old new search out wanted is written shows kept = (
+  subst (λ (a : Answered (Option Search)). ForSome a.out (λ text. StopsWriting before after (manner_of why)
+      text)) (sym is) written,
+  kept,
+)
 
 -- a refusal that is told, unless it is memory's
-pub refused_on_text : {X Other : Type 0} (result : Result X Status) (before after : World) (old new : Editing)
+pub refused_on_text : {X Other : Type 0} (result : Result X Refusal) (before after : World)
+    (old new : Editing)
     (search : Option Search) (out : List ℕ) (wanted : Answered (Option Search))
     → Other ⊎ WritesNothing before after result
     → (Other → wanted ≡ answer_text search (Some out)) → (Other → OnlyShows old new)
+    → current_recording new ≡ current_recording old
     → Written before after result out → GivesLineAnswer before after result old new search wanted
-refused_on_text result before after old new search out wanted (inl other) is shows written =
+refused_on_text result before after old new search out wanted (inl other) is shows kept written =
     line_answered_on result before after old new search (Some out) wanted (is other)
     (there_is (λ text. Written before after result text) (Some out) out refl written)
-    (on_ok result (shows other))
-refused_on_text (Ok x) before after old new search out wanted (inr (failed, same)) is shows written =
+    (on_ok result (shows other)) kept
+refused_on_text (Ok x) before after old new search out wanted (inr (failed, same)) is shows kept written =
     absurd cc
-refused_on_text (Err why) before after old new search out wanted (inr (failed, same)) is shows written =
-    λ text there. stops_untold before after (manner_of why) out text same written
+refused_on_text (Err why) before after old new search out wanted (inr (failed, same)) is shows kept written =
+    (λ text there. stops_untold before after (manner_of why) out text same written, kept)
 
 -- ---- a search
 
@@ -105,31 +112,33 @@ search_goes search go (Some page) left is =
     ap (λ (found : Search). carried_out (Some found)) (some_same (go page) left is)
 search_goes search go None left is = absurd cc
 
-pub start_there : (e : Editing) (search : Option Search) (width p : ℕ) (begun : Search)
+pub start_there : (form : PieceForm) (e : Editing) (search : Option Search) (width p : ℕ) (begun : Search)
     → no_frame_refusal e p ≡ None → option_map (begin width) (page_at e p) ≡ Some begun
-    → answer_start as_it_stands (editor_pages e) search width p ≡ carried_out (Some begun)
-start_there e search width p begun none is =
+    → answer_start form (editor_pages e) search width p ≡ carried_out (Some begun)
+start_there form e search width p begun none is =
     rw (le-leb p (length e.session.current.inputs) (place_is_there e p none))
     (search_goes search (begin width) (page_at e p) begun is)
 
-pub start_past : (e : Editing) (search : Option Search) (width p : ℕ) (refusal : RamRefusal)
+pub start_past : (form : PieceForm) (e : Editing) (search : Option Search) (width p : ℕ)
+    (refusal : RamRefusal)
     → IsRefusal (no_frame_refusal e p) refusal → refusal ≢ MemoryRefused
-    → answer_start as_it_stands (editor_pages e) search width p ≡ answer_text search (Some no_frame)
-start_past e search width p refusal is other =
+    → answer_start form (editor_pages e) search width p ≡ answer_text search (Some (form no_frame))
+start_past form e search width p refusal is other =
     rw (lt-leb p (length e.session.current.inputs) (place_is_past e p refusal is other)) refl
 
-pub narrow_there : (e : Editing) (search : Search) (p : ℕ) (test : Test) (left : Search)
+pub narrow_there : (form : PieceForm) (e : Editing) (search : Search) (p : ℕ) (test : Test) (left : Search)
     → no_frame_refusal e p ≡ None → option_map (λ page. narrow search (page, test)) (page_at e p) ≡ Some left
-    → answer_narrow as_it_stands (editor_pages e) (Some search) p test ≡ carried_out (Some left)
-narrow_there e search p test left none is =
+    → answer_narrow form (editor_pages e) (Some search) p test ≡ carried_out (Some left)
+narrow_there form e search p test left none is =
     rw (le-leb p (length e.session.current.inputs) (place_is_there e p none))
     (search_goes (Some search) (λ page. narrow search (page, test)) (page_at e p) left is)
 
-pub narrow_past : (e : Editing) (search : Search) (p : ℕ) (test : Test) (refusal : RamRefusal)
+pub narrow_past : (form : PieceForm) (e : Editing) (search : Search) (p : ℕ) (test : Test)
+    (refusal : RamRefusal)
     → IsRefusal (no_frame_refusal e p) refusal → refusal ≢ MemoryRefused
-    → answer_narrow as_it_stands (editor_pages e) (Some search) p test
-    ≡ answer_text (Some search) (Some no_frame)
-narrow_past e search p test refusal is other =
+    → answer_narrow form (editor_pages e) (Some search) p test
+    ≡ answer_text (Some search) (Some (form no_frame))
+narrow_past form e search p test refusal is other =
     rw (lt-leb p (length e.session.current.inputs) (place_is_past e p refusal is other)) refl
 
 -- ---- values
@@ -158,26 +167,28 @@ second_true false true is = (refl, refl)
 second_true false false (inl other) = absurd cc
 second_true false false (inr (memory, none)) = absurd cc
 
-pub watch_answered : (e : Editing) (address width a b : ℕ) (values : List ℕ)
+pub watch_answered : (form : PieceForm) (e : Editing) (address width a b : ℕ) (values : List ℕ)
     → watch_refusal e address width b ≡ None → watched e address width a b ≡ Some values
-    → watch_text as_it_stands (editor_pages e) address width a b
-    ≡ Some (numbered (codes "watch") (address ∷ values))
-watch_answered e address width a b values none there =
+    → watch_text form (editor_pages e) address width a b
+    ≡ Some (form (numbered (codes "watch") (address ∷ values)))
+watch_answered form e address width a b values none there =
     let both =
     both_false (nat_lt (length e.session.current.inputs) b) (nat_lt 65536 (address + width)) none in
     rw (both.0, both.1, there) refl
 
-pub watch_past : (e : Editing) (address width a b : ℕ) (refusal : RamRefusal) → refusal ≡ NoFrame
+pub watch_past : (form : PieceForm) (e : Editing) (address width a b : ℕ) (refusal : RamRefusal)
+    → refusal ≡ NoFrame
     → IsRefusal (watch_refusal e address width b) refusal
-    → watch_text as_it_stands (editor_pages e) address width a b ≡ Some no_frame
-watch_past e address width a b refusal same is =
+    → watch_text form (editor_pages e) address width a b ≡ Some (form no_frame)
+watch_past form e address width a b refusal same is =
     let past = subst (λ r. IsRefusal (watch_refusal e address width b) r) same is in
     rw (first_true (nat_lt (length e.session.current.inputs) b) (nat_lt 65536 (address + width)) past) refl
 
-pub watch_outside : (e : Editing) (address width a b : ℕ) (refusal : RamRefusal) → refusal ≡ Outside
+pub watch_outside : (form : PieceForm) (e : Editing) (address width a b : ℕ) (refusal : RamRefusal)
+    → refusal ≡ Outside
     → IsRefusal (watch_refusal e address width b) refusal
-    → watch_text as_it_stands (editor_pages e) address width a b ≡ Some outside
-watch_outside e address width a b refusal same is =
+    → watch_text form (editor_pages e) address width a b ≡ Some (form outside)
+watch_outside form e address width a b refusal same is =
     let far = subst (λ r. IsRefusal (watch_refusal e address width b) r) same is in
     let both =
     second_true (nat_lt (length e.session.current.inputs) b) (nat_lt 65536 (address + width)) far in
@@ -199,7 +210,7 @@ pub line_answered_at_first : (before after : World) (first old new : Editing) (s
     (line :
     Ask)
     → OnlyShows first old
-    → IsLineAnswered before after old new left (ask_answer old search line)
+    → IsLineAnswered before after old new left (ask_answer as_it_stands old search line)
     → IsLineAnswered before after old new left (ram_answer as_it_stands (editor_pages first) search line)
 line_answered_at_first before after first old new search left line shows told =
     subst (λ (pages : Pages). IsLineAnswered before after old new left
@@ -210,7 +221,7 @@ pub ram_stopped_at_first : (before after : World) (why : Manner) (first old : Ed
     (search : Option Search)
     (line : Ask)
     → OnlyShows first old
-    → ForSome (ask_answer old search line).out (λ text. StopsWriting before after why text)
+    → ForSome (ask_answer as_it_stands old search line).out (λ text. StopsWriting before after why text)
     → ForSome (ram_answer as_it_stands (editor_pages first) search line).out
     (λ text. StopsWriting before after why text)
 ram_stopped_at_first before after why first old search line shows told =

@@ -8,7 +8,8 @@ use Rattle.w4_defs.specs.declared.order.Order.TheVariants.{Set}
 use Rattle.w4_defs.specs.Reset.{Setup}
 use Rattle.w4_defs.specs.Session.{Session}
 use Rattle.w4_editor.specs.Editing.{Editing, editing_setup}
-use Rattle.w4_defs.specs.World.{World, Appends}
+use Rattle.w4_defs.specs.World.{World}
+use Rattle.w4_commands.specs.Causes.{AppendsOut}
 use Rattle.w4_defs.specs.ScriptAnswers.{answer, answers}
 use Rattle.w4_defs.specs.AllThere.{joined}
 use Rattle.w4_defs.specs.Answers.{Answered, carried_out, answers_by}
@@ -26,7 +27,7 @@ past_end = Set 0 (record { pads = []; mouse_x = pos 0; mouse_y = pos 0; buttons 
 
 -- an answer is the same by what the editor had at first
 pub same_answer : (first old : Editing) (order : Order) → KeepsRest first old
-    → answer_by old order
+    → answer_by as_it_stands old order
     ≡ answer as_it_stands (editing_setup first) first.disk (place_session old) order
 same_answer first old order rest =
     λ i. answer as_it_stands (same_editing_setup first old rest i) (same_disk first old rest i)
@@ -34,7 +35,7 @@ same_answer first old order rest =
 
 pub answered_at_first : (now after : World) (first old new : Editing) (order : Order)
     → KeepsRest first old
-    → IsAnswered now after old new (answer_by old order)
+    → IsAnswered now after old new (answer_by as_it_stands old order)
     → IsAnswered now after old new
     (answer as_it_stands (editing_setup first) first.disk (place_session old) order)
 answered_at_first now after first old new order rest h =
@@ -42,7 +43,7 @@ answered_at_first now after first old new order rest h =
 
 pub stopped_at_first : (now after : World) (why : Manner) (first old : Editing) (order : Order)
     → KeepsRest first old
-    → ForSome (answer_by old order).out (λ out. StopsWriting now after why out)
+    → ForSome (answer_by as_it_stands old order).out (λ out. StopsWriting now after why out)
     → ForSome (answer as_it_stands (editing_setup first) first.disk (place_session old) order).out
     (λ out. StopsWriting now after why out)
 stopped_at_first now after why first old order rest h =
@@ -69,7 +70,7 @@ pub answers-out-step : {S O : Type 0} (first now after : World) (answer_of : S �
     (orders : List O) (i : ℕ) (d : O) (whole : Option (List ℕ))
     → i < length orders
     → next ≡ (answer_of s (get_or orders i d)).session
-    → ForSome (answer_of s (get_or orders i d)).out (λ out. Appends now.out after.out out)
+    → ForSome (answer_of s (get_or orders i d)).out (λ out. AppendsOut now.events after.events out)
     → OwesThere first now (answers_by answer_of s (drop i orders)).out whole
     → OwesThere first after (answers_by answer_of next (drop (i + 1) orders)).out whole
 answers-out-step first now after answer_of s next orders i d whole lt e more so_far =

@@ -1,6 +1,6 @@
 -- The lines that tell of a made cart.
 use Rattle.std.proofs.Common.{◌≡◌, ℕ, ◌+◌, ◌/◌, ◌%◌, ◌<◌, ◌≤◌, Bool, true, false, List, [], length, take, get_or, Option, Some, option_map, cond, refl, sym, ap, subst, ◌∙◌, arith}
-use Rattle.std.specs.Prelude.{count_by, IsSome, not, ◌==◌, Ok, replicate}
+use Rattle.std.specs.Prelude.{count_by, IsSome, not, ◌==◌, Result, Ok, replicate}
 use Rattle.std.specs.Option.{ForSome}
 use Rattle.std.specs.List.{range_with_len}
 use Rattle.std.proofs.lemmas.List.{take_all}
@@ -16,12 +16,11 @@ use Rattle.w4_defs.specs.MadeSummary.{made_setup, summary_text, lit_pixels}
 use Rattle.w4_defs.specs.Run.{run}
 use Rattle.w4_defs.specs.State.{Moment}
 use Rattle.w4_defs.specs.EncodeModule.{module_bytes}
-use Rattle.w4_defs.specs.Causes.{Ends}
-use Rattle.w4_defs.specs.Endings.{Manner}
 use Rattle.w4_defs.specs.Output.{made_text, make_output, only_written}
-use Rattle.w4_defs.specs.World.{World}
+use Rattle.w4_defs.specs.World.{World, LeavesWriting}
+use Rattle.w4_defs.specs.declared.status.Refusal.{Refusal}
 use Rattle.w4_defs.proofs.ThereLaws.{value_there}
-use Rattle.w4_commands.specs.Causes.{MakesOf, WritesOut}
+use Rattle.w4_commands.specs.Causes.{EndsDone, MakesOf, Written}
 use Rattle.w4_commands.proofs.EndLaws.{ends_written}
 
 bit_small : (b : Bool) → cond b 1 0 ≤ 1
@@ -88,11 +87,12 @@ summary_is number cart font budget inputs bytes count moment made zeros units fr
     (sym (counted ∙ ap (λ (b : List ℕ). length b) written))
 
 -- the lines are there, and so is what is made of them
-pub ends_made : (old new : World) (why : Manner) (number : ℕ) → IsSome (made_text number)
-    → new.files ≡ old.files → ForSome (made_text number) (λ out. WritesOut old new why out)
-    → Ends old new why (MakesOf (λ files. make_output number files))
-ends_made old new why number there same h =
+pub ends_made : {X : Type 0} (old new : World) (result : Result X Refusal) (number : ℕ)
+    → IsSome (made_text number) → LeavesWriting old new
+    → ForSome (made_text number) (λ out. Written old new result out)
+    → EndsDone old new result (MakesOf (λ files. make_output number))
+ends_made old new result number there rest h =
     let told = value_there (made_text number) there in
-    subst (λ (text : Option (List ℕ)). Ends old new why (MakesOf (λ files.
-    option_map (λ out. Ok (only_written out files)) text))) (sym told.1)
-    (ends_written old new why told.0 same (h told.0 told.1))
+    subst (λ (text : Option (List ℕ)). EndsDone old new result (MakesOf (λ files.
+    option_map (λ out. Ok (only_written out)) text))) (sym told.1)
+    (ends_written old new result told.0 rest (h told.0 told.1))

@@ -6,10 +6,11 @@ use Rattle.std.specs.Prelude.{Result, Ok, Err}
 use Rattle.w4_defs.specs.AllThere.{joined, all_some}
 use Rattle.w4_defs.specs.State.{FrameRecord}
 use Rattle.w4_defs.specs.Sound.{Wave, after_frame, first_wave, rendered, samples, samples_from}
-use Rattle.w4_defs.specs.World.{World, Appends}
+use Rattle.w4_defs.specs.World.{World}
+use Rattle.w4_commands.specs.Causes.{AppendsOut}
 use Rattle.w4_defs.proofs.OptionLaws.{some_same}
-use Rattle.w4_house.proofs.WorldLaws.{appends_then}
-use Rattle.w4_defs.specs.declared.status.Status.{Status}
+use Rattle.w4_commands.proofs.OutLaws.{out_then}
+use Rattle.w4_defs.specs.declared.status.Refusal.{Refusal}
 use Rattle.w4_commands.specs.Causes.{StopsWriting, Written}
 use Rattle.w4_defs.specs.Endings.{Manner, manner_of}
 use Rattle.w4_commands.proofs.OwesLaws.{owes_after, owes_stopped, OwesThere, there_begins, there_is, there_less, there_nothing, there_stopped}
@@ -53,9 +54,9 @@ samples-later records one wave next at to lt e goes =
     let k : to - at ≡ suc (to - (at + 1)) = omega arith in
     rw k (samples-next records one wave next (at + 1) (to - (at + 1)) e goes)
 
-piece_written : (now after : World) (bytes : List ℕ) → Appends now.out after.out bytes
-    → ForSome (Some bytes) (λ text. Appends now.out after.out text)
-piece_written now after bytes h = there_is (λ text. Appends now.out after.out text) (Some bytes) bytes refl h
+piece_written : (now after : World) (bytes : List ℕ) → AppendsOut now.events after.events bytes
+    → ForSome (Some bytes) (λ text. AppendsOut now.events after.events text)
+piece_written now after bytes h = there_is (λ text. AppendsOut now.events after.events text) (Some bytes) bytes refl h
 
 piece_stopping : (now after : World) (why : Manner) (bytes : List ℕ) → StopsWriting now after why bytes
     → ForSome (Some bytes) (λ text. StopsWriting now after why text)
@@ -65,7 +66,7 @@ piece_stopping now after why bytes h =
 pub samples-begin : (first now : World) (records : ℕ → Option FrameRecord) (one : FrameRecord)
     (wave next : Wave)
     (count : ℕ)
-    → records 0 ≡ Some one → Appends first.out now.out (rendered one wave) → next ≡ after_frame one wave
+    → records 0 ≡ Some one → AppendsOut first.events now.events (rendered one wave) → next ≡ after_frame one wave
     → OwesThere first now (samples_at records next 1 count) (samples_at records wave 0 (count + 1))
 samples-begin first now records one wave next count e h goes =
     let whole = samples_at records wave 0 (count + 1) in
@@ -76,7 +77,7 @@ samples-begin first now records one wave next count e h goes =
 
 pub samples-go_on : (first now after : World) (records : ℕ → Option FrameRecord) (one : FrameRecord)
     (wave next : Wave) (at to : ℕ) (whole : Option (List ℕ)) → at < to
-    → records (at + 1) ≡ Some one → Appends now.out after.out (rendered one wave) → next
+    → records (at + 1) ≡ Some one → AppendsOut now.events after.events (rendered one wave) → next
     ≡ after_frame one wave
     → OwesThere first now (samples_at records wave (at + 1) (to - at)) whole
     → OwesThere first after (samples_at records next (at + 1 + 1) (to - (at + 1))) whole
@@ -115,7 +116,7 @@ samples-stop first now after why records one wave at to whole lt e le so_far h =
 pub samples-end : (first now : World) (records : ℕ → Option FrameRecord) (wave : Wave) (at to : ℕ)
     (whole : Option (List ℕ)) → to ≤ at → OwesThere first now (samples_at records wave (at + 1) (to - at))
     whole
-    → ForSome whole (λ text. Appends first.out now.out text)
+    → ForSome whole (λ text. AppendsOut first.events now.events text)
 samples-end first now records wave at to whole le so_far =
     let k : to - at ≡ 0 = omega arith in
     there_nothing first now (samples_at records wave (at + 1) (to - at)) whole (rw k refl) so_far
@@ -136,13 +137,13 @@ of_records P text (Some all) h = λ bytes is. subst P (some_same (text all) byte
 of_records P text None h = λ bytes is. absurd cc
 
 -- a header, and the bytes after it
-pub header_and_more : {X : Type 0} (result : Result X Status) (first second third : World)
+pub header_and_more : {X : Type 0} (result : Result X Refusal) (first second third : World)
     (header more : List ℕ)
     → first.write_faults ≤ second.write_faults
-    → Appends first.out second.out header → Written second third result more
+    → AppendsOut first.events second.events header → Written second third result more
     → Written first third result (header ++ more)
 header_and_more (Ok x) first second third header more le one two =
-    appends_then first.out second.out third.out header more one two
+    out_then first.events second.events third.events header more one two
 header_and_more (Err why) first second third header more le one two =
     owes_stopped first second third (manner_of why) more (header ++ more) le
     (owes_after first second header more (header ++ more) one refl) two

@@ -3,10 +3,11 @@ use Rattle.std.specs.Prelude.{◌≡◌, Option, Result, Ok, Err}
 use Rattle.std.specs.Option.{ForSome}
 use Rattle.w4_defs.specs.Search.{Search}
 use Rattle.w4_defs.specs.declared.inspect.Ask.{Ask}
-use Rattle.w4_defs.specs.PlaceTexts.{as_it_stands}
-use Rattle.w4_editor.specs.Editing.{Editing, editing_setup}
-use Rattle.w4_defs.specs.World.{World, Appends}
-use Rattle.w4_defs.specs.declared.status.Status.{Status}
+use Rattle.w4_defs.specs.PlaceTexts.{PieceForm}
+use Rattle.w4_editor.specs.Editing.{Editing, current_recording, editing_setup}
+use Rattle.w4_defs.specs.World.{World}
+use Rattle.w4_commands.specs.Causes.{AppendsOut}
+use Rattle.w4_defs.specs.declared.status.Refusal.{Refusal}
 use Rattle.w4_defs.specs.Answers.{Answered}
 use Rattle.w4_commands.specs.Causes.{StopsWriting}
 use Rattle.w4_commands.specs.ScriptAnswers.{OnlyShows}
@@ -20,17 +21,18 @@ editor_pages e = pages_of (editing_setup e) e.disk e.session.current.inputs
 -- editor at most shows another place
 pub record IsLineAnswered (before after : World) (old new : Editing) (left : Option Search)
     (wanted : Answered (Option Search)) : Type 0 where
-  pub out : ForSome wanted.out (λ out. Appends before.out after.out out)
+  pub out : ForSome wanted.out (λ out. AppendsOut before.events after.events out)
   pub search : left ≡ wanted.session
   pub shows : OnlyShows old new
 
--- what answering it gave: that, or a first part of the answer where it stopped
-abbrev pub GivesLineAnswer : {X : Type 0} → World → World → Result X Status → Editing → Editing
+-- what answering it gave: that, or a first part of the answer where it stopped; the recording is then as it was
+abbrev pub GivesLineAnswer : {X : Type 0} → World → World → Result X Refusal → Editing → Editing
     → Option Search
     → Answered (Option Search) → Type 0
 GivesLineAnswer before after (Ok x) old new left wanted = IsLineAnswered before after old new left wanted
 GivesLineAnswer before after (Err why) old new left wanted =
     ForSome wanted.out (λ out. StopsWriting before after (manner_of why) out)
+    × (current_recording new ≡ current_recording old)
 
-abbrev pub ask_answer : Editing → Option Search → Ask → Answered (Option Search)
-ask_answer e search ask = ram_answer as_it_stands (editor_pages e) search ask
+abbrev pub ask_answer : PieceForm → Editing → Option Search → Ask → Answered (Option Search)
+ask_answer form e search ask = ram_answer form (editor_pages e) search ask

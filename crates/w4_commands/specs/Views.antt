@@ -1,9 +1,13 @@
 -- What the program holds, as the definitions see it.
-use Rattle.std.specs.Prelude.{map, string_bytes}
+use Rattle.std.specs.Prelude.{ℕ, List, map, string_bytes}
 use Rattle.w4_commands.specs.declared.forms.RunNames.{RunNames}
 use Rattle.w4_commands.specs.declared.forms.EditNames.{EditNames}
 use Rattle.w4_commands.specs.declared.forms.NetNames.{NetNames}
 use Rattle.w4_commands.specs.declared.forms.BatchNames.{BatchNames}
+use Rattle.w4_commands.specs.declared.forms.ServeNames.{ServeNames}
+use Rattle.w4_commands.specs.declared.forms.CompareNames.{CompareNames}
+use Rattle.w4_commands.specs.declared.forms.Command.{Command}
+use Rattle.w4_commands.specs.declared.forms.Command.TheVariants as command
 use Rattle.w4_commands.specs.declared.forms.Form.{Form as Named}
 use Rattle.w4_commands.specs.declared.forms.Form.TheVariants as named
 use Rattle.w4_cart.specs.declared.acceptance.CartFile.{CartFile}
@@ -12,7 +16,9 @@ use Rattle.w4_commands.specs.declared.load.Loaded.{Loaded}
 use Rattle.w4_commands.specs.declared.load_tools.NetLoaded.{NetLoaded}
 use Rattle.w4_commands.specs.declared.load_tools.RamLoaded.{RamLoaded}
 use Rattle.w4_commands.specs.declared.load_tools.BatchLoaded.{BatchLoaded}
-use Rattle.w4_defs.specs.Commands.{RunWords, EditWords, NetWords, BatchWords, Form, Check, Blank, Frames, Tones, Trace, Disk, Edit, Make, Net, Ram, Wave, Batch}
+use Rattle.w4_defs.specs.Commands.{RunWords, EditWords, NetWords, BatchWords, ServeWords, CompareWords, Form, Check, Blank, Frames, Tones, Trace, Disk, Edit, Make, Net, Ram, Wave, Batch, Serve, Units, Compare, Rebind, Inputs, BlankDisk}
+use Rattle.w4_defs.specs.Live.{Opened}
+use Rattle.w4_defs.specs.Module.{WasmModule}
 use Rattle.w4_defs.specs.Output.{CartFile as GivenCart, Played as Given, Loaded as GivenOrders}
 use Rattle.w4_defs.specs.ToolOutputs.{NetLoaded as GivenLog, RamLoaded as GivenQuery, BatchLoaded as GivenList}
 
@@ -29,25 +35,50 @@ abbrev pub batch_view : BatchNames → BatchWords
 batch_view n =
     record { cart = n.cart.now; font = n.font.now; list = n.list.now; workers = n.workers.count }
 
+abbrev pub serve_view : ServeNames → ServeWords
+serve_view n = record { run = run_view n.run; out = n.out.now }
+
+abbrev pub compare_view : CompareNames → CompareWords
+compare_view n = record {
+  cart = n.cart.now;
+  recording = n.recording.now;
+  other_cart = n.other_cart.now;
+  other_recording = n.other_recording.now;
+  font = n.font.now;
+}
+
+abbrev pub command_view : Command → Form
+command_view (command.Check cart) = Check cart.now
+command_view (command.Blank cart budget) = Blank cart.now budget.units
+command_view (command.BlankDisk cart budget disk) = BlankDisk cart.now budget.units disk.now
+command_view (command.Rebind cart recording) = Rebind cart.now recording.now
+command_view (command.Frames names places) = Frames (run_view names) places.from places.to
+command_view (command.Tones names) = Tones (run_view names)
+command_view (command.Trace names) = Trace (run_view names)
+command_view (command.Disk names place) = Disk (run_view names) place
+command_view (command.Units names) = Units (run_view names)
+command_view (command.Wave names) = Wave (run_view names)
+command_view (command.Ram names query) = Ram (run_view names) query.now
+command_view (command.Edit names) = Edit (edit_view names)
+command_view (command.Serve names) = Serve (serve_view names)
+command_view (command.Compare names) = Compare (compare_view names)
+command_view (command.Net names) = Net (net_view names)
+command_view (command.Batch names) = Batch (batch_view names)
+
 abbrev pub form_view : Named → Form
-form_view (named.Check cart) = Check cart.now
-form_view (named.Blank cart budget) = Blank cart.now budget.units
-form_view (named.Frames names places) = Frames (run_view names) places.from places.to
-form_view (named.Tones names) = Tones (run_view names)
-form_view (named.Trace names) = Trace (run_view names)
-form_view (named.Disk names place) = Disk (run_view names) place
-form_view (named.Edit names) = Edit (edit_view names)
 form_view (named.Make number) = Make number
-form_view (named.Net names) = Net (net_view names)
-form_view (named.Ram names query) = Ram (run_view names) query.now
-form_view (named.Wave names) = Wave (run_view names)
-form_view (named.Batch names) = Batch (batch_view names)
+form_view (named.Inputs recording) = Inputs recording.now
+form_view (named.OnCart given) = command_view given
 
 abbrev pub cart_view : CartFile → GivenCart
 cart_view c = record { code = c.cart; digest = c.digest }
 
 abbrev pub played_view : Played → Given
 played_view p = record { recording = p.recording; font = p.font }
+
+-- what a session is opened on
+abbrev pub opened_view : WasmModule → Played → List ℕ → Opened
+opened_view cart p out = record { cart = cart; run = played_view p; out = out }
 
 abbrev pub loaded_view : Loaded → GivenOrders
 loaded_view l = record { run = played_view l.run; orders = l.orders.items }

@@ -5,9 +5,8 @@ ghost use Rattle.std.specs.Option.{ForSome};
 ghost use Rattle.w4_defs.specs.Meaning.{RunsHaveMeaning};
 ghost use Rattle.w4_defs.specs.declared.batch.BatchRow.TheVariants.{Bad, Ran, WrongCart};
 ghost use Rattle.w4_defs.specs.World.{LeavesWriting};
-ghost use Rattle.w4_defs.specs.Causes.{Ends, LeavesErr};
-ghost use Rattle.w4_commands.specs.Causes.{MakesOf, Written, WritesOut};
-ghost use Rattle.w4_defs.specs.Endings.{manner_of};
+ghost use Rattle.w4_defs.specs.Causes.{LeavesErr};
+ghost use Rattle.w4_commands.specs.Causes.{EndsDone, MakesOf, Written};
 ghost use Rattle.w4_defs.specs.BatchRows.{row_text, rows_text};
 ghost use Rattle.w4_defs.specs.ToolOutputs.{batch_output, batch_text};
 ghost use Rattle.w4_commands.specs.Views.{batch_loaded_view, batch_view, cart_view};
@@ -23,7 +22,7 @@ use std::alloc::Global;
 use std::thread::Threads;
 use w4_cart::CartFile;
 use w4_defs::batch::BatchRow;
-use w4_defs::{Halt, OutOfMemory, Status};
+use w4_defs::{Halt, OutOfMemory, Refusal};
 use w4_house::House;
 use w4_segments::{Gate, batch};
 
@@ -45,17 +44,14 @@ pub fn run_list<R: Threads + Sync, H: House, G: Gate + Sync>(
     file: &CartFile,
     names: BatchNames<'_>,
     gate: &G,
-) -> Status
+) -> Result<(), Refusal>
     requires meaning { RunsHaveMeaning file.now.cart }
-    ensures ends { Ends (H.world house.old) (H.world house.new) (manner_of result)
+    ensures ends { EndsDone (H.world house.old) (H.world house.new) result
         (MakesOf (λ files. batch_output (batch_view names.entry) (cart_view file.now) files)) }
-    ensures formed { result ≡ Status.Usage → ⊥ }
     ensures err { LeavesErr (H.world house.old) (H.world house.new) }
 {
-    match load_batch(alloc, house, names) {
-        Ok(loaded) => write_batch(rt, alloc, house, file, &loaded, names.workers, gate),
-        Err(status) => status,
-    }
+    let loaded = load_batch(alloc, house, names)?;
+    write_batch(rt, alloc, house, file, &loaded, names.workers, gate)
 }
 
 /// Runs the recordings, and writes the line of each.
@@ -67,28 +63,7 @@ fn write_batch<R: Threads + Sync, H: House, G: Gate + Sync>(
     loaded: &BatchLoaded,
     workers: Workers,
     gate: &G,
-) -> Status
-    requires { length loaded.now.recordings.items ≡ length loaded.now.names.items }
-    ensures writes_out { ForSome (batch_text (cart_view file.now) (batch_loaded_view loaded.now))
-        (λ text. WritesOut (H.world house.old) (H.world house.new) (manner_of result) text) }
-    ensures rest { LeavesWriting (H.world house.old) (H.world house.new) }
-{
-    match try_write_batch(rt, alloc, house, file, loaded, workers, gate) {
-        Ok(()) => Status::Done,
-        Err(status) => status,
-    }
-}
-
-/// Runs the recordings, and writes the line of each. Errors: the status that ends the run.
-fn try_write_batch<R: Threads + Sync, H: House, G: Gate + Sync>(
-    rt: &R,
-    alloc: Global,
-    house: &mut H,
-    file: &CartFile,
-    loaded: &BatchLoaded,
-    workers: Workers,
-    gate: &G,
-) -> Result<(), Status>
+) -> Result<(), Refusal>
     requires { length loaded.now.recordings.items ≡ length loaded.now.names.items }
     ensures out { ForSome (batch_text (cart_view file.now) (batch_loaded_view loaded.now))
         (λ text. Written (H.world house.old) (H.world house.new) result text) }
@@ -116,7 +91,7 @@ fn write_rows<H: House>(
     house: &mut H,
     names: &[String],
     rows: &[BatchRow],
-) -> Result<(), Status>
+) -> Result<(), Refusal>
     requires { length rows.now ≡ length names.now }
     ensures out { ForSome (rows_text (map string_bytes names.now) (map (λ row. Some row) rows.now))
         (λ text. Written (H.world house.old) (H.world house.new) result text) }

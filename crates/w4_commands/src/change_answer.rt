@@ -1,37 +1,39 @@
 //! Orders that change inputs, history or kept places.
 
+ghost use Rattle.std.specs.Prelude.{◌≡◌, OnErr};
 ghost use Rattle.w4_defs.specs.World.{LeavesWriting};
-ghost use Rattle.w4_defs.specs.PlaceTexts.{as_it_stands};
 ghost use Rattle.w4_defs.specs.ScriptAnswers.{answer_change};
 ghost use Rattle.w4_commands.specs.ScriptAnswers.{GivesAnswer, changed};
+ghost use Rattle.w4_editor.specs.Editing.{current_recording};
 ghost use Rattle.w4_editor.specs.PlaceSession.{IsChanged, place_session};
 
 use crate::refusal::refuse;
+use crate::shape::Shape;
 use std::alloc::Global;
 use std::sync::ledger::Ledger;
 use w4_defs::editing_laws::places_decide;
-use w4_defs::{EditRefusal, Order, Status, Steps};
+use w4_defs::{EditRefusal, Order, Refusal, Steps};
 use w4_editor::Editor;
 use w4_editor::keep_every::keep_every;
 use w4_house::House;
 
 /// The answer of an order that changes the session: nothing, or the line that refuses it.
-pub fn answer_change<L: Ledger, H: House>(
+pub fn answer_change<S: Shape, L: Ledger, H: House>(
     alloc: Global,
     house: &mut H,
     editor: &mut Editor,
     order: &Order,
     steps: &mut Steps<L>,
-) -> Result<(), Status>
+) -> Result<(), Refusal>
     ensures answered { GivesAnswer (H.world house.old) (H.world house.new) result
         editor.old editor.new
-        (answer_change as_it_stands (place_session editor.old)
+        (answer_change S.form (place_session editor.old)
         (changed order.now (place_session editor.old))) }
     ensures rest { LeavesWriting (H.world house.old) (H.world house.new) }
 {
     match change(alloc, editor, order, steps) {
         Ok(()) => Ok(()),
-        Err(refusal) => refuse(alloc, house, refusal),
+        Err(refusal) => refuse::<S, H>(alloc, house, refusal),
     }
 }
 
@@ -42,7 +44,10 @@ fn change<L: Ledger>(
     order: &Order,
     steps: &mut Steps<L>,
 ) -> Result<(), EditRefusal>
-    ensures { IsChanged result editor.old editor.new (changed order.now (place_session editor.old)) }
+    ensures changed { IsChanged result editor.old editor.new
+        (changed order.now (place_session editor.old)) }
+    ensures recording { OnErr result
+        (current_recording editor.new ≡ current_recording editor.old) }
 {
     places_decide();
     match *order {

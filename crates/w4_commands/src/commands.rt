@@ -1,38 +1,39 @@
 //! The commands, each over a cart that is judged first.
 
-ghost use Rattle.std.specs.Prelude.{◌≡◌, ◌+◌, ◌-◌, ◌≤◌, [], length, Some};
+ghost use Rattle.std.specs.Prelude.{◌≡◌, ◌+◌, ◌-◌, ◌≤◌, [], length, Ok, Some};
 ghost use Rattle.std.specs.Option.{ForSome};
-ghost use Rattle.w4_defs.specs.Meaning.{RunsHaveMeaning};
-ghost use Rattle.w4_defs.specs.Recording.{encoding};
-ghost use Rattle.w4_defs.specs.World.{LeavesWriting};
-ghost use Rattle.w4_defs.specs.Endings.{manner_of};
-ghost use Rattle.w4_defs.specs.Output.{blank_output, blank_recording, checked, disk_output, edit_output, images_output, texts_output, place_texts_from, written};
-ghost use Rattle.w4_defs.specs.Outputs.{OutputsForm, OverCart, output_of};
 ghost use Rattle.w4_defs.specs.Causes.{Ends, LeavesErr};
-ghost use Rattle.w4_commands.specs.Causes.{MakesOf, Written, WritesOut};
-ghost use Rattle.w4_commands.specs.Views.{cart_view, edit_view, form_view, played_view, run_view};
+ghost use Rattle.w4_defs.specs.Live.{Talk};
+ghost use Rattle.w4_defs.specs.Meaning.{RunsHaveMeaning};
+ghost use Rattle.w4_defs.specs.Output.{blank_output, checked, disk_output, edit_output, images_output, place_texts_from, texts_output, written};
+ghost use Rattle.w4_defs.specs.Outputs.{OutputsBy, OutputsOn, OverCart};
+ghost use Rattle.w4_defs.specs.World.{LeavesWriting};
+ghost use Rattle.w4_commands.specs.Causes.{EndsDone, MakesOf, Written, finished};
+ghost use Rattle.w4_commands.specs.Views.{cart_view, command_view, edit_view, form_view, played_view, run_view};
 
 use crate::batch::run_list;
-use crate::budget::Budget;
+use crate::compare::run_compare;
 use crate::edit::carry_out;
-use crate::forms::{EditNames, Form, RunNames};
+use crate::forms::{Command, EditNames, Form, RunNames, cart_name};
 use crate::load::{Played, frame_count, load_cart, load_edit, load_run, load_run_to};
 use crate::make::make_cart;
 use crate::net::run_net;
 use crate::place_text::write_places;
 use crate::places::Places;
 use crate::ram::run_ram;
+use crate::recordings::{run_blank, run_blank_disk, run_rebind, write_inputs};
 use crate::scene::Scene;
+use crate::serve::run_serve;
 use crate::stage::new_stage;
+use crate::units::run_units;
 use crate::wave::run_wave;
 use crate::writing::write_bytes;
 use std::alloc::Global;
 use std::thread::Threads;
 use w4_cart::CartFile;
 use w4_console::laws::accepted_runs_have_meaning;
-use w4_defs::{PlaceText, Status};
+use w4_defs::{Finish, PlaceText, Refusal};
 use w4_house::House;
-use w4_record::{Recording, write_recording};
 use w4_segments::Gate;
 use wasm_valid::Cart;
 
@@ -43,25 +44,24 @@ pub fn run_form<R: Threads + Sync, H: House, G: Gate + Sync>(
     house: &mut H,
     form: Form<'_>,
     gate: &G,
-) -> Status
-    ensures ends { Ends (H.world house.old) (H.world house.new) (manner_of result)
-        (λ files output. OutputsForm (Some (form_view form.entry)) files output) }
-    ensures formed { result ≡ Status.Usage → ⊥ }
+) -> Result<Finish, Refusal>
+    ensures ends { Ends (H.world house.old) (H.world house.new) result (OutputsBy (form_view form.entry)) }
     ensures err { LeavesErr (H.world house.old) (H.world house.new) }
 {
     match form {
-        Form::Check(cart) => over_cart(rt, alloc, house, cart, form, gate),
-        Form::Blank(cart, _) => over_cart(rt, alloc, house, cart, form, gate),
-        Form::Frames(names, _) => over_cart(rt, alloc, house, names.cart, form, gate),
-        Form::Tones(names) => over_cart(rt, alloc, house, names.cart, form, gate),
-        Form::Trace(names) => over_cart(rt, alloc, house, names.cart, form, gate),
-        Form::Disk(names, _) => over_cart(rt, alloc, house, names.cart, form, gate),
-        Form::Edit(names) => over_cart(rt, alloc, house, names.run.cart, form, gate),
-        Form::Make(number) => make_cart(alloc, house, number),
-        Form::Net(names) => over_cart(rt, alloc, house, names.cart, form, gate),
-        Form::Ram(names, _) => over_cart(rt, alloc, house, names.cart, form, gate),
-        Form::Wave(names) => over_cart(rt, alloc, house, names.cart, form, gate),
-        Form::Batch(names) => over_cart(rt, alloc, house, names.cart, form, gate),
+        Form::Make(number) => finish(make_cart(alloc, house, number)),
+        Form::Inputs(name) => finish(write_inputs(alloc, house, name)),
+        Form::OnCart(command) => over_cart(rt, alloc, house, command, gate),
+    }
+}
+
+/// How a command ended that finds no difference.
+fn finish(end: Result<(), Refusal>) -> Result<Finish, Refusal>
+    ensures { result ≡ finished end }
+{
+    match end {
+        Ok(()) => Ok(Finish::Done),
+        Err(refusal) => Err(refusal),
     }
 }
 
@@ -70,93 +70,60 @@ fn over_cart<R: Threads + Sync, H: House, G: Gate + Sync>(
     rt: &R,
     alloc: Global,
     house: &mut H,
-    name: &str,
-    form: Form<'_>,
+    command: Command<'_>,
     gate: &G,
-) -> Status
-    ensures ends { Ends (H.world house.old) (H.world house.new) (manner_of result)
-        (λ files output. OverCart name.now (output_of (form_view form.entry)) files output) }
-    ensures formed { result ≡ Status.Usage → ⊥ }
+) -> Result<Finish, Refusal>
+    ensures ends { Ends (H.world house.old) (H.world house.new) result (OutputsBy (command_view command.entry)) }
     ensures err { LeavesErr (H.world house.old) (H.world house.new) }
 {
     accepted_runs_have_meaning();
-    match load_cart(alloc, house, name) {
-        Ok(file) => run_on_cart(rt, alloc, house, file, form, gate),
-        Err(status) => status,
-    }
+    let name = cart_name(&command);
+    let file = load_cart(alloc, house, name)?;
+    run_on_cart(rt, alloc, house, file, command, gate)
 }
 
-/// What a form makes of a cart, whose runs have a meaning.
+/// What a command makes of a cart, whose runs have a meaning.
 fn run_on_cart<R: Threads + Sync, H: House, G: Gate + Sync>(
     rt: &R,
     alloc: Global,
     house: &mut H,
     file: CartFile,
-    form: Form<'_>,
+    command: Command<'_>,
     gate: &G,
-) -> Status
+) -> Result<Finish, Refusal>
     requires meaning { RunsHaveMeaning file.cart }
-    ensures ends { Ends (H.world house.old) (H.world house.new) (manner_of result)
-        (MakesOf (λ files. output_of (form_view form.entry) (cart_view file) files)) }
-    ensures formed { result ≡ Status.Usage → ⊥ }
+    ensures ends { Ends (H.world house.old) (H.world house.new) result (λ files output. (talk : Talk)
+        × OutputsOn (command_view command.entry) talk (cart_view file) files output) }
     ensures err { LeavesErr (H.world house.old) (H.world house.new) }
 {
-    match form {
-        Form::Check(_) => run_check(alloc, house),
-        Form::Blank(_, budget) => run_blank(alloc, house, &file, budget),
-        Form::Frames(names, places) => run_frames(alloc, house, &file, names, places),
-        Form::Tones(names) => run_texts(alloc, house, &file, names, PlaceText::Schedule),
-        Form::Trace(names) => run_texts(alloc, house, &file, names, PlaceText::Traces),
-        Form::Disk(names, place) => run_disk(alloc, house, &file, names, place),
-        Form::Edit(names) => run_edit(rt, alloc, house, file, names, gate),
-        Form::Make(number) => make_cart(alloc, house, number),
-        Form::Net(names) => run_net(alloc, house, file, names),
-        Form::Ram(names, query) => run_ram(alloc, house, file, names, query),
-        Form::Wave(names) => run_wave(alloc, house, &file, names),
-        Form::Batch(names) => run_list(rt, alloc, house, &file, names, gate),
+    match command {
+        Command::Check(_) => finish(run_check(alloc, house)),
+        Command::Blank(_, budget) => finish(run_blank(alloc, house, &file, budget)),
+        Command::BlankDisk(_, budget, disk) => finish(run_blank_disk(
+            alloc, house, &file, budget, disk,
+        )),
+        Command::Rebind(_, recording) => finish(run_rebind(alloc, house, &file, recording)),
+        Command::Frames(names, places) => finish(run_frames(alloc, house, &file, names, places)),
+        Command::Tones(names) => finish(run_texts(alloc, house, &file, names, PlaceText::Schedule)),
+        Command::Trace(names) => finish(run_texts(alloc, house, &file, names, PlaceText::Traces)),
+        Command::Disk(names, place) => finish(run_disk(alloc, house, &file, names, place)),
+        Command::Units(names) => finish(run_units(alloc, house, &file, names)),
+        Command::Wave(names) => finish(run_wave(alloc, house, &file, names)),
+        Command::Ram(names, query) => finish(run_ram(alloc, house, file, names, query)),
+        Command::Edit(names) => finish(run_edit(rt, alloc, house, file, names, gate)),
+        Command::Serve(names) => finish(run_serve(rt, alloc, house, file, names, gate)),
+        Command::Compare(names) => run_compare(alloc, house, &file, names),
+        Command::Net(names) => finish(run_net(alloc, house, file, names)),
+        Command::Batch(names) => finish(run_list(rt, alloc, house, &file, names, gate)),
     }
 }
 
 /// `check CART`, of a cart that is accepted.
-fn run_check<H: House>(alloc: Global, house: &mut H) -> Status
-    ensures ends { Ends (H.world house.old) (H.world house.new) (manner_of result)
-        (MakesOf (λ files. written checked files)) }
-    ensures formed { result ≡ Status.Usage → ⊥ }
+fn run_check<H: House>(alloc: Global, house: &mut H) -> Result<(), Refusal>
+    ensures ends { EndsDone (H.world house.old) (H.world house.new) result (MakesOf (λ files. written checked)) }
     ensures err { LeavesErr (H.world house.old) (H.world house.new) }
 {
-    match write_bytes(alloc, house, b"ok\n") {
-        Ok(()) => Status::Done,
-        Err(status) => status,
-    }
-}
-
-/// `blank CART BUDGET`: the recording of this cart with this budget, no disk and no frames.
-fn run_blank<H: House>(alloc: Global, house: &mut H, file: &CartFile, budget: Budget) -> Status
-    ensures ends { Ends (H.world house.old) (H.world house.new) (manner_of result)
-        (MakesOf (λ files. blank_output budget.units (cart_view file.now) files)) }
-    ensures formed { result ≡ Status.Usage → ⊥ }
-    ensures err { LeavesErr (H.world house.old) (H.world house.new) }
-{
-    match write_blank(alloc, house, &file.digest, budget) {
-        Ok(()) => Status::Done,
-        Err(status) => status,
-    }
-}
-
-/// Writes the recording without frames. Errors: the status that ends the run.
-fn write_blank<H: House>(
-    alloc: Global,
-    house: &mut H,
-    digest: &[u8; 32],
-    budget: Budget,
-) -> Result<(), Status>
-    ensures out { Written (H.world house.old) (H.world house.new) result
-        (encoding 2 (blank_recording digest.now budget.units [])) }
-    ensures rest { LeavesWriting (H.world house.old) (H.world house.new) }
-{
-    let recording = Recording::new(*digest, budget.units, Vec::new(alloc), Vec::new(alloc));
-    let bytes = write_recording(alloc, &recording)?;
-    write_bytes(alloc, house, bytes.as_slice())
+    write_bytes(alloc, house, b"ok\n")
 }
 
 /// `frames CART REC FONT FROM TO`.
@@ -167,19 +134,16 @@ fn run_frames<H: House>(
     file: &CartFile,
     names: RunNames<'_>,
     places: Places,
-) -> Status
+) -> Result<(), Refusal>
     requires meaning { RunsHaveMeaning file.now.cart }
-    ensures ends { Ends (H.world house.old) (H.world house.new) (manner_of result)
+    ensures ends { EndsDone (H.world house.old) (H.world house.new) result
         (MakesOf (λ files.
         images_output (run_view names.entry) places.from places.to (cart_view file.now) files)) }
-    ensures formed { result ≡ Status.Usage → ⊥ }
     ensures err { LeavesErr (H.world house.old) (H.world house.new) }
 {
     let (from, to) = (places.from as usize, places.to as usize);
-    match load_run_to(alloc, house, &file.digest, names, places.to) {
-        Ok(run) => write_run(alloc, house, &file.cart, &run, PlaceText::Image, from, to),
-        Err(status) => status,
-    }
+    let run = load_run_to(alloc, house, &file.digest, names, places.to)?;
+    write_run(alloc, house, &file.cart, &run, PlaceText::Image, from, to)
 }
 
 /// `tones CART REC FONT` or `trace CART REC FONT`.
@@ -190,20 +154,15 @@ fn run_texts<H: House>(
     file: &CartFile,
     names: RunNames<'_>,
     wanted: PlaceText,
-) -> Status
+) -> Result<(), Refusal>
     requires meaning { RunsHaveMeaning file.now.cart }
-    ensures ends { Ends (H.world house.old) (H.world house.new) (manner_of result)
+    ensures ends { EndsDone (H.world house.old) (H.world house.new) result
         (MakesOf (λ files. texts_output wanted (run_view names.entry) (cart_view file.now) files)) }
-    ensures formed { result ≡ Status.Usage → ⊥ }
     ensures err { LeavesErr (H.world house.old) (H.world house.new) }
 {
-    match load_run(alloc, house, &file.digest, names) {
-        Ok(run) => {
-            let n = frame_count(&run);
-            write_run(alloc, house, &file.cart, &run, wanted, 0, n)
-        }
-        Err(status) => status,
-    }
+    let run = load_run(alloc, house, &file.digest, names)?;
+    let n = frame_count(&run);
+    write_run(alloc, house, &file.cart, &run, wanted, 0, n)
 }
 
 /// `disk CART REC FONT PLACE`.
@@ -214,18 +173,15 @@ fn run_disk<H: House>(
     file: &CartFile,
     names: RunNames<'_>,
     place: u32,
-) -> Status
+) -> Result<(), Refusal>
     requires meaning { RunsHaveMeaning file.now.cart }
-    ensures ends { Ends (H.world house.old) (H.world house.new) (manner_of result)
+    ensures ends { EndsDone (H.world house.old) (H.world house.new) result
         (MakesOf (λ files. disk_output (run_view names.entry) place (cart_view file.now) files)) }
-    ensures formed { result ≡ Status.Usage → ⊥ }
     ensures err { LeavesErr (H.world house.old) (H.world house.new) }
 {
     let at = place as usize;
-    match load_run_to(alloc, house, &file.digest, names, place) {
-        Ok(run) => write_run(alloc, house, &file.cart, &run, PlaceText::DiskBytes, at, at),
-        Err(status) => status,
-    }
+    let run = load_run_to(alloc, house, &file.digest, names, place)?;
+    write_run(alloc, house, &file.cart, &run, PlaceText::DiskBytes, at, at)
 }
 
 /// `edit CART REC FONT SCRIPT OUT`.
@@ -237,17 +193,14 @@ fn run_edit<R: Threads + Sync, H: House, G: Gate + Sync>(
     file: CartFile,
     names: EditNames<'_>,
     gate: &G,
-) -> Status
+) -> Result<(), Refusal>
     requires meaning { RunsHaveMeaning file.cart }
-    ensures ends { Ends (H.world house.old) (H.world house.new) (manner_of result)
+    ensures ends { EndsDone (H.world house.old) (H.world house.new) result
         (MakesOf (λ files. edit_output (edit_view names.entry) (cart_view file) files)) }
-    ensures formed { result ≡ Status.Usage → ⊥ }
     ensures err { LeavesErr (H.world house.old) (H.world house.new) }
 {
-    match load_edit(alloc, house, &file.digest, names) {
-        Ok(loaded) => carry_out(rt, alloc, house, file.cart, loaded, names.out, gate),
-        Err(status) => status,
-    }
+    let loaded = load_edit(alloc, house, &file.digest, names)?;
+    carry_out(rt, alloc, house, file.cart, loaded, names.out, gate)
 }
 
 /// Writes the texts of the places `from` to `to` of a run, and no more.
@@ -259,29 +212,7 @@ fn write_run<H: House>(
     wanted: PlaceText,
     from: usize,
     to: usize,
-) -> Status
-    requires order { from ≤ to }
-    requires place { to ≤ length run.now.recording.frames }
-    ensures writes_out { ForSome (place_texts_from wanted cart.now (played_view run.now) from (to + 1 - from))
-        (λ text. WritesOut (H.world house.old) (H.world house.new) (manner_of result) text) }
-    ensures rest { LeavesWriting (H.world house.old) (H.world house.new) }
-{
-    match try_write_run(alloc, house, cart, run, wanted, from, to) {
-        Ok(()) => Status::Done,
-        Err(status) => status,
-    }
-}
-
-/// Writes the texts of the places. Errors: the status that ends the run.
-fn try_write_run<H: House>(
-    alloc: Global,
-    house: &mut H,
-    cart: &Cart,
-    run: &Played,
-    wanted: PlaceText,
-    from: usize,
-    to: usize,
-) -> Result<(), Status>
+) -> Result<(), Refusal>
     requires order { from ≤ to }
     requires place { to ≤ length run.now.recording.frames }
     ensures out { ForSome (place_texts_from wanted cart.now (played_view run.now) from (to + 1 - from))

@@ -1,18 +1,21 @@
 //! An editor, and what its answers are made in.
 
-ghost use Rattle.std.specs.Prelude.{◌≡◌, ◌+◌, ◌-◌, ◌≤◌, IfOk, IsTrue, OnOk, Some, length, option_map};
+ghost use Rattle.std.specs.Prelude.{◌≡◌, ◌+◌, ◌-◌, ◌<◌, ◌≤◌, IfOk, IsTrue, OnOk, Some, length, option_map};
 ghost use Rattle.w4_defs.specs.FrameTexts.{schedule_text, trace_text};
 ghost use Rattle.w4_defs.specs.KeptList.{state_at};
+ghost use Rattle.w4_defs.specs.PlaceTexts.{as_it_stands};
 ghost use Rattle.w4_defs.specs.Run.{run, run_state};
 ghost use Rattle.w4_defs.specs.State.{Moment, State};
 ghost use Rattle.w4_devices.specs.Records.{record_of};
-ghost use Rattle.w4_editor.specs.Editing.{editing_setup, new_editing};
+ghost use Rattle.w4_editor.specs.Editing.{current_recording, editing_setup, new_editing};
+ghost use Rattle.w4_console.specs.TakenUnits.{TellsUnits};
 ghost use Rattle.w4_commands.specs.ScriptAnswers.{OnlyShows, text_by};
 ghost use Rattle.w4_defs.specs.declared.place_text.PlaceText.TheVariants.{Image, Schedule, Traces};
 
 use std::alloc::Global;
 use std::sync::ledger::Ledger;
 use w4_blit::Font;
+use w4_console::FrameTaken;
 use w4_defs::{Halt, OutOfMemory, PlaceText, Steps};
 use w4_devices::{FrameRecord, schedule_text, trace_text};
 use w4_editor::Editor;
@@ -66,6 +69,7 @@ fn go_to<L: Ledger>(
 ) -> Result<(), OutOfMemory>
     requires place { place ≤ length editor.old.session.current.inputs }
     ensures shows { OnOk result (OnlyShows editor.old editor.new) }
+    ensures recording { current_recording editor.new ≡ current_recording editor.old }
     ensures at { OnOk result (editor.new.at ≡ Some place) }
 {
     match editor.show(alloc, place, steps) {
@@ -83,6 +87,7 @@ fn go_before<L: Ledger>(
 ) -> Result<(), OutOfMemory>
     requires place { place - 1 ≤ length editor.old.session.current.inputs }
     ensures shows { OnOk result (OnlyShows editor.old editor.new) }
+    ensures recording { current_recording editor.new ≡ current_recording editor.old }
     ensures at { OnOk result (editor.new.at ≡ Some (place - 1)) }
 {
     if is_next(editor, place) {
@@ -101,7 +106,8 @@ fn show_image<L: Ledger>(
 ) -> Result<(), OutOfMemory>
     requires place { place ≤ length editor.old.session.current.inputs }
     ensures shows { OnOk result (OnlyShows editor.old editor.new) }
-    ensures image { OnOk result (text_by editor.old Image place ≡ Some image.new) }
+    ensures recording { current_recording editor.new ≡ current_recording editor.old }
+    ensures image { OnOk result (text_by as_it_stands editor.old Image place ≡ Some image.new) }
 {
     match editor.show(alloc, place, steps) {
         Ok(state) => {
@@ -124,7 +130,8 @@ fn step_image<L: Ledger>(
     requires place { place ≤ length editor.old.session.current.inputs }
     requires at { editor.old.at ≡ Some (place - 1) }
     ensures shows { OnlyShows editor.old editor.new }
-    ensures image { text_by editor.old Image place ≡ Some image.new }
+    ensures recording { current_recording editor.new ≡ current_recording editor.old }
+    ensures image { text_by as_it_stands editor.old Image place ≡ Some image.new }
 {
     match editor.step(frame_record, steps) {
         Ok(state) => ppm_into(state, image),
@@ -143,6 +150,7 @@ fn step_record<L: Ledger>(
     requires place { place ≤ length editor.old.session.current.inputs }
     requires at { editor.old.at ≡ Some (place - 1) }
     ensures shows { OnlyShows editor.old editor.new }
+    ensures recording { current_recording editor.new ≡ current_recording editor.old }
     ensures frame_record { option_map (λ (moment : Moment). moment.frame_record)
         (run (editing_setup editor.old) editor.old.disk editor.old.session.current.inputs place)
         ≡ Some (record_of frame_record.new) }
@@ -162,7 +170,8 @@ pub fn make_image<L: Ledger>(
 ) -> Result<(), OutOfMemory>
     requires place { place ≤ length desk.old.editor.session.current.inputs }
     ensures shows { OnOk result (OnlyShows desk.old.editor desk.new.editor) }
-    ensures image { OnOk result (text_by desk.old.editor Image place ≡ Some desk.new.image.value) }
+    ensures recording { current_recording desk.new.editor ≡ current_recording desk.old.editor }
+    ensures image { OnOk result (text_by as_it_stands desk.old.editor Image place ≡ Some desk.new.image.value) }
 {
     let Desk {
         editor,
@@ -193,6 +202,7 @@ fn make_record<L: Ledger>(
     requires some { 1 ≤ place }
     requires place { place ≤ length desk.old.editor.session.current.inputs }
     ensures shows { OnOk result (OnlyShows desk.old.editor desk.new.editor) }
+    ensures recording { current_recording desk.new.editor ≡ current_recording desk.old.editor }
     ensures frame_record { OnOk result (option_map (λ (moment : Moment). moment.frame_record)
         (run (editing_setup desk.old.editor) desk.old.editor.disk
         desk.old.editor.session.current.inputs place)
@@ -201,6 +211,71 @@ fn make_record<L: Ledger>(
     go_before(alloc, &mut desk.editor, place, steps)?;
     step_record(&mut desk.editor, &mut desk.frame_record, place, steps);
     Ok(())
+}
+
+/// Runs the one frame from a place, which is shown, and tells what it took of the budget.
+fn step_taken<L: Ledger>(
+    editor: &mut Editor,
+    frame_record: &mut FrameRecord,
+    place: usize,
+    steps: &mut Steps<L>,
+) -> FrameTaken
+    requires place { place < length editor.old.session.current.inputs }
+    requires at { editor.old.at ≡ Some place }
+    ensures shows { OnlyShows editor.old editor.new }
+    ensures recording { current_recording editor.new ≡ current_recording editor.old }
+    ensures taken { TellsUnits (editing_setup editor.old) editor.old.disk
+        editor.old.session.current.inputs place result }
+{
+    match editor.step_units(frame_record, steps) {
+        Ok(taken) => taken,
+        Err(_) => unreachable!(),
+    }
+}
+
+/// Whether a place is shown.
+fn is_shown(editor: &Editor, place: usize) -> bool
+    ensures { IsTrue result → editor.now.at ≡ Some place }
+{
+    match editor.at() {
+        Some(shown) => shown == place,
+        None => false,
+    }
+}
+
+/// Shows a place, unless it is shown.
+fn go_unless_shown<L: Ledger>(
+    alloc: Global,
+    editor: &mut Editor,
+    place: usize,
+    steps: &mut Steps<L>,
+) -> Result<(), OutOfMemory>
+    requires place { place ≤ length editor.old.session.current.inputs }
+    ensures shows { OnOk result (OnlyShows editor.old editor.new) }
+    ensures recording { current_recording editor.new ≡ current_recording editor.old }
+    ensures at { OnOk result (editor.new.at ≡ Some place) }
+{
+    if is_shown(editor, place) {
+        return Ok(());
+    }
+    go_to(alloc, editor, place, steps)
+}
+
+/// What the frame from a place takes of the budget; the place after it is shown then.
+pub fn frame_taken<L: Ledger>(
+    alloc: Global,
+    desk: &mut Desk,
+    place: usize,
+    steps: &mut Steps<L>,
+) -> Result<FrameTaken, OutOfMemory>
+    requires place { place < length desk.old.editor.session.current.inputs }
+    ensures shows { OnOk result (OnlyShows desk.old.editor desk.new.editor) }
+    ensures recording { current_recording desk.new.editor ≡ current_recording desk.old.editor }
+    ensures taken { IfOk result (λ taken. TellsUnits (editing_setup desk.old.editor) desk.old.editor.disk
+        desk.old.editor.session.current.inputs place taken) }
+{
+    go_unless_shown(alloc, &mut desk.editor, place, steps)?;
+    Ok(step_taken(&mut desk.editor, &mut desk.frame_record, place, steps))
 }
 
 /// The schedule of the frame that leads to a place; at place 0 it is the reset's.
@@ -212,7 +287,8 @@ pub fn schedule<L: Ledger>(
 ) -> Result<Vec<u8>, OutOfMemory>
     requires place { place ≤ length desk.old.editor.session.current.inputs }
     ensures shows { OnOk result (OnlyShows desk.old.editor desk.new.editor) }
-    ensures text { IfOk result (λ text. text_by desk.old.editor Schedule place ≡ Some text.items) }
+    ensures recording { current_recording desk.new.editor ≡ current_recording desk.old.editor }
+    ensures text { IfOk result (λ text. text_by as_it_stands desk.old.editor Schedule place ≡ Some text.items) }
 {
     let mut text = Vec::new(alloc);
     if place == 0 {
@@ -233,7 +309,8 @@ pub fn traces<L: Ledger>(
 ) -> Result<Vec<u8>, OutOfMemory>
     requires place { place ≤ length desk.old.editor.session.current.inputs }
     ensures shows { OnOk result (OnlyShows desk.old.editor desk.new.editor) }
-    ensures text { IfOk result (λ text. text_by desk.old.editor Traces place ≡ Some text.items) }
+    ensures recording { current_recording desk.new.editor ≡ current_recording desk.old.editor }
+    ensures text { IfOk result (λ text. text_by as_it_stands desk.old.editor Traces place ≡ Some text.items) }
 {
     let mut text = Vec::new(alloc);
     if place == 0 {

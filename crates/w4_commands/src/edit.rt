@@ -4,34 +4,33 @@ ghost use Rattle.std.specs.Option.{ForSome};
 ghost use Rattle.w4_defs.specs.Recording.{encoding};
 ghost use Rattle.w4_defs.specs.World.{LeavesSaving};
 ghost use Rattle.w4_commands.specs.ScriptAnswers.{answers_by, recording_by};
-ghost use Rattle.w4_defs.specs.Endings.{manner_of};
 ghost use Rattle.w4_defs.specs.Output.{edit_answers, edited_recording};
 ghost use Rattle.w4_defs.specs.Causes.{LeavesErr};
-ghost use Rattle.w4_commands.specs.Causes.{Carried, Carries, Saved};
+ghost use Rattle.w4_commands.specs.Causes.{Carried, Replaces};
 ghost use Rattle.w4_commands.specs.Views.{loaded_view};
 
 use crate::desk::{Desk, new_desk};
 use crate::load::{Loaded, Played};
 use crate::script_answers::answer_script;
+use crate::writing::write_refusal;
 use std::alloc::Global;
 use std::marker::Brand;
 use std::sync::ledger::Blank;
 use std::thread::Threads;
-use w4_defs::{Order, Status};
-use w4_house::{House, WriteRefusal};
+use w4_defs::{Order, Refusal};
+use w4_house::House;
 use w4_record::write_recording;
 use w4_segments::Gate;
 use wasm_valid::Cart;
 
-/// Makes a file of just these bytes.
-fn save<H: House>(alloc: Global, house: &mut H, name: &str, bytes: &[u8]) -> Result<(), Status>
-    ensures saved { Saved (H.world house.old) (H.world house.new) result name.now bytes.now }
+/// Makes a file of just these bytes: it is replaced whole.
+pub fn save<H: House>(alloc: Global, house: &mut H, name: &str, bytes: &[u8]) -> Result<(), Refusal>
+    ensures saved { Replaces (H.world house.old) (H.world house.new) result name.now bytes.now }
     ensures rest { LeavesSaving (H.world house.old) (H.world house.new) }
 {
     match house.write_file(alloc, name, bytes) {
         Ok(()) => Ok(()),
-        Err(WriteRefusal::Failed) => Err(Status::WriteFault),
-        Err(WriteRefusal::OutOfMemory) => Err(Status::OutOfMemory),
+        Err(refusal) => Err(write_refusal(refusal)),
     }
 }
 
@@ -44,7 +43,7 @@ fn answer_and_save<R: Threads + Sync, H: House, G: Gate + Sync>(
     orders: &[Order],
     name: &str,
     gate: &G,
-) -> Result<(), Status>
+) -> Result<(), Refusal>
     ensures carried { ForSome (answers_by desk.old.editor orders.now).out
         (λ out. Carried (H.world house.old) (H.world house.new) result out name.now
         (encoding 2 (recording_by desk.old.editor orders.now))) }
@@ -57,7 +56,7 @@ fn answer_and_save<R: Threads + Sync, H: House, G: Gate + Sync>(
 }
 
 /// Opens the recording, answers all orders, and saves the recording left.
-fn carry_out_orders<R: Threads + Sync, H: House, G: Gate + Sync>(
+pub fn carry_out<R: Threads + Sync, H: House, G: Gate + Sync>(
     rt: &R,
     alloc: Global,
     house: &mut H,
@@ -65,7 +64,7 @@ fn carry_out_orders<R: Threads + Sync, H: House, G: Gate + Sync>(
     loaded: Loaded,
     name: &str,
     gate: &G,
-) -> Result<(), Status>
+) -> Result<(), Refusal>
     ensures carried { ForSome (edit_answers cart (loaded_view loaded)).out
         (λ out. Carried (H.world house.old) (H.world house.new) result out name.now
         (encoding 2 (edited_recording cart (loaded_view loaded)))) }
@@ -75,25 +74,4 @@ fn carry_out_orders<R: Threads + Sync, H: House, G: Gate + Sync>(
     let Played { recording, font } = run;
     let mut desk = new_desk(alloc, cart, font, recording)?;
     answer_and_save(rt, alloc, house, &mut desk, orders.as_slice(), name, gate)
-}
-
-/// Carries out an edit whose files are right.
-pub fn carry_out<R: Threads + Sync, H: House, G: Gate + Sync>(
-    rt: &R,
-    alloc: Global,
-    house: &mut H,
-    cart: Cart,
-    loaded: Loaded,
-    name: &str,
-    gate: &G,
-) -> Status
-    ensures ends { ForSome (edit_answers cart (loaded_view loaded)).out
-        (λ out. Carries (H.world house.old) (H.world house.new) (manner_of result) out name.now
-        (encoding 2 (edited_recording cart (loaded_view loaded)))) }
-    ensures err { LeavesErr (H.world house.old) (H.world house.new) }
-{
-    match carry_out_orders(rt, alloc, house, cart, loaded, name, gate) {
-        Ok(()) => Status::Done,
-        Err(status) => status,
-    }
 }

@@ -1,23 +1,22 @@
 //! Orders that are carried out by many workers: `film` and `settle`.
 
-ghost use Rattle.std.specs.Prelude.{◌≡◌, ◌≤◌, OnOk, flat_map, max, min};
+ghost use Rattle.std.specs.Prelude.{◌≡◌, ◌≤◌, OnOk, flat_map, max, min, option_map};
 ghost use Rattle.std.specs.Option.{ForSome};
 ghost use Rattle.w4_defs.specs.Image.{image};
-ghost use Rattle.w4_editor.specs.Editing.{editing_setup};
+ghost use Rattle.w4_editor.specs.Editing.{current_recording, editing_setup};
 ghost use Rattle.w4_defs.specs.World.{LeavesWriting};
 ghost use Rattle.w4_defs.specs.ScriptAnswers.{film_text};
 ghost use Rattle.w4_defs.specs.Answers.{answer_text};
-ghost use Rattle.w4_defs.specs.PlaceTexts.{as_it_stands};
 ghost use Rattle.w4_commands.specs.Causes.{Written};
-ghost use Rattle.w4_commands.specs.ScriptAnswers.{GivesAnswer, OnlyShows};
+ghost use Rattle.w4_commands.specs.ScriptAnswers.{GivesAnswer, OnlyShows, images_in};
 ghost use Rattle.w4_editor.specs.PlaceSession.{place_session};
 ghost use Rattle.w4_segments.specs.FilmPieces.{IsFilming, images_left};
 
 use crate::refusal::refuse;
-use crate::writing::write_bytes;
+use crate::shape::Shape;
 use std::alloc::Global;
 use std::thread::Threads;
-use w4_defs::{EditRefusal, OutOfMemory, Status};
+use w4_defs::{EditRefusal, OutOfMemory, Refusal};
 use w4_editor::Editor;
 use w4_editor::places::last_place;
 use w4_house::House;
@@ -34,7 +33,7 @@ fn worker_count(workers: u32) -> usize
 }
 
 /// The answer of `film`: at most 600 images.
-pub fn answer_film<R: Threads + Sync, H: House, G: Gate + Sync>(
+pub fn answer_film<S: Shape, R: Threads + Sync, H: House, G: Gate + Sync>(
     rt: &R,
     alloc: Global,
     house: &mut H,
@@ -43,65 +42,66 @@ pub fn answer_film<R: Threads + Sync, H: House, G: Gate + Sync>(
     b: u32,
     workers: u32,
     gate: &G,
-) -> Result<(), Status>
+) -> Result<(), Refusal>
     ensures answered { GivesAnswer (H.world house.old) (H.world house.new) result
         editor.old editor.new
         (answer_text (place_session editor.old)
-        (film_text as_it_stands (editing_setup editor.old) editor.old.disk
+        (film_text S.form (editing_setup editor.old) editor.old.disk
         (place_session editor.old) a b)) }
     ensures rest { LeavesWriting (H.world house.old) (H.world house.new) }
 {
     let (from, to) = (a as usize, b as usize);
     if to > last_place(editor) {
-        return refuse(alloc, house, EditRefusal::NoFrame);
+        return refuse::<S, H>(alloc, house, EditRefusal::NoFrame);
     }
     // Scripts have no such order.
     if from > to {
         return Ok(());
     }
     match FilmPieces::begin(rt, alloc, editor, from, to, worker_count(workers)) {
-        Ok(mut film) => write_film(rt, alloc, house, &mut film, editor, gate),
-        Err(FilmRefusal::NoFrame) => refuse(alloc, house, EditRefusal::NoFrame),
-        Err(FilmRefusal::FilmTooLong) => write_bytes(alloc, house, b"refused too long\n"),
-        Err(FilmRefusal::OutOfMemory) => Err(Status::OutOfMemory),
+        Ok(mut film) => write_film::<S, R, H, G>(rt, alloc, house, &mut film, editor, gate),
+        Err(FilmRefusal::NoFrame) => refuse::<S, H>(alloc, house, EditRefusal::NoFrame),
+        Err(FilmRefusal::FilmTooLong) => S::write(alloc, house, b"refused too long\n"),
+        Err(FilmRefusal::OutOfMemory) => Err(Refusal::OutOfMemory),
     }
 }
 
 /// Writes a film a piece at a time, so that no more of it is held than its workers make at once, and of
 /// images one.
-fn write_film<R: Threads + Sync, H: House, G: Gate + Sync>(
+fn write_film<S: Shape, R: Threads + Sync, H: House, G: Gate + Sync>(
     rt: &R,
     alloc: Global,
     house: &mut H,
     film: &mut FilmPieces,
     editor: &Editor,
     gate: &G,
-) -> Result<(), Status>
+) -> Result<(), Refusal>
     requires { IsFilming film.old editor.now }
-    ensures out { ForSome (images_left film.old editor.now)
+    ensures out { ForSome (option_map (images_in S.form) (images_left film.old editor.now))
         (λ images. Written (H.world house.old) (H.world house.new) result images) }
     ensures rest { LeavesWriting (H.world house.old) (H.world house.new) }
 {
     let mut image_bytes = Box::new(alloc, [0; IMAGE_LEN])?;
     while film.next_piece(rt, editor, gate)? {
-        write_images(alloc, house, film.screens(), &mut image_bytes)?;
+        write_images::<S, H>(alloc, house, film.screens(), &mut image_bytes)?;
     }
     Ok(())
 }
 
 /// Writes the images of screens, one after another, each made in the same room.
-fn write_images<H: House>(
+fn write_images<S: Shape, H: House>(
     alloc: Global,
     house: &mut H,
     screens: &[Screen],
     image_bytes: &mut [u8; IMAGE_LEN],
-) -> Result<(), Status>
-    ensures out { Written (H.world house.old) (H.world house.new) result (flat_map image screens.now) }
+) -> Result<(), Refusal>
+    ensures out { Written (H.world house.old) (H.world house.new) result
+        (flat_map (λ screen. S.form (image screen)) screens.now) }
     ensures rest { LeavesWriting (H.world house.old) (H.world house.new) }
 {
     for screen in screens {
         screen_into(screen, image_bytes);
-        write_bytes(alloc, house, image_bytes)?;
+        S::write(alloc, house, image_bytes)?;
     }
     Ok(())
 }
@@ -114,7 +114,8 @@ pub fn settle_by_workers<R: Threads + Sync, G: Gate + Sync>(
     workers: u32,
     gate: &G,
 ) -> Result<(), OutOfMemory>
-    ensures { OnOk result (OnlyShows editor.old editor.new) }
+    ensures shows { OnOk result (OnlyShows editor.old editor.new) }
+    ensures recording { current_recording editor.new ≡ current_recording editor.old }
 {
     settle_wide(rt, alloc, editor, worker_count(workers), gate)
 }

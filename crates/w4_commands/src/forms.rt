@@ -1,23 +1,29 @@
 //! The words that the program is called with.
 
-ghost use Rattle.std.specs.Prelude.{◌≡◌, map, option_map, string_bytes};
+ghost use Rattle.std.specs.Prelude.{◌≡◌, Some, map, option_map, string_bytes};
 ghost use Rattle.w4_defs.specs.Commands.{
   batch_form,
   blank_form,
   check_form,
+  compare_form,
   disk_form,
   edit_form,
   form_of,
   frames_form,
+  inputs_form,
   make_form,
   net_form,
   ram_form,
+  rebind_form,
   run_words,
+  serve_form,
   tones_form,
   trace_form,
+  units_form,
   wave_form,
 };
-ghost use Rattle.w4_commands.specs.Views.{form_view, run_view};
+ghost use Rattle.w4_defs.specs.Outputs.{cart_word};
+ghost use Rattle.w4_commands.specs.Views.{command_view, form_view, run_view};
 
 use crate::budget::Budget;
 use crate::places::Places;
@@ -58,13 +64,34 @@ pub struct BatchNames<'a> {
     pub workers: Workers,
 }
 
-/// What the words ask for.
+/// The files of a live session: three to read and one to write.
 #[derive(Clone, Copy)]
-pub enum Form<'a> {
+pub struct ServeNames<'a> {
+    pub run: RunNames<'a>,
+    pub out: &'a str,
+}
+
+/// The files of two runs, each with a cart of its own, and their font.
+#[derive(Clone, Copy)]
+pub struct CompareNames<'a> {
+    pub cart: &'a str,
+    pub recording: &'a str,
+    pub other_cart: &'a str,
+    pub other_recording: &'a str,
+    pub font: &'a str,
+}
+
+/// What is done with a cart.
+#[derive(Clone, Copy)]
+pub enum Command<'a> {
     /// `check CART`
     Check(&'a str),
     /// `blank CART BUDGET`
     Blank(&'a str, Budget),
+    /// `blank CART BUDGET DISK`
+    BlankDisk(&'a str, Budget, &'a str),
+    /// `rebind CART REC`
+    Rebind(&'a str, &'a str),
     /// `frames CART REC FONT FROM TO`
     Frames(RunNames<'a>, Places),
     /// `tones CART REC FONT`
@@ -73,18 +100,57 @@ pub enum Form<'a> {
     Trace(RunNames<'a>),
     /// `disk CART REC FONT PLACE`
     Disk(RunNames<'a>, u32),
-    /// `edit CART REC FONT SCRIPT OUT`
-    Edit(EditNames<'a>),
-    /// `make NUMBER`
-    Make(u32),
-    /// `net CART FONT BUDGET LOG`
-    Net(NetNames<'a>),
-    /// `ram CART REC FONT QUERY`
-    Ram(RunNames<'a>, &'a str),
+    /// `units CART REC FONT`
+    Units(RunNames<'a>),
     /// `wave CART REC FONT`
     Wave(RunNames<'a>),
+    /// `ram CART REC FONT QUERY`
+    Ram(RunNames<'a>, &'a str),
+    /// `edit CART REC FONT SCRIPT OUT`
+    Edit(EditNames<'a>),
+    /// `serve CART REC FONT OUT`
+    Serve(ServeNames<'a>),
+    /// `compare CART REC CART2 REC2 FONT`
+    Compare(CompareNames<'a>),
+    /// `net CART FONT BUDGET LOG`
+    Net(NetNames<'a>),
     /// `batch CART FONT LIST WORKERS`
     Batch(BatchNames<'a>),
+}
+
+/// What the words ask for.
+#[derive(Clone, Copy)]
+pub enum Form<'a> {
+    /// `make NUMBER`
+    Make(u32),
+    /// `inputs REC`
+    Inputs(&'a str),
+    /// A command over a cart, which is judged first.
+    OnCart(Command<'a>),
+}
+
+/// The name of the cart that a command is over.
+pub fn cart_name<'a>(command: &Command<'a>) -> &'a str
+    ensures { cart_word (command_view command.now) ≡ Some result.now }
+{
+    match *command {
+        Command::Check(cart) => cart,
+        Command::Blank(cart, _) => cart,
+        Command::BlankDisk(cart, _, _) => cart,
+        Command::Rebind(cart, _) => cart,
+        Command::Frames(names, _) => names.cart,
+        Command::Tones(names) => names.cart,
+        Command::Trace(names) => names.cart,
+        Command::Disk(names, _) => names.cart,
+        Command::Units(names) => names.cart,
+        Command::Wave(names) => names.cart,
+        Command::Ram(names, _) => names.cart,
+        Command::Edit(names) => names.run.cart,
+        Command::Serve(names) => names.run.cart,
+        Command::Compare(names) => names.cart,
+        Command::Net(names) => names.cart,
+        Command::Batch(names) => names.cart,
+    }
 }
 
 /// The three names.
@@ -105,21 +171,30 @@ fn check_form(words: &[String]) -> Option<Form<'_>>
     let [cart] = words else {
         return None;
     };
-    Some(Form::Check(cart.as_str()))
+    Some(Form::OnCart(Command::Check(cart.as_str())))
 }
 
 #[tactic(auto, unfolding(w4_defs::specs::Commands::blank_form))]
 fn blank_form(words: &[String]) -> Option<Form<'_>>
     ensures { option_map form_view result ≡ blank_form (map string_bytes words.now) }
 {
-    let [cart, budget] = words else {
-        return None;
-    };
-    let units = number_of(budget.as_bytes())?;
-    if units < 1 {
-        return None;
+    match words {
+        [cart, budget] => {
+            let units = number_of(budget.as_bytes())?;
+            if units < 1 {
+                return None;
+            }
+            Some(Form::OnCart(Command::Blank(cart.as_str(), Budget { units })))
+        }
+        [cart, budget, disk] => {
+            let units = number_of(budget.as_bytes())?;
+            if units < 1 {
+                return None;
+            }
+            Some(Form::OnCart(Command::BlankDisk(cart.as_str(), Budget { units }, disk.as_str())))
+        }
+        _ => None,
     }
-    Some(Form::Blank(cart.as_str(), Budget { units }))
 }
 
 #[tactic(auto, unfolding(w4_defs::specs::Commands::frames_form))]
@@ -134,7 +209,7 @@ fn frames_form(words: &[String]) -> Option<Form<'_>>
     if from > to {
         return None;
     }
-    Some(Form::Frames(run_names(cart, recording, font), Places { from, to }))
+    Some(Form::OnCart(Command::Frames(run_names(cart, recording, font), Places { from, to })))
 }
 
 fn tones_form(words: &[String]) -> Option<Form<'_>>
@@ -143,7 +218,7 @@ fn tones_form(words: &[String]) -> Option<Form<'_>>
     let [cart, recording, font] = words else {
         return None;
     };
-    Some(Form::Tones(run_names(cart, recording, font)))
+    Some(Form::OnCart(Command::Tones(run_names(cart, recording, font))))
 }
 
 fn trace_form(words: &[String]) -> Option<Form<'_>>
@@ -152,7 +227,7 @@ fn trace_form(words: &[String]) -> Option<Form<'_>>
     let [cart, recording, font] = words else {
         return None;
     };
-    Some(Form::Trace(run_names(cart, recording, font)))
+    Some(Form::OnCart(Command::Trace(run_names(cart, recording, font))))
 }
 
 #[tactic(auto, unfolding(w4_defs::specs::Commands::disk_form))]
@@ -163,7 +238,7 @@ fn disk_form(words: &[String]) -> Option<Form<'_>>
         return None;
     };
     let place = number_of(place.as_bytes())?;
-    Some(Form::Disk(run_names(cart, recording, font), place))
+    Some(Form::OnCart(Command::Disk(run_names(cart, recording, font), place)))
 }
 
 fn edit_form(words: &[String]) -> Option<Form<'_>>
@@ -172,11 +247,11 @@ fn edit_form(words: &[String]) -> Option<Form<'_>>
     let [cart, recording, font, script, out] = words else {
         return None;
     };
-    Some(Form::Edit(EditNames {
+    Some(Form::OnCart(Command::Edit(EditNames {
         run: run_names(cart, recording, font),
         script: script.as_str(),
         out: out.as_str(),
-    }))
+    })))
 }
 
 #[tactic(auto, unfolding(w4_defs::specs::Commands::make_form))]
@@ -201,12 +276,12 @@ fn net_form(words: &[String]) -> Option<Form<'_>>
     if units < 1 {
         return None;
     }
-    Some(Form::Net(NetNames {
+    Some(Form::OnCart(Command::Net(NetNames {
         cart: cart.as_str(),
         font: font.as_str(),
         budget: Budget { units },
         log: log.as_str(),
-    }))
+    })))
 }
 
 fn ram_form(words: &[String]) -> Option<Form<'_>>
@@ -215,7 +290,7 @@ fn ram_form(words: &[String]) -> Option<Form<'_>>
     let [cart, recording, font, query] = words else {
         return None;
     };
-    Some(Form::Ram(run_names(cart, recording, font), query.as_str()))
+    Some(Form::OnCart(Command::Ram(run_names(cart, recording, font), query.as_str())))
 }
 
 fn wave_form(words: &[String]) -> Option<Form<'_>>
@@ -224,7 +299,7 @@ fn wave_form(words: &[String]) -> Option<Form<'_>>
     let [cart, recording, font] = words else {
         return None;
     };
-    Some(Form::Wave(run_names(cart, recording, font)))
+    Some(Form::OnCart(Command::Wave(run_names(cart, recording, font))))
 }
 
 #[tactic(auto, unfolding(w4_defs::specs::Commands::batch_form))]
@@ -238,12 +313,66 @@ fn batch_form(words: &[String]) -> Option<Form<'_>>
     if count < 1 || count > 16 {
         return None;
     }
-    Some(Form::Batch(BatchNames {
+    Some(Form::OnCart(Command::Batch(BatchNames {
         cart: cart.as_str(),
         font: font.as_str(),
         list: list.as_str(),
         workers: Workers { count },
-    }))
+    })))
+}
+
+fn serve_form(words: &[String]) -> Option<Form<'_>>
+    ensures { option_map form_view result ≡ serve_form (map string_bytes words.now) }
+{
+    let [cart, recording, font, out] = words else {
+        return None;
+    };
+    Some(Form::OnCart(Command::Serve(ServeNames {
+        run: run_names(cart, recording, font),
+        out: out.as_str(),
+    })))
+}
+
+fn units_form(words: &[String]) -> Option<Form<'_>>
+    ensures { option_map form_view result ≡ units_form (map string_bytes words.now) }
+{
+    let [cart, recording, font] = words else {
+        return None;
+    };
+    Some(Form::OnCart(Command::Units(run_names(cart, recording, font))))
+}
+
+fn compare_form(words: &[String]) -> Option<Form<'_>>
+    ensures { option_map form_view result ≡ compare_form (map string_bytes words.now) }
+{
+    let [cart, recording, other_cart, other_recording, font] = words else {
+        return None;
+    };
+    Some(Form::OnCart(Command::Compare(CompareNames {
+        cart: cart.as_str(),
+        recording: recording.as_str(),
+        other_cart: other_cart.as_str(),
+        other_recording: other_recording.as_str(),
+        font: font.as_str(),
+    })))
+}
+
+fn rebind_form(words: &[String]) -> Option<Form<'_>>
+    ensures { option_map form_view result ≡ rebind_form (map string_bytes words.now) }
+{
+    let [cart, recording] = words else {
+        return None;
+    };
+    Some(Form::OnCart(Command::Rebind(cart.as_str(), recording.as_str())))
+}
+
+fn inputs_form(words: &[String]) -> Option<Form<'_>>
+    ensures { option_map form_view result ≡ inputs_form (map string_bytes words.now) }
+{
+    let [recording] = words else {
+        return None;
+    };
+    Some(Form::Inputs(recording.as_str()))
 }
 
 /// The form of the words, or None where they have none.
@@ -267,6 +396,11 @@ pub fn form_of_words(words: &[String]) -> Option<Form<'_>>
         "ram" => ram_form(rest),
         "wave" => wave_form(rest),
         "batch" => batch_form(rest),
+        "serve" => serve_form(rest),
+        "units" => units_form(rest),
+        "compare" => compare_form(rest),
+        "rebind" => rebind_form(rest),
+        "inputs" => inputs_form(rest),
         _ => None,
     }
 }

@@ -3,7 +3,7 @@
 ghost use Rattle.std.specs.Prelude.{◌≡◌};
 ghost use Rattle.w4_commands.specs.Reads.{lines_refused, lines_status};
 
-use w4_defs::{ScriptKind, Status};
+use w4_defs::{Refusal, ScriptKind};
 use w4_script::ScriptRefusal;
 
 /// A kind of file of lines, by how it is refused.
@@ -16,22 +16,22 @@ pub enum LinesFile {
 }
 
 /// The status of what the lines are refused for.
-fn lines_refused(file: LinesFile, kind: ScriptKind) -> Status
+fn lines_refused(file: LinesFile, kind: ScriptKind) -> Refusal
     ensures { result ≡ lines_refused file kind }
 {
     match file {
-        LinesFile::Script => Status::ScriptRefused(kind),
-        LinesFile::List => Status::ListRefused(kind),
+        LinesFile::Script => Refusal::ScriptRefused(kind),
+        LinesFile::List => Refusal::ListRefused(kind),
     }
 }
 
 /// The status of a refusal.
-pub fn lines_status(file: LinesFile, refusal: ScriptRefusal) -> Status
+pub fn lines_status(file: LinesFile, refusal: ScriptRefusal) -> Refusal
     ensures { result ≡ lines_status file refusal }
 {
     match refusal {
         ScriptRefusal::TooLong => lines_refused(file, ScriptKind::TooLong),
         ScriptRefusal::BadLine(number) => lines_refused(file, ScriptKind::BadLine(number)),
-        ScriptRefusal::OutOfMemory => Status::OutOfMemory,
+        ScriptRefusal::OutOfMemory => Refusal::OutOfMemory,
     }
 }

@@ -26,7 +26,7 @@ use crate::lines_status::{LinesFile, lines_status};
 use std::alloc::Global;
 use w4_blit::{Font, FontLength};
 use w4_cart::{CartFile, CartRefusal, accept_file};
-use w4_defs::{Order, RecordingKind, Status};
+use w4_defs::{Order, RecordingKind, Refusal};
 use w4_house::{House, HouseFault};
 use w4_record::{Recording, RecordingRefusal, read_recording};
 use w4_script::read_script;
@@ -61,21 +61,21 @@ pub fn read_file<H: House>(
     house: &mut H,
     name: &str,
     most: usize,
-) -> Result<Vec<u8>, Status>
+) -> Result<Vec<u8>, Refusal>
     ensures gives { StepGives (H.world house.old) (H.world house.new) (λ bytes. bytes.items) result
         (ResultsIn (λ files. reading files name.now most)) }
     ensures rest { LeavesReading (H.world house.old) (H.world house.new) }
 {
     match house.read_front(alloc, name, most) {
         Ok(bytes) => Ok(bytes),
-        Err(HouseFault::Absent) => Err(Status::ReadFault),
-        Err(HouseFault::Failed) => Err(Status::ReadFault),
-        Err(HouseFault::OutOfMemory) => Err(Status::OutOfMemory),
+        Err(HouseFault::Absent) => Err(Refusal::ReadFault),
+        Err(HouseFault::Failed) => Err(Refusal::ReadFault),
+        Err(HouseFault::OutOfMemory) => Err(Refusal::OutOfMemory),
     }
 }
 
 /// Reads and judges a cart.
-pub fn load_cart<H: House>(alloc: Global, house: &mut H, name: &str) -> Result<CartFile, Status>
+pub fn load_cart<H: House>(alloc: Global, house: &mut H, name: &str) -> Result<CartFile, Refusal>
     ensures gives { StepGives (H.world house.old) (H.world house.new) cart_view result
         (λ files cart. CartIn name.now files cart) }
     ensures cart { IfOk result (λ file. (bytes : List ℕ) × IsCart bytes file.cart) }
@@ -84,42 +84,42 @@ pub fn load_cart<H: House>(alloc: Global, house: &mut H, name: &str) -> Result<C
     let bytes = read_file(alloc, house, name, w4_cart::MOST_BYTES + 1)?;
     match accept_file(alloc, bytes.as_slice()) {
         Ok(file) => Ok(file),
-        Err(CartRefusal::Kind(kind)) => Err(Status::CartRefused(kind)),
-        Err(CartRefusal::OutOfMemory) => Err(Status::OutOfMemory),
+        Err(CartRefusal::Kind(kind)) => Err(Refusal::CartRefused(kind)),
+        Err(CartRefusal::OutOfMemory) => Err(Refusal::OutOfMemory),
     }
 }
 
 /// The recording that the bytes encode, which has to be of the cart with this digest.
 #[tactic(auto, unfolding(w4_defs::specs::Output::cart_recording))]
-fn judge_recording(alloc: Global, bytes: &[u8], digest: &[u8; 32]) -> Result<Recording, Status>
+fn judge_recording(alloc: Global, bytes: &[u8], digest: &[u8; 32]) -> Result<Recording, Refusal>
     ensures { GivesValue (λ recording. recording) result (cart_recording digest.now bytes.now) }
 {
     let recording = match read_recording(alloc, bytes) {
         Ok(recording) => recording,
         Err(RecordingRefusal::BadRecording) => {
-            return Err(Status::RecordingRefused(RecordingKind::Bad));
+            return Err(Refusal::RecordingRefused(RecordingKind::Bad));
         }
-        Err(RecordingRefusal::OutOfMemory) => return Err(Status::OutOfMemory),
+        Err(RecordingRefusal::OutOfMemory) => return Err(Refusal::OutOfMemory),
     };
     if recording.digest != *digest {
-        return Err(Status::RecordingRefused(RecordingKind::WrongCart));
+        return Err(Refusal::RecordingRefused(RecordingKind::WrongCart));
     }
     Ok(recording)
 }
 
 /// The font, where the bytes are one.
-fn judge_font(bytes: &[u8]) -> Result<Font, Status>
+fn judge_font(bytes: &[u8]) -> Result<Font, Refusal>
     ensures { GivesValue (λ font. font) result (font_of bytes.now) }
 {
     match Font::new(bytes) {
         Ok(font) => Ok(font),
-        Err(FontLength) => Err(Status::FontRefused),
+        Err(FontLength) => Err(Refusal::FontRefused),
     }
 }
 
 /// The orders of a script.
 #[tactic(auto, unfolding(w4_defs::specs::Output::orders_of))]
-fn judge_script(alloc: Global, bytes: &[u8]) -> Result<Vec<Order>, Status>
+fn judge_script(alloc: Global, bytes: &[u8]) -> Result<Vec<Order>, Refusal>
     ensures { GivesValue (λ orders. orders.items) result (orders_of bytes.now) }
 {
     match read_script(alloc, bytes) {
@@ -129,12 +129,12 @@ fn judge_script(alloc: Global, bytes: &[u8]) -> Result<Vec<Order>, Status>
 }
 
 #[tactic(auto, unfolding(w4_defs::specs::Output::recording_in))]
-fn load_recording<H: House>(
+pub fn load_recording<H: House>(
     alloc: Global,
     house: &mut H,
     digest: &[u8; 32],
     name: &str,
-) -> Result<Recording, Status>
+) -> Result<Recording, Refusal>
     ensures gives { StepGives (H.world house.old) (H.world house.new) (λ recording. recording) result
         (ResultsIn (λ files. recording_in digest.now files name.now)) }
     ensures rest { LeavesReading (H.world house.old) (H.world house.new) }
@@ -144,7 +144,7 @@ fn load_recording<H: House>(
 }
 
 #[tactic(auto, unfolding(w4_defs::specs::Output::font_in))]
-pub fn load_font<H: House>(alloc: Global, house: &mut H, name: &str) -> Result<Font, Status>
+pub fn load_font<H: House>(alloc: Global, house: &mut H, name: &str) -> Result<Font, Refusal>
     ensures gives { StepGives (H.world house.old) (H.world house.new) (λ font. font) result
         (ResultsIn (λ files. font_in files name.now)) }
     ensures rest { LeavesReading (H.world house.old) (H.world house.new) }
@@ -154,7 +154,7 @@ pub fn load_font<H: House>(alloc: Global, house: &mut H, name: &str) -> Result<F
 }
 
 #[tactic(auto, unfolding(w4_defs::specs::Output::script_in))]
-fn load_orders<H: House>(alloc: Global, house: &mut H, name: &str) -> Result<Vec<Order>, Status>
+fn load_orders<H: House>(alloc: Global, house: &mut H, name: &str) -> Result<Vec<Order>, Refusal>
     ensures gives { StepGives (H.world house.old) (H.world house.new) (λ orders. orders.items) result
         (ResultsIn (λ files. script_in files name.now)) }
     ensures rest { LeavesReading (H.world house.old) (H.world house.new) }
@@ -170,7 +170,7 @@ pub fn load_run<H: House>(
     house: &mut H,
     digest: &[u8; 32],
     names: RunNames<'_>,
-) -> Result<Played, Status>
+) -> Result<Played, Refusal>
     ensures gives { StepGives (H.world house.old) (H.world house.new) played_view result
         (ResultsIn (λ files. run_files digest.now (run_view names.entry) files)) }
     ensures rest { LeavesReading (H.world house.old) (H.world house.new) }
@@ -188,7 +188,7 @@ pub fn load_run_to<H: House>(
     digest: &[u8; 32],
     names: RunNames<'_>,
     place: u32,
-) -> Result<Played, Status>
+) -> Result<Played, Refusal>
     ensures gives { StepGives (H.world house.old) (H.world house.new) played_view result
         (ResultsIn (λ files. run_files_to digest.now (run_view names.entry) place files)) }
     ensures place { IfOk result (λ run. place ≤ length run.recording.frames) }
@@ -197,7 +197,7 @@ pub fn load_run_to<H: House>(
     let run = load_run(alloc, house, digest, names)?;
     let n = frame_count(&run);
     if place as usize > n {
-        return Err(Status::FrameRefused { number: place, n });
+        return Err(Refusal::FrameRefused { number: place, n });
     }
     Ok(run)
 }
@@ -209,7 +209,7 @@ pub fn load_edit<H: House>(
     house: &mut H,
     digest: &[u8; 32],
     names: EditNames<'_>,
-) -> Result<Loaded, Status>
+) -> Result<Loaded, Refusal>
     ensures gives { StepGives (H.world house.old) (H.world house.new) loaded_view result
         (ResultsIn (λ files. edit_files digest.now (edit_view names.entry) files)) }
     ensures rest { LeavesReading (H.world house.old) (H.world house.new) }

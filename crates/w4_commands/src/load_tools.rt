@@ -31,7 +31,7 @@ use crate::lines_status::{LinesFile, lines_status};
 use crate::load::{Played, load_font, load_run, read_file};
 use std::alloc::Global;
 use w4_blit::Font;
-use w4_defs::Status;
+use w4_defs::Refusal;
 use w4_defs::inspect::Ask;
 use w4_defs::netplay::NetOrder;
 use w4_house::House;
@@ -61,7 +61,7 @@ pub struct BatchLoaded {
 
 /// The orders of a log.
 #[tactic(auto, unfolding(w4_defs::specs::ToolOutputs::log_orders))]
-fn judge_log(alloc: Global, bytes: &[u8]) -> Result<Vec<NetOrder>, Status>
+fn judge_log(alloc: Global, bytes: &[u8]) -> Result<Vec<NetOrder>, Refusal>
     ensures { GivesValue (λ orders. orders.items) result (log_orders bytes.now) }
 {
     match read_log(alloc, bytes) {
@@ -72,7 +72,7 @@ fn judge_log(alloc: Global, bytes: &[u8]) -> Result<Vec<NetOrder>, Status>
 
 /// The lines of a query.
 #[tactic(auto, unfolding(w4_defs::specs::ToolOutputs::query_lines))]
-fn judge_query(alloc: Global, bytes: &[u8]) -> Result<Vec<Ask>, Status>
+fn judge_query(alloc: Global, bytes: &[u8]) -> Result<Vec<Ask>, Refusal>
     ensures lines { GivesValue (λ lines. lines.items) result (query_lines bytes.now) }
     ensures fit { IfOk result (λ lines. All IsRequest lines.items) }
 {
@@ -84,7 +84,7 @@ fn judge_query(alloc: Global, bytes: &[u8]) -> Result<Vec<Ask>, Status>
 
 /// The names of a list.
 #[tactic(auto, unfolding(w4_defs::specs::ToolOutputs::listed_names))]
-fn judge_names(alloc: Global, bytes: &[u8]) -> Result<Vec<String>, Status>
+fn judge_names(alloc: Global, bytes: &[u8]) -> Result<Vec<String>, Refusal>
     ensures { GivesValue (λ names. map string_bytes names.items) result (listed_names bytes.now) }
 {
     match read_names(alloc, bytes) {
@@ -94,7 +94,7 @@ fn judge_names(alloc: Global, bytes: &[u8]) -> Result<Vec<String>, Status>
 }
 
 #[tactic(auto, unfolding(w4_defs::specs::ToolOutputs::log_in))]
-fn load_log<H: House>(alloc: Global, house: &mut H, name: &str) -> Result<Vec<NetOrder>, Status>
+fn load_log<H: House>(alloc: Global, house: &mut H, name: &str) -> Result<Vec<NetOrder>, Refusal>
     ensures gives { StepGives (H.world house.old) (H.world house.new) (λ orders. orders.items) result
         (ResultsIn (λ files. log_in files name.now)) }
     ensures rest { LeavesReading (H.world house.old) (H.world house.new) }
@@ -104,7 +104,7 @@ fn load_log<H: House>(alloc: Global, house: &mut H, name: &str) -> Result<Vec<Ne
 }
 
 #[tactic(auto, unfolding(w4_defs::specs::ToolOutputs::query_in))]
-fn load_query<H: House>(alloc: Global, house: &mut H, name: &str) -> Result<Vec<Ask>, Status>
+fn load_query<H: House>(alloc: Global, house: &mut H, name: &str) -> Result<Vec<Ask>, Refusal>
     ensures gives { StepGives (H.world house.old) (H.world house.new) (λ lines. lines.items) result
         (ResultsIn (λ files. query_in files name.now)) }
     ensures fit { IfOk result (λ lines. All IsRequest lines.items) }
@@ -115,7 +115,7 @@ fn load_query<H: House>(alloc: Global, house: &mut H, name: &str) -> Result<Vec<
 }
 
 #[tactic(auto, unfolding(w4_defs::specs::ToolOutputs::names_in))]
-fn load_names<H: House>(alloc: Global, house: &mut H, name: &str) -> Result<Vec<String>, Status>
+fn load_names<H: House>(alloc: Global, house: &mut H, name: &str) -> Result<Vec<String>, Refusal>
     ensures gives { StepGives (H.world house.old) (H.world house.new)
         (λ names. map string_bytes names.items) result
         (ResultsIn (λ files. names_in files name.now)) }
@@ -130,7 +130,7 @@ fn load_listed<H: House>(
     alloc: Global,
     house: &mut H,
     names: &[String],
-) -> Result<Vec<Vec<u8>>, Status>
+) -> Result<Vec<Vec<u8>>, Refusal>
     ensures gives { StepGives (H.world house.old) (H.world house.new)
         (λ recordings. map (λ bytes. bytes.items) recordings.items) result
         (ResultsIn (λ files. listed_files (map string_bytes names.now) files)) }
@@ -151,7 +151,7 @@ pub fn load_net<H: House>(
     alloc: Global,
     house: &mut H,
     names: NetNames<'_>,
-) -> Result<NetLoaded, Status>
+) -> Result<NetLoaded, Refusal>
     ensures gives { StepGives (H.world house.old) (H.world house.new) net_loaded_view result
         (ResultsIn (λ files. net_files (net_view names.entry) files)) }
     ensures rest { LeavesReading (H.world house.old) (H.world house.new) }
@@ -169,7 +169,7 @@ pub fn load_ram<H: House>(
     digest: &[u8; 32],
     names: RunNames<'_>,
     query: &str,
-) -> Result<RamLoaded, Status>
+) -> Result<RamLoaded, Refusal>
     ensures gives { StepGives (H.world house.old) (H.world house.new) ram_loaded_view result
         (ResultsIn (λ files. ram_files digest.now (run_view names.entry) query.now files)) }
     ensures fit { IfOk result (λ loaded. All IsRequest loaded.lines.items) }
@@ -186,7 +186,7 @@ pub fn load_batch<H: House>(
     alloc: Global,
     house: &mut H,
     names: BatchNames<'_>,
-) -> Result<BatchLoaded, Status>
+) -> Result<BatchLoaded, Refusal>
     ensures gives { StepGives (H.world house.old) (H.world house.new) batch_loaded_view result
         (ResultsIn (λ files. batch_files (batch_view names.entry) files)) }
     ensures many { IfOk result (λ loaded. length loaded.recordings.items ≡ length loaded.names.items) }

@@ -7,9 +7,8 @@ ghost use Rattle.w4_defs.specs.Cart.{IsCart};
 ghost use Rattle.w4_defs.specs.Generator.{made_budget, made_inputs, made_module};
 ghost use Rattle.w4_defs.specs.MadeSummary.{summary_text};
 ghost use Rattle.w4_defs.specs.World.{LeavesWriting};
-ghost use Rattle.w4_defs.specs.Causes.{Ends, LeavesErr};
-ghost use Rattle.w4_commands.specs.Causes.{MakesOf, Written};
-ghost use Rattle.w4_defs.specs.Endings.{manner_of};
+ghost use Rattle.w4_defs.specs.Causes.{LeavesErr};
+ghost use Rattle.w4_commands.specs.Causes.{EndsDone, MakesOf, Written};
 ghost use Rattle.w4_defs.specs.Output.{made_text, make_output};
 ghost use Rattle.w4_defs.specs.EncodeModule.{module_bytes};
 
@@ -22,7 +21,7 @@ use w4_blit::Font;
 use w4_cart::{CartRefusal, accept};
 use w4_console::laws::accepted_runs_have_meaning;
 use w4_defs::tool_laws::generator_laws;
-use w4_defs::{OutOfMemory, Status};
+use w4_defs::{OutOfMemory, Refusal};
 use w4_house::House;
 use w4_record::digest_of;
 use wasm_read::at_most_one;
@@ -34,22 +33,18 @@ use wasm_write::{Made, Maker};
 const FRAMES: usize = 600;
 
 /// `make NUMBER`.
-pub fn make_cart<H: House>(alloc: Global, house: &mut H, number: u32) -> Status
-    ensures ends { Ends (H.world house.old) (H.world house.new) (manner_of result)
-        (MakesOf (λ files. make_output number files)) }
-    ensures formed { result ≡ Status.Usage → ⊥ }
+pub fn make_cart<H: House>(alloc: Global, house: &mut H, number: u32) -> Result<(), Refusal>
+    ensures ends { EndsDone (H.world house.old) (H.world house.new) result
+        (MakesOf (λ files. make_output number)) }
     ensures err { LeavesErr (H.world house.old) (H.world house.new) }
 {
     made_modules_are_carts();
     accepted_runs_have_meaning();
-    match write_made(alloc, house, number) {
-        Ok(()) => Status::Done,
-        Err(status) => status,
-    }
+    write_made(alloc, house, number)
 }
 
-/// Writes the five lines. Errors: the status that ends the run.
-fn write_made<H: House>(alloc: Global, house: &mut H, number: u32) -> Result<(), Status>
+/// Writes the five lines.
+fn write_made<H: House>(alloc: Global, house: &mut H, number: u32) -> Result<(), Refusal>
     ensures out { ForSome (made_text number)
         (λ text. Written (H.world house.old) (H.world house.new) result text) }
     ensures rest { LeavesWriting (H.world house.old) (H.world house.new) }

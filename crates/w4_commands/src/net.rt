@@ -5,9 +5,8 @@ ghost use Rattle.std.specs.Option.{ForSome};
 ghost use Rattle.w4_defs.specs.Meaning.{RunsHaveMeaning};
 ghost use Rattle.w4_editor.specs.Editing.{editing_setup};
 ghost use Rattle.w4_defs.specs.World.{LeavesWriting};
-ghost use Rattle.w4_defs.specs.Causes.{Ends, LeavesErr};
-ghost use Rattle.w4_commands.specs.Causes.{MakesOf, Written, WritesOut};
-ghost use Rattle.w4_defs.specs.Endings.{manner_of};
+ghost use Rattle.w4_defs.specs.Causes.{LeavesErr};
+ghost use Rattle.w4_commands.specs.Causes.{EndsDone, MakesOf, Written};
 ghost use Rattle.w4_defs.specs.LogAnswers.{net_answers};
 ghost use Rattle.w4_commands.specs.NetAnswers.{net_session};
 ghost use Rattle.w4_defs.specs.ToolOutputs.{net_output, net_text};
@@ -22,7 +21,7 @@ use std::marker::Brand;
 use std::sync::ledger::{Blank, Ledger};
 use w4_cart::CartFile;
 use w4_defs::netplay::NetOrder;
-use w4_defs::{Status, Steps};
+use w4_defs::{Refusal, Steps};
 use w4_house::House;
 use w4_image::IMAGE_LEN;
 use w4_netplay::Replica;
@@ -35,45 +34,24 @@ pub fn run_net<H: House>(
     house: &mut H,
     file: CartFile,
     names: NetNames<'_>,
-) -> Status
+) -> Result<(), Refusal>
     requires meaning { RunsHaveMeaning file.cart }
-    ensures ends { Ends (H.world house.old) (H.world house.new) (manner_of result)
+    ensures ends { EndsDone (H.world house.old) (H.world house.new) result
         (MakesOf (λ files. net_output (net_view names.entry) (cart_view file) files)) }
-    ensures formed { result ≡ Status.Usage → ⊥ }
     ensures err { LeavesErr (H.world house.old) (H.world house.new) }
 {
-    match load_net(alloc, house, names) {
-        Ok(loaded) => answer_log(alloc, house, file, names.budget, loaded),
-        Err(status) => status,
-    }
+    let loaded = load_net(alloc, house, names)?;
+    answer_log(alloc, house, file, names.budget, loaded)
 }
 
-/// Answers all lines of the log.
+/// Begins a session without inputs, and answers all lines of the log.
 fn answer_log<H: House>(
     alloc: Global,
     house: &mut H,
     file: CartFile,
     budget: Budget,
     loaded: NetLoaded,
-) -> Status
-    ensures writes_out { ForSome (net_text file.cart budget.units (net_loaded_view loaded))
-        (λ text. WritesOut (H.world house.old) (H.world house.new) (manner_of result) text) }
-    ensures rest { LeavesWriting (H.world house.old) (H.world house.new) }
-{
-    match try_answer_log(alloc, house, file, budget, loaded) {
-        Ok(()) => Status::Done,
-        Err(status) => status,
-    }
-}
-
-/// Begins a session without inputs, and answers all lines of the log. Errors: the status that ends the run.
-fn try_answer_log<H: House>(
-    alloc: Global,
-    house: &mut H,
-    file: CartFile,
-    budget: Budget,
-    loaded: NetLoaded,
-) -> Result<(), Status>
+) -> Result<(), Refusal>
     ensures out { ForSome (net_text file.cart budget.units (net_loaded_view loaded))
         (λ text. Written (H.world house.old) (H.world house.new) result text) }
     ensures rest { LeavesWriting (H.world house.old) (H.world house.new) }
@@ -92,7 +70,7 @@ fn answer_orders<L: Ledger, H: House>(
     replica: &mut Replica,
     orders: &[NetOrder],
     blank: Blank,
-) -> Result<(), Status>
+) -> Result<(), Refusal>
     requires disk { replica.old.editor.disk ≡ [] }
     requires name { blank.name ≡ L.name }
     requires parts { blank.parts ≡ L.parts }

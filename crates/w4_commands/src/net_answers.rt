@@ -31,7 +31,7 @@ use crate::writing::write_bytes;
 use std::alloc::Global;
 use std::sync::ledger::Ledger;
 use w4_defs::netplay::{NetOrder, Packet};
-use w4_defs::{OutOfMemory, Status, Steps};
+use w4_defs::{OutOfMemory, Refusal, Steps};
 use w4_house::House;
 use w4_image::{IMAGE_LEN, ppm_into};
 use w4_netplay::{NetRefusal, Replica};
@@ -44,7 +44,7 @@ pub fn answer_order<L: Ledger, H: House>(
     image: &mut [u8; IMAGE_LEN],
     order: &NetOrder,
     steps: &mut Steps<L>,
-) -> Result<(), Status>
+) -> Result<(), Refusal>
     requires { replica.old.editor.disk ≡ [] }
     ensures heard { GivesHeard (H.world house.old) (H.world house.new) result
         replica.old replica.new
@@ -61,7 +61,7 @@ pub fn answer_order<L: Ledger, H: House>(
 }
 
 /// Writes the line of a refusal. Where it is memory that was refused, the run ends.
-fn refuse<H: House>(alloc: Global, house: &mut H, refusal: NetRefusal) -> Result<(), Status>
+fn refuse<H: House>(alloc: Global, house: &mut H, refusal: NetRefusal) -> Result<(), Refusal>
     ensures out { Written (H.world house.old) (H.world house.new) result
         (refused_line (net_words refusal)) }
     ensures cause { (refusal ≢ MemoryRefused)
@@ -79,7 +79,7 @@ fn refuse<H: House>(alloc: Global, house: &mut H, refusal: NetRefusal) -> Result
         NetRefusal::NoFrame => write_bytes(alloc, house, b"refused no frame\n"),
         NetRefusal::Kept => write_bytes(alloc, house, b"refused kept\n"),
         NetRefusal::FullSnapshots => write_bytes(alloc, house, b"refused full\n"),
-        NetRefusal::OutOfMemory => Err(Status::OutOfMemory),
+        NetRefusal::OutOfMemory => Err(Refusal::OutOfMemory),
     }
 }
 
@@ -101,7 +101,7 @@ fn answer_packet<H: House>(
     house: &mut H,
     replica: &mut Replica,
     packet: Packet,
-) -> Result<(), Status>
+) -> Result<(), Refusal>
     ensures heard { GivesHeard (H.world house.old) (H.world house.new) result
         replica.old replica.new
         (answer_packet (net_session replica.old) packet (packet_refusal (known_of replica.old) packet)) }
@@ -114,7 +114,7 @@ fn answer_packet<H: House>(
 }
 
 /// One frame has passed.
-fn answer_next<H: House>(alloc: Global, house: &mut H, replica: &mut Replica) -> Result<(), Status>
+fn answer_next<H: House>(alloc: Global, house: &mut H, replica: &mut Replica) -> Result<(), Refusal>
     ensures heard { GivesHeard (H.world house.old) (H.world house.new) result
         replica.old replica.new
         (answer_next (net_session replica.old)) }
@@ -133,7 +133,7 @@ fn answer_keep<L: Ledger, H: House>(
     replica: &mut Replica,
     p: u32,
     steps: &mut Steps<L>,
-) -> Result<(), Status>
+) -> Result<(), Refusal>
     ensures heard { GivesHeard (H.world house.old) (H.world house.new) result
         replica.old replica.new
         (answer_keep (net_session replica.old) p
@@ -154,7 +154,7 @@ fn answer_show<L: Ledger, H: House>(
     image: &mut [u8; IMAGE_LEN],
     p: u32,
     steps: &mut Steps<L>,
-) -> Result<(), Status>
+) -> Result<(), Refusal>
     requires { replica.old.editor.disk ≡ [] }
     ensures heard { GivesHeard (H.world house.old) (H.world house.new) result
         replica.old replica.new
@@ -178,7 +178,7 @@ fn answer_state<L: Ledger, H: House>(
     replica: &mut Replica,
     p: u32,
     steps: &mut Steps<L>,
-) -> Result<(), Status>
+) -> Result<(), Refusal>
     requires { replica.old.editor.disk ≡ [] }
     ensures heard { GivesHeard (H.world house.old) (H.world house.new) result
         replica.old replica.new

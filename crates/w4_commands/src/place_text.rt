@@ -13,7 +13,7 @@ use crate::scene::Scene;
 use crate::stage::{Stage, disk, paint, painted, run_to, schedule, step, traces};
 use crate::writing::write_bytes;
 use std::alloc::Global;
-use w4_defs::{Input, PlaceText, Status};
+use w4_defs::{Input, PlaceText, Refusal};
 use w4_house::House;
 
 /// Writes the text of the place where the stage stands.
@@ -23,7 +23,7 @@ pub fn write_place<H: House>(
     stage: &mut Stage,
     wanted: PlaceText,
     place: usize,
-) -> Result<(), Status>
+) -> Result<(), Refusal>
     ensures out { Written (H.world house.old) (H.world house.new) result
         (moment_text wanted place (stage_moment stage.old)) }
     ensures console { stage.new.console ≡ stage.old.console }
@@ -57,7 +57,7 @@ pub fn write_places<H: House>(
     wanted: PlaceText,
     from: usize,
     to: usize,
-) -> Result<(), Status>
+) -> Result<(), Refusal>
     requires order { from ≤ to }
     requires place { to ≤ length inputs.now }
     requires disk { length scene.now.disk.now ≤ 1024 }

@@ -5,9 +5,8 @@ ghost use Rattle.std.specs.Option.{ForSome};
 ghost use Rattle.w4_defs.specs.Meaning.{RunsHaveMeaning};
 ghost use Rattle.w4_defs.specs.World.{LeavesWriting};
 ghost use Rattle.w4_script.specs.Requests.{IsRequest};
-ghost use Rattle.w4_defs.specs.Causes.{Ends, LeavesErr};
-ghost use Rattle.w4_commands.specs.Causes.{MakesOf, Written, WritesOut};
-ghost use Rattle.w4_defs.specs.Endings.{manner_of};
+ghost use Rattle.w4_defs.specs.Causes.{LeavesErr};
+ghost use Rattle.w4_commands.specs.Causes.{EndsDone, MakesOf, Written};
 ghost use Rattle.w4_commands.specs.RamAnswers.{editor_pages};
 ghost use Rattle.w4_defs.specs.QueryAnswers.{ram_answers};
 ghost use Rattle.w4_defs.specs.ToolOutputs.{ram_output, ram_text};
@@ -17,12 +16,13 @@ use crate::forms::RunNames;
 use crate::load::Played;
 use crate::load_tools::{RamLoaded, load_ram};
 use crate::ram_answers::answer_line;
+use crate::shape::Plain;
 use std::alloc::Global;
 use std::marker::Brand;
 use std::sync::ledger::{Blank, Ledger};
 use w4_cart::CartFile;
 use w4_defs::inspect::Ask;
-use w4_defs::{Status, Steps};
+use w4_defs::{Refusal, Steps};
 use w4_editor::Editor;
 use w4_house::House;
 use wasm_valid::Cart;
@@ -35,39 +35,23 @@ pub fn run_ram<H: House>(
     file: CartFile,
     names: RunNames<'_>,
     query: &str,
-) -> Status
+) -> Result<(), Refusal>
     requires meaning { RunsHaveMeaning file.cart }
-    ensures ends { Ends (H.world house.old) (H.world house.new) (manner_of result)
+    ensures ends { EndsDone (H.world house.old) (H.world house.new) result
         (MakesOf (λ files. ram_output (run_view names.entry) query.now (cart_view file) files)) }
-    ensures formed { result ≡ Status.Usage → ⊥ }
     ensures err { LeavesErr (H.world house.old) (H.world house.new) }
 {
-    match load_ram(alloc, house, &file.digest, names, query) {
-        Ok(loaded) => answer_query(alloc, house, file.cart, loaded),
-        Err(status) => status,
-    }
+    let loaded = load_ram(alloc, house, &file.digest, names, query)?;
+    answer_query(alloc, house, file.cart, loaded)
 }
 
-/// Answers all lines of the query.
-fn answer_query<H: House>(alloc: Global, house: &mut H, cart: Cart, loaded: RamLoaded) -> Status
-    requires { All IsRequest loaded.lines.items }
-    ensures writes_out { ForSome (ram_text cart (ram_loaded_view loaded))
-        (λ text. WritesOut (H.world house.old) (H.world house.new) (manner_of result) text) }
-    ensures rest { LeavesWriting (H.world house.old) (H.world house.new) }
-{
-    match try_answer_query(alloc, house, cart, loaded) {
-        Ok(()) => Status::Done,
-        Err(status) => status,
-    }
-}
-
-/// Opens the recording, and answers all lines of the query. Errors: the status that ends the run.
-fn try_answer_query<H: House>(
+/// Opens the recording, and answers all lines of the query.
+fn answer_query<H: House>(
     alloc: Global,
     house: &mut H,
     cart: Cart,
     loaded: RamLoaded,
-) -> Result<(), Status>
+) -> Result<(), Refusal>
     requires { All IsRequest loaded.lines.items }
     ensures out { ForSome (ram_text cart (ram_loaded_view loaded))
         (λ text. Written (H.world house.old) (H.world house.new) result text) }
@@ -86,7 +70,7 @@ fn answer_lines<L: Ledger, H: House>(
     editor: &mut Editor,
     lines: &[Ask],
     blank: Blank,
-) -> Result<(), Status>
+) -> Result<(), Refusal>
     requires ranges { All IsRequest lines.now }
     requires name { blank.name ≡ L.name }
     requires parts { blank.parts ≡ L.parts }
@@ -98,7 +82,7 @@ fn answer_lines<L: Ledger, H: House>(
     let mut steps: Steps<L> = Steps::new(blank);
     let mut search = None;
     for line in lines {
-        answer_line(alloc, house, editor, &mut search, line, &mut steps)?;
+        answer_line::<Plain, L, H>(alloc, house, editor, &mut search, line, &mut steps)?;
     }
     Ok(())
 }

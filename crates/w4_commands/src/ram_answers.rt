@@ -3,7 +3,7 @@
 ghost use Rattle.std.specs.Prelude.{◌≡◌, ◌≢◌, ◌⊎◌, ◌++◌, ◌∷◌, ◌≤◌, IfOk, OnOk, codes, decimal};
 ghost use Rattle.std.specs.Option.{ForSome};
 ghost use Rattle.w4_defs.specs.FrameTexts.{line_end, numbered};
-ghost use Rattle.w4_defs.specs.PlaceTexts.{as_it_stands};
+ghost use Rattle.w4_editor.specs.Editing.{current_recording};
 ghost use Rattle.w4_defs.specs.World.{LeavesWriting};
 ghost use Rattle.w4_script.specs.Requests.{IsRequest};
 ghost use Rattle.w4_inspect.specs.Widths.{IsWidth};
@@ -14,30 +14,30 @@ ghost use Rattle.w4_commands.specs.ScriptAnswers.{OnlyShows};
 ghost use Rattle.w4_commands.specs.RamAnswers.{GivesLineAnswer, ask_answer, editor_pages};
 ghost use Rattle.w4_defs.specs.QueryAnswers.{answer_narrow, answer_start, found_text, list_text, watch_text};
 
+use crate::shape::Shape;
 use crate::text::{add_number, add_words};
-use crate::writing::write_bytes;
 use itoa::Buffer;
 use std::alloc::Global;
 use std::sync::ledger::Ledger;
 use w4_defs::inspect::{Ask, Test};
-use w4_defs::{OutOfMemory, Status, Steps};
+use w4_defs::{OutOfMemory, Refusal, Steps};
 use w4_editor::Editor;
 use w4_house::House;
 use w4_inspect::{RamRefusal, Search, watch};
 
 /// Answers one line.
-pub fn answer_line<L: Ledger, H: House>(
+pub fn answer_line<S: Shape, L: Ledger, H: House>(
     alloc: Global,
     house: &mut H,
     editor: &mut Editor,
     search: &mut Option<Search>,
     line: &Ask,
     steps: &mut Steps<L>,
-) -> Result<(), Status>
+) -> Result<(), Refusal>
     requires { IsRequest line.now }
     ensures told { GivesLineAnswer (H.world house.old) (H.world house.new) result
         editor.old editor.new search.new
-        (ask_answer editor.old search.old line.now) }
+        (ask_answer S.form editor.old search.old line.now) }
     ensures rest { LeavesWriting (H.world house.old) (H.world house.new) }
 {
     match *line {
@@ -46,15 +46,19 @@ pub fn answer_line<L: Ledger, H: House>(
             width,
             a,
             b,
-        } => answer_watch(alloc, house, editor, address, width, a, b, steps),
-        Ask::Start { width, p } => answer_start(alloc, house, editor, search, width, p, steps),
-        Ask::Narrow { p, test } => answer_narrow(alloc, house, editor, search, p, test, steps),
-        Ask::List => answer_list(alloc, house, search),
+        } => answer_watch::<S, L, H>(alloc, house, editor, address, width, a, b, steps),
+        Ask::Start { width, p } => answer_start::<S, L, H>(
+            alloc, house, editor, search, width, p, steps,
+        ),
+        Ask::Narrow { p, test } => answer_narrow::<S, L, H>(
+            alloc, house, editor, search, p, test, steps,
+        ),
+        Ask::List => answer_list::<S, H>(alloc, house, search),
     }
 }
 
 /// Writes the values at an address.
-fn answer_watch<L: Ledger, H: House>(
+fn answer_watch<S: Shape, L: Ledger, H: House>(
     alloc: Global,
     house: &mut H,
     editor: &mut Editor,
@@ -63,22 +67,23 @@ fn answer_watch<L: Ledger, H: House>(
     a: u32,
     b: u32,
     steps: &mut Steps<L>,
-) -> Result<(), Status>
+) -> Result<(), Refusal>
     requires width { IsWidth width }
     requires order { a ≤ b }
-    ensures out { ForSome (watch_text as_it_stands (editor_pages editor.old) address width a b)
+    ensures out { ForSome (watch_text S.form (editor_pages editor.old) address width a b)
         (λ text. Written (H.world house.old) (H.world house.new) result text) }
     ensures shows { OnOk result (OnlyShows editor.old editor.new) }
+    ensures recording { current_recording editor.new ≡ current_recording editor.old }
     ensures rest { LeavesWriting (H.world house.old) (H.world house.new) }
 {
     match watch(alloc, editor, address, width, a as usize, b as usize, steps) {
         Ok(values) => {
             let line = watched_line(alloc, address, values.as_slice())?;
-            write_bytes(alloc, house, line.as_slice())
+            S::write(alloc, house, line.as_slice())
         }
-        Err(RamRefusal::NoFrame) => write_bytes(alloc, house, b"refused no frame\n"),
-        Err(RamRefusal::Outside) => write_bytes(alloc, house, b"refused outside\n"),
-        Err(RamRefusal::OutOfMemory) => Err(Status::OutOfMemory),
+        Err(RamRefusal::NoFrame) => S::write(alloc, house, b"refused no frame\n"),
+        Err(RamRefusal::Outside) => S::write(alloc, house, b"refused outside\n"),
+        Err(RamRefusal::OutOfMemory) => Err(Refusal::OutOfMemory),
     }
 }
 
@@ -97,20 +102,24 @@ fn watched_line(alloc: Global, address: u32, values: &[u32]) -> Result<Vec<u8>, 
 }
 
 /// Writes the line of a place that isn't there. Where it is memory that was refused, the run ends.
-fn refuse_place<H: House>(alloc: Global, house: &mut H, refusal: RamRefusal) -> Result<(), Status>
-    ensures out { Written (H.world house.old) (H.world house.new) result no_frame }
+fn refuse_place<S: Shape, H: House>(
+    alloc: Global,
+    house: &mut H,
+    refusal: RamRefusal,
+) -> Result<(), Refusal>
+    ensures out { Written (H.world house.old) (H.world house.new) result (S.form no_frame) }
     ensures cause { (refusal ≢ MemoryRefused)
         ⊎ WritesNothing (H.world house.old) (H.world house.new) result }
     ensures rest { LeavesWriting (H.world house.old) (H.world house.new) }
 {
     match refusal {
-        RamRefusal::OutOfMemory => Err(Status::OutOfMemory),
-        _ => write_bytes(alloc, house, b"refused no frame\n"),
+        RamRefusal::OutOfMemory => Err(Refusal::OutOfMemory),
+        _ => S::write(alloc, house, b"refused no frame\n"),
     }
 }
 
 /// Begins a search, unless it is refused.
-fn answer_start<L: Ledger, H: House>(
+fn answer_start<S: Shape, L: Ledger, H: House>(
     alloc: Global,
     house: &mut H,
     editor: &mut Editor,
@@ -118,11 +127,11 @@ fn answer_start<L: Ledger, H: House>(
     width: u32,
     p: u32,
     steps: &mut Steps<L>,
-) -> Result<(), Status>
+) -> Result<(), Refusal>
     requires { IsWidth width }
     ensures told { GivesLineAnswer (H.world house.old) (H.world house.new) result
         editor.old editor.new search.new
-        (answer_start as_it_stands (editor_pages editor.old) search.old width p) }
+        (answer_start S.form (editor_pages editor.old) search.old width p) }
     ensures rest { LeavesWriting (H.world house.old) (H.world house.new) }
 {
     match Search::start(alloc, editor, width, p as usize, steps) {
@@ -130,12 +139,12 @@ fn answer_start<L: Ledger, H: House>(
             *search = Some(begun);
             Ok(())
         }
-        Err(refusal) => refuse_place(alloc, house, refusal),
+        Err(refusal) => refuse_place::<S, H>(alloc, house, refusal),
     }
 }
 
 /// Narrows the search that stands, unless there is none or it is refused.
-fn answer_narrow<L: Ledger, H: House>(
+fn answer_narrow<S: Shape, L: Ledger, H: House>(
     alloc: Global,
     house: &mut H,
     editor: &mut Editor,
@@ -143,36 +152,36 @@ fn answer_narrow<L: Ledger, H: House>(
     p: u32,
     test: Test,
     steps: &mut Steps<L>,
-) -> Result<(), Status>
+) -> Result<(), Refusal>
     ensures told { GivesLineAnswer (H.world house.old) (H.world house.new) result
         editor.old editor.new search.new
-        (answer_narrow as_it_stands (editor_pages editor.old) search.old p test) }
+        (answer_narrow S.form (editor_pages editor.old) search.old p test) }
     ensures rest { LeavesWriting (H.world house.old) (H.world house.new) }
 {
     match search {
-        None => write_bytes(alloc, house, b"refused no search\n"),
+        None => S::write(alloc, house, b"refused no search\n"),
         Some(standing) => match standing.narrow(alloc, editor, p as usize, test, steps) {
             Ok(()) => Ok(()),
-            Err(refusal) => refuse_place(alloc, house, refusal),
+            Err(refusal) => refuse_place::<S, H>(alloc, house, refusal),
         },
     }
 }
 
 /// Writes the addresses that the search has left, unless there is none.
-fn answer_list<H: House>(
+fn answer_list<S: Shape, H: House>(
     alloc: Global,
     house: &mut H,
     search: &Option<Search>,
-) -> Result<(), Status>
+) -> Result<(), Refusal>
     ensures out { Written (H.world house.old) (H.world house.new) result
-        (list_text search.now) }
+        (S.form (list_text search.now)) }
     ensures rest { LeavesWriting (H.world house.old) (H.world house.new) }
 {
     match search {
-        None => write_bytes(alloc, house, b"refused no search\n"),
+        None => S::write(alloc, house, b"refused no search\n"),
         Some(standing) => {
             let lines = found_lines(alloc, standing.found())?;
-            write_bytes(alloc, house, lines.as_slice())
+            S::write(alloc, house, lines.as_slice())
         }
     }
 }

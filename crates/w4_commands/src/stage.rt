@@ -7,6 +7,8 @@ ghost use Rattle.w4_commands.specs.Scenes.{IsAtPlace, scene_setup, stage_moment}
 ghost use Rattle.w4_defs.specs.FrameTexts.{schedule_text, trace_text};
 ghost use Rattle.w4_defs.specs.Image.{image};
 ghost use Rattle.w4_defs.specs.MadeSummary.{lit_pixels};
+ghost use Rattle.w4_console.specs.TakenUnits.{FrameTakes, TellsUnits, taken_of};
+ghost use Rattle.w4_defs.specs.Units.{start_units};
 ghost use Rattle.w4_defs.specs.Sound.{after_frame, rendered};
 
 use crate::scene::Scene;
@@ -14,11 +16,12 @@ use crate::summary::lit_pixels;
 use std::alloc::Global;
 use std::marker::Brand;
 use std::sync::ledger::{Blank, Ledger};
-use w4_console::Console;
+use w4_console::{Console, FrameTaken, Taken};
 use w4_defs::console_laws::runs_in_parts;
 use w4_defs::{Halt, Input, OutOfMemory, Steps};
 use w4_devices::{FrameRecord, schedule_text, trace_text};
 use w4_image::{IMAGE_LEN, ppm_into};
+use w4_map::State;
 use w4_wave::{FRAME_LEN, Wave};
 use wasm_valid::Cart;
 
@@ -44,12 +47,13 @@ pub fn new_stage(alloc: Global, cart: &Cart) -> Result<Stage, OutOfMemory>
     })
 }
 
-/// Starts the run anew.
-fn begin_run(stage: &mut Stage, scene: &Scene<'_>, inputs: &[Input])
+/// Starts the run anew, and tells what the reset took of the budget.
+pub fn begin_run(stage: &mut Stage, scene: &Scene<'_>, inputs: &[Input]) -> Taken
     requires disk { length scene.now.disk.now ≤ 1024 }
     requires budget { 1 ≤ scene.now.budget }
     requires globals { HasGlobals scene.now.cart.now stage.old.console }
-    ensures { IsAtPlace scene.now inputs.now 0 stage.new }
+    ensures place { IsAtPlace scene.now inputs.now 0 stage.new }
+    ensures taken { start_units (scene_setup scene.now) scene.now.disk.now ≡ Some (taken_of result) }
 {
     let frame_record = &mut stage.frame_record;
     stage.console.reset(
@@ -58,11 +62,16 @@ fn begin_run(stage: &mut Stage, scene: &Scene<'_>, inputs: &[Input])
         scene.disk,
         scene.budget,
         frame_record,
-    );
+    )
 }
 
-/// One frame, under a count of its own.
-fn play_frame<L: Ledger>(stage: &mut Stage, scene: &Scene<'_>, input: &Input, blank: Blank)
+/// One frame, under a count of its own, and what it took of the budget.
+fn play_frame<L: Ledger>(
+    stage: &mut Stage,
+    scene: &Scene<'_>,
+    input: &Input,
+    blank: Blank,
+) -> FrameTaken
     requires name { blank.name ≡ L.name }
     requires parts { blank.parts ≡ L.parts }
     requires some { 0 < L.parts }
@@ -71,6 +80,7 @@ fn play_frame<L: Ledger>(stage: &mut Stage, scene: &Scene<'_>, input: &Input, bl
     ensures frame { frame (scene_setup scene.now) stage.old.console input.now
         ≡ Some (stage_moment stage.new) }
     ensures globals { HasGlobals scene.now.cart.now stage.new.console }
+    ensures taken { FrameTakes (scene_setup scene.now) stage.old.console input.now result }
 {
     let mut steps: Steps<L> = Steps::new(blank);
     let frame_record = &mut stage.frame_record;
@@ -81,7 +91,24 @@ fn play_frame<L: Ledger>(stage: &mut Stage, scene: &Scene<'_>, input: &Input, bl
         scene.budget,
         frame_record,
         &mut steps,
-    );
+    )
+}
+
+/// Goes on to the next place, and tells what the frame took of the budget.
+pub fn step_units(
+    stage: &mut Stage,
+    scene: &Scene<'_>,
+    inputs: &[Input],
+    place: usize,
+) -> FrameTaken
+    requires place { place < length inputs.now }
+    requires budget { 1 ≤ scene.now.budget }
+    requires here { IsAtPlace scene.now inputs.now place stage.old }
+    ensures place { IsAtPlace scene.now inputs.now (place + 1) stage.new }
+    ensures taken { TellsUnits (scene_setup scene.now) scene.now.disk.now inputs.now place result }
+{
+    runs_in_parts();
+    play_frame::<Brand>(stage, scene, &inputs[place], Blank::new(1))
 }
 
 /// Goes on to the next place.
@@ -91,8 +118,7 @@ pub fn step(stage: &mut Stage, scene: &Scene<'_>, inputs: &[Input], place: usize
     requires here { IsAtPlace scene.now inputs.now place stage.old }
     ensures { IsAtPlace scene.now inputs.now (place + 1) stage.new }
 {
-    runs_in_parts();
-    play_frame::<Brand>(stage, scene, &inputs[place], Blank::new(1));
+    step_units(stage, scene, inputs, place);
 }
 
 /// Runs from a reset up to a place, in as many frames as its number.
@@ -123,6 +149,13 @@ pub fn painted(stage: &Stage) -> &[u8]
     ensures { result.now ≡ stage.now.image.value }
 {
     stage.image.as_slice()
+}
+
+/// The state of the console.
+pub fn state(stage: &Stage) -> &State
+    ensures { result.now ≡ stage.now.console }
+{
+    stage.console.state()
 }
 
 /// The bytes on the disk.

@@ -118,12 +118,14 @@ fn add_status(text: &mut Vec<u8>, status: Status) -> Result<(), OutOfMemory>
 {
     match status {
         Status::Done => Ok(()),
+        Status::Different => Ok(()),
         Status::Usage => add_words(text, b"usage"),
         Status::CartRefused(kind) => add_refused_cart(text, kind),
         Status::RecordingRefused(kind) => add_refused_recording(text, kind),
         Status::FontRefused => add_words(text, b"font: not 1792 bytes"),
         Status::ScriptRefused(kind) => add_refused_script(text, kind),
         Status::ReadFault => add_words(text, b"cannot read"),
+        Status::InputFault => add_words(text, b"cannot read input"),
         Status::WriteFault => add_words(text, b"cannot write"),
         Status::OutOfMemory => add_words(text, b"out of memory"),
         Status::FrameRefused { number, n } => add_refused_frame(text, number, n),
@@ -131,7 +133,7 @@ fn add_status(text: &mut Vec<u8>, status: Status) -> Result<(), OutOfMemory>
     }
 }
 
-/// The line that standard error gets. After `Done` none is written.
+/// The line that standard error gets. After `Done` and `Different` none is written.
 pub fn status_line(alloc: Global, status: Status) -> Result<Vec<u8>, OutOfMemory>
     ensures { IfOk result (λ line. line.items ≡ status_line status) }
 {

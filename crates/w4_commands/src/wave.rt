@@ -6,9 +6,8 @@ ghost use Rattle.w4_defs.specs.Meaning.{RunsHaveMeaning};
 ghost use Rattle.w4_defs.specs.Sound.{after_frame, rendered, samples, wav_header};
 ghost use Rattle.w4_defs.specs.State.{HasGlobals};
 ghost use Rattle.w4_defs.specs.World.{LeavesWriting};
-ghost use Rattle.w4_defs.specs.Causes.{Ends, LeavesErr};
-ghost use Rattle.w4_commands.specs.Causes.{MakesOf, Written, WritesOut};
-ghost use Rattle.w4_defs.specs.Endings.{manner_of};
+ghost use Rattle.w4_defs.specs.Causes.{LeavesErr};
+ghost use Rattle.w4_commands.specs.Causes.{EndsDone, MakesOf, Written};
 ghost use Rattle.w4_commands.specs.Scenes.{scene_records, stage_moment};
 ghost use Rattle.w4_defs.specs.ToolOutputs.{wave_output, wave_text};
 ghost use Rattle.w4_commands.specs.Views.{cart_view, played_view, run_view};
@@ -20,7 +19,7 @@ use crate::stage::{Stage, new_stage, render, run_to, step};
 use crate::writing::write_bytes;
 use std::alloc::Global;
 use w4_cart::CartFile;
-use w4_defs::{Input, Status};
+use w4_defs::{Input, Refusal};
 use w4_house::House;
 use w4_wave::{FRAME_LEN, Wave, wav_header};
 
@@ -31,38 +30,23 @@ pub fn run_wave<H: House>(
     house: &mut H,
     file: &CartFile,
     names: RunNames<'_>,
-) -> Status
+) -> Result<(), Refusal>
     requires meaning { RunsHaveMeaning file.now.cart }
-    ensures ends { Ends (H.world house.old) (H.world house.new) (manner_of result)
+    ensures ends { EndsDone (H.world house.old) (H.world house.new) result
         (MakesOf (λ files. wave_output (run_view names.entry) (cart_view file.now) files)) }
-    ensures formed { result ≡ Status.Usage → ⊥ }
     ensures err { LeavesErr (H.world house.old) (H.world house.new) }
 {
-    match load_run(alloc, house, &file.digest, names) {
-        Ok(run) => write_wave(alloc, house, file, &run),
-        Err(status) => status,
-    }
+    let run = load_run(alloc, house, &file.digest, names)?;
+    write_wave(alloc, house, file, &run)
 }
 
 /// Writes the header and the samples of all places of a run.
-fn write_wave<H: House>(alloc: Global, house: &mut H, file: &CartFile, run: &Played) -> Status
-    ensures writes_out { ForSome (wave_text file.now.cart (played_view run.now))
-        (λ text. WritesOut (H.world house.old) (H.world house.new) (manner_of result) text) }
-    ensures rest { LeavesWriting (H.world house.old) (H.world house.new) }
-{
-    match try_write_wave(alloc, house, file, run) {
-        Ok(()) => Status::Done,
-        Err(status) => status,
-    }
-}
-
-/// Writes the header and the samples of all places of a run. Errors: the status that ends the run.
-fn try_write_wave<H: House>(
+fn write_wave<H: House>(
     alloc: Global,
     house: &mut H,
     file: &CartFile,
     run: &Played,
-) -> Result<(), Status>
+) -> Result<(), Refusal>
     ensures out { ForSome (wave_text file.now.cart (played_view run.now))
         (λ text. Written (H.world house.old) (H.world house.new) result text) }
     ensures rest { LeavesWriting (H.world house.old) (H.world house.new) }
@@ -81,7 +65,7 @@ fn try_write_wave<H: House>(
 }
 
 /// Writes the header of a file of so many places.
-fn write_header<H: House>(alloc: Global, house: &mut H, places: usize) -> Result<(), Status>
+fn write_header<H: House>(alloc: Global, house: &mut H, places: usize) -> Result<(), Refusal>
     requires { places ≤ 36001 }
     ensures out { Written (H.world house.old) (H.world house.new) result
         (wav_header places) }
@@ -98,7 +82,7 @@ fn write_samples<H: House>(
     stage: &mut Stage,
     scene: &Scene<'_>,
     inputs: &[Input],
-) -> Result<(), Status>
+) -> Result<(), Refusal>
     requires disk { length scene.now.disk.now ≤ 1024 }
     requires budget { 1 ≤ scene.now.budget }
     requires globals { HasGlobals scene.now.cart.now stage.old.console }
@@ -122,7 +106,7 @@ fn write_frame<H: House>(
     house: &mut H,
     stage: &Stage,
     wave: &mut Wave,
-) -> Result<(), Status>
+) -> Result<(), Refusal>
     ensures out { Written (H.world house.old) (H.world house.new) result
         (rendered (stage_moment stage.now).frame_record wave.old) }
     ensures wave { wave.new ≡ after_frame (stage_moment stage.now).frame_record wave.old }

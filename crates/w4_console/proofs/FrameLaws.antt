@@ -5,6 +5,7 @@ use Rattle.w4_defs.specs.declared.console.Input.{Input}
 use Rattle.w4_defs.specs.Frame.{before_update, frame, update}
 use Rattle.w4_defs.specs.Reset.{recorded, reset, Setup, start, with_empty_logs}
 use Rattle.w4_defs.specs.State.{empty_record, FrameRecord, Moment, State, LoggedState}
+use Rattle.w4_defs.specs.Units.{Taken, frame_units, taken_from}
 use Rattle.w4_devices.specs.declared.frame_record.FrameRecord.{FrameRecord as Record}
 use Rattle.w4_devices.specs.Records.{record_of}
 use Rattle.w4_console.specs.ConsoleCalls.{so_far}
@@ -17,6 +18,14 @@ unfolding frame
 framed setup state input first next moment b u r =
     ap (λ o. option_map recorded (option_and_then (update setup input) o)) b ∙ ap (option_map recorded) u
     ∙ ap Some (sym r)
+
+-- what it takes is told of the state before `update`
+pub frame_taken : (setup : Setup) (state : State) (input : Input) (first : LoggedState) (taken : Taken)
+    → before_update setup state input ≡ Some first
+    → taken_from setup input first first.state.halt ≡ Some taken
+    → frame_units setup state input ≡ Some taken
+frame_taken setup state input first taken b t =
+    ap (option_and_then (λ (now : LoggedState). taken_from setup input now now.state.halt)) b ∙ t
 
 pub was_reset : (setup : Setup) (disk : List ℕ) (next : LoggedState) (moment : Moment)
     → start setup disk ≡ Some next → moment ≡ recorded next

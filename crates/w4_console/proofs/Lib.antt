@@ -4,3 +4,4 @@ mod FrameLaws
 mod GlobalLaws
 mod SegmentLaws
 mod MeaningLaws
+pub mod TakenLaws

@@ -1,14 +1,16 @@
 //! Calls of a cart's entry functions. The devices are moved into a board and back, which takes no memory.
 
-ghost use Rattle.std.specs.Option.{IfSome, OnSome};
-ghost use Rattle.std.specs.Prelude.{◌≡◌, Some};
+ghost use Rattle.std.specs.Option.{IfSome};
+ghost use Rattle.std.specs.Prelude.{◌≡◌, OnOk, Some};
 ghost use Rattle.w4_defs.specs.declared.console.Halt.TheVariants.{Running};
 ghost use Rattle.w4_defs.specs.Lookup.{signature_of};
 ghost use Rattle.w4_defs.specs.Reset.{store_of, logged_state_after};
 ghost use Rattle.w4_console.specs.ConsoleCalls.{halt_after, IsCalled, IsCalledFirst, rest_after, so_far};
+ghost use Rattle.w4_console.specs.ConsoleCalls.{TakesUnits, TakesUnitsFirst};
 ghost use Rattle.w4_defs.specs.State.{HasGlobals};
 ghost use Rattle.w4_defs.specs.Module.{nothing_to_nothing};
 
+use crate::taken::Stop;
 use std::mem;
 use w4_blit::Font;
 use w4_defs::Halt;
@@ -18,8 +20,8 @@ use w4_map::State;
 use wasm_machine::{Ending, Machine};
 use wasm_valid::Cart;
 
-/// Calls a function, where there is one. The rest of the budget where it comes to its end or there is none;
-/// None where it traps or is spent, and then halt says so. The record's logs go on.
+/// Calls a function, where there is one. The rest of the budget where it comes to its end or there is none.
+/// Errors: it traps or is spent, and halt says so too. The record's logs go on.
 pub(crate) fn call_if_there(
     machine: &mut Machine,
     state: &mut State,
@@ -28,22 +30,25 @@ pub(crate) fn call_if_there(
     function: Option<u32>,
     budget: u32,
     frame_record: &mut FrameRecord,
-) -> Option<u32>
+) -> Result<u32, Stop>
     requires signature { IfSome function (λ f. signature_of cart.now f ≡ Some nothing_to_nothing) }
     requires globals { HasGlobals cart.now state.old }
     requires running { state.old.halt ≡ Running }
     ensures called { IsCalledFirst cart.now font.now function (so_far state.old frame_record.old) budget
         result (so_far state.new frame_record.new) }
+    ensures taken { TakesUnitsFirst cart.now font.now function (so_far state.old frame_record.old) budget
+        result (so_far state.new frame_record.new) }
     ensures globals { HasGlobals cart.now state.new }
-    ensures running { OnSome result (state.new.halt ≡ Running) }
+    ensures running { OnOk result (state.new.halt ≡ Running) }
 {
     match function {
-        None => Some(budget),
+        None => Ok(budget),
         Some(function) => call_function(machine, state, cart, font, function, budget, frame_record),
     }
 }
 
-/// Calls a function. The rest of the budget where it comes to its end; else None, and halt is set.
+/// Calls a function. The rest of the budget where it comes to its end. Errors: it traps or is spent, and halt
+/// says so too.
 pub(crate) fn call_function(
     machine: &mut Machine,
     state: &mut State,
@@ -52,13 +57,15 @@ pub(crate) fn call_function(
     function: u32,
     budget: u32,
     frame_record: &mut FrameRecord,
-) -> Option<u32>
+) -> Result<u32, Stop>
     requires signature { signature_of cart.now function ≡ Some nothing_to_nothing }
     requires globals { HasGlobals cart.now state.old }
     ensures called { IsCalled cart.now font.now function (so_far state.old frame_record.old) budget
         result (so_far state.new frame_record.new) }
+    ensures taken { TakesUnits cart.now font.now function (so_far state.old frame_record.old) budget
+        result (so_far state.new frame_record.new) }
     ensures globals { HasGlobals cart.now state.new }
-    ensures running { OnSome result (state.new.halt ≡ Running) }
+    ensures running { OnOk result (state.new.halt ≡ Running) }
 {
     let mut board = board_of(font, state, frame_record);
     let ending = machine.invoke(
@@ -110,11 +117,12 @@ fn halt_after(ending: Ending) -> Halt
     }
 }
 
-fn rest_after(ending: Ending) -> Option<u32>
+fn rest_after(ending: Ending) -> Result<u32, Stop>
     ensures { result ≡ rest_after ending }
 {
     match ending {
-        Ending::Done { rest } => Some(rest),
-        Ending::Trap(_) | Ending::Spent => None,
+        Ending::Done { rest } => Ok(rest),
+        Ending::Trap(_) => Err(Stop::Trapped),
+        Ending::Spent => Err(Stop::Spent),
     }
 }

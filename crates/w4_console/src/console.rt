@@ -1,15 +1,18 @@
 //! The console.
 
-ghost use Rattle.std.specs.Prelude.{◌≡◌, ◌+◌, ◌≤◌, IfOk, length, Some};
+ghost use Rattle.std.specs.Prelude.{◌≡◌, ◌+◌, ◌≤◌, IfOk, length, option_map, Some};
 ghost use Rattle.w4_defs.specs.Board.{console_setup};
 ghost use Rattle.w4_defs.specs.EntryPoints.{first_globals};
 ghost use Rattle.w4_defs.specs.Frame.{frame};
 ghost use Rattle.w4_defs.specs.Reset.{reset};
 ghost use Rattle.w4_defs.specs.State.{blank_state, HasGlobals};
+ghost use Rattle.w4_defs.specs.Units.{frame_units, reset_units, start_units};
 ghost use Rattle.w4_console.specs.ConsoleCalls.{moment};
+ghost use Rattle.w4_console.specs.TakenUnits.{taken_of};
 
 use crate::frames::{begin_frame, record, update};
 use crate::start::{first_globals, start_cart};
+use crate::taken::{FrameTaken, Taken};
 use std::alloc::Global;
 use std::marker::Model;
 use std::sync::ledger::Ledger;
@@ -51,7 +54,8 @@ impl Console {
     }
 
     /// Starts a cart with this disk, of at most 1,024 bytes, under a budget of at least one unit.
-    /// `frame_record` gets what the start functions left, and the sounds before the channels age.
+    /// `frame_record` gets what the start functions left, and the sounds before the channels age. What they
+    /// took of the budget.
     pub fn reset(
         &mut self,
         cart: &Cart,
@@ -59,23 +63,27 @@ impl Console {
         disk: &[u8],
         budget: u32,
         frame_record: &mut FrameRecord,
-    )
+    ) -> Taken
         requires disk { length disk.now ≤ 1024 }
         requires budget { 1 ≤ budget }
         requires globals { HasGlobals cart.now self.old }
         ensures reset { reset (console_setup cart.now font.now budget) disk.now
             ≡ Some (moment self.new frame_record.new) }
+        ensures taken { start_units (console_setup cart.now font.now budget) disk.now
+            ≡ Some (taken_of result) }
         ensures globals { HasGlobals cart.now self.new }
     {
         let (machine, state) = (&mut self.machine, &mut self.state);
         state.disk = Disk::new(disk);
-        start_cart(machine, state, cart, font, budget, frame_record);
+        let taken = start_cart(machine, state, cart, font, budget, frame_record);
         record(state, frame_record);
+        taken
     }
 
     /// Runs one frame under a budget of at least one unit, and ticks once. An input with a reset starts the
     /// cart anew first, with the disk that the state has. A halted console only ages its channels.
-    /// `frame_record` gets the frame's tones and lines, and the sounds before the channels age.
+    /// `frame_record` gets the frame's tones and lines, and the sounds before the channels age. What the frame
+    /// took of its budget, and such a start.
     pub fn frame<L: Ledger>(
         &mut self,
         cart: &Cart,
@@ -84,19 +92,24 @@ impl Console {
         budget: u32,
         frame_record: &mut FrameRecord,
         steps: &mut Steps<L>,
-    )
+    ) -> FrameTaken
         requires budget { 1 ≤ budget }
         requires globals { HasGlobals cart.now self.old }
         ensures frame { frame (console_setup cart.now font.now budget) self.old input.now
             ≡ Some (moment self.new frame_record.new) }
+        ensures update { frame_units (console_setup cart.now font.now budget) self.old input.now
+            ≡ Some (taken_of result.update) }
+        ensures start { reset_units (console_setup cart.now font.now budget) self.old input.now
+            ≡ Some (option_map taken_of result.start) }
         ensures globals { HasGlobals cart.now self.new }
         ensures ticks { steps.new ≡ steps.old + 1 }
     {
         steps.tick();
         let (machine, state) = (&mut self.machine, &mut self.state);
-        begin_frame(machine, state, cart, font, input, budget, frame_record);
-        update(machine, state, cart, font, input, budget, frame_record);
+        let start = begin_frame(machine, state, cart, font, input, budget, frame_record);
+        let update = update(machine, state, cart, font, input, budget, frame_record);
         record(state, frame_record);
+        FrameTaken { update, start }
     }
 
     /// The state, to be read.

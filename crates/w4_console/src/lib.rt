@@ -9,5 +9,9 @@ mod frames;
 pub mod laws;
 mod page;
 mod start;
+pub mod taken;
+pub mod units_text;
 
 pub use console::Console;
+pub use taken::{FrameTaken, Taken};
+pub use units_text::{start_line, units_line};

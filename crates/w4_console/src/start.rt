@@ -7,11 +7,14 @@ ghost use Rattle.w4_defs.specs.EntryPoints.{first_globals, start_functions};
 ghost use Rattle.w4_defs.specs.Lookup.{own_global_types};
 ghost use Rattle.w4_defs.specs.Reset.{call_all, fresh, start};
 ghost use Rattle.w4_defs.specs.RunLaws.{types_of};
+ghost use Rattle.w4_defs.specs.Units.{start_units, taken_by_calls};
 ghost use Rattle.w4_console.specs.ConsoleCalls.{so_far};
+ghost use Rattle.w4_console.specs.TakenUnits.{taken_by_calls_of, taken_of};
 ghost use Rattle.w4_defs.specs.State.{HasGlobals};
 
 use crate::calls::call_if_there;
 use crate::page::put_start_page;
+use crate::taken::{Stop, Taken, taken_by_calls};
 use w4_blit::Font;
 use w4_defs::{Halt, Val};
 use w4_devices::FrameRecord;
@@ -21,6 +24,7 @@ use wasm_machine::Machine;
 use wasm_valid::{Cart, Entry};
 
 /// Starts a cart with the state's own disk: everything else anew, then the functions that a reset calls.
+/// What they took.
 pub(crate) fn start_cart(
     machine: &mut Machine,
     state: &mut State,
@@ -28,15 +32,18 @@ pub(crate) fn start_cart(
     font: &Font,
     budget: u32,
     frame_record: &mut FrameRecord,
-)
+) -> Taken
     requires globals { HasGlobals cart.now state.old }
     ensures start { start (console_setup cart.now font.now budget) state.old.disk
         ≡ Some (so_far state.new frame_record.new) }
+    ensures taken { start_units (console_setup cart.now font.now budget) state.old.disk
+        ≡ Some (taken_of result) }
     ensures globals { HasGlobals cart.now state.new }
 {
     put_fresh(state, cart);
     *frame_record = FrameRecord::new();
-    call_all(machine, state, cart, font, budget, frame_record);
+    let rest = call_all(machine, state, cart, font, budget, frame_record);
+    taken_by_calls(budget, rest)
 }
 
 /// The state before a reset's calls; the disk stays.
@@ -62,7 +69,7 @@ pub(crate) fn first_globals(cart: &Cart) -> &[Val]
 }
 
 /// Calls the start function and the exports `_start`, `_initialize` and `start`, where present, under one
-/// budget, up to the first that traps or is spent.
+/// budget, up to the first that traps or is spent. The rest of the budget.
 fn call_all(
     machine: &mut Machine,
     state: &mut State,
@@ -70,11 +77,13 @@ fn call_all(
     font: &Font,
     budget: u32,
     frame_record: &mut FrameRecord,
-) -> Option<u32>
+) -> Result<u32, Stop>
     requires globals { HasGlobals cart.now state.old }
     requires running { state.old.halt ≡ Running }
     ensures called { call_all (console_setup cart.now font.now budget) (start_functions cart.now)
         (so_far state.old frame_record.old) budget ≡ Some (so_far state.new frame_record.new) }
+    ensures taken { taken_by_calls (console_setup cart.now font.now budget) (start_functions cart.now)
+        (so_far state.old frame_record.old) budget ≡ Some (taken_by_calls_of budget result) }
     ensures globals { HasGlobals cart.now state.new }
 {
     let rest = call_if_there(

@@ -21,6 +21,9 @@ pub mod FrameLaws
 pub mod OptionLaws
 pub mod AllThereLaws
 pub mod ThereLaws
+pub mod UnitsThereLaws
+pub mod ComparedThereLaws
+pub mod LiveThereLaws
 pub mod OutputsThereLaws
 pub mod CompleteLaws
 pub mod RefusalOrder

@@ -1,6 +1,5 @@
 -- Which refusal comes first.
-use Rattle.std.proofs.Common.{◌≡◌, ◌<◌, ℕ, List, length, refl}
-use Rattle.std.specs.Prelude.{Ok, Err}
+use Rattle.std.proofs.Common.{length, refl}
 use Rattle.std.proofs.lemmas.Bool.{lt-leb}
 use Rattle.w4_defs.specs.Output.{edit_files, run_files, run_files_to}
 use Rattle.w4_defs.specs.WorkedAnswers.{RefusalsInOrder}

@@ -1,5 +1,5 @@
 -- Predictions, and packets in whatever order.
-use Rattle.std.proofs.Common.{◌≡◌, ◌⊎◌, refl, ℕ, zero, suc, inl, inr, Bool, true, false, cond, ◌&&◌, nat_lt, List, [], ◌∷◌, Option, Some, None, sym, ◌∙◌, ap, arith}
+use Rattle.std.proofs.Common.{◌≡◌, ◌⊎◌, refl, ℕ, zero, suc, inl, inr, Bool, true, false, cond, ◌&&◌, List, [], ◌∷◌, Option, Some, None, sym, ◌∙◌, ap, arith}
 use Rattle.std.specs.Prelude.{◌==◌, All, Contains, fold, unwrap_or, option_and_then, option_map, is_none, nat_le}
 use Rattle.std.proofs.lemmas.Bool.{true≢false, cases_lt, cases_Bool, eqb-true, eq-eqb, and_parts, and_from, cond-true, cond-false, cond_both}
 use Rattle.std.proofs.lemmas.List.FromFn.{map-range_with_len_more}

@@ -1,5 +1,5 @@
 -- What is told is there, where the runs that it tells of have a meaning.
-use Rattle.std.proofs.Common.{◌≡◌, ℕ, ◌+◌, ◌-◌, Bool, true, false, cond, List, [], ◌∷◌, ◌++◌, map, length, Option, Some, None, option_map, option_and_then, codes, refl}
+use Rattle.std.proofs.Common.{◌≡◌, ℕ, zero, suc, ◌+◌, ◌-◌, ◌<◌, ◌≤◌, arith, Bool, true, false, cond, List, [], ◌∷◌, ◌++◌, map, length, Option, Some, None, option_map, option_and_then, codes, refl}
 use Rattle.std.specs.Prelude.{IsSome, Result, Ok, Err, nat_le, nat_lt, bytes_eq}
 use Rattle.std.specs.List.{range_with_len}
 use Rattle.w4_defs.specs.declared.batch.BatchRow.{BatchRow}
@@ -65,6 +65,16 @@ pub texts_there : {A : Type 0} (text : A → Option (List ℕ)) → ((x : A) →
 texts_there text there [] = refl
 texts_there text there (x ∷ xs) =
     joined_there (text x) (all_joined (map text xs)) (there x) (texts_there text there xs)
+
+-- the texts of places that are within these bounds
+pub texts_within : (text : ℕ → Option (List ℕ)) (from count : ℕ)
+    → ((place : ℕ) → from ≤ place → place < from + count → IsSome (text place))
+    → IsSome (place_texts text from count)
+texts_within text from zero there = refl
+texts_within text from (suc count) there =
+    joined_there (text from) (place_texts text (from + 1) count)
+    (there from (omega arith) (omega arith))
+    (texts_within text (from + 1) count (λ place low high. there place (omega arith) (omega arith)))
 
 pub one_more_there : {A : Type 0} (first : Option A) (rest : Option (List A)) → IsSome first → IsSome rest
     → IsSome (option_and_then (λ value. option_map (λ values. value ∷ values) rest) first)
@@ -133,7 +143,7 @@ answered_there : {S : Type 0} (test : Bool) (one other : Answered S) → IsSome 
 answered_there true one other one_there other_there = one_there
 answered_there false one other one_there other_there = other_there
 
-chosen_there : {A : Type 0} (test : Bool) (one other : Option A) → IsSome one → IsSome other
+pub chosen_there : {A : Type 0} (test : Bool) (one other : Option A) → IsSome one → IsSome other
     → IsSome (cond test one other)
 chosen_there true one other one_there other_there = one_there
 chosen_there false one other one_there other_there = other_there
@@ -150,7 +160,7 @@ film_there : (form : PieceForm) (images : Option (List ℕ)) (refusal : Option F
 film_there form images None there = there
 film_there form images (Some refusal) there = refl
 
-place_there : (form : PieceForm) (session : Session ℕ) (last : ℕ) (out : Option (List ℕ)) → IsSome out
+pub place_there : (form : PieceForm) (session : Session ℕ) (last : ℕ) (out : Option (List ℕ)) → IsSome out
     → IsSome (if_place form session last out)
 place_there form session last out there =
     chosen_there (nat_le last (length session.current.inputs)) out (Some (form no_frame)) there refl

@@ -1,63 +1,120 @@
--- What each status says of the world before and after, where a step on files is what the program does. A step
+-- What a status says of the world before and after, where a step on files is what the program does. A step
 -- says which results the files allow.
-use Rattle.std.specs.Prelude.{◌≡◌, ◌≢◌, ◌⊎◌, List, ℕ, Some, Result, Ok, Err, ⊤}
+use Rattle.std.specs.Prelude.{◌≡◌, ◌⊎◌, ◌<◌, ◌+◌, List, [], ◌∷◌, ℕ, ◌++◌, length, slice_get, take, Option, Some, Result, Ok, Err, ⊤}
 use Rattle.std.specs.Option.{ForSome}
+use Rattle.w4_defs.specs.declared.status.Finish.{Finish}
+use Rattle.w4_defs.specs.declared.status.Refusal.{Refusal}
+use Rattle.w4_defs.specs.declared.status.Refusal.TheVariants as refusal
 use Rattle.w4_defs.specs.declared.status.Status.{Status}
 use Rattle.w4_defs.specs.declared.status.Status.TheVariants as status
-use Rattle.w4_defs.specs.Endings.{Manner, AllWritten, NoCommand, ReadFailed, WriteFailed, MemoryRefused, Refused, manner_of}
-use Rattle.w4_defs.specs.Output.{Output}
+use Rattle.w4_defs.specs.Endings.{Manner, ReadFailed, InputFailed, WriteFailed, MemoryRefused, Refused, manner_of, status_of_finish, status_of_refusal}
+use Rattle.w4_defs.specs.Output.{Output, all_events}
 use Rattle.w4_defs.specs.StatusLines.{status_line}
-use Rattle.w4_defs.specs.World.{Files, World, Rises, Appends, AppendsFront}
+use Rattle.w4_defs.specs.World.{Event, Took, InputEnded, InputLost, Files, World, Rises, Appends, AppendsFront, Does, FailsToSave}
 
 -- a read failed, or a file whose turn came isn't among those that the house tells
-abbrev pub ReadFails : {Y : Type 0} → World → World → (Files → Result Y Status → Type 0) → Type 0
+abbrev pub ReadFails : {Y : Type 0} → World → World → (Files → Result Y Refusal → Type 0) → Type 0
 ReadFails old new step = Rises old.read_faults new.read_faults
-    ⊎ ((files : Files) × (old.files ≡ Some files) × step files (Err status.ReadFault))
+    ⊎ ((files : Files) × (old.files ≡ Some files) × step files (Err refusal.ReadFault))
 
 -- where the house tells its files, the step is refused so
-abbrev pub StepRefuses : {Y : Type 0} → World → Status → (Files → Result Y Status → Type 0) → Type 0
-StepRefuses old refusal step = ForSome old.files (λ files. step files (Err refusal))
+abbrev pub StepRefuses : {Y : Type 0} → World → Refusal → (Files → Result Y Refusal → Type 0) → Type 0
+StepRefuses old why step = ForSome old.files (λ files. step files (Err why))
 
--- standard output and all files are unchanged
+-- nothing was done, and all files are unchanged
 abbrev pub LeavesOutputs : World → World → Type 0
-LeavesOutputs old new = (new.out ≡ old.out) × (new.files ≡ old.files)
+LeavesOutputs old new = (new.events ≡ old.events) × (new.files ≡ old.files)
 
--- where told, all that was to be made has been written, and no other file has changed
-abbrev pub Writes : World → World → Output → Type 0
-Writes old new output = Appends old.out new.out output.out × (new.files ≡ Some output.files)
+-- standard input is what is wanted next
+abbrev pub WantsInput : Option Event → Type 0
+WantsInput (Some (Took line)) = ⊤
+WantsInput (Some InputEnded) = ⊤
+WantsInput other = ⊥
 
--- standard output has got a first part of what was to be made, and no file has changed; or all that was to
--- be made has been written
+-- so many of the events happened, and then the file was replaced that is saved after a stop
+abbrev pub stopped_events : Output → ℕ → List Event
+stopped_events output count = take count output.events ++ output.rescued count
+
+-- a write to standard output failed after so many of the events, of which more were to come unless nothing
+-- is saved after a stop
+abbrev pub IsShort : Output → ℕ → Type 0
+IsShort output count = (count < length output.events) ⊎ (output.rescued count ≡ [])
+
+-- a write failed: one to standard output, after which the file was replaced that is saved after a stop, or
+-- that failed too; or, after a read of standard input that failed, replacing this file; or replacing the one
+-- at the end
 abbrev pub WritesPart : World → World → Output → Type 0
-WritesPart old new output = (AppendsFront old.out new.out output.out × (new.files ≡ old.files))
-    ⊎ Writes old new output
+WritesPart old new output =
+    ((count : ℕ) × IsShort output count
+    × (Does old new (stopped_events output count)
+    ⊎ FailsToSave old new (take count output.events) (output.rescued count)))
+    ⊎ (((count : ℕ) × WantsInput (slice_get output.events count)
+    × FailsToSave old new (take count output.events ++ InputLost ∷ []) (output.rescued count))
+    ⊎ FailsToSave old new output.events output.saved)
 
--- how a whole step ended
-abbrev pub Ends : World → World → Manner → (Files → Result Output Status → Type 0) → Type 0
-Ends old new AllWritten step =
-    ForSome old.files (λ files. (output : Output) × step files (Ok output) × Writes old new output)
-Ends old new NoCommand step = StepRefuses old status.Usage step × LeavesOutputs old new
-Ends old new ReadFailed step = ReadFails old new step × LeavesOutputs old new
-Ends old new WriteFailed step =
+-- a read of standard input failed where a line was wanted, and then the file was replaced that is saved after
+-- a stop
+abbrev pub LosesInput : World → World → Output → Type 0
+LosesInput old new output = (count : ℕ) × WantsInput (slice_get output.events count)
+    × Does old new (take count output.events ++ InputLost ∷ output.rescued count)
+
+-- memory ran out after so many of the events: no more has happened; or the file was replaced that is saved
+-- after these or, where the last of them asked for an edit that wasn't made, after those before it; or that
+-- failed too; or it was to be replaced after a read of standard input that failed
+abbrev pub RunsOutAfter : World → World → Output → ℕ → Type 0
+RunsOutAfter old new output count =
+    Does old new (take count output.events)
+    ⊎ (((before : ℕ) × ((before ≡ count) ⊎ (before + 1 ≡ count))
+    × (Does old new (take count output.events ++ output.rescued before)
+    ⊎ FailsToSave old new (take count output.events) (output.rescued before)))
+    ⊎ (WantsInput (slice_get output.events count)
+    × Does old new (take count output.events ++ InputLost ∷ [])))
+
+-- how a step that wasn't done ended
+abbrev pub EndsRefused : World → World → Manner → (Files → Result Output Refusal → Type 0) → Type 0
+EndsRefused old new ReadFailed step = ReadFails old new step × LeavesOutputs old new
+EndsRefused old new InputFailed step =
+    Rises old.read_faults new.read_faults
+    × ForSome old.files (λ files. (output : Output) × step files (Ok output) × LosesInput old new output)
+EndsRefused old new WriteFailed step =
     Rises old.write_faults new.write_faults
     × ForSome old.files (λ files. (output : Output) × step files (Ok output) × WritesPart old new output)
-Ends old new MemoryRefused step =
-    (new.files ≡ old.files)
-    × ((new.out ≡ old.out)
+EndsRefused old new MemoryRefused step =
+    LeavesOutputs old new
     ⊎ ForSome old.files
-    (λ files. (output : Output) × step files (Ok output) × AppendsFront old.out new.out output.out))
-Ends old new (Refused refusal) step = StepRefuses old refusal step × LeavesOutputs old new
+    (λ files. (output : Output) × step files (Ok output) × (count : ℕ) × RunsOutAfter old new output count)
+EndsRefused old new (Refused why) step = StepRefuses old why step × LeavesOutputs old new
 
--- a refusal or a failed read, which leaves standard output and all files as they were
+-- all was done, with this finish
+abbrev pub EndsWhole : World → World → Finish → (Files → Result Output Refusal → Type 0) → Type 0
+EndsWhole old new finish step =
+    ForSome old.files (λ files. (output : Output) × step files (Ok output) × (output.finish ≡ finish)
+    × Does old new (all_events output))
+
+-- how a whole step ended
+abbrev pub Ends : World → World → Result Finish Refusal → (Files → Result Output Refusal → Type 0) → Type 0
+Ends old new (Ok finish) step = EndsWhole old new finish step
+Ends old new (Err why) step = EndsRefused old new (manner_of why) step
+
+-- a refusal or a failed read of a file, after which nothing was done and all files are as they were
 abbrev pub ChangesNothing : Status → Type 0
 ChangesNothing status.Done = ⊥
+ChangesNothing status.Different = ⊥
+ChangesNothing status.InputFault = ⊥
 ChangesNothing status.WriteFault = ⊥
 ChangesNothing status.OutOfMemory = ⊥
 ChangesNothing other = ⊤
 
+-- all was done, with a difference or without
+abbrev pub IsWhole : Status → Type 0
+IsWhole status.Done = ⊤
+IsWhole status.Different = ⊤
+IsWhole other = ⊥
+
 -- statuses whose line is on standard error
 abbrev pub IsReported : Status → Type 0
 IsReported status.Done = ⊥
+IsReported status.Different = ⊥
 IsReported status.OutOfMemory = ⊥
 IsReported other = ⊤
 
@@ -66,23 +123,25 @@ abbrev pub Reports : World → World → List ℕ → Type 0
 Reports old new line = Appends old.err new.err line
     ⊎ (Rises old.err_faults new.err_faults × AppendsFront old.err new.err line)
 
--- the status of what the program makes
-abbrev pub status_of : Result Output Status → Status
-status_of (Ok output) = status.Done
-status_of (Err refusal) = refusal
+-- the status of what the program does
+abbrev pub status_of : Result Output Refusal → Status
+status_of (Ok output) = status_of_finish output.finish
+status_of (Err why) = status_of_refusal why
 
--- memory ran out, or the status is that of a result which the step allows
-abbrev pub IsExact : Status → (Result Output Status → Type 0) → Type 0
-IsExact result step =
-    (result ≡ status.OutOfMemory) ⊎ ((output : Result Output Status) × step output
-    × (result ≡ status_of output))
+-- memory ran out, no form has these words, or the status is that of a result which the step allows
+abbrev pub IsExact : Status → Type 0 → (Result Output Refusal → Type 0) → Type 0
+IsExact result NoForm step =
+    (result ≡ status.OutOfMemory) ⊎ (((result ≡ status.Usage) × NoForm)
+    ⊎ ((output : Result Output Refusal) × step output × (result ≡ status_of output)))
 
 -- nothing was written to standard error
 abbrev pub LeavesErr : World → World → Type 0
 LeavesErr old new = (new.err ≡ old.err) × (new.err_faults ≡ old.err_faults)
 
--- memory ran out, in the work or while a status of it was reported: what stands is what that status says,
--- and standard error has got a first part of its line. Only words without a form are refused as such
-abbrev pub IsCutShort : World → World → Type 0 → (Files → Result Output Status → Type 0) → Type 0
-IsCutShort old new NoForm step = (why : Status) × (why ≢ status.Done) × (why ≡ status.Usage → NoForm)
-    × Ends old new (manner_of why) step × AppendsFront old.err new.err (status_line why)
+-- memory ran out, in the work or while its status was reported: what stands is what that status says, and
+-- standard error has got a first part of its line. Only words without a form are refused as such
+abbrev pub IsCutShort : World → World → Type 0 → (Files → Result Output Refusal → Type 0) → Type 0
+IsCutShort old new NoForm step =
+    (NoForm × LeavesOutputs old new × AppendsFront old.err new.err (status_line status.Usage))
+    ⊎ ((why : Refusal) × EndsRefused old new (manner_of why) step
+    × AppendsFront old.err new.err (status_line (status_of_refusal why)))

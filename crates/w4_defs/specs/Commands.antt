@@ -17,6 +17,19 @@ pub record EditWords : Type 0 where
   pub script : List ℕ
   pub out : List ℕ
 
+-- and that of a file to write, without a script
+pub record ServeWords : Type 0 where
+  pub run : RunWords
+  pub out : List ℕ
+
+-- the names of two carts with a recording each, and of the font of both runs
+pub record CompareWords : Type 0 where
+  pub cart : List ℕ
+  pub recording : List ℕ
+  pub other_cart : List ℕ
+  pub other_recording : List ℕ
+  pub font : List ℕ
+
 -- the names of a cart, a font and a log, and the budget
 pub record NetWords : Type 0 where
   pub cart : List ℕ
@@ -44,17 +57,26 @@ pub data Form : Type 0 where
   Ram : RunWords → List ℕ → Form
   Wave : RunWords → Form
   Batch : BatchWords → Form
+  Serve : ServeWords → Form
+  Units : RunWords → Form
+  Compare : CompareWords → Form
+  Rebind : List ℕ → List ℕ → Form
+  Inputs : List ℕ → Form
+  BlankDisk : List ℕ → ℕ → List ℕ → Form
 
 -- `check CART`
 abbrev pub check_form : List (List ℕ) → Option Form
 check_form (cart ∷ []) = Some (Check cart)
 check_form words = None
 
--- `blank CART BUDGET`, BUDGET at least 1
+-- `blank CART BUDGET` or `blank CART BUDGET DISK`, BUDGET at least 1
 unfoldable pub blank_form : List (List ℕ) → Option Form
 blank_form (cart ∷ budget ∷ []) = do
   budget ← number_of budget
   if nat_le 1 budget then Some (Blank cart budget) else None
+blank_form (cart ∷ budget ∷ disk ∷ []) = do
+  budget ← number_of budget
+  if nat_le 1 budget then Some (BlankDisk cart budget disk) else None
 blank_form words = None
 
 abbrev pub run_words : List ℕ → List ℕ → List ℕ → RunWords
@@ -124,6 +146,38 @@ batch_form (cart ∷ font ∷ list ∷ workers ∷ []) = do
       then Some (Batch (record { cart = cart; font = font; list = list; workers = workers })) else None
 batch_form words = None
 
+-- `serve CART REC FONT OUT`
+abbrev pub serve_form : List (List ℕ) → Option Form
+serve_form (cart ∷ recording ∷ font ∷ out ∷ []) =
+    Some (Serve (record { run = run_words cart recording font; out = out }))
+serve_form words = None
+
+-- `units CART REC FONT`
+abbrev pub units_form : List (List ℕ) → Option Form
+units_form (cart ∷ recording ∷ font ∷ []) = Some (Units (run_words cart recording font))
+units_form words = None
+
+-- `compare CART REC CART2 REC2 FONT`
+abbrev pub compare_form : List (List ℕ) → Option Form
+compare_form (cart ∷ recording ∷ other_cart ∷ other_recording ∷ font ∷ []) = Some (Compare (record {
+  cart = cart;
+  recording = recording;
+  other_cart = other_cart;
+  other_recording = other_recording;
+  font = font;
+}))
+compare_form words = None
+
+-- `rebind CART REC`
+abbrev pub rebind_form : List (List ℕ) → Option Form
+rebind_form (cart ∷ recording ∷ []) = Some (Rebind cart recording)
+rebind_form words = None
+
+-- `inputs REC`
+abbrev pub inputs_form : List (List ℕ) → Option Form
+inputs_form (recording ∷ []) = Some (Inputs recording)
+inputs_form words = None
+
 -- the commands by their names, and how the words after a name are read
 abbrev pub command_rows : List (OrderRow Form)
 command_rows =
@@ -139,6 +193,11 @@ command_rows =
     ∷ record { name = codes "ram"; order_from = ram_form }
     ∷ record { name = codes "wave"; order_from = wave_form }
     ∷ record { name = codes "batch"; order_from = batch_form }
+    ∷ record { name = codes "serve"; order_from = serve_form }
+    ∷ record { name = codes "units"; order_from = units_form }
+    ∷ record { name = codes "compare"; order_from = compare_form }
+    ∷ record { name = codes "rebind"; order_from = rebind_form }
+    ∷ record { name = codes "inputs"; order_from = inputs_form }
     ∷ []
 
 -- the form that the words have, or None
@@ -176,3 +235,30 @@ ToolFormCases =
 pub tool-form-cases : ToolFormCases
 unfolding form_of net_form batch_form number_of decimal_value
 tool-form-cases = (refl, refl, refl, refl, refl, refl, refl)
+
+-- Worked cases: the live session and the commands on recordings; a disk without a budget; a word too many.
+abbrev pub RecordingFormCases : Type 0
+RecordingFormCases =
+    (form_of (codes "serve" ∷ codes "c" ∷ codes "r" ∷ codes "f" ∷ codes "o" ∷ [])
+    ≡ Some (Serve (record { run = run_words (codes "c") (codes "r") (codes "f"); out = codes "o" })))
+    × (form_of (codes "units" ∷ codes "c" ∷ codes "r" ∷ codes "f" ∷ [])
+    ≡ Some (Units (run_words (codes "c") (codes "r") (codes "f"))))
+    × (form_of (codes "compare" ∷ codes "a" ∷ codes "r" ∷ codes "b" ∷ codes "s" ∷ codes "f" ∷ [])
+    ≡ Some (Compare (record {
+      cart = codes "a";
+      recording = codes "r";
+      other_cart = codes "b";
+      other_recording = codes "s";
+      font = codes "f";
+    })))
+    × (form_of (codes "rebind" ∷ codes "c" ∷ codes "r" ∷ []) ≡ Some (Rebind (codes "c") (codes "r")))
+    × (form_of (codes "inputs" ∷ codes "r" ∷ []) ≡ Some (Inputs (codes "r")))
+    × (form_of (codes "blank" ∷ codes "c" ∷ codes "7" ∷ codes "d" ∷ [])
+    ≡ Some (BlankDisk (codes "c") 7 (codes "d")))
+    × (form_of (codes "blank" ∷ codes "c" ∷ codes "0" ∷ codes "d" ∷ []) ≡ None)
+    × (form_of (codes "serve" ∷ codes "c" ∷ codes "r" ∷ codes "f" ∷ []) ≡ None)
+    × (form_of (codes "inputs" ∷ codes "r" ∷ codes "r" ∷ []) ≡ None)
+
+pub recording-form-cases : RecordingFormCases
+unfolding form_of blank_form number_of decimal_value
+recording-form-cases = (refl, refl, refl, refl, refl, refl, refl, refl, refl)

@@ -5,7 +5,7 @@ use Rattle.std.specs.Prelude.{◌≡◌, ℕ, ◌+◌, ◌≤◌, List, IsSome, 
 use Rattle.std.specs.List.{AllByRecursion}
 use Rattle.sha2.specs.Sha256.{sha256}
 use Rattle.w4_defs.specs.Cart.{IsCart}
-use Rattle.w4_defs.specs.Commands.{RunWords, Form, Check, Blank, Frames, Tones, Trace, Disk, Edit, Make, Net, Ram, Wave, Batch}
+use Rattle.w4_defs.specs.Commands.{RunWords, Form, Check, Blank, Frames, Tones, Trace, Disk, Edit, Make, Net, Ram, Wave, Batch, Serve, Units, Compare, Rebind, Inputs, BlankDisk}
 use Rattle.w4_defs.specs.NameLists.{names_of}
 use Rattle.w4_defs.specs.NetLog.{net_log_of}
 use Rattle.w4_defs.specs.declared.status.ScriptKind.{ScriptKind}
@@ -15,7 +15,7 @@ use Rattle.w4_defs.specs.RamQuery.{query_of}
 use Rattle.w4_defs.specs.Recording.{Recording, recording_of}
 use Rattle.w4_defs.specs.Script.{script_of}
 use Rattle.w4_defs.specs.World.{Files, front_of}
-use Rattle.w4_defs.specs.Limits.{cart_limit, recording_limit, font_size, script_limit, name_list_limit}
+use Rattle.w4_defs.specs.Limits.{cart_limit, disk_limit, recording_limit, font_size, script_limit, name_list_limit}
 
 -- an accepted cart, and the SHA-256 of its bytes
 pub record HasCart (files : Files) (name : List ℕ) (cart : CartFile) : Type 0 where
@@ -24,12 +24,21 @@ pub record HasCart (files : Files) (name : List ℕ) (cart : CartFile) : Type 0 
   pub accepted : IsCart bytes cart.code
   pub digest : cart.digest ≡ sha256 bytes
 
--- a recording of the cart with this digest
-pub record HasRecording (files : Files) (name digest : List ℕ) (r : Recording) : Type 0 where
+-- a recording, be it of any cart
+pub record HasAnyRecording (files : Files) (name : List ℕ) (r : Recording) : Type 0 where
   pub bytes : List ℕ
   pub there : front_of files name (recording_limit + 1) ≡ Some bytes
   pub encoded : recording_of bytes ≡ Some r
+
+-- a recording of the cart with this digest
+pub record HasRecording (files : Files) (name digest : List ℕ) (r : Recording) : Type 0 where
+  pub any : HasAnyRecording files name r
   pub of_cart : r.digest ≡ digest
+
+-- the bytes of a disk
+pub record HasDisk (files : Files) (name disk : List ℕ) : Type 0 where
+  pub there : front_of files name (disk_limit + 1) ≡ Some disk
+  pub size : length disk ≤ disk_limit
 
 pub record HasFont (files : Files) (name font : List ℕ) : Type 0 where
   pub there : front_of files name (font_size + 1) ≡ Some font
@@ -72,10 +81,25 @@ HasRest (Batch words) digest files =
     (font : List ℕ) × HasFont files words.font font
     × (names : List (List ℕ)) × HasLines files words.list (name_list_limit + 1) names_of names
     × AllByRecursion (λ name. IsSome (front_of files name (recording_limit + 1))) names
+HasRest (Serve words) digest files = (run : Played) × HasRun files words.run digest run
+HasRest (Units words) digest files = (run : Played) × HasRun files words digest run
+HasRest (Compare words) digest files =
+    (other : CartFile) × HasCart files words.other_cart other
+    × (first second : Recording) × HasRecording files words.recording digest first
+    × HasRecording files words.other_recording other.digest second
+    × (font : List ℕ) × HasFont files words.font font
+HasRest (Rebind cart recording) digest files = (r : Recording) × HasAnyRecording files recording r
+HasRest (Inputs recording) digest files = ⊤
+HasRest (BlankDisk cart budget name) digest files = (disk : List ℕ) × HasDisk files name disk
+
+-- what is there by a form that names no cart
+abbrev pub HasAlone : Form → Files → Type 0
+HasAlone (Inputs recording) files = (r : Recording) × HasAnyRecording files recording r
+HasAlone form files = ⊤
 
 -- the cart where the form names one, and the rest
 abbrev pub IsCompleteOver : Option (List ℕ) → Form → Files → Type 0
-IsCompleteOver None form files = ⊤
+IsCompleteOver None form files = HasAlone form files
 IsCompleteOver (Some name) form files =
     (cart : CartFile) × HasCart files name cart × HasRest form cart.digest files
 

@@ -116,6 +116,7 @@ pub mod CartRuns
 pub mod Completeness
 pub mod Promise
 pub mod Units
+pub mod UnitsLaws
 pub mod Comparison
 pub mod InputsText
 pub mod RecordingOutputs

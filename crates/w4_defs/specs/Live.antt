@@ -3,9 +3,9 @@
 -- longer one is no order. Each line has one answer, in pieces and an end: a piece is its length in decimal,
 -- byte 10, and so many bytes, at least one; the end is `0` and byte 10. The answer of a line stands on
 -- standard output before the next line is asked for, so that what is done is one list of events. At the end
--- of input the file OUT becomes the recording that is left, in version 2.
-use Rattle.std.specs.Prelude.{◌≡◌, ℕ, ◌+◌, ◌-◌, List, [], ◌∷◌, ◌++◌, flat_map, length, map, nat_le, nat_lt, replicate, slice_range, codes, decimal, option_map, Option, Some, None, false, if◌then◌else◌, pos, refl}
-use Rattle.std.specs.FinMap.{insert}
+-- of input the file OUT becomes the recording that is left, in version 2. Where an answer can't be written or
+-- input can't be read, OUT becomes the recording as the lines taken so far leave it.
+use Rattle.std.specs.Prelude.{◌≡◌, ℕ, ◌-◌, List, [], ◌∷◌, ◌++◌, flat_map, length, nat_lt, replicate, slice_range, take, codes, decimal, option_map, Option, Some, None, Result, false, if◌then◌else◌, pos, refl}
 use Rattle.std.specs.Fmt.{digits}
 use Rattle.std.specs.Option.{option_or}
 use Rattle.w4_defs.specs.declared.console.Input.{Input}
@@ -21,11 +21,13 @@ use Rattle.w4_defs.specs.Lines.{is_skipped, decimal_value, number_of, decimal_by
 use Rattle.w4_defs.specs.OrderFile.{OrderRow, order_by}
 use Rattle.w4_defs.specs.OrderWords.{no_word, one_number, range_order}
 use Rattle.w4_defs.specs.Module.{WasmModule}
-use Rattle.w4_defs.specs.Output.{Played, run_setup}
+use Rattle.w4_defs.specs.Output.{CartFile, Output, Played, all_events, making, run_files, run_setup}
+use Rattle.w4_defs.specs.Commands.{ServeWords}
+use Rattle.w4_defs.specs.declared.status.Finish.TheVariants.{Done}
+use Rattle.w4_defs.specs.declared.status.Refusal.{Refusal}
 use Rattle.w4_defs.specs.PlaceTexts.{PieceForm, place_texts}
 use Rattle.w4_defs.specs.QueryAnswers.{pages_of, ram_answer}
 use Rattle.w4_defs.specs.RamQuery.{query_rows, ask_of}
-use Rattle.w4_defs.specs.Reading.{◌>>=◌}
 use Rattle.w4_defs.specs.Recording.{Recording, encoding}
 use Rattle.w4_defs.specs.Reset.{Setup}
 use Rattle.w4_defs.specs.Run.{run_page, run_state}
@@ -35,7 +37,7 @@ use Rattle.w4_defs.specs.Search.{Search}
 use Rattle.w4_defs.specs.Session.{Session, new_session}
 use Rattle.w4_defs.specs.State.{State}
 use Rattle.w4_defs.specs.Units.{units_at}
-use Rattle.w4_defs.specs.World.{Files}
+use Rattle.w4_defs.specs.World.{Event, Files, Took, InputEnded, Wrote, Saved, NotSaved, wrote}
 use Rattle.w4_defs.specs.Limits.{live_line_limit}
 
 -- ---- lines
@@ -130,23 +132,6 @@ answer_end = codes "0\n"
 
 -- ---- what a session does, one event after another
 
--- a line is taken, without its byte 10; the input is at its end; a byte is written to standard output; all
--- of a file is replaced
-pub data Event : Type 0 where
-  Took : (line : List ℕ) → Event
-  InputEnded : Event
-  Wrote : (byte : ℕ) → Event
-  Saved : (name bytes : List ℕ) → Event
-
-abbrev pub wrote : List ℕ → List Event
-wrote bytes = map Wrote bytes
-
--- the files after these events
-abbrev pub files_after : Files → List Event → Files
-files_after files [] = files
-files_after files (Saved name bytes ∷ events) = files_after (insert files name bytes) events
-files_after files (event ∷ events) = files_after files events
-
 -- how a `save` can end: the file is replaced; it is refused, and the file is as it was; or it is refused and
 -- the file is replaced all the same
 pub data SaveEnd : Type 0 where
@@ -184,8 +169,8 @@ refused_save = framed (refused_line (codes "cannot write"))
 -- what a `save` does, by how it ends
 abbrev pub save_events : Opened → LiveSession → SaveEnd → List Event
 save_events o s Replaced = saving o s ++ wrote answer_end
-save_events o s Refused = wrote (refused_save ++ answer_end)
-save_events o s RefusedLate = saving o s ++ wrote (refused_save ++ answer_end)
+save_events o s Refused = NotSaved o.out ∷ wrote (refused_save ++ answer_end)
+save_events o s RefusedLate = saving o s ++ NotSaved o.out ∷ wrote (refused_save ++ answer_end)
 
 -- a `save` ends as the first of these says; where none is left, it is written
 abbrev pub save_step : Opened → LiveSession → List SaveEnd → LiveStep
@@ -208,22 +193,54 @@ line_step o s saves NoOrder =
     answer_step saves (answer_text s (Some (framed (refused_line (codes "no order")))))
 line_step o s saves (Asks order) = order_step o s saves order
 
--- what is edited after these lines, whatever was answered
-abbrev pub session_after : Opened → LiveSession → List SaveEnd → List (List ℕ) → LiveSession
-session_after o s saves [] = s
-session_after o s saves (line ∷ lines) =
-    let step = line_step o s saves (asked_of line) in
-    session_after o step.session step.saves lines
+-- what is edited after these lines, whatever was answered. How saves end changes nothing of it
+abbrev pub session_after : Opened → LiveSession → List (List ℕ) → LiveSession
+session_after o s [] = s
+session_after o s (line ∷ lines) = session_after o (line_step o s [] (asked_of line)).session lines
 
--- all that a session does over these lines; None where a run that it tells of has no meaning
-unfoldable pub served_from : Opened → LiveSession → List SaveEnd → List (List ℕ) → Option (List Event)
-served_from o s saves [] = Some (InputEnded ∷ saving o s)
-served_from o s saves (line ∷ lines) =
+-- what a session does over these lines, one after another; None where a run that it tells of has no meaning
+unfoldable pub session_events : Opened → LiveSession → List SaveEnd → List (List ℕ) → Option (List Event)
+session_events o s saves [] = Some []
+session_events o s saves (line ∷ lines) =
     let step = line_step o s saves (asked_of line) in
-    joined (Some (Took line ∷ [])) (joined step.events (served_from o step.session step.saves lines))
+    joined (Some (Took line ∷ [])) (joined step.events (session_events o step.session step.saves lines))
 
-abbrev pub served : Opened → List SaveEnd → List (List ℕ) → Option (List Event)
-served o saves lines = served_from o (new_live_session o.run.recording.frames) saves lines
+-- the lines that the client writes, and how each `save` ends
+pub record Talk : Type 0 where
+  pub lines : List (List ℕ)
+  pub saves : List SaveEnd
+
+abbrev pub first_live_session : Opened → LiveSession
+first_live_session o = new_live_session o.run.recording.frames
+
+-- the lines that have been taken
+abbrev pub taken_lines : List Event → List (List ℕ)
+taken_lines [] = []
+taken_lines (Took line ∷ events) = line ∷ taken_lines events
+taken_lines (event ∷ events) = taken_lines events
+
+-- OUT becomes the recording as these lines leave it
+abbrev pub saving_after : Opened → List (List ℕ) → List Event
+saving_after o lines = saving o (session_after o (first_live_session o) lines)
+
+-- all lines are answered, and then the recording left is saved; where the session is stopped, that of the
+-- lines taken so far may be saved
+abbrev pub serve_result : Opened → Talk → List Event → Output
+serve_result o talk events = record {
+  events = events ++ InputEnded ∷ [];
+  saved = saving_after o talk.lines;
+  rescued = λ count. saving_after o (taken_lines (take count (events ++ InputEnded ∷ [])));
+  finish = Done;
+}
+
+abbrev pub served : Opened → Talk → Option Output
+served o talk =
+    option_map (serve_result o talk) (session_events o (first_live_session o) talk.saves talk.lines)
+
+-- `serve CART REC FONT OUT`
+unfoldable pub serve_output : ServeWords → Talk → CartFile → Files → Option (Result Output Refusal)
+serve_output words talk cart files = making (run_files cart.digest words.run files)
+    (λ p. served (record { cart = cart.code; run = p; out = words.out }) talk)
 
 -- ---- worked cases, over any cart and a recording of two inputs
 
@@ -248,7 +265,8 @@ written_by (Wrote byte ∷ events) = byte ∷ written_by events
 written_by (event ∷ events) = written_by events
 
 abbrev answers_to : WasmModule → List SaveEnd → List (List ℕ) → Option (List ℕ)
-answers_to cart saves lines = option_map written_by (served (worked_session cart) saves lines)
+answers_to cart saves lines = option_map (λ output. written_by (all_events output))
+    (served (worked_session cart) (record { lines = lines; saves = saves }))
 
 -- an empty line, a remark and an edit have an empty answer; a word that no order has; a search that hasn't
 -- begun; a place that isn't there; two inputs of which one was set, and none; a byte 13 at the end
@@ -263,28 +281,59 @@ LiveCases = (cart : WasmModule) →
     ≡ Some (codes "0\n47\nset 0 5 0 0 0 0 0 0\nset 1 4 0 0 0 -2 0 0 reset\n0\n0\n"))
 
 pub live-cases : LiveCases
-unfolding served_from script_rows query_rows own_rows decimal_value number_of decimal_byte coordinate_of
+unfolding session_events script_rows query_rows own_rows decimal_value number_of decimal_byte coordinate_of
     digits
 live-cases cart = (refl, refl, refl, refl)
+
+abbrev all_that_is_done : Opened → List SaveEnd → List (List ℕ) → Option (List Event)
+all_that_is_done o saves lines = option_map all_events (served o (record { lines = lines; saves = saves }))
+
+-- what is saved where a session over these lines is stopped after so many events
+abbrev rescued_after : Opened → List (List ℕ) → ℕ → Option (List Event)
+rescued_after o lines count =
+    option_map (λ output. output.rescued count) (served o (record { lines = lines; saves = [] }))
+
+-- a session that is stopped before a line is taken, after it was, within the answer of a later one, and after
+-- an order that is refused
+abbrev pub RescueCases : Type 0
+RescueCases = (cart : WasmModule) →
+    let o = worked_session cart in
+    (rescued_after o (codes "delete 0" ∷ []) 0 ≡ Some (Saved (codes "o") (encoding 2 o.run.recording) ∷ []))
+    × (rescued_after o (codes "delete 0" ∷ []) 1
+    ≡ Some (Saved (codes "o") (encoding 2 (record o.run.recording { frames = worked_input 9 ∷ [] })) ∷ []))
+    × (rescued_after o (codes "delete 0" ∷ codes "what" ∷ []) 6
+    ≡ Some (Saved (codes "o") (encoding 2 (record o.run.recording { frames = worked_input 9 ∷ [] })) ∷ []))
+    × (rescued_after o (codes "delete 2" ∷ []) 9
+    ≡ Some (Saved (codes "o") (encoding 2 o.run.recording) ∷ []))
+
+pub rescue-cases : RescueCases
+unfolding session_events script_rows query_rows own_rows decimal_value number_of digits
+rescue-cases cart = (refl, refl, refl, refl)
 
 -- each line is taken before its answer is written, the input's end after the last; saves that end in each way
 abbrev pub LiveEventCases : Type 0
 LiveEventCases = (cart : WasmModule) →
     let o = worked_session cart in
     let left = encoding 2 o.run.recording in
-    (served o [] (codes "#" ∷ []) ≡ Some (Took (codes "#") ∷ Wrote 48 ∷ Wrote 10 ∷ InputEnded
+    (all_that_is_done o [] (codes "#" ∷ []) ≡ Some (Took (codes "#") ∷ Wrote 48 ∷ Wrote 10 ∷ InputEnded
     ∷ Saved (codes "o") left ∷ []))
-    × (served o (Replaced ∷ []) (codes "save" ∷ [])
+    × (all_that_is_done o (Replaced ∷ []) (codes "save" ∷ [])
     ≡ Some (Took (codes "save") ∷ Saved (codes "o") left ∷ Wrote 48 ∷ Wrote 10 ∷ InputEnded
     ∷ Saved (codes "o") left ∷ []))
-    × ((session_after o (new_live_session o.run.recording.frames) []
+    × (all_that_is_done o (Refused ∷ []) (codes "save" ∷ [])
+    ≡ Some (Took (codes "save") ∷ NotSaved (codes "o") ∷ wrote (codes "21\nrefused cannot write\n0\n")
+    ++ InputEnded ∷ Saved (codes "o") left ∷ []))
+    × (all_that_is_done o (RefusedLate ∷ []) (codes "save" ∷ [])
+    ≡ Some (Took (codes "save") ∷ Saved (codes "o") left ∷ NotSaved (codes "o")
+    ∷ wrote (codes "21\nrefused cannot write\n0\n") ++ InputEnded ∷ Saved (codes "o") left ∷ []))
+    × ((session_after o (new_live_session o.run.recording.frames)
     (codes "delete 0" ∷ codes "what" ∷ [])).session.current.inputs ≡ worked_input 9 ∷ [])
     × (answers_to cart (Refused ∷ RefusedLate ∷ []) (codes "save" ∷ codes "save" ∷ codes "save" ∷ [])
     ≡ Some (codes "21\nrefused cannot write\n0\n21\nrefused cannot write\n0\n0\n"))
 
 pub live-event-cases : LiveEventCases
-unfolding served_from script_rows query_rows own_rows decimal_value number_of digits
-live-event-cases cart = (refl, refl, refl, refl)
+unfolding session_events script_rows query_rows own_rows decimal_value number_of digits
+live-event-cases cart = (refl, refl, refl, refl, refl, refl)
 
 -- a line of 1,024 bytes may be a remark, one of 1,025 is no order; the pieces of two lengths
 abbrev pub LongLineCases : Type 0

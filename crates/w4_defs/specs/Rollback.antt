@@ -1,6 +1,6 @@
 -- Rollback (project rule; the words are those of GGPO): the pads of four players come as packets, late,
 -- again, in any order or never, and what isn't there yet is predicted.
-use Rattle.std.specs.Prelude.{◌≡◌, ◌↔◌, ◌<◌, ◌≤◌, ℕ, zero, suc, ◌+◌, ◌==◌, nat_lt, nat_le, ◌&&◌, Bool, is_none, if◌then◌else◌, List, [], ◌∷◌, ◌++◌, map, fold, Contains, Option, Some, None, unwrap_or, option_map, option_and_then, pos, false, true, refl}
+use Rattle.std.specs.Prelude.{◌≡◌, ◌↔◌, ◌<◌, ◌≤◌, ℕ, zero, suc, ◌+◌, ◌==◌, nat_le, ◌&&◌, Bool, is_none, if◌then◌else◌, List, [], ◌∷◌, ◌++◌, map, fold, Contains, Option, Some, None, unwrap_or, option_map, option_and_then, pos, false, true, refl}
 use Rattle.std.specs.List.{range_with_len}
 use Rattle.w4_defs.specs.declared.console.Input.{Input}
 use Rattle.w4_defs.specs.declared.net_refusal.NetRefusal.{NetRefusal}

@@ -12,10 +12,11 @@ use Rattle.w4_defs.specs.declared.status.RecordingKind.TheVariants.{Bad, WrongCa
 use Rattle.w4_defs.specs.declared.status.ScriptKind.{ScriptKind}
 use Rattle.w4_defs.specs.declared.status.ScriptKind.TheVariants.{TooLong, BadLine}
 use Rattle.w4_defs.specs.declared.status.Status.{Status}
-use Rattle.w4_defs.specs.declared.status.Status.TheVariants.{Done, Usage, CartRefused, RecordingRefused, FontRefused, ScriptRefused, ReadFault, WriteFault, OutOfMemory, FrameRefused, ListRefused}
+use Rattle.w4_defs.specs.declared.status.Status.TheVariants.{Done, Different, Usage, CartRefused, RecordingRefused, FontRefused, ScriptRefused, ReadFault, InputFault, WriteFault, OutOfMemory, FrameRefused, ListRefused}
 
 abbrev pub number_of_status : Status → ℕ
 number_of_status Done = 0
+number_of_status Different = 1
 number_of_status Usage = 2
 number_of_status (CartRefused kind) = 3
 number_of_status (RecordingRefused kind) = 4
@@ -26,6 +27,7 @@ number_of_status WriteFault = 8
 number_of_status OutOfMemory = 9
 number_of_status (FrameRefused number n) = 10
 number_of_status (ListRefused kind) = 12
+number_of_status InputFault = 13
 
 abbrev pub profile_words : ProfileRefusal → List ℕ
 profile_words profile.Floats = codes "floats"
@@ -56,15 +58,17 @@ abbrev pub script_words : ScriptKind → List ℕ
 script_words TooLong = codes "too long"
 script_words (BadLine number) = codes "line" ++ spaced number
 
--- after Done no line is written
+-- after Done and Different no line is written
 abbrev pub status_words : Status → List ℕ
 status_words Done = []
+status_words Different = []
 status_words Usage = codes "usage"
 status_words (CartRefused kind) = codes "cart: " ++ cart_words kind
 status_words (RecordingRefused kind) = codes "recording: " ++ recording_words kind
 status_words FontRefused = codes "font: not 1792 bytes"
 status_words (ScriptRefused kind) = codes "script: " ++ script_words kind
 status_words ReadFault = codes "cannot read"
+status_words InputFault = codes "cannot read input"
 status_words WriteFault = codes "cannot write"
 status_words OutOfMemory = codes "out of memory"
 status_words (FrameRefused number n) = codes "frame" ++ (spaced number ++ (codes " of" ++ spaced n))
@@ -85,8 +89,9 @@ StatusLineCases =
     × (status_line (ScriptRefused (BadLine 2)) ≡ codes "w4: script: line 2\n")
     × (status_line (FrameRefused 2 1) ≡ codes "w4: frame 2 of 1\n")
     × (status_line ReadFault ≡ codes "w4: cannot read\n")
+    × (status_line InputFault ≡ codes "w4: cannot read input\n")
     × (status_line (ListRefused TooLong) ≡ codes "w4: list: too long\n")
 
 pub status-line-cases : StatusLineCases
 unfolding digits
-status-line-cases = (refl, refl, refl, refl, refl, refl, refl, refl, refl)
+status-line-cases = (refl, refl, refl, refl, refl, refl, refl, refl, refl, refl)

@@ -1,6 +1,6 @@
 -- What `net`, `ram`, `wave` and `batch` make of their words and files (project rule). As in all commands the
 -- cart is judged first, then the files in the order of the words, each before the next is read.
-use Rattle.std.specs.Prelude.{ℕ, ◌+◌, List, [], ◌∷◌, ◌++◌, length, map, Option, None, option_map, Result, Ok, Err}
+use Rattle.std.specs.Prelude.{ℕ, ◌+◌, List, [], ◌∷◌, ◌++◌, length, map, Option, None, option_map, Result, Ok}
 use Rattle.std.specs.List.{range_with_len}
 use Rattle.sha2.specs.Sha256.{sha256}
 use Rattle.w4_defs.specs.declared.inspect.Ask.{Ask}
@@ -15,8 +15,8 @@ use Rattle.w4_defs.specs.Sound.{samples, wav_header}
 use Rattle.w4_defs.specs.State.{Moment, FrameRecord}
 use Rattle.w4_defs.specs.World.{Files}
 use Rattle.w4_defs.specs.NameLists.{names_of}
-use Rattle.w4_defs.specs.declared.status.Status.{Status}
-use Rattle.w4_defs.specs.declared.status.Status.TheVariants.{ListRefused, ScriptRefused}
+use Rattle.w4_defs.specs.declared.status.Refusal.{Refusal}
+use Rattle.w4_defs.specs.declared.status.Refusal.TheVariants.{ListRefused, ScriptRefused}
 use Rattle.w4_defs.specs.Commands.{RunWords, NetWords, BatchWords}
 use Rattle.w4_defs.specs.Output.{◌>>=◌, CartFile, Output, Played, reading, judged, font_in, lines_or, run_files, run_setup, moment_at, printing}
 use Rattle.w4_defs.specs.LogAnswers.{first_session, net_answers}
@@ -26,16 +26,16 @@ use Rattle.w4_defs.specs.Limits.{script_limit, name_list_limit, recording_limit}
 
 -- ---- files of lines: a log or a query is refused as a script is
 
-unfoldable pub log_orders : List ℕ → Result (List NetOrder) Status
+unfoldable pub log_orders : List ℕ → Result (List NetOrder) Refusal
 log_orders bytes = lines_or ScriptRefused (net_log_of bytes)
 
-unfoldable pub log_in : Files → List ℕ → Result (List NetOrder) Status
+unfoldable pub log_in : Files → List ℕ → Result (List NetOrder) Refusal
 log_in = judged script_limit log_orders
 
-unfoldable pub query_lines : List ℕ → Result (List Ask) Status
+unfoldable pub query_lines : List ℕ → Result (List Ask) Refusal
 query_lines bytes = lines_or ScriptRefused (query_of bytes)
 
-unfoldable pub query_in : Files → List ℕ → Result (List Ask) Status
+unfoldable pub query_in : Files → List ℕ → Result (List Ask) Refusal
 query_in = judged script_limit query_lines
 
 -- ---- `net`: the answers of the log, over a cart without a disk
@@ -45,7 +45,7 @@ pub record NetLoaded : Type 0 where
   pub font : List ℕ
   pub orders : List NetOrder
 
-unfoldable pub net_files : NetWords → Files → Result NetLoaded Status
+unfoldable pub net_files : NetWords → Files → Result NetLoaded Refusal
 net_files words files = do
   font ← font_in files words.font
   orders ← log_in files words.log
@@ -54,8 +54,8 @@ net_files words files = do
 abbrev pub net_text : WasmModule → ℕ → NetLoaded → Option (List ℕ)
 net_text m budget l = (net_answers (console_setup m l.font budget) first_session l.orders).out
 
-unfoldable pub net_output : NetWords → CartFile → Files → Option (Result Output Status)
-net_output words cart files = printing (net_files words files) (net_text cart.code words.budget) files
+unfoldable pub net_output : NetWords → CartFile → Files → Option (Result Output Refusal)
+net_output words cart files = printing (net_files words files) (net_text cart.code words.budget)
 
 -- ---- `ram`: the answers of the query, over the recording
 
@@ -64,7 +64,7 @@ pub record RamLoaded : Type 0 where
   pub run : Played
   pub lines : List Ask
 
-unfoldable pub ram_files : List ℕ → RunWords → List ℕ → Files → Result RamLoaded Status
+unfoldable pub ram_files : List ℕ → RunWords → List ℕ → Files → Result RamLoaded Refusal
 ram_files digest words query files = do
   run ← run_files digest words files
   lines ← query_in files query
@@ -75,9 +75,9 @@ ram_text m l =
     let r = l.run.recording in
     (ram_answers (pages_of (run_setup m l.run) r.disk r.frames) None l.lines).out
 
-unfoldable pub ram_output : RunWords → List ℕ → CartFile → Files → Option (Result Output Status)
+unfoldable pub ram_output : RunWords → List ℕ → CartFile → Files → Option (Result Output Refusal)
 ram_output words query cart files =
-    printing (ram_files cart.digest words query files) (ram_text cart.code) files
+    printing (ram_files cart.digest words query files) (ram_text cart.code)
 
 -- ---- `wave`: the header and the samples of places 0 to n
 
@@ -92,20 +92,20 @@ wave_text m p =
     let places = length p.recording.frames + 1 in
     option_map (λ records. wav_header places ++ samples records) (records_of m p places)
 
-unfoldable pub wave_output : RunWords → CartFile → Files → Option (Result Output Status)
-wave_output words cart files = printing (run_files cart.digest words files) (wave_text cart.code) files
+unfoldable pub wave_output : RunWords → CartFile → Files → Option (Result Output Refusal)
+wave_output words cart files = printing (run_files cart.digest words files) (wave_text cart.code)
 
 -- ---- `batch`: the rows of the listed recordings. How many workers there are doesn't matter
 
 -- the names of a list, or why it is refused
-unfoldable pub listed_names : List ℕ → Result (List (List ℕ)) Status
+unfoldable pub listed_names : List ℕ → Result (List (List ℕ)) Refusal
 listed_names bytes = lines_or ListRefused (names_of bytes)
 
-unfoldable pub names_in : Files → List ℕ → Result (List (List ℕ)) Status
+unfoldable pub names_in : Files → List ℕ → Result (List (List ℕ)) Refusal
 names_in = judged name_list_limit listed_names
 
 -- the listed files, in order, each by its first 361,072 bytes
-unfoldable pub listed_files : List (List ℕ) → Files → Result (List (List ℕ)) Status
+unfoldable pub listed_files : List (List ℕ) → Files → Result (List (List ℕ)) Refusal
 listed_files [] files = Ok []
 listed_files (name ∷ names) files = do
   bytes ← reading files name (recording_limit + 1)
@@ -118,7 +118,7 @@ pub record BatchLoaded : Type 0 where
   pub names : List (List ℕ)
   pub recordings : List (List ℕ)
 
-unfoldable pub batch_files : BatchWords → Files → Result BatchLoaded Status
+unfoldable pub batch_files : BatchWords → Files → Result BatchLoaded Refusal
 batch_files words files = do
   font ← font_in files words.font
   names ← names_in files words.list
@@ -128,5 +128,5 @@ batch_files words files = do
 abbrev pub batch_text : CartFile → BatchLoaded → Option (List ℕ)
 batch_text cart l = rows_text l.names (file_rows sha256 cart.code l.font cart.digest l.recordings)
 
-unfoldable pub batch_output : BatchWords → CartFile → Files → Option (Result Output Status)
-batch_output words cart files = printing (batch_files words files) (batch_text cart) files
+unfoldable pub batch_output : BatchWords → CartFile → Files → Option (Result Output Refusal)
+batch_output words cart files = printing (batch_files words files) (batch_text cart)

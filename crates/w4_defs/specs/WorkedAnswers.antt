@@ -1,7 +1,7 @@
 -- Worked cases of answers and outputs, by computation: accepted orders that tell of places; films; kept
 -- places up to their limit; a row of a recording that was run. And a law: which refusal comes first where
 -- several hold.
-use Rattle.std.specs.Prelude.{◌≡◌, ◌<◌, ℕ, false, length, List, [], ◌∷◌, codes, replicate, Option, Some, None, Result, Ok, Err, pos, refl}
+use Rattle.std.specs.Prelude.{◌≡◌, ◌<◌, ℕ, true, false, length, List, [], ◌∷◌, codes, replicate, Option, Some, None, option_map, Ok, Err, pos, refl}
 use Rattle.std.specs.Fmt.{digits}
 use Rattle.std.specs.List.{range_with_len}
 use Rattle.w4_defs.specs.declared.batch.BatchRow.TheVariants.{Ran}
@@ -11,8 +11,8 @@ use Rattle.w4_defs.specs.declared.film_refusal.FilmRefusal.TheVariants as film
 use Rattle.w4_defs.specs.declared.order.Order.{Order}
 use Rattle.w4_defs.specs.declared.order.Order.TheVariants as order
 use Rattle.w4_defs.specs.declared.place_text.PlaceText.TheVariants.{Image}
-use Rattle.w4_defs.specs.declared.status.Status.{Status}
-use Rattle.w4_defs.specs.declared.status.Status.TheVariants.{FrameRefused}
+use Rattle.w4_defs.specs.declared.status.Refusal.{Refusal}
+use Rattle.w4_defs.specs.declared.status.Refusal.TheVariants.{FrameRefused}
 use Rattle.w4_defs.specs.AllThere.{joined}
 use Rattle.w4_defs.specs.Answers.{answers_by}
 use Rattle.w4_defs.specs.Batch.{file_row, worked_file}
@@ -23,7 +23,14 @@ use Rattle.w4_defs.specs.Evaluation.{eval, eval_within}
 use Rattle.w4_defs.specs.Film.{film_refusal, run_images}
 use Rattle.w4_defs.specs.Frame.{cleared, frame}
 use Rattle.w4_defs.specs.FrameTexts.{schedule_text, state_line, trace_text}
-use Rattle.w4_defs.specs.Output.{edit_files, font_in, recording_in, run_files, run_files_to, script_in}
+use Rattle.w4_defs.specs.Lines.{decimal_value, number_of}
+use Rattle.w4_defs.specs.Live.{own_rows, served, session_events, written_by}
+use Rattle.w4_defs.specs.RamQuery.{query_rows}
+use Rattle.w4_defs.specs.RecordingOutputs.{compared_result}
+use Rattle.w4_defs.specs.Script.{script_rows}
+use Rattle.w4_defs.specs.Units.{start_units}
+use Rattle.w4_defs.specs.declared.status.Finish.TheVariants.{Done, Different}
+use Rattle.w4_defs.specs.Output.{all_events, edit_files, font_in, recording_in, run_files, run_files_to, script_in}
 use Rattle.w4_defs.specs.PlaceTexts.{as_it_stands, place_text}
 use Rattle.w4_defs.specs.Recording.{Recording, frames_of, recording_of}
 use Rattle.w4_defs.specs.Reset.{Setup, first_page, reset, start, start_page}
@@ -53,6 +60,40 @@ pub place-answer-cases : PlaceAnswerCases
 unfolding answers_by eval eval_within zero_page first_page start_page start reset cleared frame schedule_text
     trace_text state_line digits
 place-answer-cases = (refl, refl, refl, refl)
+
+-- ---- a live session over the same cart: globals, units, schedules and a state, each in its pieces
+
+abbrev session_answers : List (List ℕ) → Option (List ℕ)
+session_answers lines = option_map (λ output. written_by (all_events output)) (served (record {
+  cart = empty_module;
+  run = record {
+    recording = record { digest = []; budget = 9; disk = []; frames = replicate 2 still };
+    font = [];
+  };
+  out = codes "o";
+}) (record { lines = lines; saves = [] }))
+
+abbrev pub SessionAnswerCases : Type 0
+SessionAnswerCases =
+    (session_answers (codes "globals 0" ∷ codes "units 0 2" ∷ [])
+    ≡ Some (codes "8\nglobals\n0\n10\nunits 0 0\n10\nunits 1 0\n0\n"))
+    × (session_answers (codes "tones 0 1" ∷ codes "state 1" ∷ [])
+    ≡ Some (codes "8\nframe 0\n8\nframe 1\n0\n40\nstate 1 of 2 halt running disk 0 kept 0\n0\n"))
+
+pub session-answer-cases : SessionAnswerCases
+unfolding session_events script_rows query_rows own_rows decimal_value number_of eval eval_within zero_page
+    first_page start_page start start_units reset cleared frame schedule_text trace_text state_line digits
+session-answer-cases = (refl, refl)
+
+-- ---- the finish of a comparison
+
+abbrev pub FinishCases : Type 0
+FinishCases =
+    ((compared_result (record { text = codes "x"; same = true })).finish ≡ Done)
+    × ((compared_result (record { text = codes "x"; same = false })).finish ≡ Different)
+
+pub finish-cases : FinishCases
+finish-cases = (refl, refl)
 
 -- ---- images, over any cart: `show` writes that of its place, a film those of its places, one after another
 
@@ -118,7 +159,7 @@ ran-row-case = refl
 abbrev pub RefusalsInOrder : Type 0
 RefusalsInOrder =
     (digest : List ℕ) (words : EditWords) (files : Files) (recording : Recording) (font : List ℕ)
-    (refusal : Status) →
+    (refusal : Refusal) →
     (recording_in digest files words.run.recording ≡ Err refusal
     → edit_files digest words files ≡ Err refusal)
     × (recording_in digest files words.run.recording ≡ Ok recording

@@ -55,6 +55,6 @@ pub use page::PageBytes;
 pub use place_text::PlaceText;
 pub use refusal::{CartKind, ProfileRefusal};
 pub use sprite::Sprite;
-pub use status::{RecordingKind, ScriptKind, Status};
+pub use status::{Finish, RecordingKind, Refusal, ScriptKind, Status};
 pub use steps::Steps;
 pub use value::{Cause, GlobalType, Limits, Val, ValType};

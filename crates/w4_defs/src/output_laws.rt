@@ -1,5 +1,6 @@
 //! What the definition of the program's output promises, as a contract of a function that does nothing.
 
+ghost use Rattle.w4_defs.specs.OneOutput.{OthersTakeNoLines};
 ghost use Rattle.w4_defs.specs.OutputsThere.{CompleteIsDone, MadeOutputsAreThere, OutputsAreThere};
 ghost use Rattle.w4_defs.specs.WorkedAnswers.{RefusalsInOrder};
 
@@ -12,6 +13,11 @@ pub fn outputs_are_there()
 /// Where all is there that a command names, what is made of it is no refusal.
 pub fn complete_is_done()
     ensures { CompleteIsDone }
+{}
+
+/// Only a live session takes lines: what any other command does is the same whatever lines there are.
+pub fn others_take_no_lines()
+    ensures { OthersTakeNoLines }
 {}
 
 /// Which refusal comes first where several hold.

@@ -25,11 +25,47 @@ pub enum ScriptKind {
     BadLine(u32),
 }
 
+/// How a command ended that did all that it was to do.
+#[derive(Clone, Copy, PartialEq, Eq, Debug)]
+pub enum Finish {
+    /// Nothing else is to be told.
+    Done,
+    /// Two runs were compared, and they differ.
+    Different,
+}
+
+/// Why a command isn't done: a file or a place that its arguments name is refused, or a call failed.
+#[derive(Clone, Copy, PartialEq, Eq, Debug)]
+pub enum Refusal {
+    /// The bytes of the cart's file are no cart, by the first cause that holds.
+    CartRefused(CartKind),
+    /// The bytes encode no recording, or one of another cart.
+    RecordingRefused(RecordingKind),
+    /// The font hasn't 1,792 bytes.
+    FontRefused,
+    /// The script, log or query is too long or has a bad line.
+    ScriptRefused(ScriptKind),
+    /// The list is too long or has a bad line.
+    ListRefused(ScriptKind),
+    /// The words name a place past the last, `n`.
+    FrameRefused { number: u32, n: usize },
+    /// A file couldn't be read, or isn't there.
+    ReadFault,
+    /// Standard input couldn't be read.
+    InputFault,
+    /// Standard output or a file couldn't be written.
+    WriteFault,
+    /// Memory was refused.
+    OutOfMemory,
+}
+
 /// How a run ended.
 #[derive(Clone, Copy, PartialEq, Eq, Debug)]
 pub enum Status {
     /// All was written.
     Done,
+    /// All was written, and the two runs that were compared differ.
+    Different,
     /// The arguments match no command.
     Usage,
     /// The bytes of the cart's file are no cart, by the first cause that holds.
@@ -42,6 +78,8 @@ pub enum Status {
     ScriptRefused(ScriptKind),
     /// A file couldn't be read, or isn't there.
     ReadFault,
+    /// Standard input couldn't be read.
+    InputFault,
     /// Standard output or a file couldn't be written.
     WriteFault,
     /// Memory was refused.
@@ -52,33 +90,67 @@ pub enum Status {
     ListRefused(ScriptKind),
 }
 
-impl From<OutOfMemory> for Status {
-    ghost use Rattle.w4_defs.specs.declared.status.Status.TheVariants.{OutOfMemory as MemoryRefused};
+impl From<OutOfMemory> for Refusal {
+    ghost use Rattle.w4_defs.specs.declared.status.Refusal.TheVariants.{OutOfMemory as MemoryRefused};
 
-    ghost from_gives = { λ _ status. status ≡ MemoryRefused };
+    ghost from_gives = { λ _ refusal. refusal ≡ MemoryRefused };
 
-    fn from(_refusal: OutOfMemory) -> Status {
-        Status::OutOfMemory
+    fn from(_refusal: OutOfMemory) -> Refusal {
+        Refusal::OutOfMemory
     }
 }
 
-impl From<AllocError> for Status {
-    ghost use Rattle.w4_defs.specs.declared.status.Status.TheVariants.{OutOfMemory as MemoryRefused};
+impl From<AllocError> for Refusal {
+    ghost use Rattle.w4_defs.specs.declared.status.Refusal.TheVariants.{OutOfMemory as MemoryRefused};
 
-    ghost from_gives = { λ _ status. status ≡ MemoryRefused };
+    ghost from_gives = { λ _ refusal. refusal ≡ MemoryRefused };
 
-    fn from(_refusal: AllocError) -> Status {
-        Status::OutOfMemory
+    fn from(_refusal: AllocError) -> Refusal {
+        Refusal::OutOfMemory
     }
 }
 
-impl<T: Drop> From<AllocFailed<T>> for Status {
-    ghost use Rattle.w4_defs.specs.declared.status.Status.TheVariants.{OutOfMemory as MemoryRefused};
+impl<T: Drop> From<AllocFailed<T>> for Refusal {
+    ghost use Rattle.w4_defs.specs.declared.status.Refusal.TheVariants.{OutOfMemory as MemoryRefused};
 
-    ghost from_gives = { λ _ status. status ≡ MemoryRefused };
+    ghost from_gives = { λ _ refusal. refusal ≡ MemoryRefused };
 
-    fn from(_refusal: AllocFailed<T>) -> Status {
-        Status::OutOfMemory
+    fn from(_refusal: AllocFailed<T>) -> Refusal {
+        Refusal::OutOfMemory
+    }
+}
+
+impl From<Refusal> for Status {
+    ghost use Rattle.w4_defs.specs.Endings.{status_of_refusal};
+
+    ghost from_gives = { λ refusal status. status ≡ status_of_refusal refusal };
+
+    fn from(refusal: Refusal) -> Status {
+        match refusal {
+            Refusal::CartRefused(kind) => Status::CartRefused(kind),
+            Refusal::RecordingRefused(kind) => Status::RecordingRefused(kind),
+            Refusal::FontRefused => Status::FontRefused,
+            Refusal::ScriptRefused(kind) => Status::ScriptRefused(kind),
+            Refusal::ListRefused(kind) => Status::ListRefused(kind),
+            Refusal::FrameRefused { number, n } => Status::FrameRefused { number, n },
+            Refusal::ReadFault => Status::ReadFault,
+            Refusal::InputFault => Status::InputFault,
+            Refusal::WriteFault => Status::WriteFault,
+            Refusal::OutOfMemory => Status::OutOfMemory,
+        }
+    }
+}
+
+impl From<Finish> for Status {
+    ghost use Rattle.w4_defs.specs.Endings.{status_of_finish};
+
+    ghost from_gives = { λ finish status. status ≡ status_of_finish finish };
+
+    fn from(finish: Finish) -> Status {
+        match finish {
+            Finish::Done => Status::Done,
+            Finish::Different => Status::Different,
+        }
     }
 }
 
@@ -88,6 +160,7 @@ pub fn number(status: Status) -> u8
 {
     match status {
         Status::Done => 0,
+        Status::Different => 1,
         Status::Usage => 2,
         Status::CartRefused(_) => 3,
         Status::RecordingRefused(_) => 4,
@@ -98,5 +171,6 @@ pub fn number(status: Status) -> u8
         Status::OutOfMemory => 9,
         Status::FrameRefused { number: _, n: _ } => 10,
         Status::ListRefused(_) => 12,
+        Status::InputFault => 13,
     }
 }

@@ -1,5 +1,5 @@
-//! What the definitions of made carts, netplay, memory search, batches and sound promise, as contracts of
-//! functions that do nothing.
+//! What the definitions of made carts, netplay, memory search, batches, sound and units promise, as contracts
+//! of functions that do nothing.
 
 ghost use Rattle.w4_defs.specs.Batch.{BatchCases};
 ghost use Rattle.w4_defs.specs.Generator.{GeneratorCases};
@@ -25,6 +25,7 @@ ghost use Rattle.w4_defs.specs.Sound.{
   SamplesAreCounted,
   SilenceIsZeros,
 };
+ghost use Rattle.w4_defs.specs.UnitsLaws.{FramesHaveUnits, ResetsHaveUnits};
 
 /// Worked cases, by computation.
 pub fn tool_cases()
@@ -74,4 +75,10 @@ pub fn order_cases()
     ensures bad_log { BadNetOrderCases }
     ensures query { AskCases }
     ensures bad_query { BadAskCases }
+{}
+
+/// Where a reset or a frame is there, so are its units, and they tell how its calls ended.
+pub fn units_laws()
+    ensures resets { ResetsHaveUnits }
+    ensures frames { FramesHaveUnits }
 {}

@@ -4,8 +4,8 @@ use Rattle.std.specs.Prelude.{Result, Ok}
 use Rattle.w4_defs.specs.declared.console.Input.{Input}
 use Rattle.w4_defs.specs.declared.editing.EditRefusal.{EditRefusal}
 use Rattle.w4_defs.specs.KeptList.{Entry, kept_entries, place_at}
-use Rattle.w4_defs.specs.Session.{Session, PlacesDecide, draft_of_places, places_alone, session_of_places, result_of_places, keep, unless}
-use Rattle.w4_editor.specs.Editing.{Editing, with_session}
+use Rattle.w4_defs.specs.Session.{Session, PlacesDecide, draft_of_places, places_alone, session_of_places, result_of_places, keep, unless, with_list}
+use Rattle.w4_editor.specs.Editing.{Editing, current_recording, with_session}
 use Rattle.w4_editor.specs.PlaceSession.{KeepsRest, place_session}
 use Rattle.w4_editor.specs.Settling.{linked_entry}
 use Rattle.w4_editor.specs.Showing.{IsKeptAt, KeepsRecording}
@@ -47,6 +47,21 @@ same_session old new keeps =
       older = map (draft_of_places kept_entries) (keeps.older i);
       newer = map (draft_of_places kept_entries) (keeps.newer i);
     }
+
+-- the recording is unchanged by what shows or brings up to date
+pub same_recording : (old new : Editing) → KeepsRecording old new
+    → current_recording new ≡ current_recording old
+same_recording old new keeps =
+    ap (λ (e : Editing). current_recording e) keeps.same
+    ∙ ap (λ (inputs : List Input). record (current_recording old) { frames = inputs }) keeps.inputs
+
+-- or by what changes the kept places alone
+pub same_recording_kept : (old new : Editing) (kept : List ℕ) → KeepsRest old new
+    → place_session new ≡ with_list (place_session old) kept
+    → current_recording new ≡ current_recording old
+same_recording_kept old new kept rest same =
+    ap (λ (e : Editing). current_recording e) rest
+    ∙ ap (λ (s : Session ℕ). record (current_recording old) { frames = s.current.inputs }) same
 
 -- ---- one order
 

@@ -1,6 +1,8 @@
 -- One turn of settling, and what is shown. These words speak of no disk, so that what they say holds for
 -- every disk at the reset.
 use Rattle.std.specs.Prelude.{◌≡◌, ◌≢◌, ℕ, ◌+◌, ◌≤◌, true, List, slice_range, Some}
+use Rattle.w4_console.specs.declared.taken.FrameTaken.{FrameTaken}
+use Rattle.w4_console.specs.TakenUnits.{TellsUnits}
 use Rattle.w4_defs.specs.declared.console.Input.{Input}
 use Rattle.w4_defs.specs.State.{State, Moment, HasGlobals}
 use Rattle.w4_defs.specs.Reset.{Setup}
@@ -42,6 +44,11 @@ IsOfRun setup inputs kept p state =
 abbrev pub MovesOn : Setup → List Input → ℕ → State → Moment → Type 0
 MovesOn setup inputs p state next = (disk : List ℕ) →
     run_state setup disk inputs p ≡ Some state → run setup disk inputs (p + 1) ≡ Some next
+
+-- from the state of a run at place P a frame takes so much
+abbrev pub TakesOn : Setup → List Input → ℕ → State → FrameTaken → Type 0
+TakesOn setup inputs p state taken = (disk : List ℕ) →
+    run_state setup disk inputs p ≡ Some state → TellsUnits setup disk inputs p taken
 
 -- the linked entry of place P with this state
 abbrev pub linked_entry : ℕ → State → Entry

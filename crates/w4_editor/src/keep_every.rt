@@ -1,7 +1,8 @@
 //! Keeping each multiple of a number, once it is known that there is room for all of them.
 
-ghost use Rattle.std.specs.Prelude.{◌≡◌, ◌%◌, ◌≤◌, ◌==◌, OnOk, length, nat_le};
+ghost use Rattle.std.specs.Prelude.{◌≡◌, ◌%◌, ◌≤◌, ◌==◌, OnErr, OnOk, length, nat_le};
 ghost use Rattle.w4_defs.specs.Session.{is_kept, keep_every, places_alone, with_list};
+ghost use Rattle.w4_editor.specs.Editing.{current_recording};
 ghost use Rattle.w4_editor.specs.PlaceSession.{IsChanged, KeepsRest, all_to_keep, is_fresh_multiple, place_session, with_multiple};
 
 use crate::editor::Editor;
@@ -20,7 +21,10 @@ pub fn keep_every<L: Ledger>(
     every: u32,
     steps: &mut Steps<L>,
 ) -> Result<(), EditRefusal>
-    ensures { IsChanged result editor.old editor.new (keep_every every (place_session editor.old)) }
+    ensures changed { IsChanged result editor.old editor.new
+        (keep_every every (place_session editor.old)) }
+    ensures recording { OnErr result
+        (current_recording editor.new ≡ current_recording editor.old) }
 {
     if !has_room(editor, every) {
         return Err(EditRefusal::FullSnapshots);
@@ -55,6 +59,8 @@ fn keep_all<L: Ledger>(
     ensures kept { OnOk result (place_session editor.new
         ≡ with_list (place_session editor.old) (all_to_keep every (place_session editor.old))) }
     ensures rest { OnOk result (KeepsRest editor.old editor.new) }
+    ensures recording { OnErr result
+        (current_recording editor.new ≡ current_recording editor.old) }
 {
     let last = last_place(editor);
     for place in 0..last + 1 {
@@ -76,6 +82,8 @@ fn keep_wanted<L: Ledger>(
     ensures kept { OnOk result (place_session editor.new ≡ with_list (place_session editor.old)
         (with_multiple every place (place_session editor.old).current.kept)) }
     ensures rest { OnOk result (KeepsRest editor.old editor.new) }
+    ensures recording { OnErr result
+        (current_recording editor.new ≡ current_recording editor.old) }
 {
     places_decide();
     if !is_wanted(editor, every, place) {

@@ -2,6 +2,7 @@
 
 ghost use Rattle.std.specs.Prelude.{◌≡◌, ◌+◌, ◌<◌, ◌≤◌, IfOk, length, Some};
 ghost use Rattle.w4_console.specs.ConsoleCalls.{moment};
+ghost use Rattle.w4_console.specs.TakenUnits.{FrameTakes};
 ghost use Rattle.w4_defs.specs.Frame.{frame};
 ghost use Rattle.w4_defs.specs.State.{HasGlobals};
 ghost use Rattle.w4_defs.specs.Reset.{reset};
@@ -13,7 +14,7 @@ use std::marker::{Brand, Model};
 use std::rc::Rc;
 use std::sync::ledger::{Blank, Ledger};
 use w4_blit::Font;
-use w4_console::Console;
+use w4_console::{Console, FrameTaken};
 use w4_defs::{Input, OutOfMemory, Steps};
 use w4_devices::FrameRecord;
 use w4_map::State;
@@ -77,15 +78,16 @@ impl Player {
             .reset(&self.cart, &self.font, disk, self.budget, frame_record);
     }
 
-    /// Plays one frame, and ticks once.
+    /// Plays one frame, and ticks once. What the frame took of its budget.
     pub(crate) fn frame<L: Ledger>(
         &mut self,
         input: &Input,
         frame_record: &mut FrameRecord,
         steps: &mut Steps<L>,
-    )
+    ) -> FrameTaken
         ensures frame { frame (setup_of self.old) self.old.state input.now
             ≡ Some (moment self.new.state frame_record.new) }
+        ensures taken { FrameTakes (setup_of self.old) self.old.state input.now result }
         ensures same { self.new ≡ in_state self.old self.new.state }
         ensures globals { HasGlobals self.new.cart self.new.state }
         ensures ticks { steps.new ≡ steps.old + 1 }
@@ -97,7 +99,7 @@ impl Player {
             self.budget,
             frame_record,
             steps,
-        );
+        )
     }
 
     /// Plays these frames, one after another; each is one tick.

@@ -8,6 +8,7 @@ ghost use Rattle.w4_defs.specs.State.{HasGlobals};
 ghost use Rattle.w4_defs.specs.Run.{run_state};
 ghost use Rattle.w4_defs.specs.Session.{keep_refusal, place_refusal, with_list};
 ghost use Rattle.w4_defs.specs.declared.editing.EditRefusal.TheVariants.{NoFrame, OutOfMemory as NoMemory};
+ghost use Rattle.w4_console.specs.TakenUnits.{TellsUnits};
 ghost use Rattle.w4_devices.specs.Records.{record_of};
 ghost use Rattle.w4_editor.specs.Editing.{editing_setup, with_session};
 ghost use Rattle.w4_editor.specs.Settling.{AreLinked};
@@ -32,6 +33,7 @@ use crate::showing::{
 };
 use std::alloc::Global;
 use std::sync::ledger::Ledger;
+use w4_console::FrameTaken;
 use w4_defs::{EditRefusal, OutOfMemory, Steps};
 use w4_devices::FrameRecord;
 use w4_map::State;
@@ -120,17 +122,21 @@ impl Editor {
         ensures idle { OnErr result ((steps.new ≡ steps.old) × (frame_record.new ≡ frame_record.old)) }
         ensures refused { IfErr result (λ refusal. (refusal ≡ NoFrame) × IsAtEnd self.old) }
     {
-        self.go_on(frame_record, steps)?;
+        self.step_units(frame_record, steps)?;
         Ok(self.state())
     }
 
-    /// Goes one place on. Errors: NoFrame where no place is shown, or the last one.
-    fn go_on<L: Ledger>(
+    /// What the frame takes that leads to the place after the one that is shown, and in `frame_record` its
+    /// record. That place is shown then. Runs one frame, and takes no memory. Errors: NoFrame where no place
+    /// is shown, or the last one, and then nothing has changed.
+    pub fn step_units<L: Ledger>(
         &mut self,
         frame_record: &mut FrameRecord,
         steps: &mut Steps<L>,
-    ) -> Result<(), EditRefusal>
+    ) -> Result<FrameTaken, EditRefusal>
         ensures ok { OnOk result (IsStepped (record_of frame_record.new) self.old self.new) }
+        ensures taken { IfOk result (λ taken. (p : ℕ) → self.old.at ≡ Some p
+            → TellsUnits (editing_setup self.old) self.old.disk self.old.session.current.inputs p taken) }
         ensures ticks { OnOk result (steps.new ≡ steps.old + 1) }
         ensures idle { OnErr result ((steps.new ≡ steps.old) × (frame_record.new ≡ frame_record.old)) }
         ensures refused { IfErr result (λ refusal. (refusal ≡ NoFrame) × IsAtEnd self.old) }
@@ -139,9 +145,9 @@ impl Editor {
         let Some(p) = shown_before_end(self.at, &self.recording) else {
             return Err(EditRefusal::NoFrame);
         };
-        move_on(&mut self.player, &self.recording, p, frame_record, steps);
+        let taken = move_on(&mut self.player, &self.recording, p, frame_record, steps);
         self.at = Some(p + 1);
-        Ok(())
+        Ok(taken)
     }
 
     /// Brings all kept places up to date; each frame is one tick. No place is shown then. Takes no memory

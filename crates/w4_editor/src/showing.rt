@@ -10,7 +10,7 @@ ghost use Rattle.w4_defs.specs.FramesRun.{RunsAtMost};
 ghost use Rattle.w4_defs.specs.State.{HasGlobals};
 ghost use Rattle.w4_defs.specs.Session.{keep_refusal, with_kept};
 ghost use Rattle.w4_editor.specs.Playing.{in_state, setup_of};
-ghost use Rattle.w4_editor.specs.Settling.{AreLinked, IsOfRun, MovesOn, ShowsFrom};
+ghost use Rattle.w4_editor.specs.Settling.{AreLinked, IsOfRun, MovesOn, ShowsFrom, TakesOn};
 ghost use Rattle.w4_editor.specs.Settling.{StaysConsistent, linked_entry};
 
 use crate::kept::Kept;
@@ -19,6 +19,7 @@ use crate::player::{Player, capture_alone};
 use crate::settling::settle;
 use std::alloc::Global;
 use std::sync::ledger::Ledger;
+use w4_console::FrameTaken;
 use w4_defs::{EditRefusal, Input, OutOfMemory, Steps};
 use w4_devices::FrameRecord;
 use w4_map::State;
@@ -138,21 +139,22 @@ fn run_from_entry<L: Ledger>(
     player.run(&inputs[from.place()..p], steps);
 }
 
-/// Goes on from place `p` to the next.
+/// Goes on from place `p` to the next. What the frame took.
 pub(crate) fn move_on<L: Ledger>(
     player: &mut Player,
     recording: &Recording,
     p: usize,
     frame_record: &mut FrameRecord,
     steps: &mut Steps<L>,
-)
+) -> FrameTaken
     requires { p < length recording.now.frames }
     ensures moment { MovesOn (setup_of player.old) recording.now.frames p
         player.old.state (moment player.new.state frame_record.new) }
+    ensures taken { TakesOn (setup_of player.old) recording.now.frames p player.old.state result }
     ensures same { player.new ≡ in_state player.old player.new.state }
     ensures ticks { steps.new ≡ steps.old + 1 }
 {
-    player.frame(&recording.frames[p], frame_record, steps);
+    player.frame(&recording.frames[p], frame_record, steps)
 }
 
 /// Why place `p` may not be kept.

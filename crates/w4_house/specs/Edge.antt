@@ -3,10 +3,10 @@ use Rattle.std.specs.Prelude.{ℕ, Result, is_ok, None, if◌then◌else◌}
 use Rattle.w4_defs.specs.World.{World, raised}
 use Rattle.w4_house.specs.declared.real.RealHouse.{RealHouse}
 
-abbrev pub real_world : {R F D O E : Type 0} → RealHouse R F D O E → World
+abbrev pub real_world : {R F D I O E : Type 0} → RealHouse R F D I O E → World
 real_world house = record {
   files = None;
-  out = None;
+  events = None;
   err = None;
   read_faults = house.read_faults;
   write_faults = house.write_faults;

@@ -1,7 +1,8 @@
 -- What the two houses in memory tell.
-use Rattle.std.specs.Prelude.{◌≡◌, ℕ, List, Bool, ◌==◌, Some, if◌then◌else◌}
+use Rattle.std.specs.Prelude.{◌≡◌, ℕ, List, Bool, ◌==◌, Some, drop, if◌then◌else◌}
 use Rattle.std.specs.List.{list_any}
-use Rattle.w4_defs.specs.World.{Files, World, raised}
+use Rattle.w4_defs.specs.World.{Files, Event, World, raised}
+use Rattle.w4_house.specs.Entries.{logged}
 use Rattle.w4_house.specs.Stored.{stored_files}
 use Rattle.w4_house.specs.declared.sure.SureHouse.{SureHouse}
 use Rattle.w4_house.specs.declared.memory.MemoryHouse.{MemoryHouse}
@@ -9,11 +10,18 @@ use Rattle.w4_house.specs.declared.memory.MemoryHouse.{MemoryHouse}
 abbrev pub sure_files : SureHouse → Files
 sure_files house = stored_files house.files
 
+-- The bytes of standard input that are left.
+abbrev pub sure_input : SureHouse → List ℕ
+sure_input house = drop house.passed house.input.items
+
+abbrev pub sure_events : SureHouse → List Event
+sure_events house = logged house.log.entries.items
+
 -- It tells everything, and nothing fails in it.
 abbrev pub sure_world : SureHouse → World
 sure_world house = record {
   files = Some (sure_files house);
-  out = Some house.out.items;
+  events = Some (sure_events house);
   err = Some house.err.items;
   read_faults = 0;
   write_faults = 0;
@@ -23,11 +31,17 @@ sure_world house = record {
 abbrev pub memory_files : MemoryHouse → Files
 memory_files house = sure_files house.store
 
+abbrev pub memory_input : MemoryHouse → List ℕ
+memory_input house = sure_input house.store
+
+abbrev pub memory_events : MemoryHouse → List Event
+memory_events house = sure_events house.store
+
 -- It tells everything, and counts the calls that it made fail.
 abbrev pub memory_world : MemoryHouse → World
 memory_world house = record {
   files = Some (memory_files house);
-  out = Some house.store.out.items;
+  events = Some (memory_events house);
   err = Some house.store.err.items;
   read_faults = house.read_faults;
   write_faults = house.write_faults;

@@ -1,3 +1,5 @@
 pub mod Stored
+pub mod Lines
+pub mod Entries
 pub mod InMemory
 pub mod Edge

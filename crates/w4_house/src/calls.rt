@@ -1,28 +1,50 @@
 //! The calls of a house and their answers.
 
-ghost use Rattle.std.specs.Prelude.{◌≡◌, ◌≤◌, List, Some, length, IfOk, OnOk, OnErr, IsErrOf, ⊤};
+ghost use Rattle.std.specs.Prelude.{
+  ◌≡◌,
+  ◌≤◌,
+  ◌+◌,
+  ◌∷◌,
+  [],
+  List,
+  Some,
+  length,
+  IfOk,
+  IfSome,
+  OnOk,
+  OnErr,
+  IsErrOf,
+  option_map,
+  ⊤,
+};
 ghost use Rattle.std.specs.Option.{ForSome};
 ghost use Rattle.std.specs.FinMap.{get};
 ghost use Rattle.w4_defs.specs.World.{
   World,
+  InputLost,
+  Saved,
+  wrote,
   Rises,
   front_of,
   LacksFile,
   Appends,
   AppendsFront,
-  Puts,
-  PutsOrLeaves,
+  Does,
+  FailsToSave,
   LeavesReading,
   LeavesWriting,
   LeavesReporting,
+  LeavesTaking,
   LeavesSaving,
 };
+ghost use Rattle.w4_defs.specs.Limits.{live_line_limit};
+ghost use Rattle.w4_house.specs.Lines.{taken};
 
 use std::alloc::{AllocError, Global};
 use thiserror::Error;
 use w4_defs::OutOfMemory;
 
-/// Why a file couldn't be read.
+/// Why a file or a line of standard input couldn't be read.
 #[derive(Clone, Copy, PartialEq, Eq, Debug, Error)]
 pub enum HouseFault {
     /// The house tells its files and has none of this name.
@@ -77,7 +99,7 @@ impl From<AllocError> for WriteRefusal {
     }
 }
 
-/// Files, two outputs and three counts of faults, which never fall.
+/// Files, standard input, two outputs and three counts of faults, which never fall.
 ///
 /// The counts are those of reads, of writes to standard output and to files, and of writes to
 /// standard error. Each call leaves the two counts that aren't its own, and all else that isn't named
@@ -98,10 +120,31 @@ pub trait House {
             → Rises (world self.old).read_faults (world self.new).read_faults }
         ensures rest { LeavesReading (world self.old) (world self.new) };
 
-    /// Writes to standard output. After a refusal it has got a first part of the bytes.
+    /// The next line of standard input, without its byte 10, or None at the end.
+    ///
+    /// The last line may lack its byte 10, and is a line where it has a byte. Of a line of more than
+    /// 1,024 bytes these are its first 1,025; its rest is read and passed over, and takes no memory.
+    /// After a refusal no line is taken, and what was read of one is lost.
+    fn read_line(&mut self, alloc: Global) -> Result<Option<Vec<u8>>, HouseFault>
+        ensures taken { IfOk result (λ line. Does (world self.old) (world self.new)
+            (taken (option_map (λ bytes. bytes.items) line) ∷ [])) }
+        ensures most { IfOk result
+            (λ line. IfSome line (λ bytes. length bytes.items ≤ live_line_limit + 1)) }
+        ensures never_absent { IsErrOf result HouseFault.Absent → ⊥ }
+        ensures lost { IsErrOf result HouseFault.Failed
+            → Does (world self.old) (world self.new) (InputLost ∷ []) }
+        ensures failed { IsErrOf result HouseFault.Failed
+            → Rises (world self.old).read_faults (world self.new).read_faults }
+        ensures out_of_memory { IsErrOf result HouseFault.OutOfMemory
+            → Does (world self.old) (world self.new) [] }
+        ensures rest { LeavesTaking (world self.old) (world self.new) };
+
+    /// Writes to standard output, at once. After a refusal it has got a first part of the bytes.
     fn write_out(&mut self, alloc: Global, bytes: &[u8]) -> Result<(), WriteRefusal>
-        ensures all { OnOk result (Appends (world self.old).out (world self.new).out bytes.now) }
-        ensures front { OnErr result (AppendsFront (world self.old).out (world self.new).out bytes.now) }
+        ensures all { OnOk result
+            (Appends (world self.old).events (world self.new).events (wrote bytes.now)) }
+        ensures front { OnErr result
+            (AppendsFront (world self.old).events (world self.new).events (wrote bytes.now)) }
         ensures failed { IsErrOf result WriteRefusal.Failed
             → Rises (world self.old).write_faults (world self.new).write_faults }
         ensures rest { LeavesWriting (world self.old) (world self.new) };
@@ -117,12 +160,13 @@ pub trait House {
     /// Makes a file of just these bytes. After a failure it has the bytes that it had, or is absent as it
     /// was, or has just these; when memory runs out, it is unchanged. Every other file is unchanged.
     fn write_file(&mut self, alloc: Global, name: &str, bytes: &[u8]) -> Result<(), WriteRefusal>
-        ensures whole { OnOk result (Puts (world self.old).files (world self.new).files name.now bytes.now) }
-        ensures old_or_new { OnErr result
-            (PutsOrLeaves (world self.old).files (world self.new).files name.now bytes.now) }
+        ensures saved { OnOk result
+            (Does (world self.old) (world self.new) (Saved name.now bytes.now ∷ [])) }
+        ensures not_saved { IsErrOf result WriteRefusal.Failed
+            → FailsToSave (world self.old) (world self.new) [] (Saved name.now bytes.now ∷ []) }
         ensures failed { IsErrOf result WriteRefusal.Failed
             → Rises (world self.old).write_faults (world self.new).write_faults }
         ensures out_of_memory { IsErrOf result WriteRefusal.OutOfMemory
-            → (world self.new).files ≡ (world self.old).files }
+            → Does (world self.old) (world self.new) [] }
         ensures rest { LeavesSaving (world self.old) (world self.new) };
 }

@@ -1,9 +1,13 @@
-//! The house: all that the program reaches outside itself, as a trait of four calls, and three that
+//! The house: all that the program reaches outside itself, as a trait of five calls, and three that
 //! keep it. A caller relies on the clauses of `House` alone, which say what a call gives and leaves,
 //! and that a count rose wherever a call failed.
 #![tactic(auto)]
 
 pub mod calls;
+mod event_log;
+mod input;
+mod line;
+pub mod log_entry;
 pub mod memory;
 mod put;
 pub mod real;
@@ -11,6 +15,7 @@ mod replace;
 pub mod sure;
 
 pub use calls::{House, HouseFault, WriteRefusal};
+pub use log_entry::LogEntry;
 pub use memory::MemoryHouse;
 pub use real::RealHouse;
 pub use sure::SureHouse;

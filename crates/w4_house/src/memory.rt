@@ -4,26 +4,29 @@ ghost use Rattle.std.specs.Prelude.{
   ◌≡◌,
   ◌≤◌,
   ◌++◌,
-  ◌↔◌,
+  ◌⊎◌,
+  ◌+◌,
   ◌==◌,
   [],
   ◌∷◌,
   List,
-  ℕ,
   Some,
   None,
   IsTrue,
   IfOk,
+  IfSome,
   OnOk,
   OnErr,
   IsErrOf,
   length,
   option_copied,
+  option_map,
 };
 ghost use Rattle.std.specs.List.{list_any};
 ghost use Rattle.w4_defs.specs.World.{raised};
 
 use crate::calls::{House, HouseFault, WriteRefusal};
+use crate::log_entry::LogEntry;
 use crate::sure::SureHouse;
 use std::alloc::Global;
 use w4_defs::OutOfMemory;
@@ -31,7 +34,9 @@ use w4_defs::OutOfMemory;
 /// It tells everything, and has a list of the numbers of calls that are to fail.
 ///
 /// The calls of the trait are numbered from 1 in the order in which they come. One whose number is in
-/// the list returns Failed, raises its own count, and appends and changes nothing.
+/// the list returns Failed, raises its own count, and appends and changes nothing, but that a failed
+/// `read_line` or `write_file` is logged. Where memory for that runs out, the count rises all the same,
+/// and the call returns OutOfMemory.
 #[derive(Drop)]
 pub struct MemoryHouse {
     store: SureHouse,
@@ -45,12 +50,21 @@ pub struct MemoryHouse {
 impl MemoryHouse {
     ghost use Rattle.std.specs.FinMap.{get, empty};
     ghost use Rattle.w4_defs.specs.World.{Puts, OnlyFiles, SameWorld};
-    ghost use Rattle.w4_house.specs.InMemory.{failing_calls, last_call, memory_files, memory_world};
+    ghost use Rattle.w4_house.specs.Entries.{logged, written_by};
+    ghost use Rattle.w4_house.specs.InMemory.{
+      failing_calls,
+      last_call,
+      memory_files,
+      memory_input,
+      memory_events,
+      memory_world,
+    };
 
-    /// A house with no files and nothing written, in which no call is to fail.
+    /// A house with no files and no input, in which nothing was done and no call is to fail.
     pub fn new(alloc: Global) -> MemoryHouse
         ensures files { (memory_world result).files ≡ Some empty }
-        ensures out { (memory_world result).out ≡ Some [] }
+        ensures input { memory_input result ≡ [] }
+        ensures events { (memory_world result).events ≡ Some [] }
         ensures err { (memory_world result).err ≡ Some [] }
         ensures read_faults { (memory_world result).read_faults ≡ 0 }
         ensures write_faults { (memory_world result).write_faults ≡ 0 }
@@ -74,10 +88,22 @@ impl MemoryHouse {
             (Puts (memory_world self.old).files (memory_world self.new).files name.now bytes.now) }
         ensures refused { OnErr result ((memory_world self.new).files ≡ (memory_world self.old).files) }
         ensures rest { OnlyFiles (memory_world self.old) (memory_world self.new) }
+        ensures input { memory_input self.new ≡ memory_input self.old }
         ensures numbered { last_call self.new ≡ last_call self.old }
         ensures listed { failing_calls self.new ≡ failing_calls self.old }
     {
         self.store.put_file(name, bytes)
+    }
+
+    /// Makes these the bytes of standard input that are left. When memory runs out, nothing has changed.
+    pub fn put_input(&mut self, bytes: &[u8]) -> Result<(), OutOfMemory>
+        ensures left { OnOk result (memory_input self.new ≡ bytes.now) }
+        ensures refused { OnErr result (memory_input self.new ≡ memory_input self.old) }
+        ensures rest { SameWorld (memory_world self.old) (memory_world self.new) }
+        ensures numbered { last_call self.new ≡ last_call self.old }
+        ensures listed { failing_calls self.new ≡ failing_calls self.old }
+    {
+        self.store.put_input(bytes)
     }
 
     /// Adds a number to the list of calls that are to fail. When memory runs out, nothing has changed.
@@ -85,6 +111,7 @@ impl MemoryHouse {
         ensures listed { OnOk result (failing_calls self.new ≡ failing_calls self.old ++ call ∷ []) }
         ensures refused { OnErr result (failing_calls self.new ≡ failing_calls self.old) }
         ensures rest { SameWorld (memory_world self.old) (memory_world self.new) }
+        ensures input { memory_input self.new ≡ memory_input self.old }
         ensures numbered { last_call self.new ≡ last_call self.old }
     {
         Ok(self.failing.push(call)?)
@@ -97,9 +124,16 @@ impl MemoryHouse {
         self.store.file(name)
     }
 
-    /// What was written to standard output.
+    /// What was done, in the order in which it was.
+    pub fn log(&self) -> &[LogEntry]
+        ensures { (memory_world self.now).events ≡ Some (logged result.now) }
+    {
+        self.store.log()
+    }
+
+    /// All bytes that were written to standard output.
     pub fn out(&self) -> &[u8]
-        ensures { (memory_world self.now).out ≡ Some result.now }
+        ensures { written_by (memory_events self.now) ≡ result.now }
     {
         self.store.out()
     }
@@ -124,23 +158,35 @@ fn is_failing(calls: &mut u64, failing: &[u64]) -> bool
 impl House for MemoryHouse {
     ghost use Rattle.std.specs.Option.{ForSome};
     ghost use Rattle.w4_defs.specs.World.{
+      InputLost,
+      Saved,
+      NotSaved,
+      wrote,
       Rises,
       front_of,
       LacksFile,
       Appends,
       AppendsFront,
-      Puts,
-      PutsOrLeaves,
+      Does,
+      FailsToSave,
       LeavesReading,
       LeavesWriting,
       LeavesReporting,
+      LeavesTaking,
       LeavesSaving,
     };
-    ghost use Rattle.w4_house.specs.InMemory.{CountsCall, count_after, fails_next, memory_world};
+    ghost use Rattle.w4_defs.specs.Limits.{live_line_limit};
+    ghost use Rattle.w4_house.specs.InMemory.{
+      CountsCall,
+      count_after,
+      fails_next,
+      memory_input,
+      memory_world,
+    };
+    ghost use Rattle.w4_house.specs.Lines.{GivesLine, taken};
 
     ghost world = { memory_world };
 
-    /// Failed comes if and only if the number of the call is in the list.
     fn read_front(&mut self, alloc: Global, name: &str, most: usize) -> Result<Vec<u8>, HouseFault>
         ensures bytes { IfOk result
             (λ bytes. ForSome (memory_world self.old).files
@@ -152,6 +198,7 @@ impl House for MemoryHouse {
         ensures failed { IsErrOf result HouseFault.Failed
             → Rises (memory_world self.old).read_faults (memory_world self.new).read_faults }
         ensures rest { LeavesReading (memory_world self.old) (memory_world self.new) }
+        ensures input { memory_input self.new ≡ memory_input self.old }
         ensures fails { IsTrue (fails_next self.old) → IsErrOf result HouseFault.Failed }
         ensures fails_only { IsErrOf result HouseFault.Failed → IsTrue (fails_next self.old) }
         ensures count { (memory_world self.new).read_faults ≡ count_after self.old
@@ -165,21 +212,53 @@ impl House for MemoryHouse {
         self.store.read_front(alloc, name, most)
     }
 
+    fn read_line(&mut self, alloc: Global) -> Result<Option<Vec<u8>>, HouseFault>
+        ensures taken { IfOk result (λ line. Does (memory_world self.old) (memory_world self.new)
+            (taken (option_map (λ bytes. bytes.items) line) ∷ [])) }
+        ensures most { IfOk result
+            (λ line. IfSome line (λ bytes. length bytes.items ≤ live_line_limit + 1)) }
+        ensures never_absent { IsErrOf result HouseFault.Absent → ⊥ }
+        ensures lost { IsErrOf result HouseFault.Failed
+            → Does (memory_world self.old) (memory_world self.new) (InputLost ∷ []) }
+        ensures failed { IsErrOf result HouseFault.Failed
+            → Rises (memory_world self.old).read_faults (memory_world self.new).read_faults }
+        ensures out_of_memory { IsErrOf result HouseFault.OutOfMemory
+            → Does (memory_world self.old) (memory_world self.new) [] }
+        ensures rest { LeavesTaking (memory_world self.old) (memory_world self.new) }
+        ensures line { IfOk result (λ line. GivesLine (live_line_limit + 1) (Some (memory_input self.old))
+            (Some (memory_input self.new)) (option_map (λ bytes. bytes.items) line)) }
+        ensures left { OnErr result (memory_input self.new ≡ memory_input self.old) }
+        ensures fails { IsTrue (fails_next self.old)
+            → IsErrOf result HouseFault.Failed ⊎ IsErrOf result HouseFault.OutOfMemory }
+        ensures fails_only { IsErrOf result HouseFault.Failed → IsTrue (fails_next self.old) }
+        ensures count { (memory_world self.new).read_faults ≡ count_after self.old
+            (memory_world self.old).read_faults }
+        ensures counted { CountsCall self.old self.new }
+    {
+        if is_failing(&mut self.calls, &self.failing) {
+            self.read_faults = self.read_faults.saturating_add(1);
+            self.store.log_input_fault()?;
+            return Err(HouseFault::Failed);
+        }
+        self.store.read_line(alloc)
+    }
+
     fn write_out(&mut self, alloc: Global, bytes: &[u8]) -> Result<(), WriteRefusal>
         ensures all { OnOk result
-            (Appends (memory_world self.old).out (memory_world self.new).out bytes.now) }
+            (Appends (memory_world self.old).events (memory_world self.new).events (wrote bytes.now)) }
         ensures front { OnErr result
-            (AppendsFront (memory_world self.old).out (memory_world self.new).out bytes.now) }
+            (AppendsFront (memory_world self.old).events (memory_world self.new).events (wrote bytes.now)) }
         ensures failed { IsErrOf result WriteRefusal.Failed
             → Rises (memory_world self.old).write_faults (memory_world self.new).write_faults }
         ensures rest { LeavesWriting (memory_world self.old) (memory_world self.new) }
+        ensures input { memory_input self.new ≡ memory_input self.old }
         ensures fails { IsTrue (fails_next self.old) → IsErrOf result WriteRefusal.Failed }
         ensures fails_only { IsErrOf result WriteRefusal.Failed → IsTrue (fails_next self.old) }
         ensures count { (memory_world self.new).write_faults ≡ count_after self.old
             (memory_world self.old).write_faults }
         ensures counted { CountsCall self.old self.new }
         ensures unchanged { IsErrOf result WriteRefusal.Failed
-            → (memory_world self.new).out ≡ (memory_world self.old).out }
+            → (memory_world self.new).events ≡ (memory_world self.old).events }
     {
         if is_failing(&mut self.calls, &self.failing) {
             self.write_faults = self.write_faults.saturating_add(1);
@@ -196,6 +275,7 @@ impl House for MemoryHouse {
         ensures failed { IsErrOf result WriteRefusal.Failed
             → Rises (memory_world self.old).err_faults (memory_world self.new).err_faults }
         ensures rest { LeavesReporting (memory_world self.old) (memory_world self.new) }
+        ensures input { memory_input self.new ≡ memory_input self.old }
         ensures fails { IsTrue (fails_next self.old) → IsErrOf result WriteRefusal.Failed }
         ensures fails_only { IsErrOf result WriteRefusal.Failed → IsTrue (fails_next self.old) }
         ensures count { (memory_world self.new).err_faults ≡ count_after self.old
@@ -212,26 +292,29 @@ impl House for MemoryHouse {
     }
 
     fn write_file(&mut self, alloc: Global, name: &str, bytes: &[u8]) -> Result<(), WriteRefusal>
-        ensures whole { OnOk result
-            (Puts (memory_world self.old).files (memory_world self.new).files name.now bytes.now) }
-        ensures old_or_new { OnErr result
-            (PutsOrLeaves (memory_world self.old).files (memory_world self.new).files name.now bytes.now) }
+        ensures saved { OnOk result
+            (Does (memory_world self.old) (memory_world self.new) (Saved name.now bytes.now ∷ [])) }
+        ensures not_saved { IsErrOf result WriteRefusal.Failed
+            → FailsToSave (memory_world self.old) (memory_world self.new) [] (Saved name.now bytes.now ∷ []) }
         ensures failed { IsErrOf result WriteRefusal.Failed
             → Rises (memory_world self.old).write_faults (memory_world self.new).write_faults }
         ensures out_of_memory { IsErrOf result WriteRefusal.OutOfMemory
-            → (memory_world self.new).files ≡ (memory_world self.old).files }
+            → Does (memory_world self.old) (memory_world self.new) [] }
         ensures rest { LeavesSaving (memory_world self.old) (memory_world self.new) }
-        ensures fails { IsTrue (fails_next self.old) → IsErrOf result WriteRefusal.Failed }
+        ensures input { memory_input self.new ≡ memory_input self.old }
+        ensures fails { IsTrue (fails_next self.old)
+            → IsErrOf result WriteRefusal.Failed ⊎ IsErrOf result WriteRefusal.OutOfMemory }
         ensures fails_only { IsErrOf result WriteRefusal.Failed → IsTrue (fails_next self.old) }
         ensures count { (memory_world self.new).write_faults ≡ count_after self.old
             (memory_world self.old).write_faults }
         ensures counted { CountsCall self.old self.new }
-        ensures unchanged { IsErrOf result WriteRefusal.Failed
-            → (memory_world self.new).files ≡ (memory_world self.old).files }
+        ensures not_replaced { IsErrOf result WriteRefusal.Failed
+            → Does (memory_world self.old) (memory_world self.new) (NotSaved name.now ∷ []) }
     {
         if is_failing(&mut self.calls, &self.failing) {
             // The file keeps what it had.
             self.write_faults = self.write_faults.saturating_add(1);
+            self.store.log_file_fault(name)?;
             return Err(WriteRefusal::Failed);
         }
         self.store.write_file(alloc, name, bytes)

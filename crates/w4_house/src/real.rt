@@ -1,13 +1,15 @@
-//! The house of the running program: the system's files and two writers.
+//! The house of the running program: the system's files, a reader and two writers.
 
 ghost use Rattle.std.specs.Prelude.{
   ◌≡◌,
   ◌≤◌,
-  ◌<◌,
   ◌+◌,
+  ◌∷◌,
+  [],
   List,
   Some,
   IfOk,
+  IfSome,
   OnOk,
   OnErr,
   IsErrOf,
@@ -15,24 +17,26 @@ ghost use Rattle.std.specs.Prelude.{
   is_ok,
   length,
   take,
-  if◌then◌else◌,
+  option_map,
 };
 ghost use Rattle.std.specs.Option.{ForSome};
 
 use crate::calls::{House, HouseFault, WriteRefusal};
+use crate::line::{MOST_LINE_BYTES, next_line};
 use crate::replace::replace;
 use std::alloc::Global;
 use std::fs;
 use std::io::{self, ErrorKind, Read, Write};
 use std::rt::Files;
 
-/// Over the files of a runtime and two writers, in the program its standard streams.
+/// Over the files of a runtime, a reader and two writers, in the program its standard streams.
 ///
 /// It tells no content. Each count rises at each refusal of its calls, an absent file and running out of
 /// memory among them.
 #[derive(Drop)]
-pub struct RealHouse<'a, R: Files, O: Write + Drop, E: Write + Drop> {
+pub struct RealHouse<'a, R: Files, I: Read + Drop, O: Write + Drop, E: Write + Drop> {
     runtime: &'a R,
+    input: I,
     out: O,
     err: E,
     read_faults: u64,
@@ -40,11 +44,12 @@ pub struct RealHouse<'a, R: Files, O: Write + Drop, E: Write + Drop> {
     err_faults: u64,
 }
 
-impl<'a, R: Files, O: Write + Drop, E: Write + Drop> RealHouse<'a, R, O, E> {
+impl<'a, R: Files, I: Read + Drop, O: Write + Drop, E: Write + Drop> RealHouse<'a, R, I, O, E> {
     ghost use Rattle.w4_house.specs.Edge.{real_world};
 
     /// Nothing has failed so far.
-    pub fn new(runtime: &'a R, out: O, err: E) -> RealHouse<'a, R, O, E>
+    pub fn new(runtime: &'a R, input: I, out: O, err: E) -> RealHouse<'a, R, I, O, E>
+        ensures input { result.input ≡ input }
         ensures out { result.out ≡ out }
         ensures err { result.err ≡ err }
         ensures read_faults { (real_world result).read_faults ≡ 0 }
@@ -53,6 +58,7 @@ impl<'a, R: Files, O: Write + Drop, E: Write + Drop> RealHouse<'a, R, O, E> {
     {
         RealHouse {
             runtime,
+            input,
             out,
             err,
             read_faults: 0,
@@ -118,22 +124,29 @@ fn write_whole<R: Files>(
     }
 }
 
-impl<'a, R: Files, O: Write + Drop, E: Write + Drop> House for RealHouse<'a, R, O, E> {
+impl<'a, R: Files, I: Read + Drop, O: Write + Drop, E: Write + Drop> House
+    for RealHouse<'a, R, I, O, E> {
     ghost use Rattle.std.specs.Io.KnownBytes as known;
     ghost use Rattle.w4_defs.specs.World.{
+      InputLost,
+      Saved,
+      wrote,
       Rises,
       front_of,
       LacksFile,
       Appends,
       AppendsFront,
-      Puts,
-      PutsOrLeaves,
+      Does,
+      FailsToSave,
       LeavesReading,
       LeavesWriting,
       LeavesReporting,
+      LeavesTaking,
       LeavesSaving,
     };
+    ghost use Rattle.w4_defs.specs.Limits.{live_line_limit};
     ghost use Rattle.w4_house.specs.Edge.{real_world, count_since};
+    ghost use Rattle.w4_house.specs.Lines.{GivesLine, taken};
 
     ghost world = { real_world };
 
@@ -159,10 +172,36 @@ impl<'a, R: Files, O: Write + Drop, E: Write + Drop> House for RealHouse<'a, R, 
         answer
     }
 
+    fn read_line(&mut self, alloc: Global) -> Result<Option<Vec<u8>>, HouseFault>
+        ensures taken { IfOk result (λ line. Does (real_world self.old) (real_world self.new)
+            (taken (option_map (λ bytes. bytes.items) line) ∷ [])) }
+        ensures most { IfOk result
+            (λ line. IfSome line (λ bytes. length bytes.items ≤ live_line_limit + 1)) }
+        ensures never_absent { IsErrOf result HouseFault.Absent → ⊥ }
+        ensures lost { IsErrOf result HouseFault.Failed
+            → Does (real_world self.old) (real_world self.new) (InputLost ∷ []) }
+        ensures failed { IsErrOf result HouseFault.Failed
+            → Rises (real_world self.old).read_faults (real_world self.new).read_faults }
+        ensures out_of_memory { IsErrOf result HouseFault.OutOfMemory
+            → Does (real_world self.old) (real_world self.new) [] }
+        ensures rest { LeavesTaking (real_world self.old) (real_world self.new) }
+        ensures line { IfOk result (λ line. GivesLine (live_line_limit + 1) (I.remaining self.old.input)
+            (I.remaining self.new.input) (option_map (λ bytes. bytes.items) line)) }
+        ensures count { (real_world self.new).read_faults ≡ count_since result
+            (real_world self.old).read_faults }
+    {
+        let answer = next_line(alloc, &mut self.input, MOST_LINE_BYTES);
+        if answer.is_err() {
+            self.read_faults = self.read_faults.saturating_add(1);
+        }
+        answer
+    }
+
     fn write_out(&mut self, _alloc: Global, bytes: &[u8]) -> Result<(), WriteRefusal>
-        ensures all { OnOk result (Appends (real_world self.old).out (real_world self.new).out bytes.now) }
+        ensures all { OnOk result
+            (Appends (real_world self.old).events (real_world self.new).events (wrote bytes.now)) }
         ensures front { OnErr result
-            (AppendsFront (real_world self.old).out (real_world self.new).out bytes.now) }
+            (AppendsFront (real_world self.old).events (real_world self.new).events (wrote bytes.now)) }
         ensures failed { IsErrOf result WriteRefusal.Failed
             → Rises (real_world self.old).write_faults (real_world self.new).write_faults }
         ensures rest { LeavesWriting (real_world self.old) (real_world self.new) }
@@ -202,14 +241,14 @@ impl<'a, R: Files, O: Write + Drop, E: Write + Drop> House for RealHouse<'a, R, 
     }
 
     fn write_file(&mut self, alloc: Global, name: &str, bytes: &[u8]) -> Result<(), WriteRefusal>
-        ensures whole { OnOk result
-            (Puts (real_world self.old).files (real_world self.new).files name.now bytes.now) }
-        ensures old_or_new { OnErr result
-            (PutsOrLeaves (real_world self.old).files (real_world self.new).files name.now bytes.now) }
+        ensures saved { OnOk result
+            (Does (real_world self.old) (real_world self.new) (Saved name.now bytes.now ∷ [])) }
+        ensures not_saved { IsErrOf result WriteRefusal.Failed
+            → FailsToSave (real_world self.old) (real_world self.new) [] (Saved name.now bytes.now ∷ []) }
         ensures failed { IsErrOf result WriteRefusal.Failed
             → Rises (real_world self.old).write_faults (real_world self.new).write_faults }
         ensures out_of_memory { IsErrOf result WriteRefusal.OutOfMemory
-            → (real_world self.new).files ≡ (real_world self.old).files }
+            → Does (real_world self.old) (real_world self.new) [] }
         ensures rest { LeavesSaving (real_world self.old) (real_world self.new) }
         ensures count { (real_world self.new).write_faults ≡ count_since result
             (real_world self.old).write_faults }

@@ -10,11 +10,13 @@ use Rattle.w4_defs.specs.Validity.{IsFirstUntyped}
 use Rattle.w4_defs.specs.Cart.{IsInvalid, IsRefused}
 use Rattle.wasm_read.specs.Unique.{AtMostOneModule}
 use Rattle.w4_defs.specs.World.{Files}
-use Rattle.w4_defs.specs.declared.status.Status.{Status}
-use Rattle.w4_defs.specs.declared.status.Status.TheVariants.{Done, Usage, ReadFault, WriteFault, OutOfMemory, CartRefused, RecordingRefused, FontRefused, ScriptRefused, FrameRefused, ListRefused}
-use Rattle.w4_defs.specs.Commands.{Form, Check, Blank, Frames, Tones, Trace, Disk, Edit, Make, Net, Ram, Wave, Batch, form_of}
-use Rattle.w4_defs.specs.Output.{CartFile, Output, JudgedCart, make_output, reading}
-use Rattle.w4_defs.specs.Outputs.{OutputsAlone, OverFile, OutputsForm, cart_word, output_of, over_cart}
+use Rattle.w4_defs.specs.declared.status.Refusal.{Refusal}
+use Rattle.w4_defs.specs.declared.status.Refusal.TheVariants.{CartRefused, RecordingRefused, FontRefused, ScriptRefused, ListRefused, FrameRefused, ReadFault, InputFault, WriteFault, OutOfMemory}
+use Rattle.w4_defs.specs.Commands.{Form, Check, Blank, Frames, Tones, Trace, Disk, Edit, Make, Net, Ram, Wave, Batch, Serve, Units, Compare, Rebind, Inputs, BlankDisk}
+use Rattle.w4_defs.specs.Live.{Talk}
+use Rattle.w4_defs.specs.Output.{CartFile, Output, JudgedCart, reading}
+use Rattle.w4_defs.specs.RecordingOutputs.{compare_output}
+use Rattle.w4_defs.specs.Outputs.{OutputsAlone, OutputsOn, OverCart, OverFile, OverJudged, cart_word}
 use Rattle.w4_defs.specs.OneOutput.{AtMostOneOutput}
 use Rattle.w4_commands.proofs.CartLaws.{never_both, no_profile}
 
@@ -75,85 +77,117 @@ same_cart cart other code digest =
     ap (λ (m : WasmModule). record { code = m; digest = cart.digest }) code
     ∙ ap (λ (d : List ℕ). record { code = other.code; digest = d }) digest
 
-judged_once : AtMostOneModule → (found : Result (List ℕ) Status) (cart other : Result CartFile Status)
+-- bytes that were read are refused as a cart alone
+refused_cart : (bytes : List ℕ) (why : Refusal) → JudgedCart (Ok bytes) (Err why)
+    → (kind : CartKind) × (why ≡ CartRefused kind) × IsRefused bytes kind
+refused_cart bytes (CartRefused kind) judged = (kind, refl, judged)
+refused_cart bytes (RecordingRefused kind) judged = absurd judged
+refused_cart bytes FontRefused judged = absurd judged
+refused_cart bytes (ScriptRefused kind) judged = absurd judged
+refused_cart bytes (ListRefused kind) judged = absurd judged
+refused_cart bytes (FrameRefused number n) judged = absurd judged
+refused_cart bytes ReadFault judged = absurd judged
+refused_cart bytes InputFault judged = absurd judged
+refused_cart bytes WriteFault judged = absurd judged
+refused_cart bytes OutOfMemory judged = absurd judged
+
+judged_once : AtMostOneModule → (found : Result (List ℕ) Refusal) (cart other : Result CartFile Refusal)
     → JudgedCart found cart → JudgedCart found other → cart ≡ other
 judged_once unique (Err refusal) cart other one two = one ∙ sym two
 judged_once unique (Ok bytes) (Ok cart) (Ok other) one two =
     ap (λ (c : CartFile). Ok c)
     (same_cart cart other (unique bytes cart.code other.code one.0.1 two.0.1) (one.1 ∙ sym two.1))
-judged_once unique (Ok bytes) (Ok cart) (Err (CartRefused l)) one two =
-    absurd (never_both unique bytes cart.code l one.0 two)
-judged_once unique (Ok bytes) (Ok cart) (Err Usage) one two = absurd two
-judged_once unique (Ok bytes) (Ok cart) (Err Done) one two = absurd two
-judged_once unique (Ok bytes) (Ok cart) (Err WriteFault) one two = absurd two
-judged_once unique (Ok bytes) (Ok cart) (Err OutOfMemory) one two = absurd two
-judged_once unique (Ok bytes) (Ok cart) (Err ReadFault) one two = absurd two
-judged_once unique (Ok bytes) (Ok cart) (Err (RecordingRefused kind)) one two = absurd two
-judged_once unique (Ok bytes) (Ok cart) (Err FontRefused) one two = absurd two
-judged_once unique (Ok bytes) (Ok cart) (Err (ScriptRefused kind)) one two = absurd two
-judged_once unique (Ok bytes) (Ok cart) (Err (FrameRefused number n)) one two = absurd two
-judged_once unique (Ok bytes) (Ok cart) (Err (ListRefused kind)) one two = absurd two
-judged_once unique (Ok bytes) (Err (CartRefused k)) (Ok cart) one two =
-    absurd (never_both unique bytes cart.code k two.0 one)
-judged_once unique (Ok bytes) (Err (CartRefused k)) (Err (CartRefused l)) one two =
-    ap (λ kind. Err (CartRefused kind)) (refused_once unique bytes k l one two)
-judged_once unique (Ok bytes) (Err (CartRefused k)) (Err Usage) one two = absurd two
-judged_once unique (Ok bytes) (Err (CartRefused k)) (Err Done) one two = absurd two
-judged_once unique (Ok bytes) (Err (CartRefused k)) (Err WriteFault) one two = absurd two
-judged_once unique (Ok bytes) (Err (CartRefused k)) (Err OutOfMemory) one two = absurd two
-judged_once unique (Ok bytes) (Err (CartRefused k)) (Err ReadFault) one two = absurd two
-judged_once unique (Ok bytes) (Err (CartRefused k)) (Err (RecordingRefused kind)) one two = absurd two
-judged_once unique (Ok bytes) (Err (CartRefused k)) (Err FontRefused) one two = absurd two
-judged_once unique (Ok bytes) (Err (CartRefused k)) (Err (ScriptRefused kind)) one two = absurd two
-judged_once unique (Ok bytes) (Err (CartRefused k)) (Err (FrameRefused number n)) one two = absurd two
-judged_once unique (Ok bytes) (Err (CartRefused k)) (Err (ListRefused kind)) one two = absurd two
-judged_once unique (Ok bytes) (Err Usage) other one two = absurd one
-judged_once unique (Ok bytes) (Err Done) other one two = absurd one
-judged_once unique (Ok bytes) (Err WriteFault) other one two = absurd one
-judged_once unique (Ok bytes) (Err OutOfMemory) other one two = absurd one
-judged_once unique (Ok bytes) (Err ReadFault) other one two = absurd one
-judged_once unique (Ok bytes) (Err (RecordingRefused kind)) other one two = absurd one
-judged_once unique (Ok bytes) (Err FontRefused) other one two = absurd one
-judged_once unique (Ok bytes) (Err (ScriptRefused kind)) other one two = absurd one
-judged_once unique (Ok bytes) (Err (FrameRefused number n)) other one two = absurd one
-judged_once unique (Ok bytes) (Err (ListRefused kind)) other one two = absurd one
+judged_once unique (Ok bytes) (Ok cart) (Err why) one two =
+    let refused = refused_cart bytes why two in
+    absurd (never_both unique bytes cart.code refused.0 one.0 refused.2)
+judged_once unique (Ok bytes) (Err why) (Ok cart) one two =
+    let refused = refused_cart bytes why one in
+    absurd (never_both unique bytes cart.code refused.0 two.0 refused.2)
+judged_once unique (Ok bytes) (Err why) (Err other) one two =
+    let refused = refused_cart bytes why one in
+    let again = refused_cart bytes other two in
+    ap (λ (refusal : Refusal). Err refusal)
+    (refused.1 ∙ ap CartRefused (refused_once unique bytes refused.0 again.0 refused.2 again.2) ∙ sym again.1)
 
-there_once : (found : Option (Result Output Status)) (output other : Result Output Status) → found
-    ≡ Some output
-    → found ≡ Some other → output ≡ other
+abbrev Step : Type 1
+Step = Files → Result Output Refusal → Type 0
+
+-- what is made of the files is one thing
+abbrev IsOnce : Step → Type 0
+IsOnce step = (files : Files) (output other : Result Output Refusal) → step files output → step files other
+    → output ≡ other
+
+over_judged_once : (step : CartFile → Step) → ((cart : CartFile) → IsOnce (step cart)) → (files : Files)
+    (cart : Result CartFile Refusal) (output other : Result Output Refusal)
+    → OverJudged step files cart output → OverJudged step files cart other → output ≡ other
+over_judged_once step once files (Ok cart) output other one two = once cart files output other one two
+over_judged_once step once files (Err refusal) output other one two = one ∙ sym two
+
+-- over a cart that is judged first, where what follows is one thing
+over_cart_once : AtMostOneModule → (name : List ℕ) (step : CartFile → Step)
+    → ((cart : CartFile) → IsOnce (step cart)) → IsOnce (OverCart name step)
+over_cart_once unique name step once files output other (cart, judged, one) (again, rejudged, two) =
+    over_judged_once step once files again output other
+    (subst (λ c. OverJudged step files c output)
+    (judged_once unique (reading files name 65537) cart again judged rejudged) one) two
+
+there_once : (found : Option (Result Output Refusal)) (output other : Result Output Refusal)
+    → found ≡ Some output → found ≡ Some other → output ≡ other
 there_once found output other one two = cc
 
-alone_once : (form : Form) (files : Files) (output other : Result Output Status)
-    → OutputsAlone form files output → OutputsAlone form files other → output ≡ other
-alone_once (Make number) files output other one two = there_once (make_output number files) output other one
-    two
+-- by a form that names a cart
+on_once : AtMostOneModule → (form : Form) (talk : Talk) (cart : CartFile) → IsOnce (OutputsOn form talk cart)
+on_once unique (Check name) talk cart files output other one two = cc
+on_once unique (Blank name budget) talk cart files output other one two = cc
+on_once unique (Frames words from to) talk cart files output other one two = cc
+on_once unique (Tones words) talk cart files output other one two = cc
+on_once unique (Trace words) talk cart files output other one two = cc
+on_once unique (Disk words place) talk cart files output other one two = cc
+on_once unique (Edit words) talk cart files output other one two = cc
+on_once unique (Make number) talk cart files output other one two = cc
+on_once unique (Net words) talk cart files output other one two = cc
+on_once unique (Ram words query) talk cart files output other one two = cc
+on_once unique (Wave words) talk cart files output other one two = cc
+on_once unique (Batch words) talk cart files output other one two = cc
+on_once unique (Serve words) talk cart files output other one two = cc
+on_once unique (Units words) talk cart files output other one two = cc
+on_once unique (Compare words) talk cart files output other one two =
+    over_cart_once unique words.other_cart
+    (λ second files output. compare_output words cart second files ≡ Some output)
+    (λ second files output other one two.
+    there_once (compare_output words cart second files) output other one two)
+    files output other one two
+on_once unique (Rebind name recording) talk cart files output other one two = cc
+on_once unique (Inputs recording) talk cart files output other one two = cc
+on_once unique (BlankDisk name budget disk) talk cart files output other one two = cc
+
+-- by one that names none
+alone_once : (form : Form) → IsOnce (OutputsAlone form)
 alone_once (Check cart) files output other one two = absurd one
 alone_once (Blank cart budget) files output other one two = absurd one
-alone_once (Net words) files output other one two = absurd one
-alone_once (Ram words query) files output other one two = absurd one
-alone_once (Wave words) files output other one two = absurd one
-alone_once (Batch words) files output other one two = absurd one
 alone_once (Frames words from to) files output other one two = absurd one
 alone_once (Tones words) files output other one two = absurd one
 alone_once (Trace words) files output other one two = absurd one
 alone_once (Disk words place) files output other one two = absurd one
 alone_once (Edit words) files output other one two = absurd one
+alone_once (Make number) files output other one two = cc
+alone_once (Net words) files output other one two = absurd one
+alone_once (Ram words query) files output other one two = absurd one
+alone_once (Wave words) files output other one two = absurd one
+alone_once (Batch words) files output other one two = absurd one
+alone_once (Serve words) files output other one two = absurd one
+alone_once (Units words) files output other one two = absurd one
+alone_once (Compare words) files output other one two = absurd one
+alone_once (Rebind cart recording) files output other one two = absurd one
+alone_once (Inputs recording) files output other one two = cc
+alone_once (BlankDisk cart budget disk) files output other one two = absurd one
 
-over_once : AtMostOneModule → (word : Option (List ℕ)) (form : Form) (files : Files)
-    (output other : Result Output Status)
-    → OverFile word form files output → OverFile word form files other → output ≡ other
-over_once unique None form files output other one two = alone_once form files output other one two
-over_once unique (Some name) form files output other (cart, judged, e) (again, rejudged, d) =
-    there_once (over_cart (output_of form) files again) output other
-    (subst (λ c. over_cart (output_of form) files c ≡ Some output)
-    (judged_once unique (reading files name 65537) cart again judged rejudged) e) d
-
-form_once : AtMostOneModule → (form : Option Form) (files : Files) (output other : Result Output Status)
-    → OutputsForm form files output → OutputsForm form files other → output ≡ other
-form_once unique None files output other one two = one ∙ sym two
-form_once unique (Some form) files output other one two =
-    over_once unique (cart_word form) form files output other one two
+over_once : AtMostOneModule → (word : Option (List ℕ)) (form : Form) (talk : Talk)
+    → IsOnce (OverFile word form talk)
+over_once unique None form talk files output other one two = alone_once form files output other one two
+over_once unique (Some name) form talk files output other one two =
+    over_cart_once unique name (OutputsOn form talk) (on_once unique form talk) files output other one two
 
 pub one_output : AtMostOneModule → AtMostOneOutput
-one_output unique words files output other one two = form_once unique (form_of words) files output other one
-    two
+one_output unique form talk files output other one two =
+    over_once unique (cart_word form) form talk files output other one two

@@ -1,7 +1,7 @@
 //! `w4`: the WASM-4 console without a window, run on recordings that a script edits.
 //!
 //! `w4_run` does all that the program does, over a house that stands for files and streams; `main` hands it
-//! the system's. What it makes of words and files is said by the definitions of `w4_commands`.
+//! the system's. What it makes of words and files is said by the definitions of `w4_defs`.
 #![tactic(auto)]
 
 mod run;
@@ -9,7 +9,7 @@ mod run;
 mod tests;
 
 use crate::run::{report, w4_run};
-use std::io::ErrorKind;
+use std::io::{ErrorKind, Lock};
 use std::process::ExitCode;
 use std::rt::Env;
 use std::{env, io};
@@ -26,7 +26,7 @@ fn words_of<R: Env + AllocGlobal>(rt: &R) -> io::Result<Vec<String>> {
 }
 
 fn main(rt: HostRuntime) -> ExitCode {
-    let mut house = RealHouse::new(&rt, rt.stdout(), rt.stderr());
+    let mut house = RealHouse::new(&rt, rt.stdin().lock(), rt.stdout(), rt.stderr());
     let status = match words_of(&rt) {
         Ok(words) => w4_run(&rt, rt.alloc(), words.as_slice(), &mut house),
         Err(refusal) if refusal.kind() == ErrorKind::OutOfMemory => {

@@ -1,19 +1,19 @@
 //! The top call: all that the program does, for every implementation of `House`.
 
-ghost use Rattle.std.specs.Prelude.{◌≡◌, ◌≢◌, ◌⊎◌, None, map, string_bytes};
-ghost use Rattle.w4_defs.specs.Causes.{Ends, IsReported, LeavesErr, Reports};
+ghost use Rattle.std.specs.Prelude.{◌≡◌, ◌⊎◌, None, map, string_bytes};
+ghost use Rattle.w4_defs.specs.Causes.{IsReported, IsWhole, LeavesErr, Reports};
 ghost use Rattle.w4_defs.specs.Commands.{form_of};
-ghost use Rattle.w4_defs.specs.Endings.{manner_of};
 ghost use Rattle.w4_defs.specs.OneOutput.{AtMostOneOutput};
 ghost use Rattle.w4_defs.specs.Outputs.{Outputs};
 ghost use Rattle.w4_defs.specs.Promise.{KeepsPromise};
 ghost use Rattle.w4_defs.specs.StatusLines.{status_line};
 ghost use Rattle.w4_defs.specs.World.{AppendsFront, LeavesReporting};
+ghost use Rattle.w4_program.specs.Obeyed.{IsObeyed, status_of_end};
 
 use std::alloc::Global;
 use std::thread::Threads;
 use w4_commands::status_line::status_line;
-use w4_commands::{Status, form_of_words, run_form};
+use w4_commands::{Finish, Refusal, Status, form_of_words, run_form};
 use w4_console::laws::accepted_runs_have_meaning;
 use w4_defs::output_laws::complete_is_done;
 use w4_house::{House, WriteRefusal};
@@ -55,7 +55,7 @@ pub fn w4_run_gated<R: Threads + Sync, H: House, G: Gate + Sync>(
     report(alloc, house, status)
 }
 
-/// What the words ask for. Nothing is written to standard error.
+/// Does what the words ask for. Nothing is written to standard error.
 fn obey<R: Threads + Sync, H: House, G: Gate + Sync>(
     rt: &R,
     alloc: Global,
@@ -63,28 +63,36 @@ fn obey<R: Threads + Sync, H: House, G: Gate + Sync>(
     house: &mut H,
     gate: &G,
 ) -> Status
-    ensures ends { Ends (H.world house.old) (H.world house.new) (manner_of result)
-        (λ files output. Outputs (map string_bytes words.now) files output) }
-    ensures usage { result ≡ Status.Usage → form_of (map string_bytes words.now) ≡ None }
-    ensures no_form { form_of (map string_bytes words.now) ≡ None → result ≡ Status.Usage }
+    ensures obeyed { IsObeyed (H.world house.old) (H.world house.new) result
+        (form_of (map string_bytes words.now) ≡ None) (Outputs (map string_bytes words.now)) }
     ensures err { LeavesErr (H.world house.old) (H.world house.new) }
 {
     match form_of_words(words) {
-        Some(form) => run_form(rt, alloc, house, form, gate),
+        Some(form) => status_of(run_form(rt, alloc, house, form, gate)),
         None => Status::Usage,
     }
 }
 
-/// Writes the status's line. Where there is no memory for that, this is the status.
+/// The status of a command that ended so.
+fn status_of(end: Result<Finish, Refusal>) -> Status
+    ensures { result ≡ status_of_end end }
+{
+    match end {
+        Ok(finish) => Status::from(finish),
+        Err(refusal) => Status::from(refusal),
+    }
+}
+
+/// Writes the status's line, where it has one. Where there is no memory for that, this is the status.
 pub(crate) fn report<H: House>(alloc: Global, house: &mut H, status: Status) -> Status
     ensures status { (result ≡ status) ⊎ (result ≡ Status.OutOfMemory) }
     ensures line { IsReported result → Reports (H.world house.old) (H.world house.new) (status_line result) }
-    ensures done { result ≡ Status.Done → (H.world house.new).err ≡ (H.world house.old).err }
-    ensures cut { result ≡ Status.OutOfMemory → (status ≢ Status.Done)
+    ensures no_line { IsWhole result → (H.world house.new).err ≡ (H.world house.old).err }
+    ensures cut { result ≡ Status.OutOfMemory → (¬ IsWhole status)
         × AppendsFront (H.world house.old).err (H.world house.new).err (status_line status) }
     ensures rest { LeavesReporting (H.world house.old) (H.world house.new) }
 {
-    if status == Status::Done {
+    if status == Status::Done || status == Status::Different {
         return status;
     }
     let Ok(line) = status_line(alloc, status) else {
@@ -97,8 +105,8 @@ pub(crate) fn report<H: House>(alloc: Global, house: &mut H, status: Status) -> 
     }
 }
 
-/// What the program makes of given words and files is one thing, so each status comes if and only if the
-/// definition has it.
+/// What the program makes of given words, files and lines of a session is one thing, so each status comes if
+/// and only if the definition has it.
 pub fn one_output()
     ensures { AtMostOneOutput }
 {

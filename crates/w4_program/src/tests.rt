@@ -7,6 +7,7 @@ mod console;
 mod each_call;
 mod editor;
 mod houses;
+mod live;
 mod replica;
 mod search;
 mod segments;

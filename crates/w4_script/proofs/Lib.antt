@@ -4,3 +4,7 @@ mod LineLaws
 mod OrderLaws
 mod NameLaws
 mod RequestLaws
+mod WrittenWords
+mod InputsTextLaws
+mod TextsOfInputs
+mod RemadeInputs

@@ -1,6 +1,6 @@
 -- The requests of a query are fit for the calls that they ask for.
-use Rattle.std.proofs.Common.{◌≡◌, ℕ, Bool, true, false, List, [], ◌∷◌, length, All, Option, Some, None, Result, Ok, Err, refl, subst, if◌then◌else◌, leb, cond, arith}
-use Rattle.std.specs.Prelude.{⊤}
+use Rattle.std.proofs.Common.{◌≡◌, ℕ, Bool, true, false, List, [], ◌∷◌, length, All, Option, Some, None, Result, Ok, Err, refl, sym, subst, if◌then◌else◌, leb, cond, arith}
+use Rattle.std.specs.Prelude.{⊤, IfSome}
 use Rattle.std.specs.Str.{bytes_eq}
 use Rattle.std.proofs.lemmas.List.Elements.{All-nil, All-cons}
 use Rattle.w4_defs.specs.declared.inspect.Ask.{Ask}
@@ -118,3 +118,9 @@ rows_fit = (
 pub query_fits : (bytes : List ℕ) (requests : List Ask) → file_of ask_of bytes ≡ Ok requests
     → All IsRequest requests
 query_fits = file_read IsRequest ask_of (table_reads IsRequest query_rows rows_fit)
+
+pub request_fits : (name : List ℕ) (words : List (List ℕ)) (request : Option Ask)
+    → request ≡ order_named query_rows name words → IfSome request IsRequest
+request_fits name words None e = tt
+request_fits name words (Some request) e =
+    named_reads IsRequest query_rows rows_fit name words request (sym e)

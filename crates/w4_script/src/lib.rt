@@ -1,10 +1,12 @@
-//! Texts of lines (project rule): edit scripts, logs of netplay, queries of memory and lists of names. The
-//! layers above rely on this: what is read is what the definitions in w4_defs say of the bytes, and a refusal
-//! names the first bad line.
+//! Texts of lines (project rule): edit scripts, logs of netplay, queries of memory, lists of names and the
+//! lines of a live session. The layers above rely on this: what is read is what the definitions in w4_defs
+//! say of the bytes, and a refusal names the first bad line.
 #![tactic(auto)]
 
 mod frame;
+pub mod laws;
 mod lines;
+mod live;
 mod name_lines;
 mod names;
 mod net_log;
@@ -21,6 +23,7 @@ mod script_words;
 mod words;
 
 pub use lines::{Line, script_lines};
+pub use live::{Asked, MOST_LINE_BYTES, read_live_line};
 pub use names::{MOST_LIST_BYTES, read_names};
 pub use net_log::read_log;
 pub use number::number_of;

@@ -6,8 +6,8 @@ ghost use Rattle.w4_defs.specs.Script.{order_of, script_rows};
 ghost use Rattle.w4_script.specs.Left.{words_left};
 
 use crate::frame::frame;
-use crate::order_words::{no_word, one_number};
-use crate::script_words::{film, number_between, range};
+use crate::order_words::{no_word, one_number, range};
+use crate::script_words::{film, number_between};
 use crate::words::Words;
 use w4_defs::Order;
 

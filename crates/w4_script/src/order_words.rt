@@ -1,7 +1,7 @@
-//! The words that follow the name of an order of any kind: none, or one number.
+//! The words that follow the name of an order of any kind: none, one number, or two.
 
-ghost use Rattle.std.specs.Prelude.{◌≡◌};
-ghost use Rattle.w4_defs.specs.OrderWords.{no_word, one_number};
+ghost use Rattle.std.specs.Prelude.{◌≡◌, ◌≤◌, IfSome};
+ghost use Rattle.w4_defs.specs.OrderWords.{no_word, one_number, range_order};
 ghost use Rattle.w4_script.specs.Left.{words_left};
 
 use crate::number::number_of;
@@ -26,4 +26,19 @@ pub fn one_number(mut words: Words<'_>) -> Option<u32>
         return None;
     }
     number_of(word)
+}
+
+/// The two numbers that are left, the first at most the second.
+pub fn range(mut words: Words<'_>) -> Option<(u32, u32)>
+    ensures numbers { result ≡ range_order (λ a b. (a, b)) (words_left words.entry) }
+    ensures ordered { IfSome result (λ p. p.0 ≤ p.1) }
+{
+    let first = words.next()?;
+    let last = words.next()?;
+    if words.next().is_some() {
+        return None;
+    }
+    let a = number_of(first)?;
+    let b = number_of(last)?;
+    if a <= b { Some((a, b)) } else { None }
 }

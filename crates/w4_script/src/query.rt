@@ -1,6 +1,6 @@
 //! Queries of memory.
 
-ghost use Rattle.std.specs.Prelude.{◌≡◌, IfErr, IfOk, Ok};
+ghost use Rattle.std.specs.Prelude.{◌≡◌, IfErr, IfOk, IfSome, Ok};
 ghost use Rattle.std.specs.List.{All};
 ghost use Rattle.w4_defs.specs.OrderFile.{order_named};
 ghost use Rattle.w4_defs.specs.RamQuery.{ask_of, decimal_width, is_words, query_of, query_rows, start_words, test_words, watch_words};
@@ -121,8 +121,9 @@ fn ask_named(name: &[u8], words: Words<'_>) -> Option<Ask>
 }
 
 /// The request that a line's words are, or None if the line is bad.
-fn ask_of(mut words: Words<'_>) -> Option<Ask>
-    ensures { result ≡ ask_of (words_left words.entry) }
+pub fn ask_of(mut words: Words<'_>) -> Option<Ask>
+    ensures request { result ≡ ask_of (words_left words.entry) }
+    ensures fit { IfSome result IsRequest }
 {
     let name = words.next()?;
     ask_named(name, words)

@@ -1,7 +1,6 @@
-//! The words after the names of a script's orders on places: a number within bounds, two places, a film.
+//! The words after the names of a script's orders on places: a number within bounds, a film.
 
 ghost use Rattle.std.specs.Prelude.{◌≡◌, ℕ, option_map};
-ghost use Rattle.w4_defs.specs.OrderWords.{range_order};
 ghost use Rattle.w4_defs.specs.Script.{film_order, number_order};
 ghost use Rattle.w4_defs.specs.declared.order.Order.{Order};
 ghost use Rattle.w4_script.specs.Left.{words_left};
@@ -22,21 +21,6 @@ pub fn number_between(words: Words<'_>, least: u32, most: u32) -> Option<u32>
     } else {
         None
     }
-}
-
-/// The two numbers that are left, the first at most the second.
-pub fn range(mut words: Words<'_>) -> Option<(u32, u32)>
-    ensures { (make : ℕ → ℕ → Order) →
-        option_map (λ p. make p.0 p.1) result ≡ range_order make (words_left words.entry) }
-{
-    let first = words.next()?;
-    let last = words.next()?;
-    if words.next().is_some() {
-        return None;
-    }
-    let a = number_of(first)?;
-    let b = number_of(last)?;
-    if a <= b { Some((a, b)) } else { None }
 }
 
 /// The places of a film, the first at most the second, and 1 to 16 workers.

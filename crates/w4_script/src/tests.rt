@@ -2,14 +2,14 @@
 //! call that takes memory gives its answer where there is ample memory.
 
 use crate::{
-    Line, Order, ScriptRefusal, number_of, read_log, read_names, read_query, read_script,
-    script_lines,
+    Asked, Line, Order, ScriptRefusal, number_of, read_live_line, read_log, read_names, read_query,
+    read_script, script_lines,
 };
 use std::test::Fail;
 use std::vec::Vec;
-use w4_defs::Input;
 use w4_defs::inspect::{Ask, Test};
 use w4_defs::netplay::{NetOrder, Packet};
+use w4_defs::{Input, LiveOrder};
 
 /// Whether a line has this number and these words.
 fn says(line: &Line, number: u32, words: &[&[u8]]) -> bool {
@@ -197,5 +197,50 @@ fn longest_script_is_read(rt: HostRuntime) -> Result<(), Fail> {
         read_script(rt.alloc(), &spaces).err(),
         Some(ScriptRefusal::TooLong)
     );
+    Ok(())
+}
+
+#[test]
+fn a_live_line_asks_for_one_order(rt: HostRuntime) {
+    let asked = read_live_line(b"keep 1\r");
+    let keep = LiveOrder::Script {
+        order: Order::Keep { p: 1 },
+    };
+    assert_eq!(rt; asked, Asked::Order(keep));
+    let start = LiveOrder::Query {
+        ask: Ask::Start { width: 1, p: 2 },
+    };
+    assert_eq!(rt; read_live_line(b" start 1 2"), Asked::Order(start));
+    assert_eq!(rt;
+        read_live_line(b"page 3"),
+        Asked::Order(LiveOrder::PageAt { p: 3 })
+    );
+    assert_eq!(rt;
+        read_live_line(b"globals 0"),
+        Asked::Order(LiveOrder::GlobalsAt { p: 0 })
+    );
+    assert_eq!(rt;
+        read_live_line(b"inputs 1 1"),
+        Asked::Order(LiveOrder::Inputs { a: 1, b: 1 })
+    );
+    assert_eq!(rt;
+        read_live_line(b"units 0 2"),
+        Asked::Order(LiveOrder::Units { a: 0, b: 2 })
+    );
+    assert_eq!(rt; read_live_line(b"save"), Asked::Order(LiveOrder::Save));
+    assert_eq!(rt; read_live_line(b"units 2 1"), Asked::NoOrder);
+    assert_eq!(rt; read_live_line(b"what"), Asked::NoOrder);
+    assert_eq!(rt; read_live_line(b""), Asked::Nothing);
+    assert_eq!(rt; read_live_line(b" # save"), Asked::Nothing);
+}
+
+#[test]
+fn longest_live_line_is_read(rt: HostRuntime) -> Result<(), Fail> {
+    let mut line = Vec::new(rt.alloc());
+    line.push(b'#')?;
+    line.resize(1_024, b'a')?;
+    assert_eq!(rt; read_live_line(&line), Asked::Nothing);
+    line.push(b'\r')?;
+    assert_eq!(rt; read_live_line(&line), Asked::NoOrder);
     Ok(())
 }

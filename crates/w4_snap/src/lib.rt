@@ -3,7 +3,7 @@
 //! capture copies.
 #![tactic(auto)]
 
-mod equality;
+pub mod equality;
 pub mod laws;
 mod shared_page;
 pub mod snap;

@@ -1,7 +1,12 @@
+ghost use Rattle.std.specs.Prelude.{None};
+
 use crate::calls::{House, HouseFault, WriteRefusal};
 use crate::real::RealHouse;
+use std::alloc::Global;
+use std::io::{self, Cursor, ErrorKind, Read};
 use std::process::Abort;
 use std::test::Fail;
+use w4_defs::OutOfMemory;
 
 /// The file has these first bytes.
 fn check_front<H: House>(
@@ -42,10 +47,77 @@ fn write_streams<H: House>(rt: &impl AllocGlobal, house: &mut H) -> Result<(), F
     Ok(())
 }
 
+/// The next lines are these.
+fn check_lines<H: House>(
+    rt: &(impl Abort + AllocGlobal),
+    house: &mut H,
+    wanted: &[&[u8]],
+) -> Result<(), Fail> {
+    for line in wanted {
+        let bytes = house.read_line(rt.alloc())?.ok_or("the input has ended")?;
+        assert_eq!(rt; bytes.as_slice(), *line);
+    }
+    Ok(())
+}
+
+/// A reader that a signal interrupts before each byte, and that fails at its end.
+#[derive(Drop)]
+struct Disturbed {
+    bytes: Cursor<Vec<u8>>,
+    was_interrupted: bool,
+}
+
+impl Read for Disturbed {
+    ghost remaining = { λ _. None };
+
+    fn read(&mut self, buf: &mut [u8]) -> io::Result<usize> {
+        self.was_interrupted = !self.was_interrupted;
+        if self.was_interrupted {
+            return Err(io::Error::from(ErrorKind::Interrupted));
+        }
+        match self.bytes.read(buf) {
+            Ok(0) => Err(io::Error::from(ErrorKind::Other)),
+            answer => answer,
+        }
+    }
+}
+
+/// Short lines, one of 1,024 bytes, one of 1,100, and one that its end doesn't follow.
+fn lines(alloc: Global) -> Result<Vec<u8>, OutOfMemory> {
+    let mut bytes = Vec::from_slice(alloc, b"one\n\n\r\n")?;
+    bytes.extend_from_slice(&[b'a'; 1_024])?;
+    bytes.push(b'\n')?;
+    bytes.extend_from_slice(&[b'b'; 1_100])?;
+    bytes.extend_from_slice(b"\nlast")?;
+    Ok(bytes)
+}
+
+#[test]
+fn lines_of_a_disturbed_reader(rt: HostRuntime) -> Result<(), Fail> {
+    let input = Disturbed {
+        bytes: Cursor::new(lines(rt.alloc())?),
+        was_interrupted: false,
+    };
+    let (out, err) = (Vec::new(rt.alloc()), Vec::new(rt.alloc()));
+    let mut house = RealHouse::new(&rt, input, out, err);
+    check_lines(
+        &rt,
+        &mut house,
+        &[b"one", b"", b"\r", &[b'a'; 1_024], &[b'b'; 1_025]],
+    )?;
+    let fault = house.read_line(rt.alloc()).err();
+    assert_eq!(rt; fault, Some(HouseFault::Failed));
+    assert_eq!(rt; (house.read_faults, house.write_faults), (1, 0));
+    Ok(())
+}
+
 #[test]
 fn files_and_writers(rt: HostRuntime) -> Result<(), Fail> {
     let (out, err) = (Vec::new(rt.alloc()), Vec::new(rt.alloc()));
-    let mut house = RealHouse::new(&rt, out, err);
+    let input = Cursor::new(Vec::from_slice(rt.alloc(), b"one\nlast")?);
+    let mut house = RealHouse::new(&rt, input, out, err);
+    check_lines(&rt, &mut house, &[b"one", b"last"])?;
+    assert!(rt; house.read_line(rt.alloc())?.is_none());
     check_files(&rt, &mut house)?;
     assert_eq!(rt; (house.read_faults, house.write_faults), (0, 0));
     check_faults(&rt, &mut house);

@@ -22,7 +22,7 @@ const EACH_KIND: &str =
 const EACH_KIND_TEXT: &str = "frame 1\nframe 1\nstate 1 of 2 halt running disk 0 kept 0 2\n";
 
 /// The first four pixels of an image, in red, green and blue. Pad 1 was 27, or 0.
-const MARKED: [u8; 12] = [
+pub(super) const MARKED: [u8; 12] = [
     0x07, 0x18, 0x21, 0x30, 0x68, 0x50, 0x86, 0xc0, 0x6c, 0xe0, 0xf8, 0xcf,
 ];
 

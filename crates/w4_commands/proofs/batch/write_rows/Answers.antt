@@ -3,7 +3,7 @@ use Rattle.std.proofs.lemmas.List.{get_or-map, length-map}
 use Rattle.std.proofs.lemmas.Result.{err_from_is_err_and}
 use Rattle.w4_defs.specs.declared.batch.BatchRow.{BatchRow}
 use Rattle.w4_defs.specs.declared.batch.BatchRow.TheVariants.{Bad}
-use Rattle.w4_defs.specs.World.{Appends}
+use Rattle.w4_commands.specs.Causes.{AppendsOut}
 use Rattle.w4_house.proofs.WorldLaws.{writing_none, writing_then}
 use Rattle.w4_defs.specs.Endings.{manner_of}
 use Rattle.w4_defs.specs.BatchRows.{row_text, rows_text}
@@ -41,7 +41,7 @@ loop-i-preserved g c =
           (within_all c.args.names.now i c.loop-i-test.true)
           (subst (λ n. i < n) (sym (length-map c.args.rows.now some)) there)
           (get_or-map some c.args.rows.now i Bad None there)
-          (subst (λ text. Appends now.out after.out text) line c.in_ok-write_bytes.ensures.out)
+          (subst (λ text. AppendsOut now.events after.events text) line c.in_ok-write_bytes.ensures.out)
           c.loop-i.invariant.0,
       writing_then old now after c.loop-i.invariant.1 c.in_ok-write_bytes.ensures.rest,
     )

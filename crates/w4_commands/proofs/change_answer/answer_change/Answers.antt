@@ -6,12 +6,13 @@ use Rattle.w4_commands.proofs.change_answer.answer_change.Goals as goal
 pub returns-in-Ok-clause-answered : goal.returns-in-Ok-clause-answered
 returns-in-Ok-clause-answered g c =
     let old = c.args.editor.now in
-    carried (g.H.House.world c.args.house.now) old c.change.new.editor
-    (changed c.args.order.now (place_session old)) c.in-Ok.ensures.0 c.in-Ok.ensures.1
+    carried g.S.Shape.form (g.H.House.world c.args.house.now) old c.change.new.editor
+    (changed c.args.order.now (place_session old)) c.in-Ok.ensures.changed.0
+    c.in-Ok.ensures.changed.1
 
 pub returns-in-Err-clause-answered : goal.returns-in-Err-clause-answered
 returns-in-Err-clause-answered g c =
     let old = c.args.editor.now in
-    refused_on c.refuse.result (g.H.House.world c.args.house.now) (g.H.House.world c.refuse.new.house) old
-    c.change.new.editor (changed c.args.order.now (place_session old)) c.in-Err.refusal c.in-Err.ensures
-    c.refuse.ensures.cause c.refuse.ensures.out
+    refused_on g.S.Shape.form c.refuse.result (g.H.House.world c.args.house.now) (g.H.House.world c.refuse.new.house) old
+    c.change.new.editor (changed c.args.order.now (place_session old)) c.in-Err.refusal c.in-Err.ensures.changed
+    c.in-Err.ensures.recording c.refuse.ensures.cause c.refuse.ensures.out

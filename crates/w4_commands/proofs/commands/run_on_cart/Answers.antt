@@ -1,37 +1,91 @@
+use Rattle.std.proofs.Common.{◌≡◌, Some}
+use Rattle.w4_defs.specs.declared.place_text.PlaceText.TheVariants as wanted
+use Rattle.w4_defs.specs.Live.{serve_output}
+use Rattle.w4_defs.specs.Output.{blank_output, checked, disk_output, edit_output, images_output, texts_output, written}
+use Rattle.w4_defs.specs.Outputs.{OverCart}
+use Rattle.w4_defs.specs.RecordingOutputs.{blank_disk_output, compare_output, rebind_output, units_output}
+use Rattle.w4_defs.specs.ToolOutputs.{batch_output, net_output, ram_output, wave_output}
+use Rattle.w4_commands.specs.Causes.{MakesOf, ResultsIn}
+use Rattle.w4_commands.specs.Views.{batch_view, cart_view, compare_view, edit_view, net_view, run_view}
+use Rattle.w4_commands.proofs.EndLaws.{any_talk, by_any}
 use Rattle.w4_commands.proofs.commands.run_on_cart.Goals as goal
 
 pub returns-in-Check-clause-ends : goal.returns-in-Check-clause-ends
-returns-in-Check-clause-ends g c = rw c.in-Check.is c.run_check.ensures.ends
+returns-in-Check-clause-ends g c = rw (c.in-Check.is, c.finish.ensures)
+    (by_any (g.H.House.world c.args.house.now) (g.H.House.world c.run_check.new.house) c.run_check.result
+    (MakesOf (λ files. written checked)) c.run_check.ensures.ends)
 
 pub returns-in-Blank-clause-ends : goal.returns-in-Blank-clause-ends
-returns-in-Blank-clause-ends g c = rw c.in-Blank.is c.run_blank.ensures.ends
+returns-in-Blank-clause-ends g c = rw (c.in-Blank.is, c.finish-in-Blank.ensures)
+    (by_any (g.H.House.world c.args.house.now) (g.H.House.world c.run_blank.new.house) c.run_blank.result
+    (MakesOf (λ files. blank_output c.in-Blank.budget.units (cart_view c.args.file))) c.run_blank.ensures.ends)
+
+pub returns-in-BlankDisk-clause-ends : goal.returns-in-BlankDisk-clause-ends
+returns-in-BlankDisk-clause-ends g c = rw (c.in-BlankDisk.is, c.finish-in-BlankDisk.ensures)
+    (by_any (g.H.House.world c.args.house.now) (g.H.House.world c.run_blank_disk.new.house) c.run_blank_disk.result
+    (ResultsIn (λ files. blank_disk_output c.in-BlankDisk.budget.units c.in-BlankDisk.disk.now (cart_view c.args.file) files)) c.run_blank_disk.ensures.ends)
+
+pub returns-in-Rebind-clause-ends : goal.returns-in-Rebind-clause-ends
+returns-in-Rebind-clause-ends g c = rw (c.in-Rebind.is, c.finish-in-Rebind.ensures)
+    (by_any (g.H.House.world c.args.house.now) (g.H.House.world c.run_rebind.new.house) c.run_rebind.result
+    (ResultsIn (λ files. rebind_output c.in-Rebind.recording.now (cart_view c.args.file) files)) c.run_rebind.ensures.ends)
 
 pub returns-in-Frames-clause-ends : goal.returns-in-Frames-clause-ends
-returns-in-Frames-clause-ends g c = rw c.in-Frames.is c.run_frames.ensures.ends
+returns-in-Frames-clause-ends g c = rw (c.in-Frames.is, c.finish-in-Frames.ensures)
+    (by_any (g.H.House.world c.args.house.now) (g.H.House.world c.run_frames.new.house) c.run_frames.result
+    (MakesOf (λ files. images_output (run_view c.in-Frames.names) c.in-Frames.places.from c.in-Frames.places.to (cart_view c.args.file) files)) c.run_frames.ensures.ends)
 
 pub returns-in-Tones-clause-ends : goal.returns-in-Tones-clause-ends
-returns-in-Tones-clause-ends g c = rw c.in-Tones.is c.run_texts.ensures.ends
+returns-in-Tones-clause-ends g c = rw (c.in-Tones.is, c.finish-in-Tones.ensures)
+    (by_any (g.H.House.world c.args.house.now) (g.H.House.world c.run_texts.new.house) c.run_texts.result
+    (MakesOf (λ files. texts_output wanted.Schedule (run_view c.in-Tones.names) (cart_view c.args.file) files)) c.run_texts.ensures.ends)
 
 pub returns-in-Trace-clause-ends : goal.returns-in-Trace-clause-ends
-returns-in-Trace-clause-ends g c = rw c.in-Trace.is c.run_texts-in-Trace.ensures.ends
+returns-in-Trace-clause-ends g c = rw (c.in-Trace.is, c.finish-in-Trace.ensures)
+    (by_any (g.H.House.world c.args.house.now) (g.H.House.world c.run_texts-in-Trace.new.house) c.run_texts-in-Trace.result
+    (MakesOf (λ files. texts_output wanted.Traces (run_view c.in-Trace.names) (cart_view c.args.file) files)) c.run_texts-in-Trace.ensures.ends)
 
 pub returns-in-Disk-clause-ends : goal.returns-in-Disk-clause-ends
-returns-in-Disk-clause-ends g c = rw c.in-Disk.is c.run_disk.ensures.ends
+returns-in-Disk-clause-ends g c = rw (c.in-Disk.is, c.finish-in-Disk.ensures)
+    (by_any (g.H.House.world c.args.house.now) (g.H.House.world c.run_disk.new.house) c.run_disk.result
+    (MakesOf (λ files. disk_output (run_view c.in-Disk.names) c.in-Disk.place (cart_view c.args.file) files)) c.run_disk.ensures.ends)
 
-pub returns-in-Edit-clause-ends : goal.returns-in-Edit-clause-ends
-returns-in-Edit-clause-ends g c = rw c.in-Edit.is c.run_edit.ensures.ends
-
-pub returns-in-Make-clause-ends : goal.returns-in-Make-clause-ends
-returns-in-Make-clause-ends g c = rw c.in-Make.is c.make_cart.ensures.ends
+pub returns-in-Units-clause-ends : goal.returns-in-Units-clause-ends
+returns-in-Units-clause-ends g c = rw (c.in-Units.is, c.finish-in-Units.ensures)
+    (by_any (g.H.House.world c.args.house.now) (g.H.House.world c.run_units.new.house) c.run_units.result
+    (MakesOf (λ files. units_output (run_view c.in-Units.names) (cart_view c.args.file) files)) c.run_units.ensures.ends)
 
 pub returns-in-Wave-clause-ends : goal.returns-in-Wave-clause-ends
-returns-in-Wave-clause-ends g c = rw c.in-Wave.is c.run_wave.ensures.ends
-
-pub returns-in-Net-clause-ends : goal.returns-in-Net-clause-ends
-returns-in-Net-clause-ends g c = rw c.in-Net.is c.run_net.ensures.ends
+returns-in-Wave-clause-ends g c = rw (c.in-Wave.is, c.finish-in-Wave.ensures)
+    (by_any (g.H.House.world c.args.house.now) (g.H.House.world c.run_wave.new.house) c.run_wave.result
+    (MakesOf (λ files. wave_output (run_view c.in-Wave.names) (cart_view c.args.file) files)) c.run_wave.ensures.ends)
 
 pub returns-in-Ram-clause-ends : goal.returns-in-Ram-clause-ends
-returns-in-Ram-clause-ends g c = rw c.in-Ram.is c.run_ram.ensures.ends
+returns-in-Ram-clause-ends g c = rw (c.in-Ram.is, c.finish-in-Ram.ensures)
+    (by_any (g.H.House.world c.args.house.now) (g.H.House.world c.run_ram.new.house) c.run_ram.result
+    (MakesOf (λ files. ram_output (run_view c.in-Ram.names) c.in-Ram.query.now (cart_view c.args.file) files)) c.run_ram.ensures.ends)
+
+pub returns-in-Edit-clause-ends : goal.returns-in-Edit-clause-ends
+returns-in-Edit-clause-ends g c = rw (c.in-Edit.is, c.finish-in-Edit.ensures)
+    (by_any (g.H.House.world c.args.house.now) (g.H.House.world c.run_edit.new.house) c.run_edit.result
+    (MakesOf (λ files. edit_output (edit_view c.in-Edit.names) (cart_view c.args.file) files)) c.run_edit.ensures.ends)
+
+pub returns-in-Net-clause-ends : goal.returns-in-Net-clause-ends
+returns-in-Net-clause-ends g c = rw (c.in-Net.is, c.finish-in-Net.ensures)
+    (by_any (g.H.House.world c.args.house.now) (g.H.House.world c.run_net.new.house) c.run_net.result
+    (MakesOf (λ files. net_output (net_view c.in-Net.names) (cart_view c.args.file) files)) c.run_net.ensures.ends)
 
 pub returns-in-Batch-clause-ends : goal.returns-in-Batch-clause-ends
-returns-in-Batch-clause-ends g c = rw c.in-Batch.is c.run_list.ensures.ends
+returns-in-Batch-clause-ends g c = rw (c.in-Batch.is, c.finish-in-Batch.ensures)
+    (by_any (g.H.House.world c.args.house.now) (g.H.House.world c.run_list.new.house) c.run_list.result
+    (MakesOf (λ files. batch_output (batch_view c.in-Batch.names) (cart_view c.args.file) files)) c.run_list.ensures.ends)
+
+pub returns-in-Serve-clause-ends : goal.returns-in-Serve-clause-ends
+returns-in-Serve-clause-ends g c = rw (c.in-Serve.is, c.finish-in-Serve.ensures) c.run_serve.ensures.ends
+
+pub returns-in-Compare-clause-ends : goal.returns-in-Compare-clause-ends
+returns-in-Compare-clause-ends g c = rw c.in-Compare.is
+    (any_talk (g.H.House.world c.args.house.now) (g.H.House.world c.run_compare.new.house) c.run_compare.result
+    (OverCart c.in-Compare.names.other_cart.now (λ other files output.
+    compare_output (compare_view c.in-Compare.names) (cart_view c.args.file) other files ≡ Some output))
+    c.run_compare.ensures.ends)

@@ -1,7 +1,18 @@
 use Rattle.w4_commands.proofs.SessionLaws.{only_shows}
+use Rattle.w4_editor.proofs.PlaceLaws.{same_recording}
 use Rattle.w4_commands.proofs.desk.go_to.Goals as goal
 
 pub returns-in-Ok-clause-shows : goal.returns-in-Ok-clause-shows
 returns-in-Ok-clause-shows g c =
     let shown = rw c.in-Ok.is at c.show.follows.holds-at-none.0 in
     only_shows c.args.editor.now c.show.follows.lender-at-none shown.recording
+
+pub returns-in-Ok-clause-recording : goal.returns-in-Ok-clause-recording
+returns-in-Ok-clause-recording g c =
+    let shown = rw c.in-Ok.is at c.show.follows.holds-at-none.0 in
+    same_recording c.args.editor.now c.show.follows.lender-at-none shown.recording
+
+pub returns-in-Err-clause-recording : goal.returns-in-Err-clause-recording
+returns-in-Err-clause-recording g c =
+    same_recording c.args.editor.now c.show.follows.lender-at-none
+    (rw c.in-Err.is at c.show.follows.holds-at-none.1)

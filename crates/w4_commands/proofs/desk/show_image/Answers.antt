@@ -4,6 +4,7 @@ use Rattle.w4_defs.specs.Run.{run}
 use Rattle.w4_defs.proofs.TextsOfStates.{image_of_state}
 use Rattle.w4_editor.specs.Editing.{editing_setup}
 use Rattle.w4_commands.proofs.SessionLaws.{only_shows}
+use Rattle.w4_editor.proofs.PlaceLaws.{same_recording}
 use Rattle.w4_commands.proofs.desk.show_image.Goals as goal
 
 pub returns-in-Ok-clause-shows : goal.returns-in-Ok-clause-shows
@@ -18,3 +19,13 @@ returns-in-Ok-clause-image g c =
     (run (editing_setup old) old.disk old.session.current.inputs c.args.place) c.in-Ok.state.now
     c.in-Ok.ensures.state
     ∙ ap (λ (bytes : List ℕ). Some bytes) (sym c.ppm_into.ensures)
+
+pub returns-in-Ok-clause-recording : goal.returns-in-Ok-clause-recording
+returns-in-Ok-clause-recording g c =
+    let shown = rw c.in-Ok.is at c.show.follows.holds-at-none.0 in
+    same_recording c.args.editor.now c.show.follows.lender-at-none shown.recording
+
+pub returns-in-Err-clause-recording : goal.returns-in-Err-clause-recording
+returns-in-Err-clause-recording g c =
+    same_recording c.args.editor.now c.show.follows.lender-at-none
+    (rw c.in-Err.is at c.show.follows.holds-at-none.1)

@@ -2,7 +2,7 @@ use Rattle.std.proofs.Common.{◌≡◌, ◌+◌, ◌-◌, ℕ, List, Some, ap, 
 use Rattle.w4_defs.specs.PlaceTexts.{as_it_stands}
 use Rattle.w4_defs.specs.Run.{run, run_state}
 use Rattle.w4_editor.specs.Editing.{editing_setup}
-use Rattle.w4_commands.proofs.SessionLaws.{shows_at, not_at_end}
+use Rattle.w4_commands.proofs.SessionLaws.{shows_at, shows_recording, not_at_end}
 use Rattle.w4_defs.proofs.TextsOfStates.{image_of_state}
 use Rattle.w4_commands.proofs.desk.step_image.Goals as goal
 
@@ -25,3 +25,9 @@ pub unreachable-requires : goal.unreachable-requires
 unreachable-requires g c =
     not_at_end c.args.editor.now c.args.place c.requires.some c.requires.place c.requires.at
     c.in-Err.ensures.refused.1
+
+pub returns-clause-recording : goal.returns-clause-recording
+returns-clause-recording g c =
+    let stepped = rw c.in-Ok.is at c.step.follows.holds-at-none.0 in
+    shows_recording c.args.editor.now c.step.follows.lender-at-none
+    (shows_at c.args.editor.now c.step.follows.lender-at-none (Some (stepped.place + 1)) stepped.same)

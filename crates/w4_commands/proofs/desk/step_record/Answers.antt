@@ -3,7 +3,7 @@ use Rattle.w4_defs.specs.Run.{run}
 use Rattle.w4_defs.specs.State.{Moment}
 use Rattle.w4_devices.specs.Records.{record_of}
 use Rattle.w4_editor.specs.Editing.{editing_setup}
-use Rattle.w4_commands.proofs.SessionLaws.{shows_at, same_place, not_at_end}
+use Rattle.w4_commands.proofs.SessionLaws.{shows_at, shows_recording, same_place, not_at_end}
 use Rattle.w4_commands.proofs.desk.step_record.Goals as goal
 
 pub returns-clause-shows : goal.returns-clause-shows
@@ -25,3 +25,9 @@ pub unreachable-requires : goal.unreachable-requires
 unreachable-requires g c =
     not_at_end c.args.editor.now c.args.place c.requires.some c.requires.place c.requires.at
     c.in-Err.ensures.refused.1
+
+pub returns-clause-recording : goal.returns-clause-recording
+returns-clause-recording g c =
+    let stepped = rw c.in-Ok.is at c.step.follows.holds-at-none.0 in
+    shows_recording c.args.editor.now c.step.follows.lender-at-none
+    (shows_at c.args.editor.now c.step.follows.lender-at-none (Some (stepped.place + 1)) stepped.same)

@@ -16,7 +16,7 @@ returns-clause-carried g c = λ out is.
     let left = recording_left before mid old c.answer_script.new.desk.editor orders answered in
     carried_saved c.save.result before mid (g.H.House.world c.save.new.house) out
     c.args.name.now c.as_slice.result.now (encoding 2 (recording_by old orders))
-    c.in_ok-answer_script.ensures.rest c.save.ensures.rest (answered.out out is)
+    c.in_ok-answer_script.ensures.rest (answered.out out is)
     (c.as_slice.ensures.value ∙ c.in_ok-bytes.ensures
     ∙ ap (λ (r : Recording). encoding 2 r) (c.recording.ensures ∙ left))
     c.save.ensures.saved
@@ -31,7 +31,7 @@ returns-in_err-answer_script-clause-carried g c =
     rw (p.1, p.2) (λ out is.
     carries_stopped (g.H.House.world c.args.house.now) (g.H.House.world c.answer_script.new.house)
     (manner_of c.in_err-answer_script.field-0.0) out c.args.name.now
-    (encoding 2 (recording_by old orders)) c.in_err-answer_script.ensures.rest.files
+    (encoding 2 (recording_by old orders)) c.in_err-answer_script.ensures.rest
     (c.in_err-answer_script.ensures.answered out is))
 
 pub returns-in_err-bytes-clause-carried : goal.returns-in_err-bytes-clause-carried
@@ -43,4 +43,4 @@ returns-in_err-bytes-clause-carried g c =
     rw (p.1, p.2) (λ out is.
     carries_answers (g.H.House.world c.args.house.now) (g.H.House.world c.answer_script.new.house)
     out c.args.name.now (encoding 2 (recording_by old orders))
-    (c.in_ok-answer_script.ensures.answered.out out is) c.in_ok-answer_script.ensures.rest.files)
+    (c.in_ok-answer_script.ensures.answered.out out is) c.in_ok-answer_script.ensures.rest)

@@ -1,4 +1,4 @@
-use Rattle.std.proofs.Common.{[], Some, refl, sym, subst, ◌∙◌}
+use Rattle.std.proofs.Common.{[], Some, ap, option_map, refl, sym, subst, ◌∙◌}
 use Rattle.w4_editor.specs.Editing.{editing_setup}
 use Rattle.w4_segments.specs.FilmPieces.{images_left}
 use Rattle.w4_segments.specs.Filming.{IsFilmRefusal}
@@ -6,9 +6,11 @@ use Rattle.w4_defs.specs.Film.{film_refusal}
 use Rattle.w4_defs.specs.declared.film_refusal.FilmRefusal.{FilmRefusal}
 use Rattle.w4_defs.specs.declared.film_refusal.FilmRefusal.TheVariants.{FilmTooLong, NoFrame}
 use Rattle.w4_defs.specs.ScriptAnswers.{film_refusal_words, film_text, no_frame, refused_line}
-use Rattle.w4_defs.specs.PlaceTexts.{as_it_stands}
-use Rattle.w4_defs.specs.World.{Appends}
+use Rattle.w4_commands.specs.Causes.{AppendsOut}
 use Rattle.w4_commands.specs.Causes.{Written}
+use Rattle.w4_commands.specs.ScriptAnswers.{images_in}
+use Rattle.w4_editor.proofs.PlaceLaws.{same_recording}
+use Rattle.w4_commands.proofs.OutLaws.{out_none}
 use Rattle.w4_editor.specs.PlaceSession.{place_session}
 use Rattle.w4_commands.proofs.ScriptAnswerLaws.{on_ok}
 use Rattle.w4_commands.proofs.FilmAnswerLaws.{film_shown, film_refused, film_past, film_of_none}
@@ -20,10 +22,10 @@ pub returns-then-to-last_place-clause-answered : goal.returns-then-to-last_place
 returns-then-to-last_place-clause-answered g c =
     let old = c.args.editor.now in
     let s = place_session old in
-    let text = film_text as_it_stands (editing_setup old) old.disk s c.args.a c.args.b in
+    let text = film_text g.S.Shape.form (editing_setup old) old.disk s c.args.a c.args.b in
     refused_place c.refuse.result (g.H.House.world c.args.house.now) (g.H.House.world c.refuse.new.house) old
-    no_frame text
-    (film_past (editing_setup old) old.disk s c.args.a c.args.b
+    (g.S.Shape.form no_frame) text
+    (film_past g.S.Shape.form (editing_setup old) old.disk s c.args.a c.args.b
     (rw (← c.last_place.ensures.last) c.if-to-last_place.true))
     c.refuse.ensures.out
 
@@ -32,10 +34,10 @@ returns-then-from-to-clause-answered g c =
     let old = c.args.editor.now in
     let s = place_session old in
     let world = g.H.House.world c.args.house.now in
-    let text = film_text as_it_stands (editing_setup old) old.disk s c.args.a c.args.b in
+    let text = film_text g.S.Shape.form (editing_setup old) old.disk s c.args.a c.args.b in
     told world world old old text (shows_none old)
-    (there_is (λ out. Appends world.out world.out out) text []
-    (film_of_none (editing_setup old) old.disk s c.args.a c.args.b c.if-from-to.true
+    (there_is (λ out. AppendsOut world.events world.events out) text []
+    (film_of_none g.S.Shape.form (editing_setup old) old.disk s c.args.a c.args.b c.if-from-to.true
     (rw (← c.last_place.ensures.last) c.if-to-last_place.false))
     (appends_nothing world [] refl))
 
@@ -44,13 +46,14 @@ returns-in-Ok-clause-answered g c =
     let old = c.args.editor.now in
     let new = c.begin.new.editor in
     let s = place_session old in
-    let text = film_text as_it_stands (editing_setup old) old.disk s c.args.a c.args.b in
+    let text = film_text g.S.Shape.form (editing_setup old) old.disk s c.args.a c.args.b in
     answered_on c.write_film.result (g.H.House.world c.args.house.now)
     (g.H.House.world c.write_film.new.house)
-    old new (images_left c.in-Ok.film new) text
-    (film_shown (editing_setup old) old.disk s c.args.a c.args.b c.in-Ok.ensures.accepted
-    ∙ sym c.in-Ok.ensures.images)
-    (on_ok c.write_film.result (only_shows old new c.in-Ok.ensures.keeps.recording)) c.write_film.ensures.out
+    old new (option_map (images_in g.S.Shape.form) (images_left c.in-Ok.film new)) text
+    (film_shown g.S.Shape.form (editing_setup old) old.disk s c.args.a c.args.b c.in-Ok.ensures.accepted
+    ∙ ap (option_map (images_in g.S.Shape.form)) (sym c.in-Ok.ensures.images))
+    (on_ok c.write_film.result (only_shows old new c.in-Ok.ensures.keeps.recording))
+    (same_recording old new c.in-Ok.ensures.keeps.recording) c.write_film.ensures.out
 
 pub returns-in-Err-NoFrame-clause-answered : goal.returns-in-Err-NoFrame-clause-answered
 returns-in-Err-NoFrame-clause-answered g c =
@@ -62,12 +65,14 @@ returns-in-Err-NoFrame-clause-answered g c =
     let refused : IsFilmRefusal (film_refusal c.args.a c.args.b s.current.inputs) NoFrame =
     subst (λ (r : FilmRefusal). IsFilmRefusal (film_refusal c.args.a c.args.b s.current.inputs) r)
     c.in-Err-NoFrame.field-0-is c.in-Err-NoFrame.ensures.refused in
-    answered_on c.refuse-in-Err-NoFrame.result before after old new (Some no_frame)
-    (film_text as_it_stands (editing_setup old) old.disk s c.args.a c.args.b)
-    (film_refused (editing_setup old) old.disk s c.args.a c.args.b NoFrame (λ e. cc)
+    answered_on c.refuse-in-Err-NoFrame.result before after old new (Some (g.S.Shape.form no_frame))
+    (film_text g.S.Shape.form (editing_setup old) old.disk s c.args.a c.args.b)
+    (film_refused g.S.Shape.form (editing_setup old) old.disk s c.args.a c.args.b NoFrame (λ e. cc)
     refused)
     (on_ok c.refuse-in-Err-NoFrame.result (only_shows old new c.in-Err-NoFrame.ensures.keeps.recording))
-    (there_is (λ out. Written before after c.refuse-in-Err-NoFrame.result out) (Some no_frame) no_frame refl
+    (same_recording old new c.in-Err-NoFrame.ensures.keeps.recording)
+    (there_is (λ out. Written before after c.refuse-in-Err-NoFrame.result out) (Some (g.S.Shape.form no_frame))
+    (g.S.Shape.form no_frame) refl
     c.refuse-in-Err-NoFrame.ensures.out)
 
 pub returns-in-Err-FilmTooLong-clause-answered : goal.returns-in-Err-FilmTooLong-clause-answered
@@ -76,16 +81,24 @@ returns-in-Err-FilmTooLong-clause-answered g c =
     let new = c.begin.new.editor in
     let s = place_session old in
     let before = g.H.House.world c.args.house.now in
-    let after = g.H.House.world c.write_bytes.new.house in
-    let line = refused_line (film_refusal_words FilmTooLong) in
+    let after = g.H.House.world c.write.new.house in
+    let line = g.S.Shape.form (refused_line (film_refusal_words FilmTooLong)) in
     let refused : IsFilmRefusal (film_refusal c.args.a c.args.b s.current.inputs) FilmTooLong =
     subst (λ (r : FilmRefusal). IsFilmRefusal (film_refusal c.args.a c.args.b s.current.inputs) r)
     c.in-Err-FilmTooLong.field-0-is c.in-Err-FilmTooLong.ensures.refused in
-    answered_on c.write_bytes.result before after old new (Some line)
-    (film_text as_it_stands (editing_setup old) old.disk s c.args.a c.args.b)
-    (film_refused (editing_setup old) old.disk s c.args.a c.args.b FilmTooLong (λ e. cc)
+    answered_on c.write.result before after old new (Some line)
+    (film_text g.S.Shape.form (editing_setup old) old.disk s c.args.a c.args.b)
+    (film_refused g.S.Shape.form (editing_setup old) old.disk s c.args.a c.args.b FilmTooLong (λ e. cc)
     refused)
-    (on_ok c.write_bytes.result
+    (on_ok c.write.result
     (only_shows old new c.in-Err-FilmTooLong.ensures.keeps.recording))
-    (there_is (λ out. Written before after c.write_bytes.result out) (Some line) line refl
-    c.write_bytes.ensures.out)
+    (same_recording old new c.in-Err-FilmTooLong.ensures.keeps.recording)
+    (there_is (λ out. Written before after c.write.result out) (Some line) line refl
+    c.write.ensures.out)
+
+pub returns-in-Err-OutOfMemory-clause-answered : goal.returns-in-Err-OutOfMemory-clause-answered
+returns-in-Err-OutOfMemory-clause-answered g c =
+    let world = g.H.House.world c.args.house.now in (
+      λ out is. out_none world.events world.events out refl,
+      same_recording c.args.editor.now c.begin.new.editor c.in-Err-OutOfMemory.ensures.keeps.recording,
+    )

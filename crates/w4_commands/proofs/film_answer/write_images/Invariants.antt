@@ -8,6 +8,6 @@ use Rattle.w4_commands.proofs.film_answer.write_images.Given as goal
 abbrev pub invariant-loop-screen : goal.invariant-loop-screen
 invariant-loop-screen g l =
     Owes (g.H.House.world l.fn.house) (g.H.House.world l.house)
-    (flat_map image (drop l.screen-index l.screens))
-    (flat_map image l.screens)
+    (flat_map (λ screen. g.S.Shape.form (image screen)) (drop l.screen-index l.screens))
+    (flat_map (λ screen. g.S.Shape.form (image screen)) l.screens)
     × LeavesWriting (g.H.House.world l.fn.house) (g.H.House.world l.house)

@@ -1,6 +1,6 @@
 use Rattle.std.proofs.Common.{Ok, Err, length, nat_le, if◌then◌else◌}
 use Rattle.std.proofs.lemmas.Result.{err_from_is_err_and}
-use Rattle.w4_defs.specs.declared.status.Status.TheVariants.{FrameRefused}
+use Rattle.w4_defs.specs.declared.status.Refusal.TheVariants.{FrameRefused}
 use Rattle.w4_defs.specs.Endings.{manner_of}
 use Rattle.w4_defs.specs.Output.{run_files, run_files_to}
 use Rattle.w4_commands.specs.Views.{run_view}

@@ -1,8 +1,33 @@
-use Rattle.w4_defs.specs.Endings.{manner_of}
-use Rattle.w4_commands.proofs.EndLaws.{writes_stopped}
+use Rattle.std.proofs.Common.{List, ap, sym, ◌∙◌}
+use Rattle.w4_defs.specs.declared.netplay.NetOrder.{NetOrder}
+use Rattle.w4_defs.specs.KeptList.{state_at}
+use Rattle.w4_editor.specs.Editing.{editing_setup}
+use Rattle.w4_defs.specs.LogAnswers.{net_answers}
+use Rattle.w4_commands.specs.NetAnswers.{net_session}
+use Rattle.w4_defs.specs.ToolOutputs.{net_text}
+use Rattle.w4_commands.specs.Views.{net_loaded_view}
+use Rattle.w4_commands.specs.Causes.{Written}
+use Rattle.w4_commands.proofs.OwesLaws.{there_as}
+use Rattle.w4_commands.proofs.NetAnswerLaws.{netplay_begins, blank_as}
 use Rattle.w4_commands.proofs.net.answer_log.Goals as goal
 
-pub returns-in-Err-clause-writes_out : goal.returns-in-Err-clause-writes_out
-returns-in-Err-clause-writes_out g c = λ text is.
-    writes_stopped (g.H.House.world c.args.house.now) (g.H.House.world c.try_answer_log.new.house)
-    (manner_of c.in-Err.status) text (c.in-Err.ensures.out text is)
+pub returns-clause-out : goal.returns-clause-out
+returns-clause-out g c =
+    let r = c.in_ok-replica.replica in
+    let first =
+    netplay_begins c.args.file.cart c.args.loaded.font c.args.file.digest c.args.budget.units
+    c.new-recording.result
+    (state_at r.editor.session.current.kept 0) r
+    (blank_as c.new-recording.result c.args.file.digest c.args.budget.units c.new.result.items
+    c.new-2.result.items c.new-recording.ensures c.new.ensures.items c.new-2.ensures.items)
+    c.in_ok-replica.ensures.known
+    c.in_ok-replica.ensures.frames c.in_ok-replica.ensures.editor in
+    let old = g.H.House.world c.args.house.now in
+    let new = g.H.House.world c.answer_orders.new.house in
+    there_as (λ text. Written old new c.answer_orders.result text)
+    (net_answers (editing_setup r.editor) (net_session r) c.as_slice.result.now).out
+    (net_text c.args.file.cart c.args.budget.units (net_loaded_view c.args.loaded))
+    ((λ i. (net_answers (sym first.0 i) (sym first.1 i) c.args.loaded.orders.items).out)
+    ∙ ap (λ (orders : List NetOrder). (net_answers (editing_setup r.editor) (net_session r) orders).out)
+    (sym c.as_slice.ensures.value))
+    c.answer_orders.ensures.out

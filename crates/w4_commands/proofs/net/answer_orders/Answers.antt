@@ -1,7 +1,8 @@
 use Rattle.std.proofs.Common.{ap, drop, get_or, refl}
 use Rattle.std.proofs.lemmas.Result.{err_from_is_err_and}
 use Rattle.w4_editor.specs.Editing.{editing_setup}
-use Rattle.w4_house.proofs.WorldLaws.{front_none, writing_none, writing_then}
+use Rattle.w4_house.proofs.WorldLaws.{writing_none, writing_then}
+use Rattle.w4_commands.proofs.OutLaws.{out_none}
 use Rattle.w4_defs.specs.Answers.{Answered}
 use Rattle.w4_defs.specs.Endings.{manner_of}
 use Rattle.w4_defs.specs.LogAnswers.{NetSession, net_answer, net_answers}
@@ -59,7 +60,7 @@ pub returns-in_err-image-clause-out : goal.returns-in_err-image-clause-out
 returns-in_err-image-clause-out g c =
     let p = err_from_is_err_and c.from_residual.result c.from_residual.ensures.1 in
     let world = g.H.House.world c.args.house.now in
-    rw (p.1, p.2) (λ text is. front_none world.out world.out text refl)
+    rw (p.1, p.2) (λ text is. out_none world.events world.events text refl)
 
 pub returns-in_err-answer_order-clause-out : goal.returns-in_err-answer_order-clause-out
 returns-in_err-answer_order-clause-out g c =

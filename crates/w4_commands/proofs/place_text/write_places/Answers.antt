@@ -3,7 +3,7 @@
 use Rattle.std.proofs.Common.{◌+◌, ◌-◌, List, ℕ, Option, refl, arith}
 use Rattle.std.proofs.lemmas.Result.{err_from_is_err_and}
 use Rattle.w4_defs.specs.Run.{run}
-use Rattle.w4_defs.specs.World.{Appends}
+use Rattle.w4_commands.specs.Causes.{AppendsOut}
 use Rattle.w4_house.proofs.WorldLaws.{writing_then}
 use Rattle.w4_defs.specs.Endings.{manner_of}
 use Rattle.w4_commands.specs.Causes.{StopsWriting}
@@ -23,7 +23,7 @@ loop-place-init g c =
     let first = g.H.House.world c.args.house.now in
     let now = g.H.House.world c.write_place.new.house in (
       texts-more first first now text whole c.args.from (c.args.to + 1) (omega (arith, c.requires.order))
-          (there_is (λ bytes. Appends first.out now.out bytes) (text c.args.from)
+          (there_is (λ bytes. AppendsOut first.events now.events bytes) (text c.args.from)
           (moment_text c.args.wanted c.args.from (stage_moment c.run_to.new.stage))
           (rw c.run_to.ensures.0 refl) c.in_ok-write_place.ensures.out)
           (there_begins first whole),
@@ -44,7 +44,7 @@ loop-place-preserved g c =
     let now = g.H.House.world c.loop-place.house in
     let next = g.H.House.world c.write_place-in-loop-place.new.house in (
       texts-more first now next text whole at (c.args.to + 1) (omega (arith, c.loop-place-test.true))
-          (there_is (λ bytes. Appends now.out next.out bytes) (text at)
+          (there_is (λ bytes. AppendsOut now.events next.events bytes) (text at)
           (moment_text c.args.wanted at (stage_moment c.step.new.stage))
           (rw c.step.ensures.0 refl) c.in_ok-write_place-2.ensures.out)
           c.loop-place.invariant.0,

@@ -68,5 +68,5 @@ returns-in_err-answer_line-clause-out g c =
     c.loop-line.search c.args.lines.now c.loop-line.line-index past_query
     (ram_answers pages None c.args.lines.now).out c.loop-line-test.true c.loop-line.invariant.2.later
     (ram_stopped_at_first before after why first c.loop-line.editor c.loop-line.search line
-    c.loop-line.invariant.1 c.in_err-answer_line.ensures.told)
+    c.loop-line.invariant.1 c.in_err-answer_line.ensures.told.0)
     c.loop-line.invariant.0)

@@ -1,6 +1,5 @@
 use Rattle.std.proofs.Common.{Some, refl}
 use Rattle.w4_defs.specs.Answers.{answer_text}
-use Rattle.w4_defs.specs.PlaceTexts.{as_it_stands}
 use Rattle.w4_commands.specs.RamAnswers.{editor_pages}
 use Rattle.w4_defs.specs.QueryAnswers.{list_text, watch_text}
 use Rattle.w4_commands.specs.Causes.{Written}
@@ -14,13 +13,13 @@ pub returns-in-Watch-clause-told : goal.returns-in-Watch-clause-told
 returns-in-Watch-clause-told g c =
     let old = c.args.editor.now in
     let search = c.args.search.now in
-    let text = watch_text as_it_stands (editor_pages old) c.in-Watch.address c.in-Watch.width c.in-Watch.a
+    let text = watch_text g.S.Shape.form (editor_pages old) c.in-Watch.address c.in-Watch.width c.in-Watch.a
     c.in-Watch.b in
     rw c.in-Watch.is
     (line_answered_on c.answer_watch.result (g.H.House.world c.args.house.now)
     (g.H.House.world c.answer_watch.new.house) old c.answer_watch.new.editor search text
     (answer_text search text) refl c.answer_watch.ensures.out
-    c.answer_watch.ensures.shows)
+    c.answer_watch.ensures.shows c.answer_watch.ensures.recording)
 
 pub returns-in-List-clause-told : goal.returns-in-List-clause-told
 returns-in-List-clause-told g c =
@@ -29,9 +28,9 @@ returns-in-List-clause-told g c =
     let before = g.H.House.world c.args.house.now in
     let after = g.H.House.world c.answer_list.new.house in
     rw c.in-List.is
-    (line_answered_on c.answer_list.result before after old old search (Some (list_text search))
-    (answer_text search (Some (list_text search))) refl
-    (there_is (λ text. Written before after c.answer_list.result text) (Some (list_text search))
-    (list_text search)
+    (line_answered_on c.answer_list.result before after old old search (Some (g.S.Shape.form (list_text search)))
+    (answer_text search (Some (g.S.Shape.form (list_text search)))) refl
+    (there_is (λ text. Written before after c.answer_list.result text) (Some (g.S.Shape.form (list_text search)))
+    (g.S.Shape.form (list_text search))
     refl c.answer_list.ensures.out)
-    (on_ok c.answer_list.result (shows_none old)))
+    (on_ok c.answer_list.result (shows_none old)) refl)

@@ -1,21 +1,21 @@
-use Rattle.std.proofs.Common.{◌+◌, ◌-◌, sym}
+use Rattle.std.proofs.Common.{◌+◌, ◌-◌, sym, ◌∙◌}
 use Rattle.std.proofs.lemmas.Result.{err_from_is_err_and}
 use Rattle.w4_house.proofs.WorldLaws.{writing_then, writing_none}
-use Rattle.w4_defs.specs.World.{Appends}
+use Rattle.w4_commands.specs.Causes.{AppendsOut}
 use Rattle.w4_commands.specs.Causes.{StopsWriting}
 use Rattle.w4_commands.specs.ScriptAnswers.{text_by}
 use Rattle.w4_defs.specs.Endings.{manner_of}
 use Rattle.w4_defs.specs.PlaceTexts.{place_texts}
 use Rattle.w4_commands.proofs.OwesLaws.{there_as, there_begins}
 use Rattle.w4_commands.proofs.PlaceTextLaws.{texts-more, texts-all, texts-stop}
-use Rattle.w4_commands.proofs.SessionLaws.{same_text, shows_none, shows_then}
+use Rattle.w4_commands.proofs.SessionLaws.{same_text, shows_none, shows_recording, shows_then}
 use Rattle.w4_commands.proofs.range_answer.write_all.Goals as goal
 
 pub loop-place-init : goal.loop-place-init
 loop-place-init g c =
     let first = c.args.desk.now.editor in
     let begin = g.H.House.world c.args.house.now in (
-      there_begins begin (place_texts (text_by first c.args.wanted) c.args.a (c.args.b + 1 - c.args.a)),
+      there_begins begin (place_texts (text_by g.S.Shape.form first c.args.wanted) c.args.a (c.args.b + 1 - c.args.a)),
       shows_none first,
       writing_none begin,
     )
@@ -26,15 +26,15 @@ loop-place-preserved g c =
     let now = c.loop-place.desk.editor in
     let next = c.write_one.new.desk.editor in
     let at = c.loop-place.place in
-    let text = text_by first c.args.wanted in
+    let text = text_by g.S.Shape.form first c.args.wanted in
     let begin = g.H.House.world c.args.house.now in
     let before = g.H.House.world c.loop-place.house in
     let after = g.H.House.world c.write_one.new.house in
     let shows = c.loop-place.invariant.1 in (
       texts-more begin before after text (place_texts text c.args.a (c.args.b + 1 - c.args.a)) at
           (c.args.b + 1) c.loop-place-test.true
-          (there_as (λ bytes. Appends before.out after.out bytes) (text_by now c.args.wanted at) (text at)
-          (sym (same_text first now c.args.wanted at shows)) c.in_ok-write_one.ensures.out)
+          (there_as (λ bytes. AppendsOut before.events after.events bytes) (text_by g.S.Shape.form now c.args.wanted at) (text at)
+          (sym (same_text g.S.Shape.form first now c.args.wanted at shows)) c.in_ok-write_one.ensures.out)
           c.loop-place.invariant.0,
       shows_then first now next shows c.in_ok-write_one.ensures.shows,
       writing_then begin before after c.loop-place.invariant.2 c.in_ok-write_one.ensures.rest,
@@ -42,7 +42,7 @@ loop-place-preserved g c =
 
 pub returns-clause-out : goal.returns-clause-out
 returns-clause-out g c =
-    let text = text_by c.args.desk.now.editor c.args.wanted in
+    let text = text_by g.S.Shape.form c.args.desk.now.editor c.args.wanted in
     texts-all (g.H.House.world c.args.house.now) (g.H.House.world c.loop-place.house) text
     (place_texts text c.args.a (c.args.b + 1 - c.args.a)) c.loop-place.place (c.args.b + 1)
     c.loop-place-test.false c.loop-place.invariant.0
@@ -53,7 +53,7 @@ returns-in_err-write_one-clause-out g c =
     let first = c.args.desk.now.editor in
     let now = c.loop-place.desk.editor in
     let at = c.loop-place.place in
-    let text = text_by first c.args.wanted in
+    let text = text_by g.S.Shape.form first c.args.wanted in
     let before = g.H.House.world c.loop-place.house in
     let after = g.H.House.world c.write_one.new.house in
     let why = manner_of c.in_err-write_one.field-0.0 in
@@ -61,5 +61,14 @@ returns-in_err-write_one-clause-out g c =
     (texts-stop (g.H.House.world c.args.house.now) before after why text
     (place_texts text c.args.a (c.args.b + 1 - c.args.a)) at (c.args.b + 1) c.loop-place-test.true
     c.loop-place.invariant.2.later c.loop-place.invariant.0
-    (there_as (λ bytes. StopsWriting before after why bytes) (text_by now c.args.wanted at) (text at)
-    (sym (same_text first now c.args.wanted at c.loop-place.invariant.1)) c.in_err-write_one.ensures.out))
+    (there_as (λ bytes. StopsWriting before after why bytes) (text_by g.S.Shape.form now c.args.wanted at) (text at)
+    (sym (same_text g.S.Shape.form first now c.args.wanted at c.loop-place.invariant.1)) c.in_err-write_one.ensures.out))
+
+pub returns-clause-recording : goal.returns-clause-recording
+returns-clause-recording g c =
+    shows_recording c.args.desk.now.editor c.loop-place.desk.editor c.loop-place.invariant.1
+
+pub returns-in_err-write_one-clause-recording : goal.returns-in_err-write_one-clause-recording
+returns-in_err-write_one-clause-recording g c =
+    c.in_err-write_one.ensures.recording
+    ∙ shows_recording c.args.desk.now.editor c.loop-place.desk.editor c.loop-place.invariant.1

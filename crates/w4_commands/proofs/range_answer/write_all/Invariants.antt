@@ -8,7 +8,7 @@ use Rattle.w4_commands.proofs.range_answer.write_all.Given as goal
 -- what was written so far and the texts of the places that are left make the whole
 abbrev pub invariant-loop-place : goal.invariant-loop-place
 invariant-loop-place g l =
-    let text = text_by l.fn.desk.editor l.wanted in
+    let text = text_by g.S.Shape.form l.fn.desk.editor l.wanted in
     OwesThere (g.H.House.world l.fn.house) (g.H.House.world l.house)
     (place_texts text l.place (l.b + 1 - l.place)) (place_texts text l.a (l.b + 1 - l.a))
     × OnlyShows l.fn.desk.editor l.desk.editor

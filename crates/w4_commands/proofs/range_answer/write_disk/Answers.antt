@@ -7,6 +7,7 @@ use Rattle.w4_commands.proofs.ScriptAnswerLaws.{on_ok}
 use Rattle.w4_commands.proofs.OwesLaws.{there_is}
 use Rattle.w4_commands.proofs.SessionLaws.{only_shows}
 use Rattle.w4_commands.proofs.PlaceAnswerLaws.{disk_of_state}
+use Rattle.w4_editor.proofs.PlaceLaws.{same_recording}
 use Rattle.w4_commands.proofs.range_answer.write_disk.Goals as goal
 
 pub returns-in-Ok-clause-out : goal.returns-in-Ok-clause-out
@@ -16,8 +17,8 @@ returns-in-Ok-clause-out g c =
     (λ text.
     Written (g.H.House.world c.args.house.now) (g.H.House.world c.print_disk.new.house) c.print_disk.result
     text)
-    (text_by old DiskBytes c.args.place) c.in-Ok.state.now.disk
-    (disk_of_state c.args.place
+    (text_by g.S.Shape.form old DiskBytes c.args.place) (g.S.Shape.form c.in-Ok.state.now.disk)
+    (disk_of_state g.S.Shape.form c.args.place
     (run (editing_setup old) old.disk old.session.current.inputs c.args.place) c.in-Ok.state.now
     c.in-Ok.ensures.state)
     c.print_disk.ensures.out
@@ -26,3 +27,13 @@ pub returns-in-Ok-clause-shows : goal.returns-in-Ok-clause-shows
 returns-in-Ok-clause-shows g c =
     let shown = rw c.in-Ok.is at c.show.follows.holds-at-none.0 in
     on_ok c.print_disk.result (only_shows c.args.editor.now c.show.follows.lender-at-none shown.recording)
+
+pub returns-in-Ok-clause-recording : goal.returns-in-Ok-clause-recording
+returns-in-Ok-clause-recording g c =
+    let shown = rw c.in-Ok.is at c.show.follows.holds-at-none.0 in
+    same_recording c.args.editor.now c.show.follows.lender-at-none shown.recording
+
+pub returns-in-Err-clause-recording : goal.returns-in-Err-clause-recording
+returns-in-Err-clause-recording g c =
+    same_recording c.args.editor.now c.show.follows.lender-at-none
+    (rw c.in-Err.is at c.show.follows.holds-at-none.1)

@@ -3,6 +3,7 @@ use Rattle.w4_commands.specs.Causes.{Written}
 use Rattle.w4_commands.specs.ScriptAnswers.{text_by}
 use Rattle.w4_defs.specs.declared.place_text.PlaceText.TheVariants.{Image, Schedule, Traces}
 use Rattle.w4_commands.proofs.OwesLaws.{there_is}
+use Rattle.w4_commands.proofs.PlaceAnswerLaws.{run_at, text_formed}
 use Rattle.w4_commands.proofs.range_answer.write_one.Goals as goal
 
 pub returns-in_ok-make_image-in-Image-clause-out : goal.returns-in_ok-make_image-in-Image-clause-out
@@ -10,30 +11,33 @@ returns-in_ok-make_image-in-Image-clause-out g c =
     rw c.in-Image.is
     (there_is
     (λ text.
-    Written (g.H.House.world c.args.house.now) (g.H.House.world c.write_bytes.new.house) c.write_bytes.result
+    Written (g.H.House.world c.args.house.now) (g.H.House.world c.write.new.house) c.write.result
     text)
-    (text_by c.args.desk.now.editor Image c.args.place) c.make_image.new.desk.image.value
-    c.in_ok-make_image-in-Image.ensures.image (rw (← c.made_image.ensures) c.write_bytes.ensures.out))
+    (text_by g.S.Shape.form c.args.desk.now.editor Image c.args.place) (g.S.Shape.form c.make_image.new.desk.image.value)
+    (text_formed g.S.Shape.form Image c.args.place (run_at c.args.desk.now.editor c.args.place)
+    c.make_image.new.desk.image.value c.in_ok-make_image-in-Image.ensures.image) (rw (← c.made_image.ensures) c.write.ensures.out))
 
 pub returns-in_ok-text-in-Schedule-clause-out : goal.returns-in_ok-text-in-Schedule-clause-out
 returns-in_ok-text-in-Schedule-clause-out g c =
     rw c.in-Schedule.is
     (there_is
-    (λ text. Written (g.H.House.world c.args.house.now) (g.H.House.world c.write_bytes-in-Schedule.new.house)
-    c.write_bytes-in-Schedule.result text)
-    (text_by c.args.desk.now.editor Schedule c.args.place) c.in_ok-text-in-Schedule.text.items
-    c.in_ok-text-in-Schedule.ensures.text
-    (rw (← c.as_slice.ensures.value) c.write_bytes-in-Schedule.ensures.out))
+    (λ text. Written (g.H.House.world c.args.house.now) (g.H.House.world c.write-in-Schedule.new.house)
+    c.write-in-Schedule.result text)
+    (text_by g.S.Shape.form c.args.desk.now.editor Schedule c.args.place) (g.S.Shape.form c.in_ok-text-in-Schedule.text.items)
+    (text_formed g.S.Shape.form Schedule c.args.place (run_at c.args.desk.now.editor c.args.place)
+    c.in_ok-text-in-Schedule.text.items c.in_ok-text-in-Schedule.ensures.text)
+    (rw (← c.as_slice.ensures.value) c.write-in-Schedule.ensures.out))
 
 pub returns-in_ok-text-in-Traces-clause-out : goal.returns-in_ok-text-in-Traces-clause-out
 returns-in_ok-text-in-Traces-clause-out g c =
     rw c.in-Traces.is
     (there_is
-    (λ text. Written (g.H.House.world c.args.house.now) (g.H.House.world c.write_bytes-in-Traces.new.house)
-    c.write_bytes-in-Traces.result text)
-    (text_by c.args.desk.now.editor Traces c.args.place) c.in_ok-text-in-Traces.text.items
-    c.in_ok-text-in-Traces.ensures.text
-    (rw (← c.as_slice-in-Traces.ensures.value) c.write_bytes-in-Traces.ensures.out))
+    (λ text. Written (g.H.House.world c.args.house.now) (g.H.House.world c.write-in-Traces.new.house)
+    c.write-in-Traces.result text)
+    (text_by g.S.Shape.form c.args.desk.now.editor Traces c.args.place) (g.S.Shape.form c.in_ok-text-in-Traces.text.items)
+    (text_formed g.S.Shape.form Traces c.args.place (run_at c.args.desk.now.editor c.args.place)
+    c.in_ok-text-in-Traces.text.items c.in_ok-text-in-Traces.ensures.text)
+    (rw (← c.as_slice-in-Traces.ensures.value) c.write-in-Traces.ensures.out))
 
 pub returns-in-DiskBytes-clause-out : goal.returns-in-DiskBytes-clause-out
 returns-in-DiskBytes-clause-out g c = rw c.in-DiskBytes.is c.write_disk.ensures.out

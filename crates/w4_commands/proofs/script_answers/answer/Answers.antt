@@ -13,7 +13,7 @@ use Rattle.w4_commands.proofs.script_answers.answer.Goals as goal
 pub returns-in-Show-clause-answered : goal.returns-in-Show-clause-answered
 returns-in-Show-clause-answered g c =
     rw c.in-Show.is
-    (one_range c.answer_range.result (g.H.House.world c.args.house.now)
+    (one_range g.S.Shape.form c.answer_range.result (g.H.House.world c.args.house.now)
     (g.H.House.world c.answer_range.new.house)
     c.args.desk.now.editor c.answer_range.new.desk.editor Image c.in-Show.p c.answer_range.ensures.answered)
 
@@ -29,7 +29,7 @@ returns-in-Traces-clause-answered g c = rw c.in-Traces.is c.answer_range-in-Trac
 pub returns-in-DiskAt-clause-answered : goal.returns-in-DiskAt-clause-answered
 returns-in-DiskAt-clause-answered g c =
     rw c.in-DiskAt.is
-    (one_range c.answer_range-in-DiskAt.result (g.H.House.world c.args.house.now)
+    (one_range g.S.Shape.form c.answer_range-in-DiskAt.result (g.H.House.world c.args.house.now)
     (g.H.House.world c.answer_range-in-DiskAt.new.house) c.args.desk.now.editor
     c.answer_range-in-DiskAt.new.desk.editor DiskBytes c.in-DiskAt.p
     c.answer_range-in-DiskAt.ensures.answered)
@@ -43,6 +43,6 @@ returns-in_default-clause-answered g c =
     let other = c.in_default in
     subst (λ (a : Answered (Session ℕ)). GivesAnswer (g.H.House.world c.args.house.now)
     (g.H.House.world c.answer_change.new.house) c.answer_change.result old c.answer_change.new.editor a)
-    (sym (change_answers (editing_setup old) old.disk (place_session old) c.args.order.now other.not-Show
+    (sym (change_answers g.S.Shape.form (editing_setup old) old.disk (place_session old) c.args.order.now other.not-Show
     other.not-Film other.not-Tones other.not-Traces other.not-DiskAt other.not-StateAt))
     c.answer_change.ensures.answered

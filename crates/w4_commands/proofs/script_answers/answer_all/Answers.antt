@@ -70,5 +70,5 @@ returns-in_err-answer-clause-answered g c =
     (answers setup first.disk (place_session first) c.args.orders.now).out c.loop-order-test.true
     c.loop-order.invariant.3.later
     (stopped_at_first before after why first now order c.loop-order.invariant.2
-    c.in_err-answer.ensures.answered)
+    c.in_err-answer.ensures.answered.0)
     c.loop-order.invariant.0)

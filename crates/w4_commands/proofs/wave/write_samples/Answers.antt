@@ -1,7 +1,7 @@
 use Rattle.std.proofs.Common.{◌≡◌, ◌+◌, ◌-◌, length, refl, arith}
 use Rattle.std.proofs.lemmas.Result.{err_from_is_err_and}
 use Rattle.w4_defs.specs.Sound.{first_wave}
-use Rattle.w4_defs.specs.World.{Appends}
+use Rattle.w4_commands.specs.Causes.{AppendsOut}
 use Rattle.w4_house.proofs.WorldLaws.{writing_then}
 use Rattle.w4_defs.specs.Endings.{manner_of}
 use Rattle.w4_commands.specs.Causes.{StopsWriting}
@@ -45,7 +45,7 @@ returns-clause-out g c =
     let places = length c.args.inputs.now + 1 in
     let old = g.H.House.world c.args.house.now in
     let new = g.H.House.world c.loop-place.house in
-    samples_of (λ text. Appends old.out new.out text)
+    samples_of (λ text. AppendsOut old.events new.events text)
     (scene_records c.args.scene.now c.args.inputs.now places)
     (samples-end old new records c.loop-place.wave c.loop-place.place (length c.args.inputs.now)
     (samples_at records first_wave 0 places) c.loop-place-test.false c.loop-place.invariant.0)

@@ -6,7 +6,7 @@ use Rattle.w4_defs.specs.Outcome.{Store}
 use Rattle.w4_defs.specs.RunLaws.{types_of}
 use Rattle.w4_defs.specs.State.{Board, State, LoggedState}
 use Rattle.w4_console.specs.ConsoleCalls.{so_far}
-use Rattle.w4_console.proofs.CallLaws.{called, still_runs}
+use Rattle.w4_console.proofs.CallLaws.{called, still_runs, units_taken}
 use Rattle.w4_console.proofs.GlobalLaws.{values_as_long}
 use Rattle.w4_console.proofs.calls.call_function.Goals as goal
 
@@ -32,6 +32,16 @@ types_kept c =
 pub returns-clause-called : goal.returns-clause-called
 returns-clause-called c =
     called c.args.cart.now c.args.font.now c.args.function (so_far c.args.state.now c.args.frame_record.now)
+    (so_far c.put_back.new.state c.put_back.new.frame_record) c.args.budget c.invoke-ending.result
+    c.board_of-board.new.state c.state.inside.page c.invoke-ending.new.page c.deref_mut.result.now
+    c.invoke-ending.new.globals (with_items c.state.inside.globals c.invoke-ending.new.globals).items
+    c.board_of-board.result c.invoke-ending.new.host c.rest_after.result c.halt_after.result
+    c.board_of-board.ensures (ap (λ (s : State). s.page) c.state.view_is) (handed c)
+    c.invoke-ending.ensures.ends (types_kept c) c.rest_after.ensures c.halt_after.ensures c.put_back.ensures
+
+pub returns-clause-taken : goal.returns-clause-taken
+returns-clause-taken c =
+    units_taken c.args.cart.now c.args.font.now c.args.function (so_far c.args.state.now c.args.frame_record.now)
     (so_far c.put_back.new.state c.put_back.new.frame_record) c.args.budget c.invoke-ending.result
     c.board_of-board.new.state c.state.inside.page c.invoke-ending.new.page c.deref_mut.result.now
     c.invoke-ending.new.globals (with_items c.state.inside.globals c.invoke-ending.new.globals).items

@@ -1,8 +1,9 @@
-use Rattle.std.proofs.Common.{◌≡◌, Some, subst}
+use Rattle.std.proofs.Common.{◌≡◌, ap, Some, subst, sym, ◌∙◌}
 use Rattle.w4_defs.specs.Board.{console_setup}
 use Rattle.w4_defs.specs.EntryPoints.{start_functions}
 use Rattle.w4_defs.specs.Reset.{call_all, fresh, start}
 use Rattle.w4_defs.specs.State.{LoggedState}
+use Rattle.w4_defs.specs.Units.{start_units, taken_by_calls}
 use Rattle.w4_console.specs.ConsoleCalls.{so_far}
 use Rattle.w4_console.proofs.FrameLaws.{frame_begins}
 use Rattle.w4_console.proofs.start.start_cart.Goals as goal
@@ -14,7 +15,16 @@ returns-clause-start c =
     (λ (now : LoggedState).
     call_all (console_setup c.args.cart.now c.args.font.now c.args.budget) (start_functions c.args.cart.now)
     now c.args.budget
-    ≡ Some (so_far c.call_all.new.state c.call_all.new.frame_record))
+    ≡ Some (so_far c.call_all-rest.new.state c.call_all-rest.new.frame_record))
     (frame_begins c.put_fresh.new.state (fresh c.args.cart.now c.args.state.now.disk) c.new.result
     c.put_fresh.ensures.state c.new.ensures)
-    c.call_all.ensures.called
+    c.call_all-rest.ensures.called
+
+pub returns-clause-taken : goal.returns-clause-taken
+unfolding start_units
+returns-clause-taken c =
+    let setup = console_setup c.args.cart.now c.args.font.now c.args.budget in
+    ap (λ (now : LoggedState). taken_by_calls setup (start_functions c.args.cart.now) now c.args.budget)
+    (sym (frame_begins c.put_fresh.new.state (fresh c.args.cart.now c.args.state.now.disk) c.new.result
+    c.put_fresh.ensures.state c.new.ensures))
+    ∙ c.call_all-rest.ensures.taken ∙ ap Some (sym c.taken_by_calls.ensures)

@@ -1,8 +1,9 @@
 use Rattle.std.proofs.Common.{◌+◌, ◌-◌, List, ℕ, length, sym, ap, ◌∙◌, arith}
+use Rattle.std.proofs.lemmas.Result.{err_from_is_err_and}
 use Rattle.w4_defs.specs.Session.{Session, all_kept, with_list}
 use Rattle.w4_editor.specs.PlaceSession.{all_to_keep, place_session, with_multiple}
 use Rattle.w4_editor.proofs.KeepEveryLaws.{multiples_from, multiple_kept, all_are_kept, room_for_multiple}
-use Rattle.w4_editor.proofs.PlaceLaws.{rest_then}
+use Rattle.w4_editor.proofs.PlaceLaws.{rest_then, same_recording_kept}
 use Rattle.w4_editor.proofs.keep_every.keep_all.Goals as goal
 
 pub keep_wanted-requires-clause-place : goal.keep_wanted-requires-clause-place
@@ -46,3 +47,13 @@ returns-clause-kept g c =
     (all_are_kept c.args.every c.loop-place.place (length first.current.inputs + 1) now.current.kept
     (all_to_keep c.args.every first) (omega (arith, c.loop-place-test.false, c.last_place-last.ensures.last))
     c.loop-place.invariant.0)
+
+pub returns-in_err-keep_wanted-clause-recording : goal.returns-in_err-keep_wanted-clause-recording
+returns-in_err-keep_wanted-clause-recording g c =
+    let p = err_from_is_err_and c.from_residual.result c.from_residual.ensures.1 in
+    let first = c.args.editor.now in
+    let now = c.loop-place.editor in
+    rw (p.1)
+    (c.in_err-keep_wanted.ensures.recording
+    ∙ same_recording_kept first now (place_session now).current.kept c.loop-place.invariant.2
+    c.loop-place.invariant.1)

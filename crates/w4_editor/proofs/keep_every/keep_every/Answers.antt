@@ -5,8 +5,8 @@ use Rattle.w4_defs.specs.Session.{Session, unless, with_list}
 use Rattle.w4_editor.specs.PlaceSession.{all_to_keep, place_session}
 use Rattle.w4_editor.proofs.keep_every.keep_every.Goals as goal
 
-pub returns-then-not-has_room : goal.returns-then-not-has_room
-returns-then-not-has_room g c =
+pub returns-then-not-has_room-clause-changed : goal.returns-then-not-has_room-clause-changed
+returns-then-not-has_room-clause-changed g c =
     let s = place_session c.args.editor.now in
     λ other. (
       ap (λ (b : Bool). unless (cond b None (Some FullSnapshots)) (with_list s (all_to_keep c.args.every s)))
@@ -22,8 +22,8 @@ keep_all-requires g c =
           (sym c.has_room.ensures ∙ c.if-not-has_room.false);
     }
 
-pub returns : goal.returns
-returns g c =
+pub returns-clause-changed : goal.returns-clause-changed
+returns-clause-changed g c =
     let s = place_session c.args.editor.now in (
       ap (λ (b : Bool). unless (cond b None (Some FullSnapshots)) (with_list s (all_to_keep c.args.every s)))
           (sym c.has_room.ensures ∙ c.if-not-has_room.false)

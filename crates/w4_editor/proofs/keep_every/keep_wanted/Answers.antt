@@ -1,7 +1,7 @@
 use Rattle.std.proofs.Common.{Bool, cond, sym, ap, ◌∙◌}
 use Rattle.w4_defs.specs.Session.{keep_refusal, places_alone, with_kept, with_list}
 use Rattle.w4_editor.specs.PlaceSession.{place_session}
-use Rattle.w4_editor.proofs.PlaceLaws.{accepted_is, kept_made, kept_rest}
+use Rattle.w4_editor.proofs.PlaceLaws.{accepted_is, kept_made, kept_rest, same_recording}
 use Rattle.w4_editor.proofs.keep_every.keep_wanted.Goals as goal
 
 pub returns-then-not-is_wanted-clause-kept : goal.returns-then-not-is_wanted-clause-kept
@@ -26,3 +26,7 @@ pub returns-in-Ok-clause-rest : goal.returns-in-Ok-clause-rest
 returns-in-Ok-clause-rest g c =
     kept_rest c.args.place c.args.steps.now c.keep.new.steps c.args.editor.now c.keep.new.self
     c.in-Ok.ensures.ok
+
+pub returns-in-Err-clause-recording : goal.returns-in-Err-clause-recording
+returns-in-Err-clause-recording g c =
+    same_recording c.args.editor.now c.keep.new.self c.in-Err.ensures.err

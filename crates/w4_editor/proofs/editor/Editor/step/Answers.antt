@@ -5,13 +5,13 @@ use Rattle.w4_editor.proofs.editor.Editor.step.Goals as goal
 
 pub returns : goal.returns
 returns g c = (
-  (refl, λ _. tt, (c.in_ok-go_on.ensures.ok, tt)),
+  (refl, λ _. tt, (c.in_ok-step_units.ensures.ok, tt)),
   record {
     stepped = tt;
-    state = next_state (record_of c.go_on.new.frame_record) c.args.self.now c.go_on.new.self
+    state = next_state (record_of c.step_units.new.frame_record) c.args.self.now c.step_units.new.self
         c.state.result.now
-        c.in_ok-go_on.ensures.ok c.state.ensures;
-    ticks = c.in_ok-go_on.ensures.ticks;
+        c.in_ok-step_units.ensures.ok c.state.ensures;
+    ticks = c.in_ok-step_units.ensures.ticks;
     idle = tt;
     refused = tt;
   },

@@ -1,0 +1,45 @@
+use Rattle.std.proofs.Common.{◌≡◌, ◌+◌, ℕ, length, subst, arith}
+use Rattle.std.specs.Prelude.{min}
+use Rattle.w4_commands.specs.Comparing.{ComparedTo, scene_side}
+use Rattle.w4_commands.proofs.ComparisonLaws.{places_begin, places_go_on, stands_still}
+use Rattle.w4_commands.proofs.compare.compare_runs.Goals as goal
+
+pub loop-place-init : goal.loop-place-init
+loop-place-init c =
+    let scene = c.args.scene.now in
+    let other_scene = c.args.other_scene.now in (
+      places_begin scene other_scene c.args.inputs.now c.args.other_inputs.now c.run_to.new.stage
+          c.run_to-2.new.stage c.no_differences-found.result c.note_place.new.found
+          c.no_differences-found.ensures c.in_ok-note_place.ensures.found c.run_to.ensures c.run_to-2.ensures,
+      omega arith,
+      stands_still scene c.args.inputs.now 0 c.run_to.new.stage c.note_place.new.one c.note_place.ensures.one
+          c.run_to.ensures,
+      stands_still other_scene c.args.other_inputs.now 0 c.run_to-2.new.stage c.note_place.new.other
+          c.note_place.ensures.other c.run_to-2.ensures,
+    )
+
+pub loop-place-preserved : goal.loop-place-preserved
+loop-place-preserved c =
+    let scene = c.args.scene.now in
+    let other_scene = c.args.other_scene.now in
+    let place = c.loop-place.place in (
+      places_go_on scene other_scene c.args.inputs.now c.args.other_inputs.now place c.step.new.stage
+          c.step-in-loop-place.new.stage c.loop-place.found c.note_place-in-loop-place.new.found
+          c.in_ok-note_place-2.ensures.found c.step.ensures c.step-in-loop-place.ensures
+          c.loop-place.invariant.0,
+      omega (arith, c.loop-place-test.true, c.min-place-end.ensures),
+      stands_still scene c.args.inputs.now (place + 1) c.step.new.stage c.note_place-in-loop-place.new.one
+          c.note_place-in-loop-place.ensures.one c.step.ensures,
+      stands_still other_scene c.args.other_inputs.now (place + 1) c.step-in-loop-place.new.stage
+          c.note_place-in-loop-place.new.other c.note_place-in-loop-place.ensures.other
+          c.step-in-loop-place.ensures,
+    )
+
+pub returns : goal.returns
+returns c =
+    let whole : c.loop-place.place ≡ min (length c.args.inputs.now) (length c.args.other_inputs.now) =
+    omega (arith, c.loop-place-test.false, c.loop-place.invariant.1, c.min-place-end.ensures) in
+    subst
+    (λ (n : ℕ). ComparedTo (scene_side c.args.scene.now c.args.inputs.now)
+    (scene_side c.args.other_scene.now c.args.other_inputs.now) n c.loop-place.found) whole
+    c.loop-place.invariant.0

@@ -1,0 +1,13 @@
+-- The runs were compared up to the place where both stages stand.
+use Rattle.std.proofs.Common.{◌≤◌}
+use Rattle.std.specs.Prelude.{length, min}
+use Rattle.w4_commands.specs.Comparing.{ComparedTo, scene_side}
+use Rattle.w4_commands.specs.Scenes.{IsAtPlace}
+use Rattle.w4_commands.proofs.compare.compare_runs.Given as goal
+
+abbrev pub invariant-loop-place : goal.invariant-loop-place
+invariant-loop-place l =
+    ComparedTo (scene_side l.scene l.inputs) (scene_side l.other_scene l.other_inputs) l.place l.found
+    × (l.place ≤ min (length l.inputs) (length l.other_inputs))
+    × IsAtPlace l.scene l.inputs l.place l.one
+    × IsAtPlace l.other_scene l.other_inputs l.place l.other

@@ -1,0 +1,16 @@
+use Rattle.std.proofs.Common.{◌-◌}
+use Rattle.w4_defs.specs.World.{LeavesWriting}
+use Rattle.w4_commands.specs.OwnAnswers.{units_by}
+use Rattle.w4_commands.specs.ScriptAnswers.{OnlyShows}
+use Rattle.w4_defs.specs.PlaceTexts.{place_texts}
+use Rattle.w4_commands.proofs.OwesLaws.{OwesThere}
+use Rattle.w4_commands.proofs.units_answer.write_all_units.Given as goal
+
+-- what was written so far and the lines of the frames that are left make the whole
+abbrev pub invariant-loop-k : goal.invariant-loop-k
+invariant-loop-k g l =
+    let text = units_by g.S.Shape.form l.fn.desk.editor in
+    OwesThere (g.H.House.world l.fn.house) (g.H.House.world l.house)
+    (place_texts text l.k (l.b - l.k)) (place_texts text l.a (l.b - l.a))
+    × OnlyShows l.fn.desk.editor l.desk.editor
+    × LeavesWriting (g.H.House.world l.fn.house) (g.H.House.world l.house)

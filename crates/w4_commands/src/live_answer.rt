@@ -1,0 +1,148 @@
+//! The answer of one line of a live session.
+
+ghost use Rattle.std.specs.Prelude.{◌≡◌, ◌++◌};
+ghost use Rattle.w4_defs.specs.Live.{LiveSession, Opened, answer_end, framed, live_answer, recording_left, refused_save};
+ghost use Rattle.w4_defs.specs.Meaning.{RunsHaveMeaning};
+ghost use Rattle.w4_defs.specs.Output.{run_setup};
+ghost use Rattle.w4_defs.specs.World.{LeavesWriting};
+ghost use Rattle.w4_editor.specs.Editing.{current_recording};
+ghost use Rattle.w4_script.specs.LiveLines.{IsAsked, IsLiveOrder, asked_view};
+ghost use Rattle.w4_commands.specs.Causes.{Written};
+ghost use Rattle.w4_commands.specs.LiveAnswers.{AnswersSave, GivesPieces, asked_answer, asks_save};
+ghost use Rattle.w4_commands.specs.Serving.{AnswersLine, LeavesServing, Sits};
+
+use crate::desk::Desk;
+use crate::own_answer::answer_own;
+use crate::ram_answers::answer_line;
+use crate::script_answers::answer;
+use crate::serve::save_recording;
+use crate::shape::{Framed, Shape};
+use crate::writing::write_bytes;
+use std::alloc::Global;
+use std::sync::ledger::Ledger;
+use std::thread::Threads;
+use w4_defs::{LiveOrder, Refusal, Steps};
+use w4_house::House;
+use w4_inspect::Search;
+use w4_script::{Asked, read_live_line};
+use w4_segments::Gate;
+
+/// Answers a line: in pieces, and then the end.
+pub fn answer_live_line<L: Ledger, R: Threads + Sync, H: House, G: Gate + Sync>(
+    rt: &R,
+    alloc: Global,
+    house: &mut H,
+    desk: &mut Desk,
+    search: &mut Option<Search>,
+    line: &[u8],
+    out: &str,
+    gate: &G,
+    steps: &mut Steps<L>,
+) -> Result<(), Refusal>
+    ensures answers { (o : Opened) (s : LiveSession) → RunsHaveMeaning o.cart → o.out ≡ out.now
+        → Sits o s desk.old.editor search.old
+        → AnswersLine (H.world house.old) (H.world house.new) result o s line.now
+        desk.new.editor search.new }
+    ensures rest { LeavesServing (H.world house.old) (H.world house.new) }
+{
+    let asked = read_live_line(line);
+    if is_save(&asked) {
+        return answer_save(alloc, house, desk, out);
+    }
+    answer_pieces(rt, alloc, house, desk, search, &asked, gate, steps)?;
+    write_bytes(alloc, house, b"0\n")
+}
+
+/// Whether a line asks for OUT to be saved.
+fn is_save(asked: &Asked) -> bool
+    ensures { result ≡ asks_save (asked_view asked.now) }
+{
+    match *asked {
+        Asked::Nothing => false,
+        Asked::NoOrder => false,
+        Asked::Order(LiveOrder::Save) => true,
+        Asked::Order(_) => false,
+    }
+}
+
+/// Writes the pieces of an answer.
+fn answer_pieces<L: Ledger, R: Threads + Sync, H: House, G: Gate + Sync>(
+    rt: &R,
+    alloc: Global,
+    house: &mut H,
+    desk: &mut Desk,
+    search: &mut Option<Search>,
+    asked: &Asked,
+    gate: &G,
+    steps: &mut Steps<L>,
+) -> Result<(), Refusal>
+    requires { IsAsked asked.now }
+    ensures gives { (o : Opened) (s : LiveSession) → Sits o s desk.old.editor search.old
+        → GivesPieces (H.world house.old) (H.world house.new) result o s
+        (asked_answer o s (asked_view asked.now)) desk.new.editor search.new }
+    ensures rest { LeavesWriting (H.world house.old) (H.world house.new) }
+{
+    match *asked {
+        Asked::Nothing => Ok(()),
+        Asked::NoOrder => Framed::write(alloc, house, b"refused no order\n"),
+        Asked::Order(order) => answer_order(rt, alloc, house, desk, search, &order, gate, steps),
+    }
+}
+
+/// Writes the pieces of the answer of an order. Of `save` there are none here.
+fn answer_order<L: Ledger, R: Threads + Sync, H: House, G: Gate + Sync>(
+    rt: &R,
+    alloc: Global,
+    house: &mut H,
+    desk: &mut Desk,
+    search: &mut Option<Search>,
+    order: &LiveOrder,
+    gate: &G,
+    steps: &mut Steps<L>,
+) -> Result<(), Refusal>
+    requires { IsLiveOrder order.now }
+    ensures gives { (o : Opened) (s : LiveSession) → Sits o s desk.old.editor search.old
+        → GivesPieces (H.world house.old) (H.world house.new) result o s
+        (live_answer framed (run_setup o.cart o.run) o.run.recording.disk s order.now)
+        desk.new.editor search.new }
+    ensures rest { LeavesWriting (H.world house.old) (H.world house.new) }
+{
+    match *order {
+        LiveOrder::Script { order } => {
+            answer::<Framed, L, R, H, G>(rt, alloc, house, desk, &order, gate, steps)
+        }
+        LiveOrder::Query { ask } => {
+            answer_line::<Framed, L, H>(alloc, house, &mut desk.editor, search, &ask, steps)
+        }
+        LiveOrder::Save => Ok(()),
+        _ => answer_own::<Framed, L, H>(alloc, house, desk, order, steps),
+    }
+}
+
+/// Saves the recording, and answers that.
+fn answer_save<H: House>(
+    alloc: Global,
+    house: &mut H,
+    desk: &Desk,
+    out: &str,
+) -> Result<(), Refusal>
+    ensures saves { (o : Opened) (s : LiveSession) → o.out ≡ out.now
+        → current_recording desk.now.editor ≡ recording_left o s
+        → AnswersSave (H.world house.old) (H.world house.new) result o s }
+    ensures rest { LeavesServing (H.world house.old) (H.world house.new) }
+{
+    match save_recording(alloc, house, desk, out) {
+        Ok(()) => write_bytes(alloc, house, b"0\n"),
+        Err(Refusal::WriteFault) => refuse_save(alloc, house),
+        Err(why) => Err(why),
+    }
+}
+
+/// Answers that OUT couldn't be written.
+fn refuse_save<H: House>(alloc: Global, house: &mut H) -> Result<(), Refusal>
+    ensures out { Written (H.world house.old) (H.world house.new) result (refused_save ++ answer_end) }
+    ensures rest { LeavesWriting (H.world house.old) (H.world house.new) }
+{
+    Framed::write(alloc, house, b"refused cannot write\n")?;
+    write_bytes(alloc, house, b"0\n")
+}

@@ -1,0 +1,184 @@
+//! `serve`: a live session. Orders come one a line from standard input, and the answer of a line is written
+//! before the next one is asked for.
+
+ghost use Rattle.std.specs.Prelude.{◌≡◌, ◌<◌, ◌∷◌, [], IfErr, IfOk, None, option_map, string_bytes};
+ghost use Rattle.w4_defs.specs.Causes.{LeavesErr};
+ghost use Rattle.w4_defs.specs.Endings.{manner_of};
+ghost use Rattle.w4_defs.specs.Live.{Opened, Talk, first_live_session, serve_output};
+ghost use Rattle.w4_defs.specs.Meaning.{RunsHaveMeaning};
+ghost use Rattle.w4_defs.specs.Recording.{encoding};
+ghost use Rattle.w4_defs.specs.World.{Does, LeavesSaving, LeavesTaking};
+ghost use Rattle.w4_editor.specs.Editing.{current_recording};
+ghost use Rattle.w4_house.specs.Lines.{taken};
+ghost use Rattle.w4_commands.specs.Causes.{EndsDone, Replaces};
+ghost use Rattle.w4_commands.specs.Serving.{
+  AnswersLines,
+  EndsStopped,
+  LeavesServing,
+  LosesLine,
+  ServedStep,
+  Sits,
+  stop_refusal,
+};
+ghost use Rattle.w4_commands.specs.Views.{cart_view, opened_view, serve_view};
+
+use crate::desk::{Desk, new_desk};
+use crate::edit::save;
+use crate::forms::ServeNames;
+use crate::live_answer::answer_live_line;
+use crate::load::{Played, load_run};
+use std::alloc::Global;
+use std::marker::Brand;
+use std::sync::ledger::{Blank, Ledger};
+use std::thread::Threads;
+use w4_cart::CartFile;
+use w4_defs::{Refusal, Steps};
+use w4_house::{House, HouseFault};
+use w4_record::write_recording;
+use w4_segments::Gate;
+use wasm_valid::Cart;
+
+/// `serve CART REC FONT OUT`.
+#[tactic(auto, unfolding(w4_defs::specs::Live::serve_output))]
+pub fn run_serve<R: Threads + Sync, H: House, G: Gate + Sync>(
+    rt: &R,
+    alloc: Global,
+    house: &mut H,
+    file: CartFile,
+    names: ServeNames<'_>,
+    gate: &G,
+) -> Result<(), Refusal>
+    requires meaning { RunsHaveMeaning file.cart }
+    ensures ends { EndsDone (H.world house.old) (H.world house.new) result (λ files output. (talk : Talk)
+        × (serve_output (serve_view names.entry) talk (cart_view file) files ≡ Some output)) }
+    ensures err { LeavesErr (H.world house.old) (H.world house.new) }
+{
+    let run = load_run(alloc, house, &file.digest, names.run)?;
+    serve_run(rt, alloc, house, file.cart, run, names.out, gate)
+}
+
+/// A session on a recording that was read. However its lines end, the recording left goes to the file.
+fn serve_run<R: Threads + Sync, H: House, G: Gate + Sync>(
+    rt: &R,
+    alloc: Global,
+    house: &mut H,
+    cart: Cart,
+    run: Played,
+    out: &str,
+    gate: &G,
+) -> Result<(), Refusal>
+    requires meaning { RunsHaveMeaning cart }
+    ensures ends { EndsDone (H.world house.old) (H.world house.new) result
+        (ServedStep (opened_view cart run out.now)) }
+    ensures err { LeavesErr (H.world house.old) (H.world house.new) }
+{
+    let Played { recording, font } = run;
+    let mut desk = new_desk(alloc, cart, font, recording)?;
+    let name = String::from_str(alloc, out)?;
+    match answer_lines::<Brand, R, H, G>(rt, alloc, house, &mut desk, &name, gate, Blank::new(1)) {
+        Ok(()) => save_recording(alloc, house, &desk, out),
+        Err(why) => rescue(alloc, house, &desk, out, why),
+    }
+}
+
+/// The recording as it is becomes the file, in version 2.
+pub fn save_recording<H: House>(
+    alloc: Global,
+    house: &mut H,
+    desk: &Desk,
+    out: &str,
+) -> Result<(), Refusal>
+    ensures saved { Replaces (H.world house.old) (H.world house.new) result out.now
+        (encoding 2 (current_recording desk.now.editor)) }
+    ensures rest { LeavesSaving (H.world house.old) (H.world house.new) }
+{
+    let bytes = write_recording(alloc, desk.editor.recording())?;
+    save(alloc, house, out, bytes.as_slice())
+}
+
+/// The recording left becomes the file after the session was stopped. Errors: always; why it was stopped, or
+/// why this failed.
+fn rescue<H: House>(
+    alloc: Global,
+    house: &mut H,
+    desk: &Desk,
+    out: &str,
+    why: Refusal,
+) -> Result<(), Refusal>
+    ensures rescued { EndsStopped (H.world house.old) (H.world house.new) result out.now
+        (encoding 2 (current_recording desk.now.editor)) why }
+    ensures rest { LeavesSaving (H.world house.old) (H.world house.new) }
+{
+    let saved = save_recording(alloc, house, desk, out);
+    Err(stopped(why, saved))
+}
+
+/// Why a session is refused that was stopped, once the recording left was saved or not.
+fn stopped(why: Refusal, saved: Result<(), Refusal>) -> Refusal
+    ensures { result ≡ stop_refusal why saved }
+{
+    match (why, saved) {
+        (Refusal::OutOfMemory, _) => why,
+        (_, Ok(())) => why,
+        (_, Err(fault)) => fault,
+    }
+}
+
+/// Takes lines and answers them, one after another, to the end of the input. Errors: InputFault, WriteFault,
+/// OutOfMemory.
+fn answer_lines<L: Ledger, R: Threads + Sync, H: House, G: Gate + Sync>(
+    rt: &R,
+    alloc: Global,
+    house: &mut H,
+    desk: &mut Desk,
+    out: &String,
+    gate: &G,
+    blank: Blank,
+) -> Result<(), Refusal>
+    requires name { blank.name ≡ L.name }
+    requires parts { blank.parts ≡ L.parts }
+    requires some { 0 < L.parts }
+    ensures answers { (o : Opened) → RunsHaveMeaning o.cart → o.out ≡ string_bytes out.now
+        → Sits o (first_live_session o) desk.old.editor None
+        → AnswersLines (H.world house.old) (H.world house.new) result o (current_recording desk.new.editor) }
+    ensures rest { LeavesServing (H.world house.old) (H.world house.new) }
+{
+    let mut steps: Steps<L> = Steps::new(blank);
+    let mut search = None;
+    for _ in 0..u64::MAX {
+        match take_line(alloc, house)? {
+            None => return Ok(()),
+            Some(line) => {
+                let (bytes, name) = (line.as_slice(), out.as_str());
+                answer_live_line(
+                    rt,
+                    alloc,
+                    house,
+                    desk,
+                    &mut search,
+                    bytes,
+                    name,
+                    gate,
+                    &mut steps,
+                )?;
+            }
+        }
+    }
+    // No input is as long.
+    Err(Refusal::OutOfMemory)
+}
+
+/// The next line, or None at the end of the input.
+fn take_line<H: House>(alloc: Global, house: &mut H) -> Result<Option<Vec<u8>>, Refusal>
+    ensures taken { IfOk result (λ line. Does (H.world house.old) (H.world house.new)
+        (taken (option_map (λ bytes. bytes.items) line) ∷ [])) }
+    ensures lost { IfErr result (λ why. LosesLine (H.world house.old) (H.world house.new) (manner_of why)) }
+    ensures rest { LeavesTaking (H.world house.old) (H.world house.new) }
+{
+    match house.read_line(alloc) {
+        Ok(line) => Ok(line),
+        Err(HouseFault::Absent) => unreachable!(),
+        Err(HouseFault::Failed) => Err(Refusal::InputFault),
+        Err(HouseFault::OutOfMemory) => Err(Refusal::OutOfMemory),
+    }
+}
