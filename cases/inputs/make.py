@@ -8,12 +8,11 @@ import os
 import struct
 import sys
 
-from encoding import hexed, number, section
+sys.dont_write_bytecode = True
+from encoding import hexed, number, section  # noqa: E402
+from make_cart import made  # noqa: E402
 
 HERE = os.path.dirname(os.path.abspath(__file__))
-sys.dont_write_bytecode = True
-sys.path.append(os.path.join(HERE, os.pardir, os.pardir, "examples", "made"))
-from make_cart import made  # noqa: E402
 
 
 def write(name, data):
@@ -266,9 +265,14 @@ CARTS = {
     "counts-down": counts_down(60_000),
     "counts-down-from-12000": counts_down(12_000),
     "counts-down-once": counts_down(84_000_000),
+    # and of 5,003
+    "counts-down-from-1000": counts_down(1_000),
     # the number of frames so far, at 8,192 and in the first bytes of the framebuffer
     "counts-frames": with_body("00 41 80 c0 00 41 80 c0 00 28 02 00 41 01 6a 36 02 00"
                                "41 a0 01 41 80 c0 00 28 02 00 36 02 00 0b"),
+    # globals -1, of i32, to which each frame adds 1, and -2, of i64
+    "counts-in-a-global": FRONT + hexed("06 0b 02 7f 01 41 7f 0b 7e 00 42 7e 0b") + EXPORTS
+                          + code(hexed("00 23 00 41 01 6a 24 00 0b")),
     "draws-by-pad": importing(
         [("hline", 3, 0), ("vline", 3, 0), ("rect", 4, 0), ("oval", 4, 0)], draws_by_pad(), variables=2),
     # DRAW_COLORS is 0x0002; `A`, a newline and `B` at (0, 0)
@@ -487,6 +491,14 @@ def recording_2(cart, budget, pads, flags, disk=b""):
     return recording_front(2, cart, budget, disk, len(pads)) + frames
 
 
+def of_frames(cart, budget, frames, disk=b""):
+    """A recording of version 2 with these frames of ten bytes."""
+    return recording_front(2, cart, budget, disk, len(frames)) + b"".join(map(hexed, frames))
+
+
+# Zeros; and four pads, the mouse at (-5, 7), its right button, and a reset.
+TWO_FRAMES = ["00 00 00 00 00 00 00 00 00 00", "ff 01 02 03 fb ff 07 00 02 01"]
+
 RECORDINGS = {
     "smallest": recording("smallest", 100_000, [0]),
     "first": recording("first", 100_000, [0, 0]),
@@ -573,6 +585,23 @@ RECORDINGS = {
     "counts-down-from-12000-of-400":
         recording("counts-down-from-12000", 400_000, [k % 256 for k in range(400)]),
     "counts-down-once": recording("counts-down-once", 500_000_000, [0]),
+    "counts-down-from-1000-of-36000": recording("counts-down-from-1000", 400_000, [0] * 36_000),
+    "counts-in-a-global": recording("counts-in-a-global", 100_000, [0]),
+    "first-1-0": recording("first", 100_000, [1, 0]),
+    "first-5-4": recording("first", 100_000, [5, 4]),
+    "first-9-9": recording("first", 100_000, [9, 9]),
+    "first-0-3-4": recording("first", 100_000, [0, 3, 4]),
+    "first-of-100-and-0": recording("first", 100_000, [100, 0]),
+    "endless-loop-of-50": recording("endless-loop", 50, [0, 0]),
+    "pulse-and-a-triangle": recording("plays-by-pad", 100_000, [1, 3]),
+    "writes-a-long-disk-without-a-disk": recording("writes-a-long-disk", 100_000, [0]),
+    # the same of two carts, and with one frame and none
+    "smallest-two-frames": of_frames("smallest", 7, TWO_FRAMES, b"ab"),
+    "first-two-frames": of_frames("first", 7, TWO_FRAMES, b"ab"),
+    "smallest-no-frames": of_frames("smallest", 7, [], b"ab"),
+    "smallest-a-kilobyte": of_frames("smallest", 7, [], b"a" * 1_024),
+    "smallest-a-kilobyte-of-1": of_frames("smallest", 7, TWO_FRAMES[:1], b"a" * 1_024),
+    "smallest-of-2": recording("smallest", 100_000, [0, 0]),
     "counts-frames-of-600": recording("counts-frames", 100_000, [0] * 600),
     "counts-frames-of-1024": recording("counts-frames", 100_000, [0] * 1_024),
 }
@@ -638,6 +667,33 @@ SCRIPTS = {
     "made-edits-by-16": made_edits(16),
 }
 
+def many_variants():
+    """Lines of a session: places are kept, and then an input far from both ends is changed 64 times, and asked for is a
+    number ten frames later and the state of the last place."""
+    changes = b"".join(
+        b"set 10000 %d" % pad + ZEROS + b"\nwatch 22 1 10001 10001\nwatch 8192 4 10011 10011\nstate 36000\n"
+        for pad in range(1, 65))
+    return b"keep-every 60\nstate 36000\n" + changes + b"set 10000 0" + ZEROS + b"\n"
+
+
+# What clients of a live session write.
+ORDERS = {
+    # lines of 1,025 bytes and of 1,024, and a byte 13 at the end
+    "long-lines": b"#" + b"a" * 1_024 + b"\n#" + b"a" * 1_023 + b"\nkeep 1\r\ntraces 0 2\nfilm 0 1 2\n",
+    "a-hundred": b"".join(b"set 0 %d" % pad + ZEROS + b"\nwatch 160 1 1 1\n" for pad in range(1, 101)),
+    "many-variants": many_variants(),
+    "one-edit": b"set 0 1" + ZEROS + b"\n",
+    # the texts of the recordings `smallest-two-frames` and `smallest-a-kilobyte-of-1`
+    "two-frames": b"# budget 7\n# disk 6162\ninsert 0 0" + ZEROS + b"\ninsert 1 255 1 2 3 -5 7 2 reset\n",
+    "a-kilobyte": b"# budget 7\n# disk " + b"61" * 1_024 + b"\ninsert 0 0" + ZEROS + b"\n",
+}
+
+DISKS = {
+    "ab": b"ab",
+    "a-kilobyte": b"a" * 1_024,
+    "a-kilobyte-and-a-byte": b"a" * 1_025,
+}
+
 LOGS = {
     "late-pads": late_pads(400),
     "36001-nexts": b"next\n" * 36_001,
@@ -662,9 +718,11 @@ def main():
         cart, recording_of_it = made(maker)
         write(f"carts/made-{maker}.wasm", cart)
         write(f"recordings/made-{maker}.w4rec", recording_of_it)
-    for folder, files in (("lists", LISTS), ("logs", LOGS), ("scripts", SCRIPTS)):
+    for folder, files in (("lists", LISTS), ("logs", LOGS), ("scripts", SCRIPTS), ("orders", ORDERS)):
         for name, text in files.items():
             write(f"{folder}/{name}.txt", text)
+    for name, held in DISKS.items():
+        write(f"disks/{name}.bin", held)
     write("font.bin", bytes(1_792))
     write("short-font.bin", bytes(1_791))
 

@@ -1,7 +1,7 @@
 #!/usr/bin/env python3
 """Writes the lines that `make` is to write for some numbers, beside it, and the recordings that edits of made
 carts leave, and prints the sums of the films after these edits: the rules of docs/MADE-CARTS.md are simulated
-here, without WebAssembly, and the cart's length is that of `examples/made/make_cart.py`.
+here, without WebAssembly, and the cart's length is that of `cases/inputs/make_cart.py`.
 """
 import hashlib
 import os
@@ -9,7 +9,7 @@ import sys
 
 HERE = os.path.dirname(os.path.abspath(__file__))
 sys.dont_write_bytecode = True
-sys.path.append(os.path.join(HERE, os.pardir, os.pardir, "examples", "made"))
+sys.path.append(os.path.join(HERE, os.pardir, "inputs"))
 import make_cart  # noqa: E402
 
 MASK = 2**32 - 1

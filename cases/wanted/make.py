@@ -27,10 +27,10 @@ def written(recording):
 # The recordings that edits of cases leave.
 INPUTS = os.path.join(HERE, os.pardir, "inputs")
 LEFT = """
-calls-itself-of-4095 calls-itself-of-4096 copy-past-the-page counts-down-from-12000-of-400 counts-down-of-1000
-counts-frames-of-1024 counts-frames-of-600 divides-by-zero endless-loop fills-of-103 fills-of-104 first
-first-1-1-2 first-27 first-of-1 first-of-3 loads-by-pad loads-by-pad-0 loads-by-pad-1 nested-blocks-of-19999
-nested-blocks-of-20000 smallest smallest-of-120-and-a-pad smallest-of-9 store-past-the-page three-nops-of-2
+calls-itself-of-4095 calls-itself-of-4096 copy-past-the-page counts-down-from-1000-of-36000
+counts-down-from-12000-of-400 counts-down-of-1000 counts-in-a-global counts-frames-of-1024 counts-frames-of-600 divides-by-zero endless-loop fills-of-103 fills-of-104 first
+first-1-0 first-1-1-2 first-27 first-5-4 first-5-9 first-9-9 first-of-1 first-of-100-and-0 first-of-3 loads-by-pad loads-by-pad-0 loads-by-pad-1 nested-blocks-of-19999
+nested-blocks-of-20000 smallest smallest-of-120-and-a-pad smallest-of-2 smallest-of-9 store-past-the-page three-nops-of-2
 three-nops-of-3 unreachable writes-a-long-disk
 """
 for folder, names in (("recordings", [name + ".w4rec" for name in LEFT.split()]),
@@ -163,3 +163,30 @@ write("1024-frames.ppm", image(of_framebuffer((1_024).to_bytes(4, "little"))))
 # The rows of 256 recordings of two frames of zeros.
 CLEAR = hashlib.sha256(image(of_framebuffer(b""))).hexdigest()
 write("256-rows.txt", f"inputs/recordings/first.w4rec 2 halt running image {CLEAR} disk 0\n".encode() * 256)
+
+
+def page_of_first(pad):
+    """The page of a place of the cart `first`: registers as the reset leaves them, and the pad, which stands in the
+    framebuffer too. The recordings have a mouse of zeros."""
+    page = bytearray(65_536)
+    page[4:32] = bytes.fromhex("cff8e000 6cc08600 50683000 21180700 0312") + bytes([pad]) + bytes(9)
+    page[160] = pad
+    return bytes(page)
+
+
+# The pages of the places 1 and 2 where the pads are 5 and 9.
+write("pad-5.page", page_of_first(5))
+write("pad-9.page", page_of_first(9))
+
+
+def answered(*pieces):
+    """The answer of an order of a live session: its pieces, each behind its length, and its end."""
+    return b"".join(b"%d\n" % len(piece) + piece for piece in pieces) + b"0\n"
+
+
+# The answers of the orders `a-hundred`: an edit's is empty.
+write("a-hundred-answers.txt", b"".join(
+    answered() + answered(b"watch 160 %d\n" % pad) for pad in range(1, 101)))
+
+# 400 frames of 60,003 units.
+write("400-units.txt", b"start 0\n" + b"".join(b"units %d 60003\n" % k for k in range(400)))

@@ -38,9 +38,27 @@ def late_pads():
             yield CLEAR
 
 
+def answered(*pieces):
+    """The answer of an order of a live session: its pieces, each behind its length, and its end."""
+    return b"".join(b"%d\n" % len(piece) + piece for piece in pieces) + b"0\n"
+
+
+def many_variants():
+    """What the orders `many-variants` have answered: the pad, which stands at 22 after its frame, a number that
+    nothing is stored in, and the state of the last place. The last is an edit."""
+    last = answered(state(36_000, 36_000, range(0, 36_001, 60)))
+    return (answered() + last
+            + b"".join(answered() + answered(b"watch 22 %d\n" % pad) + answered(b"watch 8192 0\n") + last
+                       for pad in range(1, 65))
+            + answered())
+
+
 ALL = range(401)
 OUTPUTS = {
     "400-changes": (state(1_000, 1_000, range(1_001)) + CLEAR) * 400,
+    "400-changes, of a session":
+        answered() + (answered() + answered(state(1_000, 1_000, range(1_001))) + answered(CLEAR)) * 400,
+    "many-variants": many_variants(),
     "answers-again": (CLEAR + state(400, 400, ALL) + frames(400, 400) * 2) * 200,
     # a place is dropped and kept again
     "undone-again": state(400, 400, ALL) * (1 + 2 * 200 + 200),
