@@ -1,0 +1,177 @@
+"""For test, measurement and picture of the studio: a studio in a folder of its own, and a real Chromium."""
+import os
+import pathlib
+import shutil
+import subprocess
+import sys
+import tempfile
+import time
+
+STUDIO = pathlib.Path(__file__).resolve().parent
+TOP = STUDIO.parent
+FONT = TOP / "examples/first/font.bin"
+GARDEN = TOP / "examples/garden"
+PATIENCE = 20  # seconds until something that doesn't come is a failure
+SYSTEM_PYTHON = "/usr/bin/python3"
+
+
+class Missing(Exception):
+    """A tool isn't installed."""
+
+
+def need_tools():
+    """Goes on with the system's Python where this one has no selenium; Missing where a tool isn't there."""
+    for tool in ("chromium", "chromedriver"):
+        if not shutil.which(tool):
+            raise Missing(f"{tool} isn't installed")
+    try:
+        import selenium  # noqa: F401
+    except ImportError:
+        is_system = os.path.realpath(sys.executable) == os.path.realpath(SYSTEM_PYTHON)
+        if not is_system and has_selenium(SYSTEM_PYTHON):
+            os.execv(SYSTEM_PYTHON, [SYSTEM_PYTHON, *sys.argv])
+        raise Missing("python3-selenium isn't installed") from None
+
+
+def has_selenium(python):
+    return os.path.exists(python) and subprocess.run([python, "-c", "import selenium"], check=False,
+                                                     stderr=subprocess.DEVNULL).returncode == 0
+
+
+def program():
+    return os.environ.get("W4") or str(TOP / "w4")
+
+
+def run_w4(*words):
+    """What a command of w4 writes."""
+    return subprocess.run([program(), *map(str, words)], stdout=subprocess.PIPE, check=True).stdout
+
+
+class Studio:
+    """A studio that runs on a copy of a recording, or begins one where None is named."""
+
+    def __init__(self, cart=GARDEN / "cart.wasm", recording=GARDEN / "game.w4rec", font=FONT):
+        self.room = tempfile.TemporaryDirectory()
+        self.cart, self.font = cart, font
+        self.recording = pathlib.Path(self.room.name, recording.name if recording else "new.w4rec")
+        if recording:
+            self.recording.write_bytes(recording.read_bytes())
+        self.process = None
+        self.address = ""
+
+    def start(self):
+        words = [STUDIO / "run", "--no-browser", self.cart, self.recording, self.font]
+        self.process = subprocess.Popen(words, stdout=subprocess.PIPE, text=True)
+        self.address = self.process.stdout.readline().strip()
+        assert self.address, "the studio didn't start"
+        return self
+
+    def stop(self):
+        self.process.terminate()
+        return self.process.wait(PATIENCE)
+
+    def __enter__(self):
+        return self.start()
+
+    def __exit__(self, *_):
+        if self.process.poll() is None:
+            self.stop()
+        self.process.stdout.close()
+        self.room.cleanup()
+
+
+def open_chromium(width=1500, height=900):
+    """A Chromium without a window, in which sound needs no click."""
+    from selenium import webdriver
+    from selenium.webdriver.chrome.service import Service
+    options = webdriver.ChromeOptions()
+    options.binary_location = shutil.which("chromium")
+    for argument in ("--headless=new", "--no-sandbox", f"--window-size={width},{height}",
+                     "--autoplay-policy=no-user-gesture-required"):
+        options.add_argument(argument)
+    options.set_capability("goog:loggingPrefs", {"browser": "ALL"})
+    return webdriver.Chrome(options=options, service=Service(shutil.which("chromedriver")))
+
+
+class Page:
+    """The studio's page in a Chromium."""
+
+    def __init__(self, driver):
+        self.driver = driver
+
+    def open(self, address):
+        """Opens the page and waits until the first picture is there."""
+        self.driver.get(address)
+        self.wait("window.studio && studio.player.shown === studio.player.place")
+
+    def script(self, text, *words):
+        return self.driver.execute_script(text, *words)
+
+    def value(self, expression, *words):
+        return self.script(f"return {expression}", *words)
+
+    def answer(self, order):
+        """The text that the session answers an order with."""
+        return self.driver.execute_async_script(
+            "const [order, done] = arguments;"
+            "studio.session.connection.askText(order).then(done, (fault) => done(fault.message))", order)
+
+    def wait(self, expression, patience=PATIENCE):
+        """Waits until an expression of the page holds."""
+        end = time.monotonic() + patience
+        while not self.value(f"Boolean({expression})"):
+            assert time.monotonic() < end, f"not within {patience} seconds: {expression}"
+            time.sleep(0.01)
+
+    def go_to(self, place):
+        self.script("studio.selection.moveTo(arguments[0], false)", place)
+        self.wait_for_picture()
+
+    def wait_for_picture(self):
+        """The picture of the place shown, after all that was edited."""
+        self.answer("state 0")
+        self.wait("studio.player.shown === studio.player.place && !studio.player.picture.isRunning")
+
+    def image(self):
+        """The screen's pixels as `w4 frames` writes them."""
+        data = self.value("Array.from(studio.player.screen.context.getImageData(0, 0, 160, 160).data)")
+        return b"P6\n160 160\n255\n" + bytes(byte for at, byte in enumerate(data) if at % 4 != 3)
+
+    def cell(self, row, title):
+        """The window's point in the middle of a cell of the roll, which is scrolled into view."""
+        return self.script("""
+            const [row, title] = arguments, { roll } = studio;
+            roll.reveal(row);
+            const column = roll.columns.find((one) => one.title === title);
+            const box = roll.canvas.getBoundingClientRect();
+            const y = box.top + 20 + 18 * row - roll.scroller.scrollTop + 9;
+            return [box.left + column.x + column.width / 2, y];
+            """, row, title)
+
+    def press_at(self, points):
+        """Presses the mouse at the first of the points, moves over the others, and lets it go."""
+        from selenium.webdriver.common.actions.action_builder import ActionBuilder
+        builder = ActionBuilder(self.driver, duration=0)
+        for number, (x, y) in enumerate(points):
+            builder.pointer_action.move_to_location(round(x), round(y))
+            if number == 0:
+                builder.pointer_action.pointer_down()
+        builder.pointer_action.pointer_up()
+        builder.perform()
+
+    def click_cell(self, row, title):
+        self.press_at([self.cell(row, title)])
+
+    def keys(self, *names):
+        """Presses keys one after another; a name with + holds the keys before the last one."""
+        from selenium.webdriver.common.action_chains import ActionChains
+        from selenium.webdriver.common.keys import Keys
+        for name in names:
+            chain = ActionChains(self.driver)
+            *held, key = [getattr(Keys, part.upper(), part) for part in name.split("+")]
+            for modifier in held:
+                chain.key_down(modifier)
+            chain.send_keys(key)
+            for modifier in held:
+                chain.key_up(modifier)
+            chain.perform()

@@ -1,0 +1,54 @@
+"""Sound and films of a saved recording, made by commands of w4. The server calls them in threads."""
+import pathlib
+import shutil
+import struct
+import subprocess
+import tempfile
+
+from recording_files import Refusal, program
+
+WAV_HEADER, PLACE_SOUND = 44, 2_940  # bytes of a WAV file's header, and of the sound of a place
+BLOCK = 1 << 16
+SIZE = "scale=640:640:flags=neighbor"
+
+
+def start(*words):
+    """A command of w4 whose output is read."""
+    return subprocess.Popen([program(), *map(str, words)], stdin=subprocess.DEVNULL, stdout=subprocess.PIPE,
+                            stderr=subprocess.DEVNULL)
+
+
+def skip(stream, count):
+    while count and (block := stream.read(min(count, BLOCK))):
+        count -= len(block)
+
+
+def wave(files, first, last):
+    """A WAV file of the sound of places, cut out of that of the whole recording."""
+    length = (last - first + 1) * PLACE_SOUND
+    with start("wave", files.cart, files.recording, files.font) as process:
+        header = process.stdout.read(WAV_HEADER)
+        skip(process.stdout, first * PLACE_SOUND)
+        samples = process.stdout.read(length)
+        process.kill()
+    if len(samples) < length:
+        raise Refusal("those places aren't there")
+    return b"RIFF" + struct.pack("<I", length + 36) + header[8:40] + struct.pack("<I", length) + samples
+
+
+def film(files, first, last):
+    """A film with sound, of the images and the sound of places, joined by ffmpeg."""
+    if not shutil.which("ffmpeg"):
+        raise Refusal("a film wants ffmpeg, which isn't installed (on Debian: apt install ffmpeg)")
+    with tempfile.TemporaryDirectory() as room:
+        sound, joined = pathlib.Path(room, "sound.wav"), pathlib.Path(room, "film.mp4")
+        sound.write_bytes(wave(files, first, last))
+        with start("frames", files.cart, files.recording, files.font, first, last) as images:
+            made = subprocess.run(
+                ["ffmpeg", "-y", "-loglevel", "error", "-f", "image2pipe", "-framerate", "60", "-c:v", "ppm",
+                 "-i", "-", "-i", sound, "-vf", SIZE, "-pix_fmt", "yuv420p", joined],
+                stdin=images.stdout, stderr=subprocess.PIPE, check=False)
+            images.kill()
+        if made.returncode:
+            raise Refusal(made.stderr.decode("utf-8", "replace").strip() or "ffmpeg failed")
+        return joined.read_bytes()

@@ -1,0 +1,110 @@
+// Branches: named copies of the recording that one can go back to, and comparison with another recording.
+import { changesBetween } from "./session.js";
+import { parseInputs } from "./input.js";
+import { request } from "./services.js";
+
+export class Branches {
+  constructor({ session, player, say }) {
+    Object.assign(this, { session, player, say });
+    this.pane = document.getElementById("branches-pane");
+    this.form = document.getElementById("branch-form");
+    this.body = document.querySelector("#branch-table tbody");
+    this.compared = document.getElementById("compared");
+    this.pane.addEventListener("toggle", () => this.act(() => this.refresh()));
+    this.form.addEventListener("submit", (event) => {
+      event.preventDefault();
+      this.act(() => this.make(this.form.elements.name.value.trim()));
+    });
+    const file = document.getElementById("compare-file");
+    file.addEventListener("change", () => this.act(() => this.compareFile(file)));
+  }
+
+  async act(work) {
+    try {
+      await work();
+    } catch (refusal) {
+      this.compared.textContent = refusal.message;
+    }
+  }
+
+  async refresh() {
+    if (this.pane.open) this.show(await (await request("branches")).json());
+  }
+
+  async make(name) {
+    this.show(await (await request("branches", { name }, { method: "POST" })).json());
+    this.form.reset();
+    this.compared.textContent = "";
+    this.say(`branch ${name} is made`);
+  }
+
+  show(rows) {
+    this.body.replaceChildren(...rows.map((row) => this.row(row)));
+  }
+
+  row({ name, frames }) {
+    const row = document.createElement("tr");
+    row.insertCell().textContent = name;
+    row.insertCell().textContent = frames;
+    const cell = row.insertCell();
+    this.addButton(cell, "Go to", name, () => this.goTo(name));
+    this.addButton(cell, "Compare", name, () => this.compare(`branch ${name}`, { name }));
+    this.addButton(cell, "Remove", name, () => this.remove(name));
+    return row;
+  }
+
+  addButton(cell, text, name, work) {
+    const button = document.createElement("button");
+    button.textContent = text;
+    button.setAttribute("aria-label", `${text} branch ${name}`);
+    button.addEventListener("click", () => this.act(work));
+    cell.append(button, " ");
+  }
+
+  // The recording becomes the branch, as one step that can be undone.
+  async goTo(name) {
+    const inputs = parseInputs(await (await request("branch", { name })).text());
+    this.player.pause();
+    this.session.change(`go to branch ${name}`, changesBetween(this.session.inputs, inputs));
+    this.say(`the recording is that of branch ${name}`);
+  }
+
+  async remove(name) {
+    if (!window.confirm(`Remove branch ${name}? Its file goes too.`)) return;
+    this.show(await (await request("branches", { name }, { method: "DELETE" })).json());
+    this.say(`branch ${name} is removed`);
+  }
+
+  async compareFile(file) {
+    const [chosen] = file.files;
+    if (chosen) await this.compare(chosen.name, {}, chosen);
+    file.value = "";
+  }
+
+  async compare(title, query, body = null) {
+    this.compared.textContent = "comparing";
+    const lines = await (await request("compare", query, { method: "POST", body })).text();
+    this.compared.replaceChildren(this.table(title, lines.trim().split("\n").map((line) => line.split(" "))));
+  }
+
+  // A row for each thing that may differ; a button leads to the place.
+  table(title, rows) {
+    const table = document.createElement("table");
+    table.createCaption().textContent = `this recording and ${title}`;
+    for (const [name, first, second] of rows) {
+      const row = table.insertRow();
+      row.insertCell().textContent = name;
+      if (name === "places") row.insertCell().textContent = `${first} and ${second}`;
+      else if (first === "same") row.insertCell().textContent = "the same";
+      else row.insertCell().append(this.placeButton(Number(first)));
+    }
+    return table;
+  }
+
+  placeButton(place) {
+    const button = document.createElement("button");
+    button.textContent = `differs first at place ${place}`;
+    button.addEventListener("click", () => this.player.goTo(place));
+    return button;
+  }
+}

@@ -1,0 +1,89 @@
+// The search of memory: it begins with all addresses, and keeps those whose values changed as is said.
+import { Refresher } from "./refresher.js";
+import { valueAt } from "./memory_page.js";
+
+const SHOWN = 200; // rows of the list
+
+export class Search {
+  constructor({ session, player, pages, watches, say }) {
+    Object.assign(this, { session, player, pages, watches, say });
+    this.pane = document.getElementById("search-pane");
+    this.width = document.getElementById("search-width");
+    this.text = document.getElementById("search-text");
+    this.body = document.querySelector("#search-table tbody");
+    this.value = document.getElementById("is-value");
+    this.found = null;
+    this.values = new Refresher(() => this.updateValues(), 60);
+    this.listen();
+  }
+
+  listen() {
+    for (const button of this.pane.querySelectorAll("[data-search]")) {
+      button.addEventListener("click", () => this.narrow(button.dataset.search));
+    }
+    document.getElementById("is-form").addEventListener("submit", (event) => {
+      event.preventDefault();
+      this.narrow("is");
+    });
+    this.player.addEventListener("shown", () => this.values.ask());
+    this.pane.addEventListener("toggle", () => this.values.ask());
+  }
+
+  orderOf(kind) {
+    const { place } = this.player;
+    if (kind === "start") return `start ${this.width.value} ${place}`;
+    return kind === "is" ? `is ${place} ${Number(this.value.value)}` : `${kind} ${place}`;
+  }
+
+  async narrow(kind) {
+    if (kind === "is" && !/^\d{1,10}$/.test(this.value.value.trim())) {
+      this.say("a value is a number in decimal");
+      return;
+    }
+    if (kind === "start") this.searchedWidth = Number(this.width.value);
+    else if (this.found === null) {
+      this.say("start a search first");
+      return;
+    }
+    const { place } = this.player;
+    await this.session.askAt(this.orderOf(kind), place);
+    await this.list(kind, place);
+  }
+
+  async list(kind, place) {
+    const [head, ...addresses] = (await this.session.connection.askText("list")).trim().split("\n");
+    this.found = addresses.map(Number);
+    const what = kind === "start" ? "begun" : kind;
+    const more = this.found.length > SHOWN ? `; the first ${SHOWN} are shown` : "";
+    this.text.textContent = `${head.slice(6)} found (${what} at place ${place})${more}`;
+    this.buildRows();
+  }
+
+  buildRows() {
+    this.cells = this.found.slice(0, SHOWN).map((address) => ({ address, value: null }));
+    this.body.replaceChildren(...this.cells.map((cell) => this.buildRow(cell)));
+    this.values.ask();
+  }
+
+  buildRow(cell) {
+    const row = document.createElement("tr");
+    row.insertCell().textContent = cell.address;
+    cell.value = row.insertCell();
+    cell.value.className = "number";
+    const button = document.createElement("button");
+    button.textContent = "Watch";
+    button.setAttribute("aria-label", `Watch address ${cell.address}`);
+    button.addEventListener("click", () => this.watches.add(cell.address, this.searchedWidth, ""));
+    row.insertCell().append(button);
+    return row;
+  }
+
+  async updateValues() {
+    const place = this.player.shown;
+    if (!this.pane.open || !this.cells || !this.cells.length || place > this.session.count) return;
+    const page = await this.pages.at(place);
+    for (const { address, value } of this.cells) {
+      value.textContent = valueAt(page, address, this.searchedWidth);
+    }
+  }
+}

@@ -1,0 +1,238 @@
+"""Tests of the piano roll: inputs are edited by mouse and keys; pictures and the saved file follow."""
+import time
+
+from browser import Studio
+from recordings import AWAY, BUTTON, RIGHT, frame, garden_frames, image, recording
+
+
+def changed(frames, at, new):
+    return frames[:at] + [new] + frames[at + 1:]
+
+
+def check_saved(studio, page, frames):
+    """Saves, and compares the whole file."""
+    page.keys("control+s")
+    page.wait("!studio.session.isDirty")
+    page.answer("state 0")
+    assert studio.recording.read_bytes() == recording(frames)
+
+
+def test_opens_on_the_recording(studio, page):
+    assert page.value("studio.session.count") == 240
+    assert page.image() == image(garden_frames(), 0)
+    page.go_to(70)
+    assert page.image() == image(garden_frames(), 70)
+
+
+def test_a_click_changes_a_button_and_the_picture(studio, page):
+    frames = garden_frames()
+    page.go_to(70)
+    page.click_cell(60, "1")
+    edited = changed(frames, 60, frame(RIGHT))
+    page.wait_for_picture()
+    assert page.image() == image(edited, 70) != image(frames, 70)
+    page.keys("control+z")
+    page.wait_for_picture()
+    assert page.image() == image(frames, 70)
+    page.keys("control+y")
+    page.wait_for_picture()
+    assert page.image() == image(edited, 70)
+    check_saved(studio, page, edited)
+
+
+def test_a_drag_sets_a_button_over_rows_as_one_step(studio, page):
+    frames = garden_frames()
+    page.go_to(70)
+    page.press_at([page.cell(60, "1"), page.cell(61, "1"), page.cell(63, "1")])
+    page.wait_for_picture()
+    level = frames[:60] + [frame(RIGHT)] * 4 + frames[64:]
+    assert page.image() == image(level, 70)
+    assert page.value("studio.session.done.length") == 1
+    page.keys("control+z")
+    check_saved(studio, page, frames)
+
+
+def test_a_hundred_steps_are_undone_and_redone(studio, page):
+    frames = garden_frames()
+    page.script("""
+        for (let at = 0; at < 100; at += 1) studio.session.change(`step ${at}`,
+            [{ kind: "set", at, input: { ...studio.session.inputs[at], pads: [at, 1, 2, 3] } }]);
+        """)
+    edited = [frame(at, pads=(1, 2, 3)) for at in range(100)] + frames[100:]
+    check_saved(studio, page, edited)
+    page.script("for (let step = 0; step < 100; step += 1) studio.session.undo()")
+    check_saved(studio, page, frames)
+    page.script("for (let step = 0; step < 100; step += 1) studio.session.redo()")
+    check_saved(studio, page, edited)
+
+
+def test_rows_are_inserted_and_deleted_by_keys(studio, page):
+    frames = garden_frames()
+    page.go_to(50)
+    page.keys("i", "shift+arrow_down", "shift+arrow_down", "i")
+    inserted = frames[:50] + [frame(0)] * 4 + frames[50:]
+    check_saved(studio, page, inserted)
+    page.go_to(49)
+    page.keys("shift+arrow_down", "shift+arrow_down", "delete")
+    deleted = inserted[:49] + inserted[52:]
+    check_saved(studio, page, deleted)
+    page.keys("control+z", "control+z")
+    check_saved(studio, page, frames[:50] + [frame(0)] + frames[50:])
+    page.keys("control+y", "control+y")
+    check_saved(studio, page, deleted)
+    page.keys("control+z", "control+z", "control+z")
+    check_saved(studio, page, frames)
+
+
+def test_rows_are_cut_copied_and_pasted(studio, page):
+    frames = garden_frames()
+    page.go_to(60)
+    page.keys("shift+arrow_down", "shift+arrow_down", "control+c", "home", "control+v")
+    pasted = frames[60:63] + frames
+    check_saved(studio, page, pasted)
+    page.go_to(5)
+    page.keys("control+shift+v")
+    over = pasted[:5] + frames[60:63] + pasted[8:]
+    check_saved(studio, page, over)
+    page.keys("shift+arrow_down", "control+x")
+    check_saved(studio, page, over[:5] + over[7:])
+
+
+def test_a_selection_stays_while_the_place_moves(studio, page):
+    frames = garden_frames()
+    page.go_to(60)
+    page.keys("shift+arrow_down", "space")
+    page.wait("studio.player.place >= 70")
+    page.keys("space", "2")
+    check_saved(studio, page, frames[:60] + [frame(RIGHT + BUTTON + 2)] * 2 + frames[62:])
+    page.keys("escape", "home", "2")
+    check_saved(studio, page, [frame(2)] + frames[1:60] + [frame(RIGHT + BUTTON + 2)] * 2 + frames[62:])
+
+
+def test_keys_press_buttons_in_the_selected_rows(studio, page):
+    frames = garden_frames()
+    page.go_to(2)
+    page.keys("shift+arrow_down", "1", "w", "t")
+    pressed = frames[:2] + [frame(BUTTON + 64, reset=True)] * 2 + frames[4:]
+    check_saved(studio, page, pressed)
+    page.keys("w", "t", "arrow_right", "enter")
+    check_saved(studio, page, frames[:2] + [frame(BUTTON + RIGHT)] * 2 + frames[4:])
+
+
+def test_autofire_and_text(studio, page):
+    frames = garden_frames()
+    page.go_to(0)
+    page.keys("arrow_right", *["shift+arrow_down"] * 6, "f")
+    page.script("""
+        document.getElementById('frames-on').value = 2;
+        document.getElementById('frames-off').value = 1;
+        document.querySelector('#autofire-dialog button[value=set]').click()""")
+    fired = [frame(RIGHT if at % 3 < 2 else 0) for at in range(7)] + frames[7:]
+    check_saved(studio, page, fired)
+    page.keys("home", "e")
+    page.script("""
+        document.getElementById('text-area').value = '1 2 3 4 -5 7 2 reset\\n0 0 0 0 32767 32767 0\\n';
+        document.querySelector('#text-dialog button[value=set]').click()""")
+    text = [frame(1, reset=True, pads=(2, 3, 4), mouse=(-5, 7, 2)), frame(0, mouse=(AWAY, AWAY, 0))]
+    check_saved(studio, page, text + fired[1:])
+
+
+def test_a_second_is_recorded_live_over_the_rest(studio, page):
+    frames = garden_frames()
+    page.go_to(100)
+    page.keys("r")
+    page.wait("studio.recorder.isRecording")
+    start = time.monotonic()
+    turn_keys(page, "keydown", ["ArrowLeft", "KeyX"])
+    page.wait("studio.player.place >= 160")
+    turn_keys(page, "keyup", ["ArrowLeft", "KeyX"])
+    page.keys("escape")
+    page.wait_for_picture()
+    end = page.value("studio.player.place")
+    assert end - 100 <= 66 * (time.monotonic() - start), "faster than 60 frames a second"
+    saved = saved_frames(studio, page)
+    assert len(saved) == 240 and saved[:100] == frames[:100] and saved[end:] == frames[end:]
+    assert saved[100:end].count(frame(16 + BUTTON)) > 40
+    assert page.image() == image(saved, end)
+    page.keys("control+z")
+    check_saved(studio, page, frames)
+
+
+def test_sixty_frames_a_second_are_recorded_on_each_display(studio, page):
+    counts = page.script("""
+        const { recorder } = studio;
+        window.requestAnimationFrame = () => 0;
+        return [30, 60, 75, 144, 240].map((display) => {
+            let frames = 0;
+            Object.assign(recorder, { isRecording: true, time: null, pictures: 0 });
+            recorder.recordFrame = () => { frames += 1; };
+            for (let tick = 0; tick <= display; tick += 1) recorder.tick(1000 + (1000 * tick) / display);
+            return frames;
+        })""")
+    assert all(59 <= count <= 61 for count in counts), counts
+
+
+def test_recording_inserts_and_plays_a_real_gamepad(studio, page):
+    frames = garden_frames()
+    page.script("""
+        const button = (pressed) => ({ pressed, value: Number(pressed) });
+        navigator.getGamepads = () => [{ connected: true, axes: [0.9, 0],
+            buttons: Array.from({ length: 16 }, (_, at) => button(at === 0)) }, null, null, null]""")
+    page.go_to(50)
+    page.keys("shift+r", "r")
+    page.wait("studio.recorder.isRecording")
+    page.wait("studio.player.place >= 60")
+    page.keys("escape")
+    page.wait_for_picture()
+    end = page.value("studio.player.place")
+    saved = saved_frames(studio, page)
+    assert saved == frames[:50] + [frame(RIGHT + BUTTON)] * (end - 50) + frames[50:]
+    assert page.image() == image(saved, end)
+
+
+def test_a_recording_is_begun_from_nothing(studio, page):
+    with Studio(recording=None) as other:
+        page.open(other.address)
+        assert page.value("studio.session.count") == 0
+        page.keys("a", "delete", "enter", "arrow_down", "space", "r")
+        turn_keys(page, "keydown", ["ArrowRight"])
+        page.wait("studio.player.place >= 30")
+        page.keys("escape")
+        page.wait_for_picture()
+        end = page.value("studio.player.place")
+        saved = saved_frames(other, page)
+        assert len(saved) == end and saved[-1] == frame(RIGHT)
+        assert page.image() == image(saved, end)
+        page.driver.get("about:blank")
+
+
+def test_the_mouse_is_recorded(studio, page):
+    frames = garden_frames()
+    page.keys("o", "r")
+    page.script("""
+        const screen = document.getElementById("screen"), box = screen.getBoundingClientRect();
+        const [clientX, clientY] = [box.left + 40.5 * box.width / 160, box.top + 120.5 * box.height / 160];
+        screen.dispatchEvent(new PointerEvent("pointermove", { clientX, clientY, buttons: 3 }))""")
+    page.wait("studio.player.place >= 10")
+    page.keys("escape")
+    page.wait_for_picture()
+    end = page.value("studio.player.place")
+    saved = saved_frames(studio, page)
+    assert saved[end - 1] == frame(0, mouse=(40, 120, 3)) and saved[end:] == frames[end:]
+
+
+def turn_keys(page, kind, codes):
+    """Presses keys of the keyboard, or lets them go."""
+    for code in codes:
+        page.script("const [kind, code] = arguments; window.dispatchEvent(new KeyboardEvent(kind, { code }))",
+                    kind, code)
+
+
+def saved_frames(studio, page):
+    """The inputs of the file, after a save."""
+    page.keys("control+s")
+    page.wait("!studio.session.isDirty")
+    page.answer("state 0")
+    data = studio.recording.read_bytes()
+    assert data[:5] == b"W4RC\2"
+    return [data[at:at + 10] for at in range(47, len(data), 10)]

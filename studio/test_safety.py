@@ -1,0 +1,190 @@
+"""Tests of what keeps a recording and a session safe: saving, crashes, a second page, other web sites."""
+import http.client
+import os
+import signal
+import subprocess
+import time
+import urllib.parse
+
+from browser import PATIENCE, STUDIO, Page
+from recordings import RIGHT, frame, garden_frames, image, recording
+
+EDITED = garden_frames()[:60] + [frame(RIGHT)] + garden_frames()[61:]
+
+
+def change_frame_60(page):
+    page.click_cell(60, "1")
+    page.answer("state 0")
+
+
+def wait_for_file(studio, wanted):
+    end = time.monotonic() + PATIENCE
+    while studio.recording.read_bytes() != wanted:
+        assert time.monotonic() < end, "the file isn't what was to be saved"
+        time.sleep(0.02)
+
+
+def test_a_reload_has_what_was_saved(studio, page):
+    change_frame_60(page)
+    page.keys("control+s")
+    page.wait("!studio.session.isDirty")
+    page.open(studio.address)
+    page.go_to(70)
+    assert page.image() == image(EDITED, 70)
+    assert studio.recording.read_bytes() == recording(EDITED)
+
+
+def do_not_save_after_a_while(page):
+    page.script("studio.saver.noteEdit = () => {}")
+
+
+def test_it_is_saved_a_while_after_an_edit(studio, page):
+    change_frame_60(page)
+    assert page.value("studio.session.isDirty")
+    wait_for_file(studio, recording(EDITED))
+
+
+def test_it_is_saved_when_the_page_is_lost(studio, page):
+    do_not_save_after_a_while(page)
+    change_frame_60(page)
+    page.script("studio.session.connection.socket.close()")
+    wait_for_file(studio, recording(EDITED))
+
+
+def test_it_is_saved_at_a_pause(studio, page):
+    do_not_save_after_a_while(page)
+    change_frame_60(page)
+    page.keys("space")
+    page.wait("studio.player.place > 5")
+    page.keys("space")
+    page.wait("!studio.session.isDirty")
+    wait_for_file(studio, recording(EDITED))
+
+
+def test_it_is_saved_when_the_page_closes(studio, page):
+    do_not_save_after_a_while(page)
+    change_frame_60(page)
+    page.driver.get("about:blank")
+    wait_for_file(studio, recording(EDITED))
+
+
+def test_what_was_opened_is_kept_as_a_branch(studio, page):
+    folder = studio.recording.with_name("game.w4rec.studio")
+    [path] = folder.glob("opened *.w4rec")
+    assert len(path.read_bytes()) == 47 + 9 * 240 and path.read_bytes()[47:56] == frame(0)[:9]
+
+
+def test_a_killed_server_loses_nothing(studio, page):
+    change_frame_60(page)
+    studio.process.kill()
+    studio.process.wait()
+    wait_for_file(studio, recording(EDITED))
+    page.wait("!document.getElementById('fault').hidden")
+
+
+def test_an_ended_program_is_told_and_begun_anew(studio, page):
+    change_frame_60(page)
+    page.keys("control+s")
+    page.wait("!studio.session.isDirty")
+    words = ["pgrep", "-P", str(studio.process.pid)]
+    [child] = subprocess.run(words, stdout=subprocess.PIPE, check=True).stdout.split()
+    os.kill(int(child), signal.SIGKILL)
+    page.wait("document.getElementById('fault').textContent.includes('Reload')")
+    page.open(studio.address)
+    page.go_to(70)
+    assert page.image() == image(EDITED, 70)
+
+
+def test_the_server_saves_when_it_is_ended(studio, page):
+    change_frame_60(page)
+    assert studio.stop() == 0
+    assert studio.recording.read_bytes() == recording(EDITED)
+
+
+def test_a_second_page_is_told(studio, page):
+    driver = page.driver
+    first = driver.current_window_handle
+    driver.switch_to.new_window("tab")
+    try:
+        driver.get(studio.address)
+        page.wait("document.getElementById('fault').textContent.includes('in use')")
+        assert page.value("window.studio === undefined")
+    finally:
+        driver.close()
+        driver.switch_to.window(first)
+    assert Page(driver).answer("state 0").startswith("state 0 of 240 ")
+
+
+def refusal_of(*words):
+    """What studio/run says before it ends, with a status other than 0."""
+    ran = subprocess.run([STUDIO / "run", "--no-browser", *map(str, words)], capture_output=True, text=True,
+                         timeout=PATIENCE, check=False)
+    assert ran.returncode != 0 and not ran.stdout
+    return ran.stderr.strip()
+
+
+def test_a_second_studio_is_refused(studio, page):
+    line = refusal_of(studio.cart, studio.recording)
+    assert line == "studio: another studio has this recording open"
+
+
+def test_files_that_are_refused(studio, page):
+    empty = studio.recording.with_name("empty")
+    empty.write_bytes(b"")
+    short = studio.recording.with_name("short.w4rec")
+    short.write_bytes(studio.recording.read_bytes()[:-1])
+    other = studio.recording.with_name("other.w4rec")
+    other.write_bytes(recording([frame(0)], cart=STUDIO / "run"))
+    assert refusal_of(empty, empty.with_suffix(".w4rec")) == "studio: w4: cart: malformed"
+    assert not empty.with_suffix(".w4rec").exists()
+    assert refusal_of(studio.cart, short) == "studio: that isn't a recording"
+    assert refusal_of(studio.cart, other) == "studio: w4: recording: wrong cart"
+    assert refusal_of(studio.cart, other.with_name("new.w4rec"), empty) == "studio: w4: font: not 1792 bytes"
+
+
+def status_of(studio, path, headers):
+    """The status that the server answers such a request with."""
+    address = urllib.parse.urlsplit(studio.address)
+    connection = http.client.HTTPConnection(address.hostname, address.port, timeout=PATIENCE)
+    connection.putrequest("GET", path, skip_host=True)
+    for name, value in headers.items():
+        connection.putheader(name, value)
+    connection.endheaders()
+    return connection.getresponse().status
+
+
+def test_nobody_else_is_answered(studio, page):
+    address = urllib.parse.urlsplit(studio.address)
+    host, path = address.netloc, address.path
+    upgrade = {"Upgrade": "websocket", "Connection": "Upgrade", "Sec-WebSocket-Key": "A" * 22 + "=="}
+    rows = [
+        (path, {"Host": host}, 200),
+        (path + "branches", {"Host": host, "Origin": f"http://{host}"}, 200),
+        (path, {}, 403),
+        (path, {"Host": "evil.example"}, 403),
+        (path, {"Host": f"localhost:{address.port}"}, 403),
+        (path + "branches", {"Host": host, "Origin": "http://evil.example"}, 403),
+        ("/", {"Host": host}, 403),
+        ("/" + "A" * 22 + "/", {"Host": host}, 403),
+        (path[:-2] + "/", {"Host": host}, 403),
+        (path + "nothing.js", {"Host": host}, 404),
+        (path + "../run", {"Host": host}, 404),
+        (path + "%2e%2e/run", {"Host": host}, 404),
+        (path + "session", {"Host": host, **upgrade}, 403),
+        (path + "session", {"Host": host, "Origin": "http://evil.example", **upgrade}, 403),
+        (path + "session", {"Host": host, "Origin": f"http://{host}"}, 400),
+    ]
+    for path, headers, status in rows:
+        assert status_of(studio, path, headers) == status, (path, headers)
+
+
+def test_only_this_machine_is_listened_to(studio, page):
+    port = urllib.parse.urlsplit(studio.address).port
+    lines = open("/proc/net/tcp", encoding="ascii").read().split("\n")[1:]
+    listening = [line.split()[1] for line in lines if line and line.split()[3] == "0A"]
+    assert [place for place in listening if int(place[-4:], 16) == port] == [f"0100007F:{port:04X}"]
+
+
+# The browser's log has a line where the server is gone, or a page is told to go.
+WITH_FAULTS = (test_a_killed_server_loses_nothing, test_an_ended_program_is_told_and_begun_anew,
+               test_a_second_page_is_told, test_the_server_saves_when_it_is_ended)
