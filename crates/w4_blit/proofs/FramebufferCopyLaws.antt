@@ -14,7 +14,7 @@ use Rattle.w4_defs.specs.Colours.{palette_index}
 use Rattle.w4_defs.specs.Shapes.{natural, only_if, is_inside}
 use Rattle.w4_defs.specs.Blit.{has_flag, source_column, source_row, source_value, cell_index, width_on_screen, height_on_screen, blit_painter}
 use Rattle.w4_defs.proofs.PaintLaws.{length-paint, paint-outside}
-use Rattle.w4_blit.specs.FramebufferCopy.{IsAtHand, byte_with_copy, source_start, with_copied_bytes, with_copy}
+use Rattle.w4_blit.specs.FramebufferCopy.{IsAtHand, byte_with_copy, source_start, with_copied_bytes}
 
 pub length-with_copied_bytes : (page : List ℕ) (first : ℕ) (copy_bytes : List ℕ)
     → length (with_copied_bytes page first copy_bytes) ≡ length page
@@ -119,7 +119,7 @@ behind page first copy_bytes i len h = elim (cases_lt i 65536) [
 
 behind_value : (page copy : List ℕ) (sprite : Sprite) (q : ℕ) → length page ≡ 65536
     → 6560 ≤ sprite.ptr
-    → source_value (with_copy page copy) sprite q ≡ source_value page sprite q
+    → source_value (with_copied_bytes page 160 copy) sprite q ≡ source_value page sprite q
 behind_value page copy sprite q len h =
     rw (
       behind page 160 copy (sprite.ptr + q / 4) len (omega arith),
@@ -128,7 +128,7 @@ behind_value page copy sprite q len h =
 
 behind_cell : (page copy : List ℕ) (sprite : Sprite) (i j : ℕ) → length page ≡ 65536
     → 6560 ≤ sprite.ptr
-    → cell_index (with_copy page copy) sprite i j ≡ cell_index page sprite i j
+    → cell_index (with_copied_bytes page 160 copy) sprite i j ≡ cell_index page sprite i j
 behind_cell page copy sprite i j len h =
     ap (λ (value : ℕ). palette_index sprite.colors (value + 1))
     (behind_value page copy sprite (source_row sprite j * sprite.stride + source_column sprite i) len
@@ -140,7 +140,7 @@ either_same false o p q r eo ep = ep
 
 pub behind_blit : (page copy : List ℕ) (sprite : Sprite) (x y : ℤ) (u v : ℕ) → length page ≡ 65536
     → 6560 ≤ sprite.ptr
-    → blit_painter (with_copy page copy) sprite x y u v ≡ blit_painter page sprite x y u v
+    → blit_painter (with_copied_bytes page 160 copy) sprite x y u v ≡ blit_painter page sprite x y u v
 behind_blit page copy sprite x y u v len h =
     let right = natural (pos u -ℤ x) in
     let below = natural (pos v -ℤ y) in

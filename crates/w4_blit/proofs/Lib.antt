@@ -7,3 +7,5 @@ mod WalkLaws
 mod WindowLaws
 mod StripLaws
 mod SpreadLaws
+mod DigitLaws
+mod ByteLaws

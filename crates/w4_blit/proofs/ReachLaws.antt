@@ -1,28 +1,14 @@
 -- A sprite reads no more of the framebuffer than is kept.
-use Rattle.std.proofs.Common.{◌≡◌, ℕ, ◌+◌, ◌-◌, ◌*◌, ◌/◌, ◌%◌, ◌^◌, ◌<◌, ◌≤◌, ◌⊎◌, Bool, true, false, ◌&&◌, cond, List, length, get_or, Option, refl, ap, subst, inl, inr, arith}
+use Rattle.std.proofs.Common.{◌≡◌, ℕ, ◌+◌, ◌-◌, ◌*◌, ◌/◌, ◌%◌, ◌^◌, ◌<◌, Bool, true, false, ◌&&◌, cond, List, length, get_or, Option, refl, ap, subst, arith}
 use Rattle.std.specs.Prelude.{slice_range, ℤ, pos, negsuc, ◌+ℤ◌, ◌-ℤ◌, ◌≤ℤ◌, ◌<ℤ◌, int_le, int_lt}
-use Rattle.std.proofs.lemmas.Bool.{cases_lt}
 use Rattle.std.proofs.lemmas.Int.{ints}
 use Rattle.w4_defs.specs.declared.sprite.Sprite.{Sprite}
 use Rattle.w4_defs.specs.Colours.{palette_index}
 use Rattle.w4_defs.specs.Shapes.{natural, only_if, is_inside}
 use Rattle.w4_defs.specs.Blit.{blit_painter, cell_index, has_flag, height_on_screen, landed_index, source_column, source_row, source_value, width_on_screen}
 use Rattle.w4_blit.specs.Reach.{InReach}
-use Rattle.w4_blit.specs.FramebufferCopy.{IsAtHand, with_copy}
+use Rattle.w4_blit.specs.FramebufferCopy.{with_copied_bytes}
 use Rattle.w4_blit.proofs.FramebufferCopyLaws.{kept_own}
-
-there_or_behind : (len i : ℕ) → (i < 160 + len) ⊎ (6560 ≤ i) → IsAtHand 160 len i
-there_or_behind len i there = elim there [
-  | inr above ↦ inl (inr above)
-  | inl below ↦ elim (cases_lt i 160) [
-    | inl low ↦ inl (inl low)
-    | inr from ↦ inr (from, below)
-  ]
-]
-
-get_or-with_snapshot : (page : List ℕ) (len i : ℕ) → length page ≡ 65536 → (i < 160 + len) ⊎ (6560 ≤ i)
-    → get_or (with_copy page (slice_range page 160 (160 + len))) i 0 ≡ get_or page i 0
-get_or-with_snapshot page len i size there = kept_own page 160 len i size (there_or_behind len i there)
 
 value_same : (two : Bool) (page other : List ℕ) (ptr q : ℕ)
     → (two ≡ true → get_or other (ptr + q / 4) 0 ≡ get_or page (ptr + q / 4) 0)
@@ -34,14 +20,15 @@ value_same : (two : Bool) (page other : List ℕ) (ptr q : ℕ)
 value_same true page other ptr q two one = ap (λ (b : ℕ). b / 4 ^ (3 - q % 4) % 4) (two refl)
 value_same false page other ptr q two one = ap (λ (b : ℕ). b / 2 ^ (7 - q % 8) % 2) (one refl)
 
-kept_value : (page : List ℕ) (sprite : Sprite) (len q : ℕ) → length page ≡ 65536
-    → InReach sprite q (160 + len)
-    → source_value (with_copy page (slice_range page 160 (160 + len))) sprite q
+kept_value : (page : List ℕ) (sprite : Sprite) (first len q : ℕ) → length page ≡ 65536
+    → InReach sprite q first len
+    → source_value (with_copied_bytes page first (slice_range page first (first + len))) sprite q
     ≡ source_value page sprite q
-kept_value page sprite len q size there =
-    value_same (has_flag sprite 1) page (with_copy page (slice_range page 160 (160 + len))) sprite.ptr q
-    (λ two. get_or-with_snapshot page len (sprite.ptr + q / 4) size (there.0 two))
-    (λ one. get_or-with_snapshot page len (sprite.ptr + q / 8) size (there.1 one))
+kept_value page sprite first len q size there =
+    value_same (has_flag sprite 1) page (with_copied_bytes page first (slice_range page first (first + len)))
+    sprite.ptr q
+    (λ two. kept_own page first len (sprite.ptr + q / 4) size (there.0 two))
+    (λ one. kept_own page first len (sprite.ptr + q / 8) size (there.1 one))
 
 cond_same : (b : Bool) (o p q r : Option ℕ) → (b ≡ true → o ≡ q) → (b ≡ false → p ≡ r) → cond b o p
     ≡ cond b q r
@@ -82,19 +69,19 @@ side_below x u n e =
     omega (arith, ints, there)
 
 -- the same sprite, from the page and what is kept of its framebuffer
-pub kept_blit : (page : List ℕ) (sprite : Sprite) (len : ℕ) (x y : ℤ) (u v : ℕ) → length page ≡ 65536
+pub kept_blit : (page : List ℕ) (sprite : Sprite) (first len : ℕ) (x y : ℤ) (u v : ℕ) → length page ≡ 65536
     → ((i j : ℕ) → i < sprite.w → j < sprite.h
-    → InReach sprite (source_row sprite j * sprite.stride + source_column sprite i) (160 + len))
-    → blit_painter (with_copy page (slice_range page 160 (160 + len))) sprite x y u v
+    → InReach sprite (source_row sprite j * sprite.stride + source_column sprite i) first len)
+    → blit_painter (with_copied_bytes page first (slice_range page first (first + len))) sprite x y u v
     ≡ blit_painter page sprite x y u v
-kept_blit page sprite len x y u v size reach =
-    let copy_bytes = with_copy page (slice_range page 160 (160 + len)) in
+kept_blit page sprite first len x y u v size reach =
+    let copy_bytes = with_copied_bytes page first (slice_range page first (first + len)) in
     let right = natural (pos u -ℤ x) in
     let below = natural (pos v -ℤ y) in
     let cell : (i j : ℕ) → i < sprite.w → j < sprite.h → cell_index copy_bytes sprite i j
     ≡ cell_index page sprite i j =
     λ i j hi hj. ap (λ (value : ℕ). palette_index sprite.colors (value + 1))
-    (kept_value page sprite len (source_row sprite j * sprite.stride + source_column sprite i) size
+    (kept_value page sprite first len (source_row sprite j * sprite.stride + source_column sprite i) size
     (reach i j hi hj)) in
     shown_same
     (is_inside x (x +ℤ pos (width_on_screen sprite)) y (y +ℤ pos (height_on_screen sprite)) u v)

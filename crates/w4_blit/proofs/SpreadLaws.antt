@@ -2,8 +2,7 @@
 use Rattle.std.proofs.Common.{◌≡◌, ℕ, ◌+◌, ◌-◌, ◌*◌, ◌/◌, ◌%◌, ◌^◌, ◌<◌, List, map, get_or, refl, ◌∙◌, ap, arith}
 use Rattle.std.specs.List.{range_with_len}
 use Rattle.std.proofs.lemmas.List.FromFn.{get_or-map-range_with_len}
-use Rattle.w4_defs.proofs.PaintLaws.{below_four}
-use Rattle.w4_blit.specs.declared.spread.TheConstants.{SPREAD, LOW_BITS, HIGH_BITS}
+use Rattle.w4_blit.specs.declared.spread.TheConstants.{SPREAD}
 use Rattle.w4_blit.proofs.StripLaws.{below_eight}
 
 eight_digits : (p0 p1 p2 p3 p4 p5 p6 p7 k : ℕ) → p0 < 2 → p1 < 2 → p2 < 2 → p3 < 2 → p4 < 2 → p5 < 2 → p6 < 2
@@ -31,28 +30,3 @@ spread_entry b k hb hk =
     (b / 1 % 2) k (omega arith) (omega arith) (omega arith) (omega arith) (omega arith) (omega arith) (omega
     arith) (omega arith) hk (λ k. b / 2 ^ (7 - k) % 2)
     refl refl refl refl refl refl refl refl
-
-low_byte : ℕ → ℕ
-low_byte b = 3 * (b / 64 % 2) + 12 * (b / 16 % 2) + 48 * (b / 4 % 2) + 192 * (b / 1 % 2)
-
-pub low_entry : (b k : ℕ) → b < 256 → k < 4 → get_or LOW_BITS b 0 / 4 ^ k % 4 ≡ 3 * (b / 4 ^ (3 - k) % 2)
-unfolding low_byte
-low_entry b k hb hk =
-    let table : LOW_BITS ≡ map low_byte (range_with_len 0 256) = refl in
-    let Q : ℕ → Type 0 = λ k. low_byte b / 4 ^ k % 4 ≡ 3 * (b / 4 ^ (3 - k) % 2) in
-    ap (λ (t : List ℕ). get_or t b 0 / 4 ^ k % 4) table
-    ∙ ap (λ (n : ℕ). n / 4 ^ k % 4) (get_or-map-range_with_len low_byte 0 256 b b 0 hb (omega arith))
-    ∙ below_four Q (omega arith) (omega arith) (omega arith) (omega arith) k hk
-
-high_byte : ℕ → ℕ
-high_byte b = 3 * (b / 128 % 2) + 12 * (b / 32 % 2) + 48 * (b / 8 % 2) + 192 * (b / 2 % 2)
-
-pub high_entry : (b k : ℕ) → b < 256 → k < 4 → get_or HIGH_BITS b 0 / 4 ^ k % 4 ≡ 3 * (b / 4 ^ (3 - k) / 2 %
-    2)
-unfolding high_byte
-high_entry b k hb hk =
-    let table : HIGH_BITS ≡ map high_byte (range_with_len 0 256) = refl in
-    let Q : ℕ → Type 0 = λ k. high_byte b / 4 ^ k % 4 ≡ 3 * (b / 4 ^ (3 - k) / 2 % 2) in
-    ap (λ (t : List ℕ). get_or t b 0 / 4 ^ k % 4) table
-    ∙ ap (λ (n : ℕ). n / 4 ^ k % 4) (get_or-map-range_with_len high_byte 0 256 b b 0 hb (omega arith))
-    ∙ below_four Q (omega arith) (omega arith) (omega arith) (omega arith) k hk

@@ -44,7 +44,7 @@ fours k =
     let twice : k + k ≡ 2 * k = omega arith in
     mul-pow 2 2 k ∙ sym (pow-add 2 k k) ∙ ap (λ (j : ℕ). 2 ^ j) twice
 
-digit_bits : (n k : ℕ) → n / 4 ^ k % 4 ≡ bit_at n (2 * k) + 2 * bit_at n (2 * k + 1)
+pub digit_bits : (n k : ℕ) → n / 4 ^ k % 4 ≡ bit_at n (2 * k) + 2 * bit_at n (2 * k + 1)
 digit_bits n k =
     let high : n / 2 ^ (2 * k + 1) ≡ n / 2 ^ (2 * k) / 2 = sym (shr-shr n (2 * k) 1) in
     rw (fours k, high) (omega arith)
@@ -60,12 +60,12 @@ chosen_bit : (m a b i : ℕ) → bit_at (bit_xor a (bit_and m (bit_xor a b))) i
 chosen_bit m a b i =
     rw (bit_at_xor a (bit_and m (bit_xor a b)) i, bit_at_and m (bit_xor a b) i, bit_at_xor a b i) refl
 
-first_bit : (m a b i : ℕ) → bit_at m i ≡ 0 → bit_at (bit_xor a (bit_and m (bit_xor a b))) i ≡ bit_at a i
+pub first_bit : (m a b i : ℕ) → bit_at m i ≡ 0 → bit_at (bit_xor a (bit_and m (bit_xor a b))) i ≡ bit_at a i
 first_bit m a b i h = chosen_bit m a b i
     ∙ ap (λ (n : ℕ). (bit_at a i + min n ((bit_at a i + bit_at b i) % 2)) % 2) h
     ∙ bit_of_zero (bit_at a i) (bit_at b i) (bit_at-lt a i)
 
-other_bit : (m a b i : ℕ) → bit_at m i ≡ 1 → bit_at (bit_xor a (bit_and m (bit_xor a b))) i ≡ bit_at b i
+pub other_bit : (m a b i : ℕ) → bit_at m i ≡ 1 → bit_at (bit_xor a (bit_and m (bit_xor a b))) i ≡ bit_at b i
 other_bit m a b i h = chosen_bit m a b i
     ∙ ap (λ (n : ℕ). (bit_at a i + min n ((bit_at a i + bit_at b i) % 2)) % 2) h
     ∙ bit_of_one (bit_at a i) (bit_at b i) (bit_at-lt a i) (bit_at-lt b i)

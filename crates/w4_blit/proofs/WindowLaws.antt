@@ -1,5 +1,5 @@
 -- Sixteen digits from the bytes that have them, and the pixels that the cells of a row read.
-use Rattle.std.proofs.Common.{◌≡◌, ℕ, zero, suc, ◌+◌, ◌-◌, ◌*◌, ◌/◌, ◌%◌, ◌^◌, ◌<◌, ◌≤◌, ◌⊎◌, Bool, true, false, ◌&&◌, ◌||◌, List, [], ◌∷◌, get_or, Option, max, min, refl, sym, ◌∙◌, ap, inl, inr, arith}
+use Rattle.std.proofs.Common.{◌≡◌, ℕ, zero, suc, ◌+◌, ◌-◌, ◌*◌, ◌/◌, ◌%◌, ◌^◌, ◌<◌, ◌≤◌, Bool, true, false, ◌&&◌, ◌||◌, List, [], ◌∷◌, get_or, Option, max, min, refl, sym, ◌∙◌, ap, inl, inr, arith}
 use Rattle.std.specs.Prelude.{ℤ, pos, negsuc, ◌-ℤ◌, ◌≤ℤ◌, if◌then◌else◌}
 use Rattle.std.specs.Option.{option_or}
 use Rattle.std.proofs.lemmas.Bool.{cases_lt}
@@ -14,11 +14,11 @@ use Rattle.w4_defs.specs.Framebuffer.{Painter}
 use Rattle.w4_defs.specs.Shapes.{natural, only_if}
 use Rattle.w4_defs.proofs.PaintLaws.{below_four}
 use Rattle.w4_pixels.specs.Clipping.{clipped}
-use Rattle.w4_blit.specs.Strips.{AreInks, IsMask, ink_of, strip_index}
+use Rattle.w4_blit.specs.Strips.{AreInks, ink_of, strip_index}
 use Rattle.w4_blit.specs.Walks.{walked}
 use Rattle.w4_blit.specs.declared.strips.Inks.{Inks}
 use Rattle.w4_blit.specs.declared.walks.Walk.{Walk}
-use Rattle.w4_blit.proofs.StripLaws.{below_eight, byte_digit_at, fours, mod_four, or_none, right_digit, zero_digit}
+use Rattle.w4_blit.proofs.StripLaws.{below_eight, fours, mod_four, or_none, right_digit, zero_digit}
 
 -- ---- digits of several bytes
 
@@ -136,30 +136,6 @@ below_three P a b c (suc zero) below = b
 below_three P a b c (suc (suc zero)) below = c
 below_three P a b c (suc (suc (suc k))) below = absurd (omega arith)
 
--- four pixels of two bits a byte: g is what is asked of each
-pub of_bytes : (g : ℕ → ℕ) (page : List ℕ) (ptr pixel at k l0 l1 l2 l3 l4 : ℕ) → at ≡ ptr + pixel / 4 → k < 16
-    → ((m : ℕ) → m < 4 → l0 / 4 ^ m % 4 ≡ 3 * g (get_or page at 0 / 4 ^ (3 - m)))
-    → ((m : ℕ) → m < 4 → l1 / 4 ^ m % 4 ≡ 3 * g (get_or page (at + 1) 0 / 4 ^ (3 - m)))
-    → ((m : ℕ) → m < 4 → l2 / 4 ^ m % 4 ≡ 3 * g (get_or page (at + 2) 0 / 4 ^ (3 - m)))
-    → ((m : ℕ) → m < 4 → l3 / 4 ^ m % 4 ≡ 3 * g (get_or page (at + 3) 0 / 4 ^ (3 - m)))
-    → ((m : ℕ) → m < 4 → l4 / 4 ^ m % 4 ≡ 3 * g (get_or page (at + 4) 0 / 4 ^ (3 - m)))
-    → get_or (l0 ∷ l1 ∷ l2 ∷ l3 ∷ l4 ∷ []) ((pixel % 4 + k) / 4) 0 / 4 ^ ((pixel % 4 + k) % 4) % 4
-    ≡ 3 * g (get_or page (ptr + (pixel + k) / 4) 0 / 4 ^ (3 - (pixel + k) % 4))
-of_bytes g page ptr pixel at k l0 l1 l2 l3 l4 e hk h0 h1 h2 h3 h4 =
-    let j = (pixel % 4 + k) / 4 in
-    let m = (pixel % 4 + k) % 4 in
-    let hm : m < 4 = omega arith in
-    let hj : j < 5 = omega arith in
-    let same : m ≡ (pixel + k) % 4 = omega arith in
-    let byte : at + j ≡ ptr + (pixel + k) / 4 = omega arith in
-    let start : at ≡ at + 0 = omega arith in
-    let Q : ℕ → Type 0 = λ i. get_or (l0 ∷ l1 ∷ l2 ∷ l3 ∷ l4 ∷ []) i 0 / 4 ^ m % 4
-    ≡ 3 * g (get_or page (at + i) 0 / 4 ^ (3 - m)) in
-    below_five Q (h0 m hm ∙ ap (λ (i : ℕ). 3 * g (get_or page i 0 / 4 ^ (3 - m))) start) (h1 m hm) (h2 m hm)
-    (h3 m hm) (h4 m hm) j hj
-    ∙ ap (λ (i : ℕ). 3 * g (get_or page i 0 / 4 ^ (3 - m))) byte
-    ∙ ap (λ (d : ℕ). 3 * g (get_or page (ptr + (pixel + k) / 4) 0 / 4 ^ (3 - d))) same
-
 -- eight pixels of one bit a byte
 pub of_words : (page : List ℕ) (ptr pixel at k l0 l1 l2 : ℕ) → at ≡ ptr + pixel / 8 → k < 16
     → ((m : ℕ) → m < 8 → l0 / 4 ^ m % 4 ≡ 3 * (get_or page at 0 / 2 ^ (7 - m) % 2))
@@ -183,59 +159,11 @@ of_words page ptr pixel at k l0 l1 l2 e hk h0 h1 h2 =
     ∙ ap (λ (i : ℕ). 3 * (get_or page i 0 / 2 ^ (7 - m) % 2)) byte
     ∙ ap (λ (d : ℕ). 3 * (get_or page (ptr + (pixel + k) / 8) 0 / 2 ^ (7 - d) % 2)) same
 
-abbrev pub low_of : ℕ → ℕ
-low_of n = n % 2
-
-abbrev pub high_of : ℕ → ℕ
-high_of n = n / 2 % 2
-
-pub low_of_two : (n : ℕ) → 3 * low_of n ≡ 3 * (n % 4 % 2)
-low_of_two n = omega arith
-
-pub high_of_two : (n : ℕ) → 3 * high_of n ≡ 3 * (n % 4 / 2)
-high_of_two n = omega arith
-
 pub low_of_one : (n : ℕ) → 3 * (n % 2) ≡ 3 * (n % 2 % 2)
 low_of_one n = omega arith
 
 pub high_of_one : (n k : ℕ) → 0 / 4 ^ k % 4 ≡ 3 * (n % 2 / 2)
 high_of_one n k = let none : 0 ≡ 3 * (n % 2 / 2) = omega arith in zero_digit k ∙ none
-
--- ---- a mask in the other order
-
-three_of : (n : ℕ) → (n % 4 ≡ 0) ⊎ (n % 4 ≡ 3) → 3 * (n % 2) ≡ n % 4
-three_of n h = elim h [
-  | inl none ↦ omega arith
-  | inr all ↦ omega arith
-]
-
-pub turned_digit : (mask k l0 l1 l2 l3 : ℕ) → IsMask mask → k < 16
-    → ((m : ℕ) → m < 4 → l0 / 4 ^ m % 4 ≡ 3 * (mask / 2 ^ (8 * 3) % 256 / 4 ^ (3 - m) % 2))
-    → ((m : ℕ) → m < 4 → l1 / 4 ^ m % 4 ≡ 3 * (mask / 2 ^ (8 * 2) % 256 / 4 ^ (3 - m) % 2))
-    → ((m : ℕ) → m < 4 → l2 / 4 ^ m % 4 ≡ 3 * (mask / 2 ^ (8 * 1) % 256 / 4 ^ (3 - m) % 2))
-    → ((m : ℕ) → m < 4 → l3 / 4 ^ m % 4 ≡ 3 * (mask % 256 / 4 ^ (3 - m) % 2))
-    → get_or (l0 ∷ l1 ∷ l2 ∷ l3 ∷ []) (k / 4) 0 / 4 ^ (k % 4) % 4 ≡ mask / 4 ^ (15 - k) % 4
-turned_digit mask k l0 l1 l2 l3 each hk h0 h1 h2 h3 =
-    let j = k / 4 in
-    let m = k % 4 in
-    let hm : m < 4 = omega arith in
-    let hj : j < 4 = omega arith in
-    let hd : 3 - m < 4 = omega arith in
-    let hi : 3 - j < 4 = omega arith in
-    let at : 15 - k ≡ 4 * (3 - j) + (3 - m) = omega arith in
-    let Q : ℕ → Type 0 = λ i. get_or (l0 ∷ l1 ∷ l2 ∷ l3 ∷ []) i 0 / 4 ^ m % 4
-    ≡ 3 * (mask / 2 ^ (8 * (3 - i)) % 256 / 4 ^ (3 - m) % 2) in
-    let whole_mask : mask ≡ mask / 2 ^ (8 * 0) = omega arith in
-    let digit : mask / 2 ^ (8 * (3 - j)) % 256 / 4 ^ (3 - m) % 4 ≡ mask / 4 ^ (15 - k) % 4 =
-    byte_digit_at mask (3 - j) (3 - m) (15 - k) hi hd at in
-    let whole : (mask / 2 ^ (8 * (3 - j)) % 256 / 4 ^ (3 - m) % 4 ≡ 0)
-    ⊎ (mask / 2 ^ (8 * (3 - j)) % 256 / 4 ^ (3 - m) % 4 ≡ 3) = elim (each (15 - k) (omega arith)) [
-      | inl none ↦ inl (digit ∙ none)
-      | inr all ↦ inr (digit ∙ all)
-    ] in
-    below_four Q (h0 m hm) (h1 m hm) (h2 m hm)
-    (h3 m hm ∙ ap (λ (n : ℕ). 3 * (n % 256 / 4 ^ (3 - m) % 2)) whole_mask) j hj
-    ∙ three_of (mask / 2 ^ (8 * (3 - j)) % 256 / 4 ^ (3 - m)) whole ∙ digit
 
 -- ---- the cells
 
@@ -275,6 +203,14 @@ either_small false n m hn hm = hm
 
 pub small_value : (page : List ℕ) (sprite : Sprite) (q : ℕ) → source_value page sprite q < 4
 small_value page sprite q = either_small (has_flag sprite 1) _ _ (omega arith) (omega arith)
+
+few_either : (test : Bool) (n m : ℕ) → n < 4 → m < 2 → (if test then n else m) < (if test then 4 else 2)
+few_either true n m hn hm = hn
+few_either false n m hn hm = hm
+
+pub few_values : (page : List ℕ) (sprite : Sprite) (q : ℕ)
+    → source_value page sprite q < (if has_flag sprite 1 then 4 else 2)
+few_values page sprite q = few_either (has_flag sprite 1) _ _ (omega arith) (omega arith)
 
 pub ink_index : (inks : Inks) (colors k value : ℕ) → AreInks inks colors → k < 16 → value < 4
     → strip_index (ink_of inks value) k ≡ palette_index colors (value + 1)

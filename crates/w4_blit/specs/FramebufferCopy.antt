@@ -13,10 +13,6 @@ unfoldable pub with_copied_bytes : List ℕ → ℕ → List ℕ → List ℕ
 with_copied_bytes page first copy_bytes = map (byte_with_copy page first copy_bytes)
     (range_with_len 0 (length page))
 
--- where the copy has those from the framebuffer's first on
-abbrev pub with_copy : List ℕ → List ℕ → List ℕ
-with_copy page copy = with_copied_bytes page 160 copy
-
 -- where a text begins
 abbrev pub source_start : TextSource → ℕ
 source_start (Cstr ptr) = ptr

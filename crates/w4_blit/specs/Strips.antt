@@ -1,5 +1,5 @@
 -- Sixteen pixels that stand side by side, as digits of two bits, the first the lowest.
-use Rattle.std.specs.Prelude.{◌≡◌, ℕ, ◌+◌, ◌/◌, ◌%◌, ◌^◌, ◌<◌, ◌⊎◌, ◌&&◌, ◌-◌, ◌*◌, nat_le, nat_lt, ◌==◌, if◌then◌else◌, Option, Some, None}
+use Rattle.std.specs.Prelude.{◌≡◌, ℕ, ◌+◌, ◌/◌, ◌%◌, ◌^◌, ◌<◌, ◌⊎◌, ◌&&◌, ◌||◌, true, ◌-◌, ◌*◌, nat_le, nat_lt, ◌==◌, if◌then◌else◌, Option, Some, None}
 use Rattle.w4_defs.specs.Framebuffer.{Painter}
 use Rattle.w4_defs.specs.Colours.{palette_index}
 use Rattle.w4_defs.specs.Shapes.{only_if}
@@ -39,6 +39,15 @@ abbrev pub ink_of : Inks → ℕ → Strip
 ink_of inks value =
     if value == 0 then inks.first
     else if value == 1 then inks.second else if value == 2 then inks.third else inks.fourth
+
+-- the digit that changes places with the k-th, `by` away from it
+abbrev pub partner : ℕ → ℕ → ℕ
+partner by k = if k / by % 2 == 0 then k + by else k - by
+
+-- the mask has those digits that change places with one below them
+abbrev pub Swaps : ℕ → ℕ → Type 0
+Swaps by mask = (k : ℕ) → k < 16 → (partner by k < 16)
+    × (mask / 4 ^ k % 4 ≡ (if k / by % 2 == 0 then 0 else 3)) × ((k / by % 2 == 0 || nat_le by k) ≡ true)
 
 abbrev pub AreMasks : Bits → Type 0
 AreMasks bits = IsMask bits.low × IsMask bits.high

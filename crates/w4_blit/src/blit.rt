@@ -2,7 +2,7 @@
 
 ghost use Rattle.std.specs.Option.{ForSome};
 ghost use Rattle.std.specs.Prelude.{◌*◌, ◌+◌, ◌-ℤ◌, ◌<◌, ◌≡◌, ◌≤◌, ◌≤ℤ◌, max, min, pos};
-ghost use Rattle.w4_blit.specs.FramebufferCopy.{with_copy};
+ghost use Rattle.w4_blit.specs.FramebufferCopy.{with_copied_bytes};
 ghost use Rattle.w4_blit.specs.Strips.{AreInks};
 ghost use Rattle.w4_blit.specs.Unclipped.{cells_painter};
 ghost use Rattle.w4_blit.specs.Walks.{walk_painter};
@@ -15,7 +15,7 @@ ghost use Rattle.w4_pixels.specs.Packed.{byte_painter};
 use crate::cells::{distance, height_on_screen, index_at, width_on_screen};
 use crate::reach::framebuffer_read;
 use crate::source::{FRAMEBUFFER, FRAMEBUFFER_END, few_bytes, many_bytes};
-use crate::strips::{Inks, inks_of, painted, part_of, put_strip};
+use crate::strips::{Inks, inks_of, painted_by, part_of, put_strip};
 use crate::walks::{Walk, walk_of};
 use crate::windows::cell_bits;
 use w4_defs::{PageBytes, Sprite};
@@ -72,20 +72,20 @@ fn blit_outside(page: &mut PageBytes, sprite: &Sprite, x: i32, y: i32)
     requires { 6560 ≤ sprite.now.ptr }
     ensures { page.new ≡ paint page.old (blit_painter page.old sprite.now x y) }
 {
-    blit_rows(page, &[], sprite, x, y);
+    blit_rows(page, FRAMEBUFFER, &[], sprite, x, y);
 }
 
 /// Blits a sprite that may lie in the framebuffer. What it reads of that is kept aside.
 fn blit_inside(page: &mut PageBytes, sprite: &Sprite, x: i32, y: i32)
     ensures { page.new ≡ paint page.old (blit_painter page.old sprite.now x y) }
 {
-    let len = framebuffer_read(sprite);
+    let (kept_from, len) = framebuffer_read(sprite);
     if len <= 256 {
-        let copy = few_bytes(page, FRAMEBUFFER, len);
-        blit_rows(page, &copy[..len], sprite, x, y);
+        let copy = few_bytes(page, kept_from, len);
+        blit_rows(page, kept_from, &copy[..len], sprite, x, y);
     } else {
-        let copy = many_bytes(page, FRAMEBUFFER, len);
-        blit_rows(page, &copy[..len], sprite, x, y);
+        let copy = many_bytes(page, kept_from, len);
+        blit_rows(page, kept_from, &copy[..len], sprite, x, y);
     }
 }
 
@@ -96,20 +96,22 @@ fn side(count: i32) -> u32
     count.max(0) as u32
 }
 
-fn blit_rows(page: &mut PageBytes, copy: &[u8], sprite: &Sprite, x: i32, y: i32)
-    ensures { page.new ≡ paint page.old (blit_painter (with_copy page.old copy.now) sprite.now x y) }
+fn blit_rows(page: &mut PageBytes, kept_from: usize, copy: &[u8], sprite: &Sprite, x: i32, y: i32)
+    ensures { page.new ≡ paint page.old
+        (blit_painter (with_copied_bytes page.old kept_from copy.now) sprite.now x y) }
 {
     let inks = inks_of(sprite.colors);
     let (left, right) = screen_part(x, width_on_screen(sprite));
     let (top, bottom) = screen_part(y, height_on_screen(sprite));
     for v in top..bottom {
-        blit_row(page, copy, sprite, &inks, x, y, left, right, v);
+        blit_row(page, kept_from, copy, sprite, &inks, x, y, left, right, v);
     }
 }
 
 /// The cells that land in the columns from `left` up to `right` of row `v` of the screen.
 fn blit_row(
     page: &mut PageBytes,
+    kept_from: usize,
     copy: &[u8],
     sprite: &Sprite,
     inks: &Inks,
@@ -123,7 +125,7 @@ fn blit_row(
     requires row { v < 160 }
     requires inks { AreInks inks.now sprite.now.colors }
     ensures { page.new ≡ paint page.old
-        (clipped (cells_painter (with_copy page.old copy.now) sprite.now x y) left right v
+        (clipped (cells_painter (with_copied_bytes page.old kept_from copy.now) sprite.now x y) left right v
         (v + 1)) }
 {
     let walk = walk_of(sprite, distance(v, y));
@@ -134,7 +136,7 @@ fn blit_row(
         right,
         v,
     };
-    put_row(page, copy, sprite, inks, row);
+    put_row(page, kept_from, copy, sprite, inks, row);
 }
 
 /// A part of a row of the screen, with the pixels that its cells read.
@@ -148,14 +150,21 @@ struct Row {
 }
 
 /// Where the cells read pixels that follow one another, sixteen are painted together.
-fn put_row(page: &mut PageBytes, copy: &[u8], sprite: &Sprite, inks: &Inks, row: Row)
+fn put_row(
+    page: &mut PageBytes,
+    kept_from: usize,
+    copy: &[u8],
+    sprite: &Sprite,
+    inks: &Inks,
+    row: Row,
+)
     requires columns { row.right ≤ 160 }
     requires row { row.v < 160 }
     requires start { row.walk.start ≤ 524288 }
     requires pace { row.walk.pace < 4294967296 }
     requires inks { AreInks inks.now sprite.now.colors }
     ensures { page.new ≡ paint page.old
-        (clipped (walk_painter (with_copy page.old copy.now) sprite.now row.walk row.x)
+        (clipped (walk_painter (with_copied_bytes page.old kept_from copy.now) sprite.now row.walk row.x)
         row.left row.right row.v (row.v + 1)) }
 {
     if row.left < row.right
@@ -163,13 +172,20 @@ fn put_row(page: &mut PageBytes, copy: &[u8], sprite: &Sprite, inks: &Inks, row:
         && i64::from(row.x) <= row.left as i64
         && row.right as i64 - i64::from(row.x) <= i64::from(row.walk.count)
     {
-        put_strips(page, copy, sprite, inks, row);
+        put_strips(page, kept_from, copy, sprite, inks, row);
     } else {
-        put_bytes(page, copy, sprite, row);
+        put_bytes(page, kept_from, copy, sprite, row);
     }
 }
 
-fn put_strips(page: &mut PageBytes, copy: &[u8], sprite: &Sprite, inks: &Inks, row: Row)
+fn put_strips(
+    page: &mut PageBytes,
+    kept_from: usize,
+    copy: &[u8],
+    sprite: &Sprite,
+    inks: &Inks,
+    row: Row,
+)
     requires some { row.left < row.right }
     requires columns { row.right ≤ 160 }
     requires row { row.v < 160 }
@@ -179,17 +195,25 @@ fn put_strips(page: &mut PageBytes, copy: &[u8], sprite: &Sprite, inks: &Inks, r
     requires to { (pos row.right -ℤ row.x) ≤ℤ pos row.walk.count }
     requires inks { AreInks inks.now sprite.now.colors }
     ensures { page.new ≡ paint page.old
-        (clipped (walk_painter (with_copy page.old copy.now) sprite.now row.walk row.x)
+        (clipped (walk_painter (with_copied_bytes page.old kept_from copy.now) sprite.now row.walk row.x)
         row.left row.right row.v (row.v + 1)) }
 {
     let first = row.left / 4;
     for i in 0..(row.right + 15 - 4 * first) / 16 {
-        put_sixteen(page, copy, sprite, inks, row, first + 4 * i);
+        put_sixteen(page, kept_from, copy, sprite, inks, row, first + 4 * i);
     }
 }
 
 /// Those of the cells that land in the sixteen columns from byte `q` of the row on.
-fn put_sixteen(page: &mut PageBytes, copy: &[u8], sprite: &Sprite, inks: &Inks, row: Row, q: usize)
+fn put_sixteen(
+    page: &mut PageBytes,
+    kept_from: usize,
+    copy: &[u8],
+    sprite: &Sprite,
+    inks: &Inks,
+    row: Row,
+    q: usize,
+)
     requires here { 4 * q < row.right }
     requires left { row.left < 4 * q + 4 }
     requires some { row.left < row.right }
@@ -201,7 +225,7 @@ fn put_sixteen(page: &mut PageBytes, copy: &[u8], sprite: &Sprite, inks: &Inks, 
     requires to { (pos row.right -ℤ row.x) ≤ℤ pos row.walk.count }
     requires inks { AreInks inks.now sprite.now.colors }
     ensures { page.new ≡ paint page.old
-        (clipped (walk_painter (with_copy page.old copy.now) sprite.now row.walk row.x)
+        (clipped (walk_painter (with_copied_bytes page.old kept_from copy.now) sprite.now row.walk row.x)
         (max row.left (4 * q)) (min row.right (4 * q + 16)) row.v (row.v + 1)) }
 {
     let left = row.left.max(4 * q);
@@ -209,55 +233,77 @@ fn put_sixteen(page: &mut PageBytes, copy: &[u8], sprite: &Sprite, inks: &Inks, 
     let base = q.min(36);
     let low = (left - 4 * base) as u32;
     let high = (right - 4 * base) as u32;
-    let bits = cell_bits(page, copy, sprite, row.walk, distance(left, row.x), low);
-    let strip = part_of(painted(inks, bits), low, high);
+    let bits = cell_bits(
+        page,
+        kept_from,
+        copy,
+        sprite,
+        row.walk,
+        distance(left, row.x),
+        low,
+    );
+    let strip = part_of(painted_by(sprite, inks, bits), low, high);
     put_strip(page, base, row.v, strip);
 }
 
-fn put_bytes(page: &mut PageBytes, copy: &[u8], sprite: &Sprite, row: Row)
+fn put_bytes(page: &mut PageBytes, kept_from: usize, copy: &[u8], sprite: &Sprite, row: Row)
     requires columns { row.right ≤ 160 }
     requires row { row.v < 160 }
     requires start { row.walk.start ≤ 524288 }
     requires pace { row.walk.pace < 4294967296 }
     ensures { page.new ≡ paint page.old
-        (clipped (walk_painter (with_copy page.old copy.now) sprite.now row.walk row.x)
+        (clipped (walk_painter (with_copied_bytes page.old kept_from copy.now) sprite.now row.walk row.x)
         row.left row.right row.v (row.v + 1)) }
 {
     if row.left < row.right {
         for q in row.left / 4..(row.right + 3) / 4 {
-            put_byte(page, copy, sprite, row, q);
+            put_byte(page, kept_from, copy, sprite, row, q);
         }
     }
 }
 
 /// Those of the cells that land in byte `q` of the row, each by itself.
-fn put_byte(page: &mut PageBytes, copy: &[u8], sprite: &Sprite, row: Row, q: usize)
+fn put_byte(
+    page: &mut PageBytes,
+    kept_from: usize,
+    copy: &[u8],
+    sprite: &Sprite,
+    row: Row,
+    q: usize,
+)
     requires byte { q < 40 }
     requires row { row.v < 160 }
     requires start { row.walk.start ≤ 524288 }
     requires pace { row.walk.pace < 4294967296 }
     ensures { page.new ≡ paint page.old
-        (byte_painter (clipped (walk_painter (with_copy page.old copy.now) sprite.now
+        (byte_painter (clipped (walk_painter (with_copied_bytes page.old kept_from copy.now) sprite.now
         row.walk row.x) row.left row.right row.v (row.v + 1)) q row.v) }
 {
-    let first = index_in(page, copy, sprite, row, 4 * q);
-    let second = index_in(page, copy, sprite, row, 4 * q + 1);
-    let third = index_in(page, copy, sprite, row, 4 * q + 2);
-    let fourth = index_in(page, copy, sprite, row, 4 * q + 3);
+    let first = index_in(page, kept_from, copy, sprite, row, 4 * q);
+    let second = index_in(page, kept_from, copy, sprite, row, 4 * q + 1);
+    let third = index_in(page, kept_from, copy, sprite, row, 4 * q + 2);
+    let fourth = index_in(page, kept_from, copy, sprite, row, 4 * q + 3);
     put_quad(page, q, row.v, first, second, third, fourth);
 }
 
-/// What is painted at column `u`: nothing where it isn't of the row's part.
-fn index_in(page: &PageBytes, copy: &[u8], sprite: &Sprite, row: Row, u: usize) -> Option<u8>
+/// What is painted at column `u`: nothing if it isn't in the row's part.
+fn index_in(
+    page: &PageBytes,
+    kept_from: usize,
+    copy: &[u8],
+    sprite: &Sprite,
+    row: Row,
+    u: usize,
+) -> Option<u8>
     requires column { u < 160 }
     requires start { row.walk.start ≤ 524288 }
     requires pace { row.walk.pace < 4294967296 }
-    ensures value { result ≡ clipped (walk_painter (with_copy page.now copy.now) sprite.now row.walk
-        row.x) row.left row.right row.v (row.v + 1) u row.v }
+    ensures value { result ≡ clipped (walk_painter (with_copied_bytes page.now kept_from copy.now)
+        sprite.now row.walk row.x) row.left row.right row.v (row.v + 1) u row.v }
     ensures bound { ForSome result (λ e. e < 4) }
 {
     if row.left <= u && u < row.right {
-        index_at(page, copy, sprite, row.walk, row.x, u)
+        index_at(page, kept_from, copy, sprite, row.walk, row.x, u)
     } else {
         None
     }

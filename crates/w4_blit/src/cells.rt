@@ -2,12 +2,12 @@
 
 ghost use Rattle.std.specs.Option.{ForSome};
 ghost use Rattle.std.specs.Prelude.{◌+◌, ◌-◌, ◌-ℤ◌, ◌*◌, ◌/◌, ◌%◌, ◌<◌, ◌==◌, ◌≡◌, ◌≤◌, ◌^◌, if◌then◌else◌, pos};
-ghost use Rattle.w4_blit.specs.FramebufferCopy.{with_copy};
+ghost use Rattle.w4_blit.specs.FramebufferCopy.{with_copied_bytes};
 ghost use Rattle.w4_blit.specs.Walks.{walk_painter};
 ghost use Rattle.w4_defs.specs.Blit.{has_flag, height_on_screen, source_column, source_row, source_value, width_on_screen};
 ghost use Rattle.w4_defs.specs.Shapes.{natural};
 
-use crate::source::{offset, source_byte};
+use crate::source::{byte_at, offset};
 use crate::walks::{Walk, pixel_at};
 use w4_defs::{PageBytes, Sprite};
 use w4_pixels::entry_of;
@@ -24,6 +24,7 @@ pub(crate) const ROTATE: u32 = 8;
 /// painted in colour v + 1.
 pub(crate) fn index_at(
     page: &PageBytes,
+    kept_from: usize,
     copy: &[u8],
     sprite: &Sprite,
     walk: Walk,
@@ -33,14 +34,18 @@ pub(crate) fn index_at(
     requires column { u < 160 }
     requires start { walk.start ≤ 524288 }
     requires pace { walk.pace < 4294967296 }
-    ensures value { result ≡ walk_painter (with_copy page.now copy.now) sprite.now walk x u 0 }
+    ensures value { result
+        ≡ walk_painter (with_copied_bytes page.now kept_from copy.now) sprite.now walk x u 0 }
     ensures bound { ForSome result (λ e. e < 4) }
 {
     let pixel = pixel_at(walk, distance(u, x));
-    entry_of(sprite.colors, source_value(page, copy, sprite, pixel) + 1)
+    entry_of(
+        sprite.colors,
+        source_value(page, kept_from, copy, sprite, pixel) + 1,
+    )
 }
 
-/// How far column or row `u` of the screen stands behind `x`; 0 where it stands before.
+/// How far column or row `u` of the screen is past `x`; 0 if it is before.
 pub(crate) fn distance(u: usize, x: i32) -> u64
     requires { u < 160 }
     ensures value { result ≡ natural (pos u -ℤ x) }
@@ -50,15 +55,15 @@ pub(crate) fn distance(u: usize, x: i32) -> u64
 }
 
 /// The value of the sprite's pixel `pixel`: two bits or one, the first pixel in a byte's highest bits.
-fn source_value(page: &PageBytes, copy: &[u8], sprite: &Sprite, pixel: u64) -> u8
-    ensures value { result ≡ source_value (with_copy page.now copy.now) sprite.now pixel }
+fn source_value(page: &PageBytes, kept_from: usize, copy: &[u8], sprite: &Sprite, pixel: u64) -> u8
+    ensures value { result ≡ source_value (with_copied_bytes page.now kept_from copy.now) sprite.now pixel }
     ensures bound { result < 4 }
 {
     let ptr = u64::from(sprite.ptr);
     if has_flag(sprite, TWO_BITS) {
-        (source_byte(page, copy, ptr + pixel / 4) >> (6 - 2 * (pixel % 4) as u32)) % 4
+        (byte_at(page, kept_from, copy, ptr + pixel / 4) >> (6 - 2 * (pixel % 4) as u32)) % 4
     } else {
-        (source_byte(page, copy, ptr + pixel / 8) >> (7 - (pixel % 8) as u32)) % 2
+        (byte_at(page, kept_from, copy, ptr + pixel / 8) >> (7 - (pixel % 8) as u32)) % 2
     }
 }
 

@@ -9,11 +9,11 @@ ghost use Rattle.w4_defs.specs.Shapes.{is_inside, only_if};
 ghost use Rattle.w4_defs.specs.Text.{glyph_painter};
 ghost use Rattle.w4_pixels.specs.Clipping.{clipped};
 
-use crate::font::Font;
 use crate::source::offset;
 use crate::spread::placed;
 use crate::strips::{Inks, either, part_of, put_strip};
 use w4_defs::PageBytes;
+use w4_font::Font;
 use w4_pixels::on_screen;
 
 /// The codes that have a glyph: the first, and the end, which is left out.

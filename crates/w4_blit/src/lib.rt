@@ -1,4 +1,4 @@
-//! Blits, the font and text on the framebuffer (WASM-4 reference; project rules where the definitions say
+//! Blits and text on the framebuffer (WASM-4 reference; project rules where the definitions say
 //! so). Every call's contract is the painted page, for every argument. Each byte that a call reads is the one
 //! when the call begins, also where it lies in the framebuffer; no call does more work than the screen has
 //! room for, or the text has codes.
@@ -7,7 +7,7 @@
 pub mod blit;
 mod cells;
 mod codes;
-pub mod font;
+mod digits;
 mod glyphs;
 mod reach;
 mod source;
@@ -18,5 +18,4 @@ mod walks;
 mod windows;
 
 pub use blit::blit_sub;
-pub use font::{Font, FontLength};
 pub use texts::text;

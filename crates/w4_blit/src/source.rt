@@ -1,8 +1,8 @@
 //! The page as it was when the call began, while the framebuffer is painted: the bytes outside are read where
 //! they stand, those of the framebuffer from a copy of those that the call reads.
 
-ghost use Rattle.std.specs.Prelude.{◌+◌, ◌-ℤ◌, ◌<◌, ◌≡◌, ◌≤◌, pos, slice_index, slice_range};
-ghost use Rattle.w4_blit.specs.FramebufferCopy.{with_copied_bytes, with_copy};
+ghost use Rattle.std.specs.Prelude.{[], ◌∷◌, ◌+◌, ◌-◌, ◌-ℤ◌, ◌*◌, ◌/◌, ◌%◌, ◌<◌, ◌≡◌, ◌≤◌, ◌^◌, ℕ, length, pos, slice_index, slice_range, true};
+ghost use Rattle.w4_blit.specs.FramebufferCopy.{with_copied_bytes};
 ghost use Rattle.w4_defs.specs.Shapes.{natural};
 
 use w4_defs::PageBytes;
@@ -39,11 +39,92 @@ pub(crate) fn few_bytes(page: &PageBytes, first: usize, len: usize) -> [u8; 256]
     copy_bytes
 }
 
-/// A byte of the page when the call began, where the copy has the framebuffer's from its first on.
-pub(crate) fn source_byte(page: &PageBytes, copy: &[u8], at: u64) -> u8
-    ensures { result ≡ slice_index (with_copy page.now copy.now) at }
+/// Eight bytes of the page when the call began, the first the highest.
+pub(crate) fn eight_from(page: &PageBytes, kept_from: usize, copy: &[u8], at: u64) -> u64
+    requires { at < 18446744073709551608 }
+    ensures { (i : ℕ) → i < 8 → result / 2 ^ (8 * i) % 256
+        ≡ slice_index (with_copied_bytes page.now kept_from copy.now) (at + (7 - i)) }
 {
-    byte_at(page, FRAMEBUFFER, copy, at)
+    if 6560 <= at && at <= 65528 {
+        eight_there(page, at as usize)
+    } else {
+        eight_inside(page, kept_from, copy, at)
+    }
+}
+
+/// The same, where they may be of the framebuffer. It isn't inlined, since most sprites lie behind that.
+#[inline(never)]
+fn eight_inside(page: &PageBytes, kept_from: usize, copy: &[u8], at: u64) -> u64
+    requires { at < 18446744073709551608 }
+    ensures { (i : ℕ) → i < 8 → result / 2 ^ (8 * i) % 256
+        ≡ slice_index (with_copied_bytes page.now kept_from copy.now) (at + (7 - i)) }
+{
+    if has_eight(kept_from, copy.len(), at) {
+        eight_there(copy, at as usize - kept_from)
+    } else {
+        eight_read(page, kept_from, copy, at)
+    }
+}
+
+/// Whether the eight bytes are of the framebuffer, and all among the `len` that are kept.
+fn has_eight(kept_from: usize, len: usize, at: u64) -> bool
+    ensures { result ≡ true → (160 ≤ at) × (at + 8 ≤ 6560) × (kept_from ≤ at) × (at - kept_from + 8 ≤ len) }
+{
+    160 <= at
+        && at <= 6552
+        && kept_from as u64 <= at
+        && 8 <= len
+        && at as usize - kept_from <= len - 8
+}
+
+fn eight_there(bytes: &[u8], at: usize) -> u64
+    requires { at + 8 ≤ length bytes.now }
+    ensures { (i : ℕ) → i < 8 → result / 2 ^ (8 * i) % 256 ≡ slice_index bytes.now (at + (7 - i)) }
+{
+    let first = four_of(bytes[at], bytes[at + 1], bytes[at + 2], bytes[at + 3]);
+    let second = four_of(bytes[at + 4], bytes[at + 5], bytes[at + 6], bytes[at + 7]);
+    first * 4294967296 + second
+}
+
+/// Each by itself, where they aren't all in one place.
+fn eight_read(page: &PageBytes, kept_from: usize, copy: &[u8], at: u64) -> u64
+    requires { at < 18446744073709551608 }
+    ensures { (i : ℕ) → i < 8 → result / 2 ^ (8 * i) % 256
+        ≡ slice_index (with_copied_bytes page.now kept_from copy.now) (at + (7 - i)) }
+{
+    let first = four_read(page, kept_from, copy, at);
+    first * 4294967296 + four_read(page, kept_from, copy, at + 4)
+}
+
+fn four_read(page: &PageBytes, kept_from: usize, copy: &[u8], at: u64) -> u64
+    requires { at < 18446744073709551612 }
+    ensures bytes { (i : ℕ) → i < 4 → result / 2 ^ (8 * i) % 256
+        ≡ slice_index (with_copied_bytes page.now kept_from copy.now) (at + (3 - i)) }
+    ensures bound { result < 4294967296 }
+{
+    four_of(
+        byte_at(page, kept_from, copy, at),
+        byte_at(page, kept_from, copy, at + 1),
+        byte_at(page, kept_from, copy, at + 2),
+        byte_at(page, kept_from, copy, at + 3),
+    )
+}
+
+/// Four bytes as a number, the first the highest.
+fn four_of(a: u8, b: u8, c: u8, d: u8) -> u64
+    ensures bytes { (i : ℕ) → i < 4 → result / 2 ^ (8 * i) % 256
+        ≡ slice_index (d ∷ c ∷ b ∷ a ∷ []) i }
+    ensures bound { result < 4294967296 }
+{
+    u64::from(d) + 256 * (u64::from(c) + 256 * (u64::from(b) + 256 * u64::from(a)))
+}
+
+/// Byte `i` of a number, counted from the lowest.
+pub(crate) fn byte_of(word: u64, i: u32) -> u8
+    requires { i < 8 }
+    ensures { result ≡ word / 2 ^ (8 * i) % 256 }
+{
+    ((word >> (8 * i)) % 256) as u8
 }
 
 /// A byte of the page when the call began, where the framebuffer's are kept from `first` on; 0 past its end.
@@ -71,7 +152,7 @@ fn copied_byte(copy_bytes: &[u8], at: usize) -> u8
     }
 }
 
-/// How far column or row `u` of the screen stands behind `x`; 0 where it stands before.
+/// How far column or row `u` of the screen is past `x`; 0 if it is before.
 pub(crate) fn offset(u: usize, x: i64) -> u64
     requires { u < 160 }
     ensures value { result ≡ natural (pos u -ℤ x) }

@@ -1,11 +1,13 @@
 //! Sixteen pixels that stand side by side, and the four bytes of the framebuffer that take them.
 
 ghost use Rattle.std.specs.Option.{ForSome};
-ghost use Rattle.std.specs.Prelude.{◌+◌, ◌/◌, ◌%◌, ◌<◌, ◌≡◌, ◌≤◌, ◌⊎◌, ◌^◌, ℕ};
+ghost use Rattle.std.specs.Prelude.{◌*◌, ◌+◌, ◌/◌, ◌%◌, ◌<◌, ◌≡◌, ◌≤◌, ◌⊎◌, ◌^◌, ℕ, if◌then◌else◌};
 ghost use Rattle.w4_blit.specs.Strips.{AreInks, AreMasks, HasValue, HaveMasks, IsMask, IsPlain, ink_of, strip_index, strip_painter};
+ghost use Rattle.w4_defs.specs.Blit.{has_flag};
 ghost use Rattle.w4_defs.specs.Framebuffer.{paint};
 
-use w4_defs::PageBytes;
+use crate::cells::{TWO_BITS, has_flag};
+use w4_defs::{PageBytes, Sprite};
 use w4_pixels::entry_of;
 
 /// Sixteen palette indices of two bits, the first in the lowest. The mask has ones where one is given.
@@ -61,7 +63,7 @@ fn plain(index: Option<u8>) -> Strip
 }
 
 /// The bits of `other` where the mask has ones, those of `word` elsewhere.
-fn chosen(mask: u32, word: u32, other: u32) -> u32
+pub(crate) fn chosen(mask: u32, word: u32, other: u32) -> u32
     ensures word { (k : ℕ) → k < 16 → mask / 4 ^ k % 4 ≡ 0 → result / 4 ^ k % 4 ≡ word / 4 ^ k % 4 }
     ensures other { (k : ℕ) → k < 16 → mask / 4 ^ k % 4 ≡ 3 → result / 4 ^ k % 4 ≡ other / 4 ^ k % 4 }
 {
@@ -83,8 +85,34 @@ pub(crate) fn either(mask: u32, strip: Strip, other: Strip) -> Strip
     }
 }
 
-/// What sixteen values paint.
-pub(crate) fn painted(inks: &Inks, bits: Bits) -> Strip
+/// What sixteen values of a sprite paint.
+pub(crate) fn painted_by(sprite: &Sprite, inks: &Inks, bits: Bits) -> Strip
+    requires inks { HaveMasks inks.now }
+    requires bits { AreMasks bits }
+    ensures values { (k value : ℕ) → k < 16 → value < (if has_flag sprite.now 1 then 4 else 2)
+        → HasValue bits k value → strip_index result k ≡ strip_index (ink_of inks.now value) k }
+    ensures mask { IsMask result.mask }
+{
+    if has_flag(sprite, TWO_BITS) {
+        painted(inks, bits)
+    } else {
+        painted_low(inks, bits.low)
+    }
+}
+
+/// What values of one bit paint.
+fn painted_low(inks: &Inks, low: u32) -> Strip
+    requires inks { HaveMasks inks.now }
+    requires bits { IsMask low }
+    ensures values { (k value : ℕ) → k < 16 → value < 2 → low / 4 ^ k % 4 ≡ 3 * (value % 2)
+        → strip_index result k ≡ strip_index (ink_of inks.now value) k }
+    ensures mask { IsMask result.mask }
+{
+    either(low, inks.first, inks.second)
+}
+
+/// What values of two bits paint.
+fn painted(inks: &Inks, bits: Bits) -> Strip
     requires inks { HaveMasks inks.now }
     requires bits { AreMasks bits }
     ensures values { (k value : ℕ) → k < 16 → value < 4 → HasValue bits k value

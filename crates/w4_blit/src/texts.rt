@@ -6,11 +6,11 @@ ghost use Rattle.w4_defs.specs.Framebuffer.{paint};
 ghost use Rattle.w4_defs.specs.Text.{text_codes, text_painter};
 
 use crate::codes::{code_at, code_count, part_kept, start_of};
-use crate::font::Font;
 use crate::glyphs::{Glyph, put_glyph};
 use crate::source::{FRAMEBUFFER, FRAMEBUFFER_END, few_bytes, many_bytes};
 use crate::strips::inks_of;
 use w4_defs::{PageBytes, TextSource};
+use w4_font::Font;
 
 /// From this row on nothing is on the screen, and no code goes back up.
 const SCREEN_END: i64 = 160;

@@ -26,7 +26,7 @@ use w4_defs::{Halt, OutOfMemory, Refusal};
 use w4_house::House;
 use w4_segments::{Gate, batch};
 
-/// What a recording that was run has come to.
+/// The result of a recording that was run.
 #[derive(Clone, Copy)]
 struct Outcome {
     frames: u32,

@@ -37,7 +37,7 @@ use w4_house::House;
 use w4_segments::Gate;
 use wasm_valid::Cart;
 
-/// Does what a form asks for. Nothing is written to standard error.
+/// Carries out a form. Writes nothing to standard error.
 pub fn run_form<R: Threads + Sync, H: House, G: Gate + Sync>(
     rt: &R,
     alloc: Global,
@@ -55,7 +55,7 @@ pub fn run_form<R: Threads + Sync, H: House, G: Gate + Sync>(
     }
 }
 
-/// How a command ended that finds no difference.
+/// How a command ends that finds no difference.
 fn finish(end: Result<(), Refusal>) -> Result<Finish, Refusal>
     ensures { result ≡ finished end }
 {
@@ -65,7 +65,7 @@ fn finish(end: Result<(), Refusal>) -> Result<Finish, Refusal>
     }
 }
 
-/// Judges the cart, and does the rest with it.
+/// Judges the cart, and carries out the rest with it.
 fn over_cart<R: Threads + Sync, H: House, G: Gate + Sync>(
     rt: &R,
     alloc: Global,
@@ -82,7 +82,7 @@ fn over_cart<R: Threads + Sync, H: House, G: Gate + Sync>(
     run_on_cart(rt, alloc, house, file, command, gate)
 }
 
-/// What a command makes of a cart, whose runs have a meaning.
+/// Carries out a command with an accepted cart, whose runs have a meaning.
 fn run_on_cart<R: Threads + Sync, H: House, G: Gate + Sync>(
     rt: &R,
     alloc: Global,
@@ -118,7 +118,7 @@ fn run_on_cart<R: Threads + Sync, H: House, G: Gate + Sync>(
     }
 }
 
-/// `check CART`, of a cart that is accepted.
+/// `check CART`, for an accepted cart.
 fn run_check<H: House>(alloc: Global, house: &mut H) -> Result<(), Refusal>
     ensures ends { EndsDone (H.world house.old) (H.world house.new) result (MakesOf (λ files. written checked)) }
     ensures err { LeavesErr (H.world house.old) (H.world house.new) }
@@ -203,7 +203,7 @@ fn run_edit<R: Threads + Sync, H: House, G: Gate + Sync>(
     carry_out(rt, alloc, house, file.cart, loaded, names.out, gate)
 }
 
-/// Writes the texts of the places `from` to `to` of a run, and no more.
+/// Writes the texts of the places `from` to `to` of a run, and nothing else.
 fn write_run<H: House>(
     alloc: Global,
     house: &mut H,

@@ -22,15 +22,15 @@ use crate::scene::Scene;
 use crate::stage::{Stage, new_stage, run_to, step};
 use crate::writing::write_bytes;
 use std::alloc::Global;
-use w4_blit::Font;
 use w4_cart::CartFile;
 use w4_console::laws::accepted_runs_have_meaning;
 use w4_defs::{Finish, Input, OutOfMemory, Refusal};
+use w4_font::Font;
 use w4_house::House;
 use w4_record::Recording;
 use wasm_valid::Cart;
 
-/// What two runs are made of besides their carts.
+/// The recordings and the font of two runs.
 #[derive(Drop)]
 pub struct TwoLoaded {
     pub first: Recording,
@@ -56,7 +56,7 @@ pub fn run_compare<H: House>(
     compare_carts(alloc, house, file, &other, names)
 }
 
-/// The rest, over both carts.
+/// The rest, with both carts.
 fn compare_carts<H: House>(
     alloc: Global,
     house: &mut H,
@@ -74,7 +74,7 @@ fn compare_carts<H: House>(
     write_comparison(alloc, house, &file.cart, &other.cart, &loaded)
 }
 
-/// Reads what two runs of the carts with these digests are made of.
+/// Reads the recordings and the font of two runs, whose carts have these digests.
 #[tactic(auto, unfolding(w4_defs::specs::RecordingOutputs::compare_files))]
 fn load_compare<H: House>(
     alloc: Global,

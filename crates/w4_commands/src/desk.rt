@@ -1,4 +1,4 @@
-//! An editor, and what its answers are made in.
+//! An editor, with the buffers for its answers.
 
 ghost use Rattle.std.specs.Prelude.{◌≡◌, ◌+◌, ◌-◌, ◌<◌, ◌≤◌, IfOk, IsTrue, OnOk, Some, length, option_map};
 ghost use Rattle.w4_defs.specs.FrameTexts.{schedule_text, trace_text};
@@ -14,11 +14,11 @@ ghost use Rattle.w4_defs.specs.declared.place_text.PlaceText.TheVariants.{Image,
 
 use std::alloc::Global;
 use std::sync::ledger::Ledger;
-use w4_blit::Font;
 use w4_console::FrameTaken;
 use w4_defs::{Halt, OutOfMemory, PlaceText, Steps};
 use w4_devices::{FrameRecord, schedule_text, trace_text};
 use w4_editor::Editor;
+use w4_font::Font;
 use w4_image::{IMAGE_LEN, ppm_into};
 use w4_record::Recording;
 use wasm_valid::Cart;
@@ -161,7 +161,7 @@ fn step_record<L: Ledger>(
     }
 }
 
-/// Makes the image of a place, by one frame where the place before it is shown.
+/// Makes the image of a place, by one frame if the place before it is shown.
 pub fn make_image<L: Ledger>(
     alloc: Global,
     desk: &mut Desk,

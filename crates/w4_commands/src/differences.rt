@@ -18,7 +18,7 @@ use w4_defs::{Finish, OutOfMemory};
 use w4_map::State;
 use w4_snap::equality::{equal_channels, equal_globals};
 
-/// The first places at which two runs differ, None where there is none so far.
+/// The first places at which two runs differ, None if there is none so far.
 #[derive(Clone, Copy)]
 pub struct Differences {
     pub state: Option<usize>,
@@ -41,14 +41,14 @@ pub fn no_differences() -> Differences
     }
 }
 
-/// This place, unless it is the same there.
+/// This place, unless the two are the same there.
 fn if_differs(same: bool, place: usize) -> Option<usize>
     ensures { result ≡ if_differs same place }
 {
     if same { None } else { Some(place) }
 }
 
-/// Notes where two stages that stand at a place differ.
+/// Notes where two stages at the same place differ.
 pub fn note_place(
     alloc: Global,
     one: &mut Stage,
@@ -68,7 +68,7 @@ pub fn note_place(
     Ok(())
 }
 
-/// Notes whether the states differ, where none has yet.
+/// Notes whether the states differ, unless they are noted to differ already.
 fn note_state(one: &Stage, other: &Stage, place: usize, found: &mut Option<usize>)
     ensures { found.new ≡ after_place found.old
         (same_state (stage_moment one.now).state (stage_moment other.now).state) place }
@@ -97,7 +97,7 @@ fn equal_states(one: &State, other: &State) -> bool
         && one.page.bytes() == other.page.bytes()
 }
 
-/// Notes whether the disks differ, where they haven't yet.
+/// Notes whether the disks differ, unless they are noted to differ already.
 fn note_disk(one: &Stage, other: &Stage, place: usize, found: &mut Option<usize>)
     ensures { found.new ≡ after_place found.old
         (bytes_eq (stage_moment one.now).state.disk (stage_moment other.now).state.disk) place }
@@ -107,7 +107,7 @@ fn note_disk(one: &Stage, other: &Stage, place: usize, found: &mut Option<usize>
     }
 }
 
-/// Notes whether the images differ, where they haven't yet.
+/// Notes whether the images differ, unless they are noted to differ already.
 fn note_image(one: &mut Stage, other: &mut Stage, place: usize, found: &mut Option<usize>)
     ensures found { found.new ≡ after_place found.old (bytes_eq (image (stage_moment one.old).state.page)
         (image (stage_moment other.old).state.page)) place }
@@ -134,7 +134,7 @@ fn same_images(one: &mut Stage, other: &mut Stage) -> bool
     painted(one) == painted(other)
 }
 
-/// Notes whether the schedules differ, where they haven't yet.
+/// Notes whether the schedules differ, unless they are noted to differ already.
 fn note_tones(
     alloc: Global,
     one: &Stage,
@@ -154,7 +154,7 @@ fn note_tones(
     Ok(())
 }
 
-/// Notes whether the trace lines differ, where they haven't yet.
+/// Notes whether the trace lines differ, unless they are noted to differ already.
 fn note_traces(
     alloc: Global,
     one: &Stage,
@@ -193,7 +193,7 @@ fn add_place(text: &mut Vec<u8>, place: usize) -> Result<(), OutOfMemory>
     add_words(text, b"\n")
 }
 
-/// The six lines of runs of so many inputs.
+/// The six lines of runs of that many inputs.
 pub fn differences_text(
     alloc: Global,
     found: &Differences,
@@ -215,7 +215,7 @@ pub fn differences_text(
     Ok(text)
 }
 
-/// Whether they tell of a difference.
+/// Whether they report a difference.
 pub fn finish_of(found: &Differences, n: usize, m: usize) -> Finish
     ensures { result ≡ finish_of (compared_by n m (listed found.now)) }
 {

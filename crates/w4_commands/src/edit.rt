@@ -1,4 +1,4 @@
-//! An edit: the answers of its orders, and then the file of the recording left.
+//! An edit: the answers to its orders, and then the file of the edited recording.
 
 ghost use Rattle.std.specs.Option.{ForSome};
 ghost use Rattle.w4_defs.specs.Recording.{encoding};
@@ -23,7 +23,7 @@ use w4_record::write_recording;
 use w4_segments::Gate;
 use wasm_valid::Cart;
 
-/// Makes a file of just these bytes: it is replaced whole.
+/// Makes a file of exactly these bytes, replaced whole.
 pub fn save<H: House>(alloc: Global, house: &mut H, name: &str, bytes: &[u8]) -> Result<(), Refusal>
     ensures saved { Replaces (H.world house.old) (H.world house.new) result name.now bytes.now }
     ensures rest { LeavesSaving (H.world house.old) (H.world house.new) }
@@ -34,7 +34,7 @@ pub fn save<H: House>(alloc: Global, house: &mut H, name: &str, bytes: &[u8]) ->
     }
 }
 
-/// Answers orders at a desk, and saves the recording left once the last of them is answered.
+/// Answers orders at a desk, and saves the edited recording once the last of them is answered.
 fn answer_and_save<R: Threads + Sync, H: House, G: Gate + Sync>(
     rt: &R,
     alloc: Global,
@@ -55,7 +55,7 @@ fn answer_and_save<R: Threads + Sync, H: House, G: Gate + Sync>(
     save(alloc, house, name, bytes.as_slice())
 }
 
-/// Opens the recording, answers all orders, and saves the recording left.
+/// Opens the recording, answers all orders, and saves the edited recording.
 pub fn carry_out<R: Threads + Sync, H: House, G: Gate + Sync>(
     rt: &R,
     alloc: Global,

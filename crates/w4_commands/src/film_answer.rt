@@ -66,8 +66,8 @@ pub fn answer_film<S: Shape, R: Threads + Sync, H: House, G: Gate + Sync>(
     }
 }
 
-/// Writes a film a piece at a time, so that no more of it is held than its workers make at once, and of
-/// images one.
+/// Writes a film a piece at a time, so that only the pieces that its workers make at once are held, and only
+/// one image.
 fn write_film<S: Shape, R: Threads + Sync, H: House, G: Gate + Sync>(
     rt: &R,
     alloc: Global,
@@ -88,7 +88,7 @@ fn write_film<S: Shape, R: Threads + Sync, H: House, G: Gate + Sync>(
     Ok(())
 }
 
-/// Writes the images of screens, one after another, each made in the same room.
+/// Writes the images of screens, one after another, each made in the same buffer.
 fn write_images<S: Shape, H: House>(
     alloc: Global,
     house: &mut H,

@@ -1,4 +1,4 @@
-//! The words that the program is called with.
+//! The arguments that the program is called with.
 
 ghost use Rattle.std.specs.Prelude.{◌≡◌, Some, map, option_map, string_bytes};
 ghost use Rattle.w4_defs.specs.Commands.{
@@ -30,7 +30,7 @@ use crate::places::Places;
 use crate::workers::Workers;
 use w4_script::number_of;
 
-/// The names of the three files that a run is made of.
+/// The names of the three files of a run.
 #[derive(Clone, Copy)]
 pub struct RunNames<'a> {
     pub cart: &'a str,
@@ -118,7 +118,7 @@ pub enum Command<'a> {
     Batch(BatchNames<'a>),
 }
 
-/// What the words ask for.
+/// A command with its arguments.
 #[derive(Clone, Copy)]
 pub enum Form<'a> {
     /// `make NUMBER`
@@ -129,7 +129,7 @@ pub enum Form<'a> {
     OnCart(Command<'a>),
 }
 
-/// The name of the cart that a command is over.
+/// The name of the command's cart.
 pub fn cart_name<'a>(command: &Command<'a>) -> &'a str
     ensures { cart_word (command_view command.now) ≡ Some result.now }
 {
@@ -375,7 +375,7 @@ fn inputs_form(words: &[String]) -> Option<Form<'_>>
     Some(Form::Inputs(recording.as_str()))
 }
 
-/// The form of the words, or None where they have none.
+/// The form of the arguments, or None if they match no command.
 #[tactic(auto, unfolding(w4_defs::specs::Commands::form_of))]
 pub fn form_of_words(words: &[String]) -> Option<Form<'_>>
     ensures { option_map form_view result ≡ form_of (map string_bytes words.now) }

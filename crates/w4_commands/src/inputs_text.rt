@@ -1,4 +1,4 @@
-//! A recording as text: remarks, and a line for each input.
+//! A recording as text: comments, and a line for each input.
 
 ghost use Rattle.std.specs.Prelude.{◌≡◌, ◌+◌, ◌^◌, ◌<◌, ◌++◌, ◌∷◌, [], OnOk, codes, flat_map, length};
 ghost use Rattle.w4_defs.specs.FrameTexts.{line_end, numbered, spaced};
@@ -9,7 +9,7 @@ use crate::text::{add_number, add_words};
 use itoa::Buffer;
 use w4_defs::{Input, OutOfMemory};
 
-/// Adds the remark of a budget.
+/// Adds the comment with a budget.
 pub fn add_budget(text: &mut Vec<u8>, budget: u32) -> Result<(), OutOfMemory>
     ensures { OnOk result (text.new.items ≡ text.old.items ++ numbered (codes "# budget") (budget ∷ [])) }
 {
@@ -18,7 +18,7 @@ pub fn add_budget(text: &mut Vec<u8>, budget: u32) -> Result<(), OutOfMemory>
     add_words(text, b"\n")
 }
 
-/// Adds the remark of a disk.
+/// Adds the comment with a disk.
 pub fn add_disk(text: &mut Vec<u8>, disk: &[u8]) -> Result<(), OutOfMemory>
     ensures { OnOk result (text.new.items ≡ text.old.items ++ disk_remark disk.now) }
 {
@@ -54,7 +54,7 @@ fn add_pads(text: &mut Vec<u8>, pads: &[u8; 4]) -> Result<(), OutOfMemory>
     Ok(())
 }
 
-/// Adds the word of a reset, where there is one.
+/// Adds the word of a reset, if there is one.
 fn add_reset(text: &mut Vec<u8>, reset: bool) -> Result<(), OutOfMemory>
     ensures { OnOk result (text.new.items ≡ text.old.items ++ reset_word_of reset) }
 {
@@ -64,7 +64,7 @@ fn add_reset(text: &mut Vec<u8>, reset: bool) -> Result<(), OutOfMemory>
     Ok(())
 }
 
-/// Adds what stands behind an order's name: the number of an input, and the input.
+/// Adds what follows an order's name: the number of an input, and the input.
 fn add_input(text: &mut Vec<u8>, number: usize, input: &Input) -> Result<(), OutOfMemory>
     ensures { OnOk result (text.new.items ≡ text.old.items ++ input_words number input.now) }
 {

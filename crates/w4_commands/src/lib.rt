@@ -1,6 +1,6 @@
-//! What the program does for its words: the commands, over a house that stands for files and streams. What
-//! they make of words and files is said by the definitions of `specs/`. The layer above relies on `run_form`
-//! ending as `Outputs` has it, on `form_of_words` giving the form of the words, and on `line` for a status.
+//! The commands, over a house that stands for files and streams. `specs/` defines what comes of arguments and
+//! files. The layer above relies on `run_form` ending as `Outputs` has it, on `form_of_words` giving the form
+//! of the arguments, and on `line` for a status.
 #![tactic(auto)]
 
 mod batch;

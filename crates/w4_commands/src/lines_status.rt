@@ -1,4 +1,4 @@
-//! The status that a refused file of lines ends a run with.
+//! The status for a refused file of lines.
 
 ghost use Rattle.std.specs.Prelude.{◌≡◌};
 ghost use Rattle.w4_commands.specs.Reads.{lines_refused, lines_status};
@@ -15,7 +15,7 @@ pub enum LinesFile {
     List,
 }
 
-/// The status of what the lines are refused for.
+/// The status for a file whose lines are refused in this way.
 fn lines_refused(file: LinesFile, kind: ScriptKind) -> Refusal
     ensures { result ≡ lines_refused file kind }
 {

@@ -89,7 +89,7 @@ fn answer_pieces<L: Ledger, R: Threads + Sync, H: House, G: Gate + Sync>(
     }
 }
 
-/// Writes the pieces of the answer of an order. Of `save` there are none here.
+/// Writes the pieces of an order's answer; `save` has none here.
 fn answer_order<L: Ledger, R: Threads + Sync, H: House, G: Gate + Sync>(
     rt: &R,
     alloc: Global,
@@ -119,7 +119,7 @@ fn answer_order<L: Ledger, R: Threads + Sync, H: House, G: Gate + Sync>(
     }
 }
 
-/// Saves the recording, and answers that.
+/// Saves the recording, and answers with how that ended.
 fn answer_save<H: House>(
     alloc: Global,
     house: &mut H,

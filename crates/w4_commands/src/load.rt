@@ -24,9 +24,9 @@ ghost use Rattle.w4_commands.specs.Views.{cart_view, edit_view, loaded_view, pla
 use crate::forms::{EditNames, RunNames};
 use crate::lines_status::{LinesFile, lines_status};
 use std::alloc::Global;
-use w4_blit::{Font, FontLength};
 use w4_cart::{CartFile, CartRefusal, accept_file};
 use w4_defs::{Order, RecordingKind, Refusal};
+use w4_font::{Font, FontLength};
 use w4_house::{House, HouseFault};
 use w4_record::{Recording, RecordingRefusal, read_recording};
 use w4_script::read_script;
@@ -34,7 +34,7 @@ use w4_script::read_script;
 /// The length of a font, in bytes: 8 for each of 224 codes.
 const FONT_LEN: usize = 1_792;
 
-/// What a run is made of besides the cart.
+/// The files of a run, without the cart.
 #[derive(Drop)]
 pub struct Played {
     pub recording: Recording,
@@ -48,7 +48,7 @@ pub fn frame_count(run: &Played) -> usize
     run.recording.frames.len()
 }
 
-/// What an edit is made of besides the cart.
+/// The files of an edit, without the cart.
 #[derive(Drop)]
 pub struct Loaded {
     pub run: Played,
@@ -107,7 +107,7 @@ fn judge_recording(alloc: Global, bytes: &[u8], digest: &[u8; 32]) -> Result<Rec
     Ok(recording)
 }
 
-/// The font, where the bytes are one.
+/// The font, if the bytes are one.
 fn judge_font(bytes: &[u8]) -> Result<Font, Refusal>
     ensures { GivesValue (λ font. font) result (font_of bytes.now) }
 {

@@ -30,14 +30,14 @@ use crate::forms::{BatchNames, NetNames, RunNames};
 use crate::lines_status::{LinesFile, lines_status};
 use crate::load::{Played, load_font, load_run, read_file};
 use std::alloc::Global;
-use w4_blit::Font;
 use w4_defs::Refusal;
 use w4_defs::inspect::Ask;
 use w4_defs::netplay::NetOrder;
+use w4_font::Font;
 use w4_house::House;
 use w4_script::{MOST_LIST_BYTES, read_log, read_names, read_query};
 
-/// What a session of rollback is made of besides the cart.
+/// The files of a session with rollback, without the cart.
 #[derive(Drop)]
 pub struct NetLoaded {
     pub font: Font,
@@ -51,7 +51,7 @@ pub struct RamLoaded {
     pub lines: Vec<Ask>,
 }
 
-/// What a batch is made of besides the cart: the bytes of the listed files stand in the order of the names.
+/// The files of a batch, without the cart: the bytes of the listed files are in the order of the names.
 #[derive(Drop)]
 pub struct BatchLoaded {
     pub font: Font,

@@ -1,4 +1,4 @@
-//! `net`: a session of rollback that a log has.
+//! `net`: a session with rollback, from a log.
 
 ghost use Rattle.std.specs.Prelude.{◌≡◌, ◌<◌, []};
 ghost use Rattle.std.specs.Option.{ForSome};
@@ -63,7 +63,7 @@ fn answer_log<H: House>(
     answer_orders::<Brand, H>(alloc, house, &mut replica, orders.as_slice(), Blank::new(1))
 }
 
-/// Answers all lines. The frames that are run for them have a count of their own.
+/// Answers all lines. The frames that are run for them are counted by a counter of their own.
 fn answer_orders<L: Ledger, H: House>(
     alloc: Global,
     house: &mut H,

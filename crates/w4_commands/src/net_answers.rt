@@ -60,7 +60,7 @@ pub fn answer_order<L: Ledger, H: House>(
     }
 }
 
-/// Writes the line of a refusal. Where it is memory that was refused, the run ends.
+/// Writes the line of a refusal. If memory ran out, the run ends.
 fn refuse<H: House>(alloc: Global, house: &mut H, refusal: NetRefusal) -> Result<(), Refusal>
     ensures out { Written (H.world house.old) (H.world house.new) result
         (refused_line (net_words refusal)) }

@@ -101,7 +101,7 @@ fn watched_line(alloc: Global, address: u32, values: &[u32]) -> Result<Vec<u8>, 
     Ok(line)
 }
 
-/// Writes the line of a place that isn't there. Where it is memory that was refused, the run ends.
+/// Writes the line of a place that isn't there. If memory ran out, the run ends.
 fn refuse_place<S: Shape, H: House>(
     alloc: Global,
     house: &mut H,

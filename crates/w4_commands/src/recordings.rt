@@ -82,7 +82,7 @@ pub fn run_blank_disk<H: House>(
     write_blank(alloc, house, &file.digest, budget, bytes)
 }
 
-/// The disk, where the bytes are no more than it holds.
+/// The disk, if the bytes are no more than it holds.
 fn judge_disk(bytes: Vec<u8>) -> Result<Vec<u8>, Refusal>
     ensures gives { GivesValue (λ disk. disk.items) result (disk_of bytes.items) }
     ensures short { IfOk result (λ disk. length disk.items ≤ 1024) }

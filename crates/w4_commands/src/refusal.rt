@@ -11,7 +11,7 @@ use std::alloc::Global;
 use w4_defs::{EditRefusal, Refusal};
 use w4_house::House;
 
-/// Writes the line of an order that is refused. Where it is memory that was refused, the run ends.
+/// Writes the line of an order that is refused. If memory ran out, the run ends.
 pub fn refuse<S: Shape, H: House>(
     alloc: Global,
     house: &mut H,

@@ -1,6 +1,6 @@
 //! What a run reads and doesn't change.
 
-use w4_blit::Font;
+use w4_font::Font;
 use wasm_valid::Cart;
 
 /// What a run reads and doesn't change. The budget is at least 1, and the disk has at most 1,024 bytes.

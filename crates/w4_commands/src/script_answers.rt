@@ -20,7 +20,7 @@ use w4_defs::{Order, PlaceText, Refusal, Steps};
 use w4_house::House;
 use w4_segments::Gate;
 
-/// Answers all orders of a script. The frames that are run for them have a count of their own.
+/// Answers all orders of a script. The frames that are run for them are counted by a counter of their own.
 pub fn answer_script<L: Ledger, R: Threads + Sync, H: House, G: Gate + Sync>(
     rt: &R,
     alloc: Global,

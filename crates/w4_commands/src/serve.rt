@@ -81,7 +81,7 @@ fn serve_run<R: Threads + Sync, H: House, G: Gate + Sync>(
     }
 }
 
-/// The recording as it is becomes the file, in version 2.
+/// Replaces the file with the recording as it is, in version 2.
 pub fn save_recording<H: House>(
     alloc: Global,
     house: &mut H,
@@ -96,8 +96,8 @@ pub fn save_recording<H: House>(
     save(alloc, house, out, bytes.as_slice())
 }
 
-/// The recording left becomes the file after the session was stopped. Errors: always; why it was stopped, or
-/// why this failed.
+/// Replaces the file with the edited recording after the session was stopped. Errors: always; why it was
+/// stopped, or why this failed.
 fn rescue<H: House>(
     alloc: Global,
     house: &mut H,
@@ -113,7 +113,7 @@ fn rescue<H: House>(
     Err(stopped(why, saved))
 }
 
-/// Why a session is refused that was stopped, once the recording left was saved or not.
+/// Why a session that was stopped is refused, once the edited recording was saved or couldn't be.
 fn stopped(why: Refusal, saved: Result<(), Refusal>) -> Refusal
     ensures { result ≡ stop_refusal why saved }
 {

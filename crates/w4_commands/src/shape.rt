@@ -27,7 +27,7 @@ pub trait Shape {
 /// A piece as it stands.
 pub struct Plain;
 
-/// A piece behind its length, and nothing of an empty one.
+/// A piece after its length; nothing for an empty one.
 pub struct Framed;
 
 impl Shape for Plain {
@@ -59,7 +59,7 @@ fn length_line(alloc: Global, piece: &[u8]) -> Result<Vec<u8>, OutOfMemory>
     Ok(line)
 }
 
-/// Writes a piece behind its length.
+/// Writes a piece after its length.
 fn write_framed<H: House>(alloc: Global, house: &mut H, piece: &[u8]) -> Result<(), Refusal>
     ensures out { Written (H.world house.old) (H.world house.new) result
         (decimal (length piece.now) ++ 10 ∷ piece.now) }

@@ -47,7 +47,7 @@ pub fn new_stage(alloc: Global, cart: &Cart) -> Result<Stage, OutOfMemory>
     })
 }
 
-/// Starts the run anew, and tells what the reset took of the budget.
+/// Starts the run with a reset, and returns what the reset took of the budget.
 pub fn begin_run(stage: &mut Stage, scene: &Scene<'_>, inputs: &[Input]) -> Taken
     requires disk { length scene.now.disk.now ≤ 1024 }
     requires budget { 1 ≤ scene.now.budget }

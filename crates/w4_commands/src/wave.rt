@@ -64,7 +64,7 @@ fn write_wave<H: House>(
     write_samples(alloc, house, &mut stage, &scene, inputs)
 }
 
-/// Writes the header of a file of so many places.
+/// Writes the header of a file of that many places.
 fn write_header<H: House>(alloc: Global, house: &mut H, places: usize) -> Result<(), Refusal>
     requires { places ≤ 36001 }
     ensures out { Written (H.world house.old) (H.world house.new) result
@@ -100,7 +100,7 @@ fn write_samples<H: House>(
     Ok(())
 }
 
-/// Writes the samples of the frame that led to the place where the stage stands.
+/// Writes the samples of the frame that led to the stage's place.
 fn write_frame<H: House>(
     alloc: Global,
     house: &mut H,

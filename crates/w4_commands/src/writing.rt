@@ -20,7 +20,7 @@ pub fn write_bytes<H: House>(alloc: Global, house: &mut H, bytes: &[u8]) -> Resu
     }
 }
 
-/// What a write is refused for, as the refusal of a command.
+/// The refusal of a command for a failed write.
 pub fn write_refusal(refusal: WriteRefusal) -> Refusal
     ensures { result ≡ write_refusal refusal }
 {

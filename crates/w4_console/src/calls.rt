@@ -12,15 +12,15 @@ ghost use Rattle.w4_defs.specs.Module.{nothing_to_nothing};
 
 use crate::taken::Stop;
 use std::mem;
-use w4_blit::Font;
 use w4_defs::Halt;
 use w4_devices::{Disk, FrameRecord, ToneLog, TraceLog};
+use w4_font::Font;
 use w4_host::Board;
 use w4_map::State;
 use wasm_machine::{Ending, Machine};
 use wasm_valid::Cart;
 
-/// Calls a function, where there is one. The rest of the budget where it comes to its end or there is none.
+/// Calls a function, if there is one. Returns the rest of the budget if it ends normally or there is none.
 /// Errors: it traps or is spent, and halt says so too. The record's logs go on.
 pub(crate) fn call_if_there(
     machine: &mut Machine,
@@ -47,8 +47,8 @@ pub(crate) fn call_if_there(
     }
 }
 
-/// Calls a function. The rest of the budget where it comes to its end. Errors: it traps or is spent, and halt
-/// says so too.
+/// Calls a function. Returns the rest of the budget if it ends normally. Errors: it traps or is spent, and
+/// halt says so too.
 pub(crate) fn call_function(
     machine: &mut Machine,
     state: &mut State,

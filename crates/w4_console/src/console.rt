@@ -16,9 +16,9 @@ use crate::taken::{FrameTaken, Taken};
 use std::alloc::Global;
 use std::marker::Model;
 use std::sync::ledger::Ledger;
-use w4_blit::Font;
 use w4_defs::{Input, OutOfMemory, Steps};
 use w4_devices::{Disk, FrameRecord};
+use w4_font::Font;
 use w4_map::State;
 use wasm_machine::Machine;
 use wasm_valid::Cart;
@@ -80,10 +80,10 @@ impl Console {
         taken
     }
 
-    /// Runs one frame under a budget of at least one unit, and ticks once. An input with a reset starts the
-    /// cart anew first, with the disk that the state has. A halted console only ages its channels.
-    /// `frame_record` gets the frame's tones and lines, and the sounds before the channels age. What the frame
-    /// took of its budget, and such a start.
+    /// Runs one frame under a budget of at least one unit, and ticks once. An input with a reset first
+    /// restarts the cart, with the disk that the state has. A halted console only ages its channels.
+    /// `frame_record` gets the frame's tones and lines, and the sounds before the channels age. What the
+    /// frame took of its budget, and such a start.
     pub fn frame<L: Ledger>(
         &mut self,
         cart: &Cart,

@@ -14,14 +14,14 @@ use crate::calls::call_function;
 use crate::page::put_input_page;
 use crate::start::start_cart;
 use crate::taken::{Taken, taken_by_calls};
-use w4_blit::Font;
 use w4_defs::{Halt, Input};
 use w4_devices::FrameRecord;
+use w4_font::Font;
 use w4_map::State;
 use wasm_machine::Machine;
 use wasm_valid::{Cart, Entry};
 
-/// How a frame begins: with a start where its input has a reset, and else with empty logs. What the start
+/// How a frame begins: with a start if its input has a reset, and otherwise with empty logs. What the start
 /// took.
 pub(crate) fn begin_frame(
     machine: &mut Machine,

@@ -21,7 +21,7 @@ pub enum Taken {
 pub struct FrameTaken {
     /// What `update` took of its budget, that of a reset not counted.
     pub update: Taken,
-    /// What the reset took that the frame began with, where its input has one.
+    /// What the reset at the frame's start took, if its input has one.
     pub start: Option<Taken>,
 }
 

@@ -9,7 +9,7 @@ use itoa::Buffer;
 use std::alloc::Global;
 use w4_defs::OutOfMemory;
 
-/// Appends the line of the frame from place `k` on. Where memory is refused, `out` stays as it was.
+/// Appends the line of the frame from place `k` on. If memory is refused, `out` is unchanged.
 pub fn units_line(
     alloc: Global,
     k: usize,
@@ -25,7 +25,7 @@ pub fn units_line(
     Ok(())
 }
 
-/// Appends the line of a reset. Where memory is refused, `out` stays as it was.
+/// Appends the line of a reset. If memory is refused, `out` is unchanged.
 pub fn start_line(alloc: Global, taken: Taken, out: &mut Vec<u8>) -> Result<(), OutOfMemory>
     ensures text { OnOk result (out.new.items ≡ out.old.items ++ start_line (taken_of taken)) }
     ensures unchanged { OnErr result (out.new.items ≡ out.old.items) }

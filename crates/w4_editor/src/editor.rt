@@ -15,9 +15,9 @@ use crate::player::Player;
 use circular_buffer::HeapCircularBuffer;
 use std::alloc::Global;
 use std::marker::Model;
-use w4_blit::Font;
 use w4_defs::{EditRefusal, OutOfMemory};
 use w4_devices::FrameRecord;
+use w4_font::Font;
 use w4_record::Recording;
 use wasm_valid::Cart;
 
@@ -128,7 +128,7 @@ impl Editor {
 
 /// Kept places.
 impl Editor {
-    /// Drops the kept place `p`. Takes no memory. Errors: NotKept where it is place 0 or isn't kept, and then
+    /// Drops the kept place `p`. Takes no memory. Errors: NotKept if it is place 0 or isn't kept, and then
     /// nothing has changed.
     pub fn drop_kept(&mut self, p: usize) -> Result<(), EditRefusal>
         ensures ok { OnOk result (drop_kept kept_entries p self.old.session ≡ Ok self.new.session) }

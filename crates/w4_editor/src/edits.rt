@@ -14,7 +14,7 @@ use w4_defs::{EditRefusal, Input};
 use w4_record::MOST_FRAMES;
 
 impl Editor {
-    /// Replaces input `k`. No place is shown then. Errors: NoFrame where there is no input `k`; OutOfMemory.
+    /// Replaces input `k`. No place is shown then. Errors: NoFrame if there is no input `k`; OutOfMemory.
     /// After either nothing has changed.
     pub fn set(&mut self, alloc: Global, k: usize, input: Input) -> Result<(), EditRefusal>
         ensures ok { OnOk result (set_input kept_entries k input self.old.session ≡ Ok self.new.session) }
@@ -33,8 +33,8 @@ impl Editor {
 
     /// Makes these the inputs from `k` on: over those that are there, and then behind the last. Only kept
     /// places with one of them between and the place before lose their link. No place is shown then. Errors:
-    /// NoFrame where `k` is past the end; FullRecording where there would be more than 36,000 inputs;
-    /// OutOfMemory. After each of them nothing has changed.
+    /// NoFrame if `k` is past the end; FullRecording if there would be more than 36,000 inputs; OutOfMemory.
+    /// After each of them nothing has changed.
     pub fn overwrite(
         &mut self,
         alloc: Global,
@@ -59,9 +59,9 @@ impl Editor {
         Ok(())
     }
 
-    /// Puts an input before input `k`, or after the last one. No place is shown then. Errors: NoFrame where
-    /// `k` is past the end; FullRecording where there are 36,000 inputs; OutOfMemory. After each of them
-    /// nothing has changed.
+    /// Puts an input before input `k`, or after the last one. No place is shown then. Errors: NoFrame if `k`
+    /// is past the end; FullRecording if there are 36,000 inputs; OutOfMemory. After each of them nothing has
+    /// changed.
     pub fn insert(&mut self, alloc: Global, k: usize, input: Input) -> Result<(), EditRefusal>
         ensures ok { OnOk result (insert_input kept_entries k input self.old.session ≡ Ok self.new.session) }
         ensures others { OnOk result (self.new ≡ with_session self.old self.new.session None) }
@@ -81,7 +81,7 @@ impl Editor {
         Ok(())
     }
 
-    /// Removes input `k`. No place is shown then. Errors: NoFrame where there is no input `k`; OutOfMemory.
+    /// Removes input `k`. No place is shown then. Errors: NoFrame if there is no input `k`; OutOfMemory.
     /// After either nothing has changed.
     pub fn delete(&mut self, alloc: Global, k: usize) -> Result<(), EditRefusal>
         ensures ok { OnOk result (delete_input kept_entries k self.old.session ≡ Ok self.new.session) }

@@ -11,7 +11,7 @@ use w4_defs::EditRefusal;
 
 impl Editor {
     /// Goes one draft back: its inputs, kept places, states and links. No place is shown then. Takes no
-    /// memory. Errors: NothingToUndo where there is none, and then nothing has changed.
+    /// memory. Errors: NothingToUndo if there is none, and then nothing has changed.
     pub fn undo(&mut self, _alloc: Global) -> Result<(), EditRefusal>
         ensures ok { OnOk result (undo self.old.session ≡ Ok self.new.session) }
         ensures others { OnOk result (self.new ≡ with_session self.old self.new.session None) }
@@ -28,7 +28,7 @@ impl Editor {
     }
 
     /// Goes one draft on: its inputs, kept places, states and links. No place is shown then. Takes no memory.
-    /// Errors: NothingToRedo where there is none, and then nothing has changed.
+    /// Errors: NothingToRedo if there is none, and then nothing has changed.
     pub fn redo(&mut self, _alloc: Global) -> Result<(), EditRefusal>
         ensures ok { OnOk result (redo self.old.session ≡ Ok self.new.session) }
         ensures others { OnOk result (self.new ≡ with_session self.old self.new.session None) }

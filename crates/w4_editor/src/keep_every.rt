@@ -14,7 +14,7 @@ use w4_defs::editing_laws::places_decide;
 use w4_defs::{EditRefusal, OutOfMemory, Steps};
 
 /// Keeps each multiple of a number that isn't kept, in rising order. Errors: FullSnapshots, before any is
-/// kept, where more than 1,024 places would be; OutOfMemory.
+/// kept, if more than 1,024 places would be; OutOfMemory.
 pub fn keep_every<L: Ledger>(
     alloc: Global,
     editor: &mut Editor,

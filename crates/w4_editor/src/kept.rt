@@ -90,7 +90,7 @@ impl Kept {
         self.linked = true;
     }
 
-    /// Moves up by 1 where it is above place `k`, as the insertion of input `k` wants.
+    /// Moves up by 1 if it is above place `k`, as inserting input `k` requires.
     pub(crate) fn move_up(&mut self, k: usize)
         requires { self.old.place < usize.MAX }
         ensures { self.new ≡ moved_up kept_entries k self.old }
@@ -100,7 +100,7 @@ impl Kept {
         }
     }
 
-    /// Moves down by 1 where it is above place `k`, as the removal of input `k` wants.
+    /// Moves down by 1 if it is above place `k`, as removing input `k` requires.
     pub(crate) fn move_down(&mut self, k: usize)
         ensures { self.new ≡ moved_down kept_entries k self.old }
     {
@@ -109,7 +109,7 @@ impl Kept {
         }
     }
 
-    /// Takes the place after a dropped entry: it is linked where both were.
+    /// Takes the place after a dropped entry: it is linked if both were.
     pub(crate) fn link_after(&mut self, dropped: &Kept)
         ensures { self.new ≡ kept_entries.after_drop dropped.now self.old }
     {

@@ -92,7 +92,7 @@ pub(crate) fn link_at(kept: &mut [Kept], i: usize)
     kept[i].link();
 }
 
-/// Unlinks entry `i`, where there is one.
+/// Unlinks entry `i`, if there is one.
 pub(crate) fn unlink_at(kept: &mut [Kept], i: usize)
     ensures { kept.new ≡ unlinked_at i kept.old }
 {
@@ -101,7 +101,7 @@ pub(crate) fn unlink_at(kept: &mut [Kept], i: usize)
     }
 }
 
-/// Puts another state into entry `i` and links it; the entry after it, where there is one, is unlinked.
+/// Puts another state into entry `i` and links it; the entry after it, if there is one, is unlinked.
 pub(crate) fn replace_at(kept: &mut [Kept], i: usize, snap: Rc<Snap>)
     requires { i < length kept.old }
     ensures { kept.new ≡ replaced_at i snap.value kept.old }
@@ -159,7 +159,7 @@ pub(crate) fn move_down_above(kept: &mut [Kept], k: usize)
     }
 }
 
-/// Where places `k` and `k + 1` are kept, drops the later one.
+/// If places `k` and `k + 1` are kept, drops the later one.
 pub(crate) fn drop_double(kept: &mut Vec<Kept>, k: usize)
     requires { k < usize.MAX }
     ensures { kept.new.items ≡ filter (stays_after_delete kept_entries k kept.old.items) kept.old.items }
@@ -185,7 +185,7 @@ pub(crate) fn insert_entry(kept: &mut Vec<Kept>, entry: Kept) -> Result<(), Allo
     Ok(())
 }
 
-/// Drops the entry at place `p`, where there is one; the entry after it is linked where both were.
+/// Drops the entry at place `p`, if there is one; the entry after it is linked if both were.
 pub(crate) fn drop_at(kept: &mut Vec<Kept>, p: usize)
     ensures { kept.new.items ≡ without kept_entries p kept.old.items }
 {

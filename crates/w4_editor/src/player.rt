@@ -13,10 +13,10 @@ use std::alloc::Global;
 use std::marker::{Brand, Model};
 use std::rc::Rc;
 use std::sync::ledger::{Blank, Ledger};
-use w4_blit::Font;
 use w4_console::{Console, FrameTaken};
 use w4_defs::{Input, OutOfMemory, Steps};
 use w4_devices::FrameRecord;
+use w4_font::Font;
 use w4_map::State;
 use w4_snap::{Snap, capture};
 use wasm_valid::Cart;
@@ -124,7 +124,7 @@ impl Player {
         snap.restore(self.console.state_mut());
     }
 
-    /// A snapshot of the state, which shares with one before what is equal.
+    /// A snapshot of the state, which shares with the one before what is equal.
     pub(crate) fn capture(
         &self,
         alloc: Global,
@@ -165,7 +165,8 @@ pub(crate) fn has_types(player: &Player)
     let _budget = player.budget;
 }
 
-/// A snapshot of a state, which shares with one before what is equal. How many chunks were copied isn't told.
+/// A snapshot of a state, which shares with the one before what is equal. How many chunks were copied isn't
+/// returned.
 pub(crate) fn capture_alone(
     alloc: Global,
     before: Option<&Snap>,

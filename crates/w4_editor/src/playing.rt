@@ -43,11 +43,10 @@ impl Editor {
     ghost use Rattle.std.specs.Borrow.{sem};
     ghost use Rattle.w4_editor.specs.Lending.{LendsShown, LendsStepped};
 
-    /// The state at place `p`, which is shown then. Kept places up to it are brought up to date first, where
-    /// that is owed; each frame is one tick. Takes no memory where the kept places up to `p` are linked.
-    /// Errors: NoFrame where there is no such place, and then nothing has changed; OutOfMemory, and then no
-    /// place is shown, kept states and links may be newer, and recording, history and kept places are
-    /// unchanged.
+    /// The state at place `p`, which is shown then. Kept places up to it are brought up to date first, if
+    /// that is owed; each frame is one tick. Takes no memory if the kept places up to `p` are linked. Errors:
+    /// NoFrame if there is no such place, and then nothing has changed; OutOfMemory, and then no place is
+    /// shown, kept states and links may be newer, and recording, history and kept places are unchanged.
     pub fn show<L: Ledger>(
         &mut self,
         alloc: Global,
@@ -107,7 +106,7 @@ impl Editor {
     }
 
     /// The state at the place after the one that is shown, and in `frame_record` its record. That place is
-    /// shown then. Runs one frame, and takes no memory. Errors: NoFrame where no place is shown, or the last
+    /// shown then. Runs one frame, and takes no memory. Errors: NoFrame if no place is shown, or the last
     /// one, and then nothing has changed.
     pub fn step<L: Ledger>(
         &mut self,
@@ -127,8 +126,8 @@ impl Editor {
     }
 
     /// What the frame takes that leads to the place after the one that is shown, and in `frame_record` its
-    /// record. That place is shown then. Runs one frame, and takes no memory. Errors: NoFrame where no place
-    /// is shown, or the last one, and then nothing has changed.
+    /// record. That place is shown then. Runs one frame, and takes no memory. Errors: NoFrame if no place is
+    /// shown, or the last one, and then nothing has changed.
     pub fn step_units<L: Ledger>(
         &mut self,
         frame_record: &mut FrameRecord,
@@ -180,8 +179,8 @@ impl Editor {
 
 /// Keeping.
 impl Editor {
-    /// Shows place `p` and keeps it. Errors: NoFrame where there is no such place; Kept where it is kept;
-    /// FullSnapshots where 1,024 places are; after these nothing has changed. OutOfMemory, and then no place
+    /// Shows place `p` and keeps it. Errors: NoFrame if there is no such place; Kept if it is kept;
+    /// FullSnapshots if 1,024 places are; after these nothing has changed. OutOfMemory, and then no place
     /// is shown, kept states and links may be newer, and recording, history and kept places are unchanged.
     pub fn keep<L: Ledger>(
         &mut self,

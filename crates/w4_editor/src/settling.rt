@@ -36,8 +36,8 @@ fn compute<L: Ledger>(
     player.run(&inputs[from.place()..to.place()], steps);
 }
 
-/// Brings entry `i + 1` up to date. Where its state is found unchanged it is linked, and the replay may end;
-/// else the new state is put and the entry after it unlinked.
+/// Brings entry `i + 1` up to date. If its state is found unchanged it is linked, and the replay may end;
+/// otherwise the new state is put and the entry after it unlinked.
 fn settle_one<L: Ledger>(
     alloc: Global,
     player: &mut Player,
@@ -63,8 +63,8 @@ fn settle_one<L: Ledger>(
     Ok(())
 }
 
-/// Brings the entries up to `last` up to date, in order. Where memory is refused, those before are done and
-/// the list is still true.
+/// Brings the entries up to `last` up to date, in order. If memory is refused, those before are done and the
+/// list is still true.
 pub(crate) fn settle<L: Ledger>(
     alloc: Global,
     player: &mut Player,

@@ -202,7 +202,7 @@ pub(crate) fn link(kept: &mut Vec<Kept>, i: usize)
     link_at(kept.as_mut_slice(), i);
 }
 
-/// Puts another state into entry `i` of 1 or more and links it; the entry after it, where there is one, is
+/// Puts another state into entry `i` of 1 or more and links it; the entry after it, if there is one, is
 /// unlinked. Errors: OutOfMemory, and then nothing has changed.
 pub(crate) fn replace(
     alloc: Global,

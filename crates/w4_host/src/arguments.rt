@@ -29,7 +29,7 @@ pub(crate) fn cstr(args: &[u32]) -> TextSource
     TextSource::Cstr { ptr: args[0] }
 }
 
-/// The text of so many bytes as argument 1 says.
+/// The text of as many bytes as argument 1 says.
 pub(crate) fn utf8(args: &[u32]) -> TextSource
     requires { 2 ≤ length args.now }
     ensures { result ≡ utf8_source args.now }
@@ -40,7 +40,7 @@ pub(crate) fn utf8(args: &[u32]) -> TextSource
     }
 }
 
-/// The text of 16-bit units in so many bytes as argument 1 says.
+/// The text of 16-bit units in as many bytes as argument 1 says.
 pub(crate) fn utf16(args: &[u32]) -> TextSource
     requires { 2 ≤ length args.now }
     ensures { result ≡ utf16_source args.now }

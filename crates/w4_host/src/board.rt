@@ -8,9 +8,9 @@ use crate::arguments::{argument, cstr, utf8, utf16};
 use crate::drawing;
 use crate::weights::text_weight;
 use std::marker::Model;
-use w4_blit::Font;
 use w4_defs::{Import, PageBytes};
 use w4_devices::{Disk, ToneLog, TraceLog};
+use w4_font::Font;
 use w4_tone::{Channels, decode};
 use wasm_tree::Host;
 

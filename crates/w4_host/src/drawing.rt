@@ -9,8 +9,9 @@ ghost use Rattle.w4_defs.specs.Shapes.{hline_painter, line_painter, oval_painter
 ghost use Rattle.w4_defs.specs.Text.{text_codes, text_painter};
 
 use crate::arguments::{argument, signed};
-use w4_blit::{Font, blit_sub};
+use w4_blit::blit_sub;
 use w4_defs::{PageBytes, TextSource};
+use w4_font::Font;
 use w4_map::draw_colors;
 
 /// `blit`: the sprite's own width is its stride.

@@ -74,7 +74,7 @@ fn copy_of(alloc: Global, bytes: &PageBytes) -> Result<Page, OutOfMemory>
     Ok(page)
 }
 
-/// All addresses at which so many bytes lie in the page.
+/// All addresses at which that many bytes lie in the page.
 fn addresses(alloc: Global, width: u32) -> Result<Vec<u32>, OutOfMemory>
     requires { IsWidth width }
     ensures value { IfOk result (λ all. all.items ≡ addresses width) }

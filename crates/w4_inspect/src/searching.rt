@@ -19,8 +19,8 @@ use w4_editor::places::last_place;
 
 impl Search {
     /// A search for values of `width` bytes, 1, 2 or 4, that begins with the page at place `p` and all
-    /// addresses of such values. Place `p` is shown then. Each frame that is run is one tick. Errors:
-    /// NoFrame where there is no such place; OutOfMemory.
+    /// addresses of such values. Place `p` is shown then. Each frame that is run is one tick. Errors: NoFrame
+    /// if there is no such place; OutOfMemory.
     pub fn start<L: Ledger>(
         alloc: Global,
         editor: &mut Editor,
@@ -46,7 +46,7 @@ impl Search {
 
     /// Keeps the addresses at which the test holds between the value at place `p` and the value at the last
     /// call. Place `p` is shown then. Each frame that is run is one tick, and the search itself takes no
-    /// memory. Errors: NoFrame where there is no such place; OutOfMemory.
+    /// memory. Errors: NoFrame if there is no such place; OutOfMemory.
     pub fn narrow<L: Ledger>(
         &mut self,
         alloc: Global,

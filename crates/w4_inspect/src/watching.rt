@@ -33,8 +33,7 @@ struct Watched {
 
 /// The values of `width` bytes, 1, 2 or 4, from `address` on, at each place from `a` to `b`, where `a` is at
 /// most `b`: numbers whose lowest byte is first. Place `b` is shown then. Each frame that is run is one tick.
-/// Errors: NoFrame where there is no place `b`; Outside where the bytes pass the end of the page;
-/// OutOfMemory.
+/// Errors: NoFrame if there is no place `b`; Outside if the bytes pass the end of the page; OutOfMemory.
 pub fn watch<L: Ledger>(
     alloc: Global,
     editor: &mut Editor,

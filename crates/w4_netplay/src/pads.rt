@@ -50,7 +50,7 @@ impl Pads {
         pads[player]
     }
 
-    /// The byte that is known where a packet's differs from it.
+    /// The byte that is known, if a packet's differs from it.
     fn conflict(&self, packet: &Packet) -> Option<u8>
         requires player { packet.now.player < 4 }
         requires frame { packet.now.frame < 36000 }
@@ -89,7 +89,8 @@ impl Pads {
         );
     }
 
-    /// The pads of a frame: each is the byte that is known, else as it was predicted for the frame before.
+    /// The pads of a frame: each is the byte that is known, otherwise as it was predicted for the frame
+    /// before.
     pub fn predict(&self, frame: usize, before: [u8; 4]) -> [u8; 4]
         requires there { frame < 36000 }
         requires before { before ≡ pads_before (known_in self.now) frame }
@@ -104,7 +105,7 @@ impl Pads {
     }
 }
 
-/// Puts a byte in the place of what is known of a player's pad.
+/// Replaces what is known of a player's pad with a byte.
 fn put_known(pads: &mut [Option<u8>; 4], player: usize, pad: u8)
     requires { player < 4 }
     ensures put { pads.new ≡ slice_set pads.old player (Some pad) }

@@ -24,10 +24,10 @@ use crate::rollback::{only_memory, roll_back};
 use std::alloc::Global;
 use std::marker::Model;
 use std::sync::ledger::Ledger;
-use w4_blit::Font;
 use w4_defs::netplay::Packet;
 use w4_defs::{NetRefusal, OutOfMemory, Steps};
 use w4_editor::{Editor, MOST_KEPT};
+use w4_font::Font;
 use w4_map::State;
 use w4_record::{MOST_FRAMES, Recording};
 use wasm_valid::Cart;
@@ -79,8 +79,8 @@ impl Replica {
     }
 
     /// Learns the pad of a packet. A packet that comes again changes nothing. Takes no memory. Errors:
-    /// NoPlayer where the player isn't below 4; FrameRange where the frame isn't below 36,000; Conflict
-    /// where another byte is known.
+    /// NoPlayer if the player isn't below 4; FrameRange if the frame isn't below 36,000; Conflict if another
+    /// byte is known.
     pub fn deliver(&mut self, packet: &Packet) -> Result<(), NetRefusal>
         ensures known { known_of self.new ≡ learned (known_of self.old) packet.now }
         ensures frames { self.new.frames ≡ self.old.frames }
@@ -97,7 +97,7 @@ impl Replica {
         Ok(())
     }
 
-    /// One frame has passed. Takes no memory. Errors: FullRecording where 36,000 frames have.
+    /// One frame has passed. Takes no memory. Errors: FullRecording if 36,000 frames have.
     pub fn advance(&mut self) -> Result<(), NetRefusal>
         ensures ok { OnOk result (self.new ≡ record {
           pads = self.old.pads;
@@ -138,7 +138,7 @@ impl Replica {
     ghost use Rattle.w4_netplay.specs.Lending.{LendsPredicted};
 
     /// The state at place `p` of the predicted recording. The editor's inputs are brought up to it first;
-    /// each frame that is run is one tick. Errors: NoFrame where so many frames haven't passed; OutOfMemory,
+    /// each frame that is run is one tick. Errors: NoFrame if that many frames haven't passed; OutOfMemory,
     /// and then some of the editor's inputs may be newer.
     pub fn show<L: Ledger>(
         &mut self,
@@ -162,8 +162,8 @@ impl Replica {
         }
     }
 
-    /// Shows place `p` of the predicted recording and keeps it. Errors: NoFrame where so many frames haven't
-    /// passed; Kept where it is kept; FullSnapshots where 1,024 places are; OutOfMemory, and then some of the
+    /// Shows place `p` of the predicted recording and keeps it. Errors: NoFrame if that many frames haven't
+    /// passed; Kept if it is kept; FullSnapshots if 1,024 places are; OutOfMemory, and then some of the
     /// editor's inputs may be newer.
     pub fn keep<L: Ledger>(
         &mut self,

@@ -13,8 +13,8 @@ use w4_defs::{EditRefusal, Input, OutOfMemory};
 use w4_editor::Editor;
 use w4_record::Recording;
 
-/// Brings the inputs of an editor up to those that are predicted for so many frames. Takes memory only where
-/// an input isn't the predicted one. Errors: OutOfMemory, and then some of the inputs may be newer.
+/// Brings the inputs of an editor up to those that are predicted for that many frames. Takes memory only
+/// where an input isn't the predicted one. Errors: OutOfMemory, and then some of the inputs may be newer.
 pub fn roll_back(
     alloc: Global,
     editor: &mut Editor,

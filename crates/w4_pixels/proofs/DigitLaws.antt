@@ -1,34 +1,27 @@
--- One digit of a byte put in the place of another, and digits by masks.
+-- Digits of a byte by masks.
 use Rattle.std.proofs.Common.{◌≡◌, ◌⊎◌, ℕ, ◌+◌, ◌-◌, ◌*◌, ◌/◌, ◌%◌, ◌^◌, ◌<◌, ◌≤◌, Bool, true, false, ◌&&◌, refl, ◌∙◌, ap, subst, inl, inr, arith}
 use Rattle.std.specs.Prelude.{◌==◌, if◌then◌else◌, nat_le, nat_lt}
 use Rattle.std.specs.Int.Bits.{bit_and, bit_or, and_zero_r, or_zero_r}
 use Rattle.std.proofs.lemmas.Nat.{and_mask, and_mod, and_shr, or_mod, or_shr}
 use Rattle.w4_defs.proofs.PaintLaws.{below_four}
 
-pub small_digit : (index k : ℕ) → index < 4 → k < 4 → index * 4 ^ k < 256
-small_digit index k hi hk =
-    let P : ℕ → Type 0 = λ k. index * 4 ^ k < 256 in
-    below_four P (omega arith) (omega arith) (omega arith) (omega arith) k hk
+-- the mask of one digit
+pub one_digit : (k j : ℕ) → k < 4 → j < 4 → 3 * 2 ^ (2 * k) % 256 / 4 ^ j % 4 ≡ (if j == k then 3 else 0)
+one_digit k j hk hj =
+    let Q : ℕ → ℕ → Type 0 = λ k j. 3 * 2 ^ (2 * k) % 256 / 4 ^ j % 4 ≡ (if j == k then 3 else 0) in
+    let each : (k : ℕ) → Q k 0 → Q k 1 → Q k 2 → Q k 3 → Q k j = λ k a b c d. below_four (Q k) a b c d j hj in
+    below_four (λ k. Q k j) (each 0 refl refl refl refl) (each 1 refl refl refl refl)
+    (each 2 refl refl refl refl)
+    (each 3 refl refl refl refl) k hk
 
-pub small_byte : (byte index k : ℕ) → byte < 256 → index < 4 → k < 4
-    → byte - byte / 4 ^ k % 4 * 4 ^ k + index * 4 ^ k < 256
-small_byte byte index k hb hi hk =
-    let P : ℕ → Type 0 = λ k. byte - byte / 4 ^ k % 4 * 4 ^ k + index * 4 ^ k < 256 in
-    below_four P (omega arith) (omega arith) (omega arith) (omega arith) k hk
+pub three_or_none : (here : Bool) (digit : ℕ) → digit ≡ (if here then 3 else 0) → (digit ≡ 3) ⊎ (digit ≡ 0)
+three_or_none true digit e = inl e
+three_or_none false digit e = inr e
 
-pub digit_put : (byte index k j : ℕ) → byte < 256 → index < 4 → k < 4 → j < 4
-    → (byte - byte / 4 ^ k % 4 * 4 ^ k + index * 4 ^ k) / 4 ^ j % 4
-    ≡ (if j == k then index else byte / 4 ^ j % 4)
-digit_put byte index k j hb hi hk hj =
-    let Q : ℕ → ℕ → Type 0 = λ k j. (byte - byte / 4 ^ k % 4 * 4 ^ k + index * 4 ^ k) / 4 ^ j % 4
-    ≡ (if j == k then index else byte / 4 ^ j % 4) in
-    let P : ℕ → Type 0 = λ k. Q k j in
-    below_four P
-    (below_four (Q 0) (omega arith) (omega arith) (omega arith) (omega arith) j hj)
-    (below_four (Q 1) (omega arith) (omega arith) (omega arith) (omega arith) j hj)
-    (below_four (Q 2) (omega arith) (omega arith) (omega arith) (omega arith) j hj)
-    (below_four (Q 3) (omega arith) (omega arith) (omega arith) (omega arith) j hj)
-    k hk
+pub chosen_digit : (here : Bool) (index digit : ℕ)
+    → (if (if here then 3 else 0) == 3 then index else digit) ≡ (if here then index else digit)
+chosen_digit true index digit = refl
+chosen_digit false index digit = refl
 
 -- the digits of what is made by `&`, `|` and `!`
 pub and_digit : (a b k : ℕ) → k < 4 → bit_and a b / 4 ^ k % 4 ≡ bit_and (a / 4 ^ k % 4) (b / 4 ^ k % 4)

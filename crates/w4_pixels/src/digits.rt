@@ -18,16 +18,15 @@ pub fn with_digit(byte: u8, k: u32, index: u8) -> u8
     ensures { (j : ℕ) → j < 4
         → result / 4 ^ j % 4 ≡ (if j == k then index else byte / 4 ^ j % 4) }
 {
-    let weight = digit_weight(k);
-    byte - digit(byte, k) * weight + index * weight
+    masked(byte, digit_mask(k), index)
 }
 
-/// What the k-th digit counts.
-fn digit_weight(k: u32) -> u8
+/// The byte whose k-th digit is 3, and the others 0.
+fn digit_mask(k: u32) -> u8
     requires { k < 4 }
-    ensures { result ≡ 4 ^ k }
+    ensures { (j : ℕ) → j < 4 → result / 4 ^ j % 4 ≡ (if j == k then 3 else 0) }
 {
-    1 << (2 * k)
+    3 << (2 * k)
 }
 
 /// The byte whose digits from `low` up to `high`, which is left out, are 3, and the others 0.

@@ -1,7 +1,7 @@
 //! `w4`: the WASM-4 console without a window, run on recordings that a script edits.
 //!
-//! `w4_run` does all that the program does, over a house that stands for files and streams; `main` hands it
-//! the system's. What it makes of words and files is said by the definitions of `w4_defs`.
+//! `w4_run` does all that the program does, over a house that stands for files and streams; `main` passes it
+//! the system's. Its result for given arguments and files is defined in `w4_defs`.
 #![tactic(auto)]
 
 mod run;

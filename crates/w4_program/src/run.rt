@@ -21,10 +21,10 @@ use w4_segments::{Gate, OpenGate};
 use wasm_read::at_most_one;
 use wasm_write::laws::made_modules_are_carts;
 
-/// Does all that the program does for these words, and says how it ended.
+/// Does everything that the program does for these arguments, and returns how it ended.
 ///
-/// The words are those after the program's name. What it makes of them and of the files is `Outputs`, and
-/// what each status says is `KeepsPromise`. Any status may give way to `OutOfMemory`.
+/// `words` are the arguments after the program's name. `Outputs` defines what comes of them and of the files,
+/// and `KeepsPromise` what each status means. Any status may give way to `OutOfMemory`.
 pub fn w4_run<R: Threads + Sync, H: House>(
     rt: &R,
     alloc: Global,
@@ -36,7 +36,7 @@ pub fn w4_run<R: Threads + Sync, H: House>(
     w4_run_gated(rt, alloc, words, house, &OpenGate)
 }
 
-/// The same work as `w4_run`, where each recording of a batch, each piece of a film and each segment that
+/// Does the same as `w4_run`, but each recording of a batch, each piece of a film and each segment that
 /// `settle` brings up to date passes a gate as it begins. A gate has no effect on what is done.
 pub fn w4_run_gated<R: Threads + Sync, H: House, G: Gate + Sync>(
     rt: &R,
@@ -55,7 +55,7 @@ pub fn w4_run_gated<R: Threads + Sync, H: House, G: Gate + Sync>(
     report(alloc, house, status)
 }
 
-/// Does what the words ask for. Nothing is written to standard error.
+/// Carries out the command. Writes nothing to standard error.
 fn obey<R: Threads + Sync, H: House, G: Gate + Sync>(
     rt: &R,
     alloc: Global,
@@ -73,7 +73,7 @@ fn obey<R: Threads + Sync, H: House, G: Gate + Sync>(
     }
 }
 
-/// The status of a command that ended so.
+/// The status of a command that ended in this way.
 fn status_of(end: Result<Finish, Refusal>) -> Status
     ensures { result ≡ status_of_end end }
 {
@@ -83,7 +83,7 @@ fn status_of(end: Result<Finish, Refusal>) -> Status
     }
 }
 
-/// Writes the status's line, where it has one. Where there is no memory for that, this is the status.
+/// Writes the status's line, if it has one. If there is no memory for that, OutOfMemory is the status.
 pub(crate) fn report<H: House>(alloc: Global, house: &mut H, status: Status) -> Status
     ensures status { (result ≡ status) ⊎ (result ≡ Status.OutOfMemory) }
     ensures line { IsReported result → Reports (H.world house.old) (H.world house.new) (status_line result) }
@@ -105,8 +105,8 @@ pub(crate) fn report<H: House>(alloc: Global, house: &mut H, status: Status) -> 
     }
 }
 
-/// What the program makes of given words, files and lines of a session is one thing, so each status comes if
-/// and only if the definition has it.
+/// For given arguments, files and lines of a session there is one output, so each status comes if and only if
+/// the definition has it.
 pub fn one_output()
     ensures { AtMostOneOutput }
 {

@@ -12,11 +12,11 @@ use crate::playing::play;
 use std::alloc::Global;
 use std::thread;
 use std::thread::Threads;
-use w4_blit::Font;
 use w4_console::Console;
 use w4_defs::OutOfMemory;
 use w4_defs::batch::BatchRow;
 use w4_devices::FrameRecord;
+use w4_font::Font;
 use w4_image::{IMAGE_LEN, ppm_into};
 use w4_map::State;
 use w4_record::{Recording, RecordingRefusal, digest_of, read_recording};
@@ -44,7 +44,7 @@ pub fn batch<R: Threads + Sync, G: Gate + Sync>(
     in_order(alloc, dealt.as_slice(), items.len())
 }
 
-/// What so many workers make of their items, side by side.
+/// What that many workers make of their items, side by side.
 fn all_rows<R: Threads + Sync, G: Gate + Sync>(
     rt: &R,
     alloc: Global,
@@ -172,7 +172,7 @@ fn ran(frames: u32, state: &State, image_bytes: &mut [u8; IMAGE_LEN]) -> BatchRo
     }
 }
 
-/// The rows of so many items in their order, out of those that each worker made of its own items.
+/// The rows of that many items in their order, out of those that each worker made of its own items.
 fn in_order(
     alloc: Global,
     dealt: &[Result<Vec<BatchRow>, OutOfMemory>],

@@ -1,4 +1,4 @@
-//! Films that are handed out a piece at a time, and the workers that make the pieces.
+//! Films that are returned a piece at a time, and the workers that make the pieces.
 
 ghost use Rattle.std.specs.Prelude.{◌≡◌, ◌≢◌, ℕ, ◌+◌, ◌-◌, ◌<◌, ◌≤◌, [], All, IfErr, IfOk, IsFalse, IsTrue, None, OnOk, Some, flat_map, length};
 ghost use Rattle.w4_defs.specs.AllThere.{joined};
@@ -26,28 +26,28 @@ use w4_image::Screen;
 /// How many images a film may have.
 const MOST_IMAGES: usize = 600;
 
-/// A film that is handed out a piece at a time, so that nobody holds the whole. Pieces are made in rounds,
-/// one for each worker, and held as screens, from which the images are made as they are written. Until it is
-/// over the editor has to stay as it is.
+/// A film that is returned a piece at a time, so that nobody holds the whole. Pieces are made in rounds, one
+/// for each worker, and held as screens, from which the images are made as they are written. Until it is over
+/// the editor has to stay as it is.
 #[derive(Drop)]
 pub struct FilmPieces {
     worker_list: Vec<Worker>,
     /// The place where it begins, and the one after its last.
     first: usize,
     end: usize,
-    /// The kept places, counted from 0, whose pieces are the first, the next to be handed out, and the next
-    /// to be filmed.
+    /// The kept places, counted from 0, whose pieces are the first, the next to be returned, and the next to
+    /// be filmed.
     first_entry: usize,
     next: usize,
     filmed: usize,
-    /// The worker whose piece was handed out last.
+    /// The worker whose piece was returned last.
     worker_index: usize,
 }
 
 impl FilmPieces {
     /// Begins the film of places `a` to `b` of the recording as it is, by 1 to 16 workers. It is cut into
     /// pieces at the kept places above `a` and up to `b`, which are brought up to date first. Errors, in this
-    /// order: NoFrame where there is no place `b`; FilmTooLong where there would be more than 600 images;
+    /// order: NoFrame if there is no place `b`; FilmTooLong if there would be more than 600 images;
     /// OutOfMemory, and then kept states and links may be newer.
     pub fn begin<R: Threads + Sync>(
         rt: &R,
@@ -74,9 +74,9 @@ impl FilmPieces {
         Ok(film)
     }
 
-    /// Goes to the next piece; whether there is one. Where it isn't made yet, a round of pieces is made
-    /// first; a piece passes the gate, with its number, as it is begun. Errors: OutOfMemory, and then the
-    /// film is of no more use.
+    /// Goes to the next piece; whether there is one. If it isn't made yet, a round of pieces is made first; a
+    /// piece passes the gate, with its number, as it is begun. Errors: OutOfMemory, and then the film is of
+    /// no more use.
     pub fn next_piece<R: Threads + Sync, G: Gate + Sync>(
         &mut self,
         rt: &R,

@@ -16,8 +16,8 @@ use w4_editor::Editor;
 use w4_image::{IMAGE_LEN, Screen, screen_into};
 
 /// The images of places `a` to `b` of the recording as it is, one after another, by 1 to 16 workers:
-/// `FilmPieces` in one list. Errors, in this order: NoFrame where there is no place `b`; FilmTooLong where
-/// there would be more than 600 images; OutOfMemory, and then kept states and links may be newer.
+/// `FilmPieces` in one list. Errors, in this order: NoFrame if there is no place `b`; FilmTooLong if there
+/// would be more than 600 images; OutOfMemory, and then kept states and links may be newer.
 pub fn film<R: Threads + Sync, G: Gate + Sync>(
     rt: &R,
     alloc: Global,

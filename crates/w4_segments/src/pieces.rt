@@ -14,13 +14,13 @@ use crate::playing::play;
 use crate::worker::{Task, Worker};
 use std::thread;
 use std::thread::Threads;
-use w4_blit::Font;
 use w4_console::Console;
+use w4_font::Font;
 use w4_image::{Screen, screen_of};
 use w4_record::Recording;
 use wasm_valid::Cart;
 
-/// All workers film their pieces, side by side, each into its own room.
+/// All workers film their pieces, side by side, each into its own buffer.
 pub(crate) fn film_all<R: Threads + Sync, G: Gate + Sync>(
     rt: &R,
     gate: &G,
@@ -43,7 +43,7 @@ pub(crate) fn film_all<R: Threads + Sync, G: Gate + Sync>(
     );
 }
 
-/// A worker films its piece, if it has one. A worker asks for no memory: the room was made when it was given
+/// A worker films its piece, if it has one. A worker allocates nothing: its buffer was made when it was given
 /// the piece, and is first touched here.
 fn film_one<G: Gate>(gate: &G, cart: &Cart, font: &Font, recording: &Recording, worker: &mut Worker)
     requires { CanFilm (console_setup cart.now font.now recording.now.budget) recording.now.disk

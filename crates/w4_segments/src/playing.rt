@@ -7,10 +7,10 @@ ghost use Rattle.w4_defs.specs.State.{HasGlobals};
 
 use std::marker::Brand;
 use std::sync::ledger::{Blank, Ledger};
-use w4_blit::Font;
 use w4_console::Console;
 use w4_defs::{Input, Steps};
 use w4_devices::FrameRecord;
+use w4_font::Font;
 use w4_record::Recording;
 use wasm_valid::Cart;
 

@@ -21,9 +21,9 @@ use std::alloc::Global;
 use std::sync::ledger::Ledger;
 use std::thread;
 use std::thread::Threads;
-use w4_blit::Font;
 use w4_defs::{OutOfMemory, Steps};
 use w4_editor::Editor;
+use w4_font::Font;
 use w4_map::State;
 use w4_record::Recording;
 use wasm_valid::Cart;
@@ -277,8 +277,8 @@ fn take_one(
     }
 }
 
-/// Links the entry after `entry`. Where another state was found than is kept, it is put in its place, and
-/// this entry is returned as the one that was replaced last.
+/// Links the entry after `entry`. If another state was found than is kept, it is put in its place, and this
+/// entry is returned as the one that was replaced last.
 fn link_or_replace(
     alloc: Global,
     editor: &mut Editor,

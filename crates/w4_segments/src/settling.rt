@@ -103,7 +103,7 @@ fn settle_by_rounds<R: Threads + Sync, G: Gate + Sync, L: Ledger>(
     settle::<Brand>(alloc, editor, Blank::new(1))
 }
 
-/// Links all entries. Takes no memory and no round where they are linked.
+/// Links all entries. Takes no memory and no round if they are linked.
 fn link_all<R: Threads + Sync, G: Gate + Sync, L: Ledger>(
     rt: &R,
     alloc: Global,
@@ -144,7 +144,7 @@ fn last_entry(editor: &Editor) -> usize
     editor.kept_count() - 1
 }
 
-/// Settles under a counter of its own. Where all is linked it runs no frame.
+/// Settles under a counter of its own. If all is linked it runs no frame.
 fn settle<L: Ledger>(alloc: Global, editor: &mut Editor, blank: Blank) -> Result<(), OutOfMemory>
     requires name { blank.name ≡ L.name }
     requires parts { blank.parts ≡ L.parts }

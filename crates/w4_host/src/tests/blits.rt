@@ -3,8 +3,9 @@
 ghost use Rattle.std.specs.Prelude.{◌<◌};
 
 use std::boxed::Box;
-use w4_blit::{Font, FontLength, blit_sub, text};
+use w4_blit::{blit_sub, text};
 use w4_defs::{PageBytes, TextSource};
+use w4_font::{Font, FontLength};
 
 /// Writes bytes into the page.
 fn write(page: &mut PageBytes, at: usize, bytes: &[u8])

@@ -6,9 +6,9 @@ ghost use Rattle.w4_defs.specs.Imports.{import_type};
 use crate::Board;
 use std::alloc::Global;
 use std::test::Fail;
-use w4_blit::Font;
 use w4_defs::{Import, PageBytes};
 use w4_devices::{Disk, FrameRecord, ToneLog, TraceLog, schedule_text, trace_text};
+use w4_font::Font;
 use w4_tone::Channels;
 use wasm_tree::Host;
 

@@ -1,7 +1,6 @@
 //! Runs of the program in which two workers are under way at once, over a made cart of 600 frames.
 
 use super::houses::edit;
-use super::segments::Holder;
 use crate::run::w4_run_gated;
 use std::alloc::Global;
 use std::process::Abort;
@@ -12,6 +11,7 @@ use w4_defs::OutOfMemory;
 use w4_house::SureHouse;
 use w4_image::IMAGE_LEN;
 use w4_record::digest_of;
+use w4_tests::holder::Holder;
 use wasm_write::{Made, Maker};
 
 /// Eleven kept places, and three edits, each of which takes the link of another one away.

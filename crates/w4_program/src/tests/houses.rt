@@ -1,6 +1,5 @@
 //! Edits over houses in memory.
 
-use super::carts::PAINTING;
 use crate::run::w4_run;
 use std::alloc::Global;
 use std::process::Abort;
@@ -9,6 +8,7 @@ use std::thread::Threads;
 use w4_commands::{RecordingKind, Status};
 use w4_defs::OutOfMemory;
 use w4_house::{MemoryHouse, SureHouse};
+use w4_tests::carts::PAINTING;
 
 /// Two frames of zeros with a budget of 100,000, of the cart that stores pad 1, in version 1.
 const RECORDING: [u8; 65] = [
@@ -91,7 +91,8 @@ pub(super) fn house_without_script(alloc: Global) -> Result<MemoryHouse, OutOfMe
     Ok(house)
 }
 
-/// Tests that the edit over this house ends so, with this line and so many bytes written, and makes no file.
+/// Tests that the edit over this house ends so, with this line and that many bytes written, and makes no
+/// file.
 fn check_fault<R: Threads + Sync + Abort>(
     rt: &R,
     alloc: Global,

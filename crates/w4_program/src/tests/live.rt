@@ -33,7 +33,7 @@ fn answers(alloc: Global) -> Result<Vec<u8>, OutOfMemory> {
     Ok(out)
 }
 
-/// The recording that is left where so many lines were taken: the first is the edit.
+/// The recording that is left if that many lines were taken: the first is the edit.
 fn left_after(lines: usize) -> [u8; 67] {
     let mut left = EDITED;
     if lines == 0 {

@@ -4,7 +4,7 @@ use Rattle.std.proofs.lemmas.Int.{to_z-of_z}
 use Rattle.w4_defs.specs.Blit.{blit_painter}
 use Rattle.w4_defs.specs.Framebuffer.{paint}
 use Rattle.w4_defs.proofs.PaintLaws.{paint_ext}
-use Rattle.w4_blit.specs.FramebufferCopy.{with_copy}
+use Rattle.w4_blit.specs.FramebufferCopy.{with_copied_bytes}
 use Rattle.w4_blit.proofs.ReachLaws.{kept_blit}
 use Rattle.w4_blit.proofs.FramebufferCopyLaws.{from_the_first}
 use Rattle.w4_blit.proofs.blit.blit_inside.Goals as goal
@@ -13,33 +13,38 @@ pub returns-then-len-le256 : goal.returns-then-len-le256
 returns-then-len-le256 c =
     let page = c.args.page.now in
     let sprite = c.args.sprite.now in
-    let len = c.framebuffer_read-len.result in
-    let same : take len c.few_bytes-copy.result ≡ slice_range page 160 (160 + len) =
+    let first = c.framebuffer_read-kept_from.result.0 in
+    let len = c.framebuffer_read-kept_from.result.1 in
+    let same : take len c.few_bytes-copy.result ≡ slice_range page first (first + len) =
     sym (from_the_first c.few_bytes-copy.result len) ∙ c.few_bytes-copy.ensures in
     let put : c.blit_rows.new.page
-    ≡ paint page (blit_painter (with_copy page (take len c.few_bytes-copy.result)) sprite c.args.x
+    ≡ paint page (blit_painter (with_copied_bytes page first (take len c.few_bytes-copy.result)) sprite
+    c.args.x
     c.args.y) =
     simp (to_z-of_z w32 c.args.x c.ranges.x, to_z-of_z w32 c.args.y c.ranges.y) at c.blit_rows.ensures in
     put
-    ∙ ap (λ (s : List ℕ). paint page (blit_painter (with_copy page s) sprite c.args.x c.args.y)) same
+    ∙ ap (λ (s : List ℕ). paint page (blit_painter (with_copied_bytes page first s) sprite c.args.x
+    c.args.y)) same
     ∙ paint_ext page _ _ c.told-page (λ u v hu hv.
-    kept_blit page sprite len c.args.x c.args.y u v c.told-page
-    c.framebuffer_read-len.ensures.reach)
+    kept_blit page sprite first len c.args.x c.args.y u v c.told-page
+    c.framebuffer_read-kept_from.ensures.reach)
 
 pub returns-else-len-le256 : goal.returns-else-len-le256
 returns-else-len-le256 c =
     let page = c.args.page.now in
     let sprite = c.args.sprite.now in
-    let len = c.framebuffer_read-len.result in
-    let same : take len c.many_bytes-copy.result ≡ slice_range page 160 (160 + len) =
+    let first = c.framebuffer_read-kept_from.result.0 in
+    let len = c.framebuffer_read-kept_from.result.1 in
+    let same : take len c.many_bytes-copy.result ≡ slice_range page first (first + len) =
     sym (from_the_first c.many_bytes-copy.result len) ∙ c.many_bytes-copy.ensures in
     let put : c.blit_rows-else-len-le256.new.page
-    ≡ paint page (blit_painter (with_copy page (take len c.many_bytes-copy.result)) sprite
+    ≡ paint page (blit_painter (with_copied_bytes page first (take len c.many_bytes-copy.result)) sprite
     c.args.x c.args.y) =
     simp (to_z-of_z w32 c.args.x c.ranges.x, to_z-of_z w32 c.args.y c.ranges.y) at
     c.blit_rows-else-len-le256.ensures in
     put
-    ∙ ap (λ (s : List ℕ). paint page (blit_painter (with_copy page s) sprite c.args.x c.args.y)) same
+    ∙ ap (λ (s : List ℕ). paint page (blit_painter (with_copied_bytes page first s) sprite c.args.x
+    c.args.y)) same
     ∙ paint_ext page _ _ c.told-page (λ u v hu hv.
-    kept_blit page sprite len c.args.x c.args.y u v c.told-page
-    c.framebuffer_read-len.ensures.reach)
+    kept_blit page sprite first len c.args.x c.args.y u v c.told-page
+    c.framebuffer_read-kept_from.ensures.reach)

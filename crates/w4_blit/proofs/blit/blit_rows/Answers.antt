@@ -5,14 +5,15 @@ use Rattle.w4_defs.specs.Blit.{width_on_screen, height_on_screen}
 use Rattle.w4_defs.proofs.PaintLaws.{paint_off, paint_step, paint_ext}
 use Rattle.w4_pixels.proofs.ClippingLaws.{boxed_no_row, row_more, boxed_down, boxed_all}
 use Rattle.w4_pixels.specs.Clipping.{clipped}
-use Rattle.w4_blit.specs.FramebufferCopy.{with_copy}
+use Rattle.w4_blit.specs.FramebufferCopy.{with_copied_bytes}
 use Rattle.w4_blit.specs.Unclipped.{cells_painter}
 use Rattle.w4_blit.proofs.FramebufferCopyLaws.{with_copied_bytes-paint}
 use Rattle.w4_blit.proofs.blit.blit_rows.Goals as goal
 
 pub loop-v-init : goal.loop-v-init
 loop-v-init c =
-    let f = cells_painter (with_copy c.args.page.now c.args.copy.now) c.args.sprite.now
+    let f = cells_painter (with_copied_bytes c.args.page.now c.args.kept_from c.args.copy.now)
+    c.args.sprite.now
     (to_z w32 (of_z w32 c.args.x)) (to_z w32 (of_z w32 c.args.y)) in
     let columns = c.screen_part-left.result in
     let rows = c.screen_part-top.result in (
@@ -25,11 +26,13 @@ pub loop-v-preserved : goal.loop-v-preserved
 loop-v-preserved c =
     let page = c.args.page.now in
     let copy = c.args.copy.now in
-    let f = cells_painter (with_copy page copy) c.args.sprite.now (to_z w32 (of_z w32 c.args.x))
+    let f = cells_painter (with_copied_bytes page c.args.kept_from copy) c.args.sprite.now (to_z w32 (of_z
+    w32 c.args.x))
     (to_z w32 (of_z w32 c.args.y)) in
-    let same : with_copy c.loop-v.page copy ≡ with_copy page copy =
+    let same : with_copied_bytes c.loop-v.page c.args.kept_from copy ≡ with_copied_bytes page
+    c.args.kept_from copy =
     rw c.loop-v.invariant.0
-    (with_copied_bytes-paint page 160 copy
+    (with_copied_bytes-paint page c.args.kept_from copy
     (clipped f c.screen_part-left.result.0 c.screen_part-left.result.1 c.screen_part-top.result.0
     c.loop-v.v)) in (
       rw (c.blit_row.ensures, same, c.loop-v.invariant.0)
@@ -46,7 +49,7 @@ returns c =
     let sprite = c.args.sprite.now in
     let left = c.screen_part-left.result in
     let top = c.screen_part-top.result in
-    let f = cells_painter (with_copy c.args.page.now c.args.copy.now) sprite x y in
+    let f = cells_painter (with_copied_bytes c.args.page.now c.args.kept_from c.args.copy.now) sprite x y in
     let same_x : to_z w32 (of_z w32 x) ≡ x = to_z-of_z w32 x c.ranges.x in
     let same_y : to_z w32 (of_z w32 y) ≡ y = to_z-of_z w32 y c.ranges.y in
     let before = simp (same_x, same_y) at c.loop-v.invariant.0 in

@@ -6,11 +6,11 @@ use Rattle.w4_defs.specs.Colours.{palette_index}
 use Rattle.w4_defs.specs.Shapes.{natural}
 use Rattle.w4_defs.proofs.PaintLaws.{paint_ext}
 use Rattle.w4_pixels.specs.Clipping.{clipped}
-use Rattle.w4_blit.specs.FramebufferCopy.{with_copy}
+use Rattle.w4_blit.specs.FramebufferCopy.{with_copied_bytes}
 use Rattle.w4_blit.specs.Strips.{HasValue}
 use Rattle.w4_blit.specs.Walks.{walk_painter, walked}
 use Rattle.w4_blit.proofs.StripLaws.{strip_clipped}
-use Rattle.w4_blit.proofs.WindowLaws.{cells_left, ink_index, natural_more, small_value}
+use Rattle.w4_blit.proofs.WindowLaws.{cells_left, few_values, ink_index, natural_more, small_value}
 use Rattle.w4_blit.proofs.blit.put_sixteen.Goals as goal
 
 pub returns : goal.returns
@@ -21,7 +21,7 @@ returns c =
     let right = c.min-right.result in
     let from_left : left ≡ max row.left (4 * q) = c.max-left.ensures in
     let to_right : right ≡ min row.right (4 * q + 16) = c.min-right.ensures in
-    let page = with_copy c.args.page.now c.args.copy.now in
+    let page = with_copied_bytes c.args.page.now c.args.kept_from c.args.copy.now in
     let sprite = c.args.sprite.now in
     let x : to_z w32 (of_z w32 row.x) ≡ row.x = search rules in
     let n = c.distance.result in
@@ -53,7 +53,7 @@ returns c =
     subst (λ (j : ℕ). HasValue bits j value) at
     (c.cell_bits-bits.ensures.values d (omega arith) (omega (arith, cells))) in
     c.part_of-strip.ensures.inside k (omega arith) (omega arith)
-    ∙ c.painted.ensures.values k value hk small has
+    ∙ c.painted_by.ensures.values k value hk (few_values page sprite (walked row.walk (n + d))) has
     ∙ ink_index c.args.inks.now sprite.colors k value c.requires.inks hk small
     ∙ ap (λ (m : ℕ). palette_index sprite.colors (source_value page sprite (walked row.walk m) + 1))
     (sym cell)))

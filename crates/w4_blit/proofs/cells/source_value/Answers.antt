@@ -12,4 +12,4 @@ two_bits byte pixel =
 pub returns-then-has_flag-clause-value : goal.returns-then-has_flag-clause-value
 returns-then-has_flag-clause-value c =
     let flag : has_flag c.args.sprite.now 1 ≡ true = sym c.has_flag.ensures ∙ c.if-has_flag.true in
-    rw (c.source_byte.ensures, c.from-ptr.ensures, flag) (two_bits _ c.args.pixel)
+    rw (c.byte_at.ensures, c.from-ptr.ensures, flag) (two_bits _ c.args.pixel)

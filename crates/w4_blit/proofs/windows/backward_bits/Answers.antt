@@ -1,6 +1,6 @@
 use Rattle.std.proofs.Common.{◌≡◌, ℕ, ◌+◌, ◌-◌, ◌<◌, ◌∙◌, sym, subst, arith}
 use Rattle.w4_defs.specs.Blit.{source_value}
-use Rattle.w4_blit.specs.FramebufferCopy.{with_copy}
+use Rattle.w4_blit.specs.FramebufferCopy.{with_copied_bytes}
 use Rattle.w4_blit.specs.Strips.{HasValue}
 use Rattle.w4_blit.specs.Walks.{walked}
 use Rattle.w4_blit.proofs.WindowLaws.{backward_walk}
@@ -8,7 +8,7 @@ use Rattle.w4_blit.proofs.windows.backward_bits.Goals as goal
 
 pub returns-clause-values : goal.returns-clause-values
 returns-clause-values c = λ d hl hn.
-    let page = with_copy c.args.page.now c.args.copy.now in
+    let page = with_copied_bytes c.args.page.now c.args.kept_from c.args.copy.now in
     let sprite = c.args.sprite.now in
     let walk = c.args.walk in
     let n = c.args.n in
@@ -22,8 +22,7 @@ returns-clause-values c = λ d hl hn.
     let cell : walk.start + first + k ≡ walked walk (n + d) =
     pixel ∙ sym (backward_walk walk (n + d) c.requires.pace c.requires.backward) in
     let value = source_value page sprite (walk.start + first + k) in
-    let has : HasValue c.turned_bits-bits.result (skip + d) value =
-    c.turned_bits-bits.ensures.values (skip + d) value there (c.sixteen_from.ensures.values k (omega arith))
-    in
+    let has : HasValue c.sixteen_back-bits.result (skip + d) value =
+    c.sixteen_back-bits.ensures.values (skip + d) there in
     subst (λ (p : ℕ). HasValue c.moved_bits.result (c.args.low + d) (source_value page sprite p)) cell
     (c.moved_bits.ensures.values d value there hl has)

@@ -1,6 +1,6 @@
 use Rattle.std.proofs.Common.{◌≡◌, ℕ, ◌+◌, ◌<◌, ◌∙◌, sym, subst, arith}
 use Rattle.w4_defs.specs.Blit.{source_value}
-use Rattle.w4_blit.specs.FramebufferCopy.{with_copy}
+use Rattle.w4_blit.specs.FramebufferCopy.{with_copied_bytes}
 use Rattle.w4_blit.specs.Strips.{HasValue}
 use Rattle.w4_blit.specs.Walks.{walked}
 use Rattle.w4_blit.proofs.WindowLaws.{forward_walk}
@@ -8,7 +8,7 @@ use Rattle.w4_blit.proofs.windows.cell_bits.Goals as goal
 
 pub returns-else-walk-clause-values : goal.returns-else-walk-clause-values
 returns-else-walk-clause-values c = λ d hl hn.
-    let page = with_copy c.args.page.now c.args.copy.now in
+    let page = with_copied_bytes c.args.page.now c.args.kept_from c.args.copy.now in
     let sprite = c.args.sprite.now in
     let walk = c.args.walk in
     let n = c.args.n in

@@ -1,22 +1,14 @@
-use Rattle.std.proofs.Common.{◌+◌, ◌-◌, ◌*◌, ◌<◌, arith}
-use Rattle.w4_pixels.proofs.DigitLaws.{small_digit, small_byte, digit_put}
+use Rattle.std.proofs.Common.{ℕ, ◌/◌, ◌%◌, ◌^◌, ◌∙◌, ap}
+use Rattle.std.specs.Prelude.{◌==◌, if◌then◌else◌}
+use Rattle.w4_pixels.proofs.DigitLaws.{chosen_digit, three_or_none}
 use Rattle.w4_pixels.proofs.digits.with_digit.Goals as goal
 
-pub overflow_mul-result-2 : goal.overflow_mul-result-2
-overflow_mul-result-2 c =
-    let small : c.args.index * c.digit_weight-weight.result < 256 =
-    rw c.digit_weight-weight.ensures (small_digit c.args.index c.args.k c.requires.index c.requires.digit) in
-    omega (arith, small)
-
-pub overflow_add-result : goal.overflow_add-result
-overflow_add-result c =
-    let small : c.args.byte - c.digit.result * c.digit_weight-weight.result
-    + c.args.index * c.digit_weight-weight.result
-    < 256 =
-    rw (c.digit.ensures, c.digit_weight-weight.ensures)
-    (small_byte c.args.byte c.args.index c.args.k c.ranges.byte.fits c.requires.index c.requires.digit) in
-    omega (arith, small)
+pub masked-requires-clause-mask : goal.masked-requires-clause-mask
+masked-requires-clause-mask c = λ j hj. three_or_none (j == c.args.k) _ (c.digit_mask.ensures j hj)
 
 pub returns : goal.returns
-returns c = λ j hj. rw (c.digit.ensures, c.digit_weight-weight.ensures)
-    (digit_put c.args.byte c.args.index c.args.k j c.ranges.byte.fits c.requires.index c.requires.digit hj)
+returns c = λ j hj.
+    let digit = c.args.byte / 4 ^ j % 4 in
+    c.masked.ensures j hj
+    ∙ ap (λ (m : ℕ). if m == 3 then c.args.index else digit) (c.digit_mask.ensures j hj)
+    ∙ chosen_digit (j == c.args.k) c.args.index digit

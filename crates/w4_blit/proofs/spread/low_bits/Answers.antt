@@ -1,7 +1,0 @@
-use Rattle.std.proofs.Common.{ℕ, ◌/◌, ◌%◌, ◌^◌, ◌∙◌, ap}
-use Rattle.w4_blit.proofs.SpreadLaws.{low_entry}
-use Rattle.w4_blit.proofs.spread.low_bits.Goals as goal
-
-pub returns : goal.returns
-returns c = λ k hk. ap (λ (n : ℕ). n / 4 ^ k % 4) c.entry.ensures
-    ∙ low_entry c.args.byte k c.ranges.byte.fits hk

@@ -1,0 +1,48 @@
+//! Fonts (project rule): eight bytes for each code from 32 to 255, one a row, the highest bit leftmost.
+
+ghost use Rattle.std.specs.Prelude.{◌≡◌, ◌≢◌, ℕ, List, IfErr, IfOk, length, slice_index};
+
+use std::marker::Model;
+
+/// A font; contracts see its 1,792 bytes.
+#[derive(Drop)]
+pub struct Font {
+    bytes: [u8; 1792],
+}
+
+impl Model for Font {
+    ghost Value = { List ℕ };
+
+    ghost view = { λ font. font.bytes };
+}
+
+/// The bytes of a font aren't 1,792.
+#[derive(Clone, Copy, PartialEq, Eq, Debug)]
+pub struct FontLength;
+
+impl Font {
+    /// The font of these bytes. Refused if and only if they aren't 1,792.
+    pub fn new(bytes: &[u8]) -> Result<Font, FontLength>
+        ensures same { IfOk result (λ font. font ≡ bytes.now) }
+        ensures taken { IfOk result (λ font. length bytes.now ≡ 1792) }
+        ensures refused { IfErr result (λ refusal. length bytes.now ≢ 1792) }
+    {
+        if bytes.len() != 1792 {
+            return Err(FontLength);
+        }
+        let mut font_bytes = [0; 1792];
+        font_bytes.copy_from_slice(bytes);
+        Ok(Font { bytes: font_bytes })
+    }
+
+    /// One byte; 0 past the last.
+    pub fn byte(&self, at: u64) -> u8
+        ensures { result ≡ slice_index self.now at }
+    {
+        if at < 1792 {
+            self.bytes[at as usize]
+        } else {
+            0
+        }
+    }
+}

@@ -1,0 +1,6 @@
+//! Fonts, which a run is given and no call changes.
+#![tactic(auto)]
+
+pub mod font;
+
+pub use font::{Font, FontLength};
