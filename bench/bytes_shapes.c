@@ -164,9 +164,9 @@ int main(int count, char **words) {
     int arguments[6] = {0};
     for (int i = 6; i < count && i < 12; i++) arguments[i - 6] = atoi(words[i]);
     struct timespec before, after;
-    clock_gettime(CLOCK_MONOTONIC, &before);
+    clock_gettime(CLOCK_PROCESS_CPUTIME_ID, &before);
     for (int i = atoi(words[2]); 0 < i; i--) call(words[1], arguments);
-    clock_gettime(CLOCK_MONOTONIC, &after);
+    clock_gettime(CLOCK_PROCESS_CPUTIME_ID, &after);
     double taken = (after.tv_sec - before.tv_sec) * 1e6 + (after.tv_nsec - before.tv_nsec) / 1e3;
     printf("%.4f\n", taken / atoi(words[2]));
     ppm();

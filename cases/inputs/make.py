@@ -149,6 +149,25 @@ def blits_by_pad():
     return begins + hexed("03 40") + constant(0x14) + colors + hexed("3b 01 00") + blit + more + again + b"\x0b"
 
 
+# The blits of the cart `blits-within-pages`, each as colours and ptr, x, y, width, height, column, row, stride:
+# over themselves, from before the framebuffer, across its end, across the page's end, and clipped at each side.
+BLITS_WITHIN = [
+    (0x1342, 560, 3, 12, 70, 30, 0, 0, 160), (0x4021, 160, -7, 40, 41, 9, 2, 1, 160),
+    (0x1342, 150, 90, -4, 33, 11, 1, 0, 37), (0x2403, 6549, 149, 60, 21, 10, 3, 1, 23),
+    (0x1342, 65529, 40, 151, 19, 14, 0, 0, 19), (0xFED0, 6511, 2, 90, 18, 60, 1, 1, 5),
+    (0x1342, 4000, -1, 100, 162, 50, 0, 2, 160), (0x3210, 161, 71, 3, 80, 80, 5, 0, 97),
+]
+
+
+def blits_within_pages():
+    """What `update` does: it fills the screen, and then does each of the blits. Pad 1 is their flags."""
+    blits = call(0, 0x2000, 0, 0, 160, 160, 0, 0, 3, 1)
+    for colors, *arguments in BLITS_WITHIN:
+        blits += constant(0x14) + constant(colors) + hexed("3b 01 00")
+        blits += b"".join(map(constant, arguments)) + constant(22) + hexed("2d 00 00") + hexed("10 00")
+    return constant(0x14) + constant(0x1342) + hexed("3b 01 00") + blits
+
+
 def plays_by_pad():
     """What `update` does: where pad 1 isn't 0, it plays the tone of that number."""
     pad = constant(22) + hexed("2d 00 00")
@@ -282,6 +301,11 @@ CARTS = {
         [("blitSub", 9, 0)], blits_by_pad(),
         [(0x1B00, struct.pack("<4H", 0x1342, 0x4021, 0x2403, 0xFED0)),
          (0x2000, bytes((i * i * 7 + i * 5 + 27) % 256 for i in range(64)))]),
+    "blits-within-pages": importing(
+        [("blitSub", 9, 0)], blits_within_pages(),
+        [(6560, bytes((i * 37 + 11) % 256 for i in range(64))),
+         (0x2000, bytes((i * i * 7 + i * 5 + 27) % 256 for i in range(160))),
+         (65530, bytes((i * 91 + 45) % 256 for i in range(6)))]),
     # `_start` calls the tone: 440 to 220 hertz, attack 4, sustain 2, release 4, volume 50
     "one-tone": hexed("""
         00 61 73 6d 01 00 00 00 01 0b 02 60 00 00 60 04 7f 7f 7f 7f 00 02 1a 02 03 65 6e 76 04 74 6f 6e 65
@@ -553,6 +577,7 @@ RECORDINGS = {
     "letters": recording("letters", 100_000, [0]),
     "draws-by-pad": recording("draws-by-pad", 1_000_000, range(1, 9)),
     "blits-by-pad": recording("blits-by-pad", 10_000_000, range(192)),
+    "blits-within-pages": recording("blits-within-pages", 10_000_000, range(16)),
     "one-tone": recording("one-tone", 100_000, [0] * 10),
     "65-tones": recording("65-tones", 100_000, [0]),
     "65-tones-and-a-stop": recording("65-tones-and-a-stop", 100_000, [0]),

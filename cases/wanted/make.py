@@ -83,6 +83,43 @@ for pad_1 in range(192):
     blits.update(blits_of(pad_1))
 print("blits-by-pad, out-sha256", blits.hexdigest())
 
+def blit(page, colors, flags, ptr, x, y, w, h, src_x, src_y, stride):
+    """Paints a sprite cell by cell. What it reads is the page as it was."""
+    before, turned = bytes(page), flags // 8 % 2
+    for i in range(w):
+        for j in range(h):
+            column = src_x + (w - 1 - i if flags // 2 % 2 != turned else i)
+            pixel = (src_y + (h - 1 - j if flags // 4 % 2 else j)) * stride + column
+            at = ptr + pixel // (4 if flags % 2 else 8)
+            byte = before[at] if at < 65_536 else 0
+            value = byte >> (6 - 2 * (pixel % 4)) & 3 if flags % 2 else byte >> (7 - pixel % 8) & 1
+            nibble = colors >> 4 * value & 15
+            u, v = (x + j, y + i) if turned else (x + i, y + j)
+            if nibble and 0 <= u < 160 and 0 <= v < 160:
+                at, shift = 160 + (160 * v + u) // 4, 2 * (u % 4)
+                page[at] = page[at] & ~(3 << shift) | (nibble - 1) % 4 << shift
+
+
+def blits_within(flags):
+    """What the cart `blits-within-pages` shows where its pad is this."""
+    page = bytearray(65_536)
+    page[6_560:6_624] = bytes((i * 37 + 11) % 256 for i in range(64))
+    page[0x2000:0x20A0] = bytes((i * i * 7 + i * 5 + 27) % 256 for i in range(160))
+    page[65_530:] = bytes((i * 91 + 45) % 256 for i in range(6))
+    for colors, flags_of, *arguments in (
+            (0x1342, 1, 0x2000, 0, 0, 160, 160, 0, 0, 3),
+            (0x1342, flags, 560, 3, 12, 70, 30, 0, 0, 160), (0x4021, flags, 160, -7, 40, 41, 9, 2, 1, 160),
+            (0x1342, flags, 150, 90, -4, 33, 11, 1, 0, 37), (0x2403, flags, 6549, 149, 60, 21, 10, 3, 1, 23),
+            (0x1342, flags, 65529, 40, 151, 19, 14, 0, 0, 19), (0xFED0, flags, 6511, 2, 90, 18, 60, 1, 1, 5),
+            (0x1342, flags, 4000, -1, 100, 162, 50, 0, 2, 160), (0x3210, flags, 161, 71, 3, 80, 80, 5, 0, 97)):
+        blit(page, colors, flags_of, *arguments)
+    return image(of_framebuffer(page[160:6_560]))
+
+
+# 16 images, one for each of the flags.
+print("blits-within-pages, out-sha256",
+      hashlib.sha256(b"".join(blits_within(pad_1) for pad_1 in range(16))).hexdigest())
+
 # 128 as a signed byte is -128: the bytes 80 ff ff ff.
 write("extended.ppm", image(of_framebuffer(bytes.fromhex("80ffffff"))))
 # Each byte of the framebuffer is 0x55.
