@@ -1,5 +1,5 @@
 #!/usr/bin/env python3
-"""Makes studio.png, README's picture of the studio: the garden's recording at its second hop, of which two
+"""Makes studio.png, a picture of the studio: the garden's recording at its second hop, of which two
 frames were taken, and the number in memory that counts the hops.
 
     python3 docs/pictures/studio.py

@@ -1,5 +1,5 @@
-// Apples fall, and the arrows move a basket below them. They fall faster after each four that were caught,
-// and one that is missed ends the round. The disk keeps the best score.
+// Apples fall, and the arrow keys move a basket to catch them. After every fourth catch they fall faster; a miss
+// ends the round. The disk keeps the best score.
 // `examples/c/build examples/c/apples.c apples.wasm` builds it.
 #include "wasm4.h"
 

@@ -1,5 +1,5 @@
-// A ball that the arrows push and the walls throw back. Positions are in sixteenths of a pixel: whole numbers
-// do what floats would. `examples/c/build examples/c/ball.c ball.wasm` builds it.
+// A ball that the arrow keys push and that bounces off the walls. Positions are in sixteenths of a pixel: whole
+// numbers do what floats would. `examples/c/build examples/c/ball.c ball.wasm` builds it.
 #include "wasm4.h"
 
 enum { SIDE = 10, UNIT = 16, FLOOR = (160 - SIDE) * UNIT };

@@ -43,7 +43,7 @@ IMPORT("text") void text(const char *string, int32_t x, int32_t y);
 IMPORT("textUtf8") void textUtf8(const char *bytes, uint32_t length, int32_t x, int32_t y);
 IMPORT("textUtf16") void textUtf16(const uint16_t *units, uint32_t byteLength, int32_t x, int32_t y);
 
-// frequency: first | second << 16, in hertz; without a second it stays
+// frequency: first | second << 16, in hertz; if the second is 0 it doesn't change
 // duration: sustain | release << 8 | decay << 16 | attack << 24, in frames
 // volume: level | peak << 8, both up to 100
 // flags: a channel, and for pulses a duty cycle of 1/8, 1/4, 1/2 or 3/4 by TONE_MODE1 to TONE_MODE4
@@ -52,11 +52,11 @@ enum { TONE_MODE1 = 0, TONE_MODE2 = 4, TONE_MODE3 = 8, TONE_MODE4 = 12 };
 enum { TONE_PAN_LEFT = 16, TONE_PAN_RIGHT = 32, TONE_NOTE_MODE = 64 };
 IMPORT("tone") void tone(uint32_t frequency, uint32_t duration, uint32_t volume, uint32_t flags);
 
-// The disk has up to 1,024 bytes. Both return how many were moved; a write replaces all that was there.
+// The disk has up to 1,024 bytes. Both return how many were copied; a write replaces all that was there.
 IMPORT("diskr") uint32_t diskr(void *to, uint32_t size);
 IMPORT("diskw") uint32_t diskw(const void *from, uint32_t size);
 
-// A line for whoever looks for a fault. `tracef` has %c, %d, %s and %x, each of 32 bits.
+// Debug output, a line a call. `tracef` has %c, %d, %s and %x, each of 32 bits.
 IMPORT("trace") void trace(const char *string);
 IMPORT("traceUtf8") void traceUtf8(const char *bytes, uint32_t length);
 IMPORT("traceUtf16") void traceUtf16(const uint16_t *units, uint32_t byteLength);

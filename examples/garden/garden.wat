@@ -34,7 +34,7 @@
     "\0e\70" ;; ....###..###....
     "\1e\78" ;; ...####..####...
     "\1e\78") ;; ...####..####...
-  ;; A flower, 8 by 8, two bits a pixel: 0 is left free.
+  ;; A flower, 8 by 8, two bits a pixel: 0 is transparent.
   (data (i32.const 0x2020)
     "\05\50" ;; ..1111..
     "\15\54" ;; .111111.
@@ -46,7 +46,7 @@
     "\00\c0") ;; ....3...
   (data (i32.const 0x2040) "A ROBOT'S GARDEN\00")
   (data (i32.const 0x2060) "frame %d: the robot is at %d\00")
-  ;; The waltz: four bars of six eighth notes in hertz, 16 bits each. At a 0 the note before it sounds on.
+  ;; The waltz: four bars of six eighth notes in hertz, 16 bits each. A 0 holds the note before it.
   (data (i32.const 0x2080) ;; the tune
     "\93\02\00\00\10\03\00\00\93\02\4b\02" ;; E5 - G5 - E5 D5
     "\0b\02\00\00\93\02\00\00\0b\02\ee\01" ;; C5 - E5 - C5 B4

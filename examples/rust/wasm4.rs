@@ -156,17 +156,17 @@ pub fn tone(frequency: u32, duration: u32, volume: u32, flags: u32) {
     unsafe { env::tone(frequency, duration, volume, flags) }
 }
 
-/// Reads the disk into these bytes, and returns how many it had.
+/// Reads the disk into these bytes, and returns how many were copied.
 pub fn read_disk(bytes: &mut [u8]) -> u32 {
     unsafe { env::diskr(bytes.as_mut_ptr(), bytes.len() as u32) }
 }
 
-/// Replaces the disk by these bytes, at most 1,024, and returns how many it took.
+/// Replaces the disk by these bytes, at most 1,024, and returns how many were copied.
 pub fn write_disk(bytes: &[u8]) -> u32 {
     unsafe { env::diskw(bytes.as_ptr(), bytes.len() as u32) }
 }
 
-/// A line for whoever looks for a fault: a `&str`, bytes, or what `format` gives.
+/// Debug output, a line a call: a `&str`, bytes, or what `format` gives.
 pub fn trace(string: impl AsRef<[u8]>) {
     let bytes = string.as_ref();
     unsafe { env::trace_utf8(bytes.as_ptr(), bytes.len() as u32) }
@@ -201,7 +201,7 @@ impl AsRef<[u8]> for Formatted {
 /// Text with numbers in it: `text(format(format_args!("SCORE {}", score)), 4, 4)`.
 pub fn format(arguments: fmt::Arguments) -> Formatted {
     let mut formatted = Formatted { bytes: [0; 128], length: 0 };
-    let _ = fmt::write(&mut formatted, arguments); // where it is full it takes no more, which is no error
+    let _ = fmt::write(&mut formatted, arguments); // when it is full it takes no more, which is no error
     formatted
 }
 

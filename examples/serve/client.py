@@ -2,14 +2,14 @@
 """A client of `w4 serve`, in one file: orders typed by hand, and a bot.
 
     python3 client.py CART REC FONT OUT
-        reads orders, as `show 70`, and shows the answers
+        reads orders, such as `show 70`, and shows the answers
     python3 client.py CART REC FONT OUT try-inputs FRAME ADDRESS WIDTH
         tries 64 inputs of gamepad 1 in a frame, watches a number in memory ten frames later, and keeps the
         input that makes it the greatest
     python3 client.py CART REC FONT OUT picture PLACE FILE.png
         saves the picture of a place
 
-OUT becomes the recording as it is left. W4 in the environment names the program, where it isn't ./w4.
+OUT becomes the recording as it is left. W4 in the environment names the program, if it isn't ./w4.
 """
 import os
 import re
@@ -29,7 +29,7 @@ class Refused(Exception):
 
 
 class Session:
-    """A live session. Each line has one answer: pieces, each behind its length, and a length of 0 as end."""
+    """A live session. Each line has one answer: pieces, each after its length, and a length of 0 at the end."""
 
     def __init__(self, cart, recording, font, out):
         words = [os.environ.get("W4", "./w4"), "serve", cart, recording, font, out]

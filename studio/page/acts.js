@@ -40,13 +40,13 @@ export class Acts {
       act("place", ["G"], "type a place", () => focus("place")),
       act("faster", ["+", "="], "play faster", () => this.changeSpeed(1)),
       act("slower", ["-"], "play slower", () => this.changeSpeed(-1)),
-      act("keep", ["K"], "keep the place's state, or no longer", () => this.keepPlace()),
-      act("longer", ["Shift+ArrowDown"], "select a row more downward", by(1, true)),
-      act("shorter", ["Shift+ArrowUp"], "select a row more upward", by(-1, true)),
-      act("second-longer", ["Shift+PageDown"], "select a second more downward", by(SECOND, true)),
-      act("second-shorter", ["Shift+PageUp"], "select a second more upward", by(-SECOND, true)),
-      act("to-first", ["Shift+Home"], "select up to the first row", () => this.moveTo(0, true)),
-      act("to-last", ["Shift+End"], "select down to the last row", () => this.moveTo(session.count, true)),
+      act("keep", ["K"], "keep this place's state, or stop keeping it", () => this.keepPlace()),
+      act("longer", ["Shift+ArrowDown"], "extend the selection a row down", by(1, true)),
+      act("shorter", ["Shift+ArrowUp"], "extend the selection a row up", by(-1, true)),
+      act("second-longer", ["Shift+PageDown"], "extend the selection a second down", by(SECOND, true)),
+      act("second-shorter", ["Shift+PageUp"], "extend the selection a second up", by(-SECOND, true)),
+      act("to-first", ["Shift+Home"], "extend the selection to the first row", () => this.moveTo(0, true)),
+      act("to-last", ["Shift+End"], "extend the selection to the last row", () => this.moveTo(session.count, true)),
       act("select-all", ["Ctrl+A"], "select all rows", () => selection.all()),
       act("escape", ["Escape"], "stop recording and playing; leave a field", () => this.escape()),
     ];
@@ -56,7 +56,7 @@ export class Acts {
     const act = (name, keys, title, run) => ({ group: "Recording live", name, keys, title, run });
     return [
       act("record", ["R"], "record from the place shown, and stop", () => this.recorder.toggle()),
-      act("insert-mode", ["Shift+R"], "record over the rest, or inserting", () => click("insert-mode")),
+      act("insert-mode", ["Shift+R"], "recording overwrites what follows, or inserts", () => click("insert-mode")),
       act("gamepad", ["Arrows", "X", "Z"], "while recording: the gamepad's cross, buttons 1 and 2", () => {}),
     ];
   }
@@ -71,7 +71,7 @@ export class Acts {
     return [
       act("left", ["ArrowLeft"], "a column to the left", () => this.moveColumn(-1)),
       act("right", ["ArrowRight"], "a column to the right", () => this.moveColumn(1)),
-      act("toggle", ["Enter"], "the column's button in the selected rows", () => rowActs.toggleColumn()),
+      act("toggle", ["Enter"], "toggle the column's button in the selected rows", () => rowActs.toggleColumn()),
       ...buttons,
       act("insert-row", ["I", "Insert"], "insert as many empty rows as are selected", () => rowActs.insert()),
       act("delete-rows", ["Delete", "Backspace"], "delete the selected rows", () => rowActs.delete()),
@@ -80,8 +80,8 @@ export class Acts {
       act("paste", ["Ctrl+V"], "paste rows before the place shown", () => this.pasteByButton()),
       act("paste-over", ["Ctrl+Shift+V"], "paste rows over those that follow", () => {}),
       act("autofire", ["F"], "autofire over the selected rows", () => this.autofire()),
-      act("reset-mark", ["T"], "the frame begins with a reset, or not", () => rowActs.toggleReset()),
-      act("edit-text", ["E"], "the selected inputs as text", () => this.editText()),
+      act("reset-mark", ["T"], "toggle the reset with which the frame begins", () => rowActs.toggleReset()),
+      act("edit-text", ["E"], "edit the selected inputs as text", () => this.editText()),
       act("more-gamepads", ["P"], "show gamepads 1, 1 and 2, and so on", () => this.moreGamepads()),
       act("mouse-columns", ["O"], "show the mouse, and record it", () => click("mouse-columns")),
     ];
@@ -90,7 +90,7 @@ export class Acts {
   history() {
     const act = (name, keys, title, run) => ({ group: "History and files", name, keys, title, run });
     return [
-      act("undo", ["Ctrl+Z"], "undo, without an end", () => this.step("undo", "undone")),
+      act("undo", ["Ctrl+Z"], "undo, without a limit", () => this.step("undo", "undone")),
       act("redo", ["Ctrl+Y", "Ctrl+Shift+Z"], "redo", () => this.step("redo", "done again")),
       act("save", ["Ctrl+S"], "save now; it is also saved at each pause", () => this.session.save()),
       act("branch", ["B"], "make a branch", () => this.openBranches()),
@@ -102,7 +102,7 @@ export class Acts {
   sounds() {
     const act = (name, keys, title, run) => ({ group: "Sound", name, keys, title, run });
     return [
-      act("sound", ["M"], "sound while playing, or none", () => this.sound.turn(!this.sound.isOn)),
+      act("sound", ["M"], "turn the sound while playing on or off", () => this.sound.turn(!this.sound.isOn)),
       act("hear", ["Shift+H"], "hear the selected rows, or all", () => this.hear()),
       act("save-wave", ["Shift+W"], "save their sound as WAV", () => this.saveWave()),
     ];
@@ -113,7 +113,7 @@ export class Acts {
     return [
       act("watch", ["N"], "a new watch", () => this.openWatches()),
       act("search", ["/"], "search memory", () => this.openPane("search-pane", "search-width")),
-      act("hexadecimal", ["H"], "memory in hexadecimal", () => this.openHexadecimal()),
+      act("hexadecimal", ["H"], "show memory in hexadecimal", () => this.openHexadecimal()),
       act("theme", ["L"], "light or dark", () => click("theme-button")),
       act("help", ["?"], "this page", () => document.getElementById("help").showModal()),
     ];

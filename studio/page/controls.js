@@ -75,7 +75,7 @@ export class Controls {
 
   setInserting(isInserting) {
     this.recorder.isInserting = isInserting;
-    this.say(isInserting ? "recording inserts" : "recording goes over the rest");
+    this.say(isInserting ? "recording inserts" : "recording overwrites what follows");
   }
 
   showPlace() {
