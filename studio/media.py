@@ -5,6 +5,7 @@ import struct
 import subprocess
 import tempfile
 
+import moving_png
 from recording_files import Refusal, program
 
 WAV_HEADER, PLACE_SOUND = 44, 2_940  # bytes of a WAV file's header, and of the sound of a place
@@ -37,9 +38,15 @@ def wave(files, first, last):
 
 
 def film(files, first, last):
-    """A film with sound, of the images and the sound of places, joined by ffmpeg."""
-    if not shutil.which("ffmpeg"):
-        raise Refusal("a film wants ffmpeg, which isn't installed (on Debian: apt install ffmpeg)")
+    """Type and bytes of a film of places: a moving PNG without sound where ffmpeg isn't installed."""
+    if shutil.which("ffmpeg"):
+        return "video/mp4", film_with_sound(files, first, last)
+    with start("frames", files.cart, files.recording, files.font, first, last) as images:
+        return "image/png", moving_png.of_images(images.stdout, last - first + 1)
+
+
+def film_with_sound(files, first, last):
+    """The images and the sound of places, joined by ffmpeg."""
     with tempfile.TemporaryDirectory() as room:
         sound, joined = pathlib.Path(room, "sound.wav"), pathlib.Path(room, "film.mp4")
         sound.write_bytes(wave(files, first, last))

@@ -104,4 +104,4 @@ class Services:
     async def film(self, request):
         first, last = stretch(request)
         await self.session.save()
-        return "video/mp4", await asyncio.to_thread(media.film, self.files, first, last)
+        return await asyncio.to_thread(media.film, self.files, first, last)

@@ -94,6 +94,9 @@ def test_rows_are_cut_copied_and_pasted(studio, page):
     page.keys("control+shift+v")
     over = pasted[:5] + frames[60:63] + pasted[8:]
     check_saved(studio, page, over)
+    page.keys("control+z")  # one press of a key is one step, also where the browser makes two events of it
+    check_saved(studio, page, pasted)
+    page.keys("control+y")
     page.keys("shift+arrow_down", "control+x")
     check_saved(studio, page, over[:5] + over[7:])
 
@@ -109,6 +112,40 @@ def test_a_selection_stays_while_the_place_moves(studio, page):
     check_saved(studio, page, [frame(2)] + frames[1:60] + [frame(RIGHT + BUTTON + 2)] * 2 + frames[62:])
 
 
+def test_all_rows_are_those_that_are_there(studio, page):
+    frames = garden_frames()
+    page.keys("control+a")
+    selected = "document.getElementById('selection-text').textContent"
+    assert page.value(selected) == "240 rows, 0 to 239"
+    page.script("studio.session.change('', [{ kind: 'insert', at: 240, input: studio.session.inputs[0] }])")
+    assert page.value(selected) == "240 rows, 0 to 239"
+    page.keys("delete")
+    check_saved(studio, page, frames[:1])
+
+
+def test_keys_lead_to_the_next_change_of_buttons(studio, page):
+    frames = garden_frames()
+    changes = [at for at in range(1, 240) if frames[at] != frames[at - 1]]
+    steps = [*changes, 240, *reversed(changes), 0]
+    seen = []
+    for key in ["control+arrow_down"] * (len(changes) + 1) + ["control+arrow_up"] * (len(changes) + 1):
+        page.keys(key)
+        seen.append(page.value("studio.player.place"))
+    assert len(changes) > 4 and seen == steps
+    page.keys("control+arrow_up")
+    assert page.value("studio.player.place") == 0
+
+
+def test_columns_say_which_gamepad_they_are_of(studio, page):
+    page.keys("p", "p", "p")
+    buttons = "studio.roll.columns.filter(({ kind }) => kind === 'button')"
+    titles = page.value(f"{buttons}.map(({{ title }}) => title)")
+    signs = "← → ↑ ↓ 1 2".split()
+    assert titles == [sign + mark for mark in ("", "₂", "₃", "₄") for sign in signs]
+    page.click_cell(3, "2₃")
+    check_saved(studio, page, changed(garden_frames(), 3, frame(0, pads=(0, 2, 0))))
+
+
 def test_keys_press_buttons_in_the_selected_rows(studio, page):
     frames = garden_frames()
     page.go_to(2)
@@ -122,11 +159,7 @@ def test_keys_press_buttons_in_the_selected_rows(studio, page):
 def test_autofire_and_text(studio, page):
     frames = garden_frames()
     page.go_to(0)
-    page.keys("arrow_right", *["shift+arrow_down"] * 6, "f")
-    page.script("""
-        document.getElementById('frames-on').value = 2;
-        document.getElementById('frames-off').value = 1;
-        document.querySelector('#autofire-dialog button[value=set]').click()""")
+    page.keys("arrow_right", *["shift+arrow_down"] * 6, "f", "2", "tab", "1", "enter")
     fired = [frame(RIGHT if at % 3 < 2 else 0) for at in range(7)] + frames[7:]
     check_saved(studio, page, fired)
     page.keys("home", "e")
@@ -194,6 +227,7 @@ def test_a_recording_is_begun_from_nothing(studio, page):
     with Studio(recording=None) as other:
         page.open(other.address)
         assert page.value("studio.session.count") == 0
+        page.wait("document.getElementById('spoken').textContent.includes('press R')")
         page.keys("a", "delete", "enter", "arrow_down", "space", "r")
         turn_keys(page, "keydown", ["ArrowRight"])
         page.wait("studio.player.place >= 30")

@@ -1,10 +1,14 @@
 """Tests of what the page shows beside the roll: playing, memory, sound, traces, units and branches."""
+import base64
+import hashlib
+import io
 import re
 import shutil
 import struct
 import time
 
-from browser import Missing, Page, Studio
+import moving_png
+from browser import PATIENCE, TOP, Missing, Page, Studio
 from recordings import CART, RIGHT, frame, garden_frames, image, of_frames, recording
 
 HOPS = 8472  # where the garden counts hops, in four bytes
@@ -36,6 +40,7 @@ def test_plays_to_the_end_as_fast_as_it_goes(studio, page):
 def test_a_place_is_typed_and_dragged(studio, page):
     page.keys("g", "7", "0", "enter")
     page.wait("studio.player.place === 70")
+    assert page.value("document.getElementById('spoken').textContent") == "frame 70: right"
     page.script("const bar = document.getElementById('bar'); bar.value = 121;"
                 "bar.dispatchEvent(new Event('input'))")
     page.wait_for_picture()
@@ -122,8 +127,36 @@ def test_an_idle_page_asks_nothing(studio, page):
     assert page.value("window.asked") == []
 
 
+def test_search_begins_with_bytes_outside_the_screen(studio, page):
+    """The counter of hops is among the addresses whose byte is 1; the screen's are left out."""
+    page.go_to(60)
+    page.keys("/", "enter")
+    page.wait("document.getElementById('search-text').textContent.includes('begun at place 60')")
+    page.script("document.activeElement.blur()")
+    page.go_to(61)
+    page.script("document.getElementById('is-value').value = 1;"
+                "document.querySelector('#is-form button').click()")
+    page.wait("document.getElementById('search-text').textContent.endsWith('(is 1 at place 61)')")
+    pages = [memory_of_place(page, place) for place in (60, 61)]
+    found = [at for at in range(65536) if pages[1][at] == 1]
+    outside = [at for at in found if not 160 <= at < 6560]
+    cells = "[...document.querySelectorAll('#search-table td:first-child')]"
+    shown = f"{cells}.map((cell) => Number(cell.textContent))"
+    assert HOPS in outside and pages[0][HOPS] == 0 and page.value(shown) == outside[:200]
+    page.script("document.getElementById('search-screen').click()")
+    assert page.value(shown) == found[:200]
+
+
+def memory_of_place(page, place):
+    return page.driver.execute_async_script("""
+        const [place, done] = arguments;
+        studio.pages.at(place).then((bytes) => done(Array.from(bytes)))""", place)
+
+
 def test_search_finds_the_hop_counter(studio, page):
     page.keys("/")
+    page.script("document.getElementById('search-width').value = 4;"
+                "document.getElementById('search-screen').click()")
     for place, button in [(60, "start"), (61, "more"), (110, "same"), (121, "more"), (240, "same")]:
         page.go_to(place)
         page.script(f"document.querySelector('[data-search={button}]').click()")
@@ -135,6 +168,17 @@ def test_search_finds_the_hop_counter(studio, page):
     assert page.value("document.querySelector('#search-table td').textContent") == str(HOPS)
     page.script("document.querySelector('#search-table button').click()")
     page.wait("document.querySelector('#watch-table td.number').textContent === '2'")
+    page.script("document.querySelector('#watch-table input').select();"
+                "document.querySelector('#watch-table input').focus()")
+    page.keys(*"hops", "enter")
+    page.wait("studio.watches.list[0].name === 'hops'")
+    stored = studio.recording.with_name("game.w4rec.studio") / "watches.json"
+    end = time.monotonic() + PATIENCE
+    while "hops" not in stored.read_text() and time.monotonic() < end:
+        time.sleep(0.02)
+    page.open(studio.address)
+    watch = "(({ address, width, name }) => [address, width, name])(studio.watches.list[0])"
+    assert page.value(watch) == [HOPS, 4, "hops"]
 
 
 def test_watches_show_the_value_of_the_place(studio, page):
@@ -250,6 +294,24 @@ def test_frames_near_the_budget_are_marked(studio, page):
         page.driver.get("about:blank")
 
 
+def test_a_trap_is_told_where_it_was(studio, page):
+    cart = TOP / "cases/inputs/carts/pixels-then-a-trap.wasm"
+    trapped = studio.recording.with_name("trapped.w4rec")
+    trapped.write_bytes(recording([frame(0)] * 3, cart))
+    with Studio(cart, trapped) as other:
+        page.open(other.address)
+        page.go_to(3)
+        page.wait("document.getElementById('heavy-frames').textContent === 'frame 0: trap'")
+        page.wait("document.getElementById('units').textContent === 'frame 2: halted'")
+        state = "state 3 of 3 halt trap memory disk 0"
+        page.wait(f"document.getElementById('state-line').textContent === '{state}'")
+        colors = page.value("['state-line', 'fault'].map((name) => document.getElementById(name))"
+                            ".map((part) => getComputedStyle(part))"
+                            ".map((style, at) => at ? style.backgroundColor : style.color)")
+        assert colors[0] == colors[1]
+        page.driver.get("about:blank")
+
+
 def check_marks_of_units(page):
     """What counts as near the budget, for each kind of line."""
     marks = page.script("""
@@ -325,6 +387,68 @@ def test_a_film_is_made(studio, page):
         fetch("film?from=61&to=80").then((answer) => answer.arrayBuffer())
             .then((data) => done(Array.from(new Uint8Array(data))))""")
     assert bytes(data[4:8]) == b"ftyp" and len(data) > 2000
+
+
+def test_a_film_without_another_program_has_each_frame(studio, page):
+    """The frames that Chromium decodes of it, each as long as it stands, are those of `frames`."""
+    images = of_frames("frames", garden_frames(), 55, 74)
+    film = moving_png.of_images(io.BytesIO(images), 20)
+    shown = page.driver.execute_async_script("""
+        const [text, done] = arguments;
+        const data = Uint8Array.from(atob(text), (letter) => letter.charCodeAt(0));
+        const decoder = new ImageDecoder({ data, type: "image/png" });
+        const canvas = new OffscreenCanvas(640, 640), context = canvas.getContext("2d");
+        async function frame(frameIndex) {
+            const { image } = await decoder.decode({ frameIndex });
+            context.drawImage(image, 0, 0);
+            const pixels = context.getImageData(0, 0, 640, 640).data;
+            const hash = new Uint8Array(await crypto.subtle.digest("SHA-256", pixels));
+            return [image.duration, Array.from(hash)];
+        }
+        async function frames() {
+            await decoder.tracks.ready;
+            await decoder.completed;
+            const rows = [];
+            const { frameCount } = decoder.tracks.selectedTrack;
+            for (let at = 0; at < frameCount; at += 1) rows.push(await frame(at));
+            return rows;
+        }
+        frames().then(done, (fault) => done(fault.message))""", base64.b64encode(film).decode())
+    assert isinstance(shown, list), shown
+    places = [bytes(hash_) for duration, hash_ in shown for _ in range(round(60 * duration / 1_000_000))]
+    assert places == [digest_of_squares(images[at + 15:at + IMAGE]) for at in range(0, len(images), IMAGE)]
+
+
+def digest_of_squares(pixels):
+    """Of an image whose pixels are squares of four by four, each with an alpha of 255."""
+    rows = [b"".join((pixels[at:at + 3] + b"\xff") * 4 for at in range(row, row + 480, 3))
+            for row in range(0, len(pixels), 480)]
+    return hashlib.sha256(b"".join(row * 4 for row in rows)).digest()
+
+
+def test_equal_images_of_a_film_stand_longer(studio, page):
+    """A delay counts up to 65,535 frames."""
+    assert list(moving_png.held("aabca")) == [("a", 2), ("b", 1), ("c", 1), ("a", 1)]
+    assert list(moving_png.held("a" * 65_537)) == [("a", 65_535), ("a", 2)]
+    assert not list(moving_png.held(""))
+
+
+def test_files_have_the_recording_s_name_and_stay_as_a_link(studio, page):
+    ending = "mp4" if shutil.which("ffmpeg") else "png"
+    page.go_to(60)
+    page.keys("shift+arrow_down")
+    names = {"shift+w": "game.wav", "shift+s": "game.copy.w4rec", "shift+f": f"game.{ending}"}
+    for key, name in names.items():
+        page.keys(key)
+        page.wait(f"document.getElementById('made').download === '{name}'")
+    page.script("const make = URL.createObjectURL;"
+                "URL.createObjectURL = (blob) => { window.saved = blob; return make(blob); }")
+    page.keys("shift+s")
+    page.wait("document.getElementById('made').download === 'game.copy.w4rec' && window.saved")
+    data = page.driver.execute_async_script("""
+        const done = arguments[arguments.length - 1];
+        saved.arrayBuffer().then((data) => done(Array.from(new Uint8Array(data))))""")
+    assert bytes(data) == studio.recording.read_bytes() == recording(garden_frames())
 
 
 def test_help_names_each_key_once(studio, page):

@@ -47,7 +47,7 @@ def test_it_is_saved_a_while_after_an_edit(studio, page):
 def test_it_is_saved_when_the_page_is_lost(studio, page):
     do_not_save_after_a_while(page)
     change_frame_60(page)
-    page.script("studio.session.connection.socket.close()")
+    page.script("const { connection } = studio.session; connection.socket.close(); connection.ask('state 0')")
     wait_for_file(studio, recording(EDITED))
 
 
@@ -80,6 +80,8 @@ def test_a_killed_server_loses_nothing(studio, page):
     studio.process.wait()
     wait_for_file(studio, recording(EDITED))
     page.wait("!document.getElementById('fault').hidden")
+    page.script("document.getElementById('fault-button').click()")
+    assert page.value("document.getElementById('fault').hidden")
 
 
 def test_an_ended_program_is_told_and_begun_anew(studio, page):

@@ -1,8 +1,13 @@
 // All acts of the page, each with its keys, for the dispatch of keys, the buttons and the page of keys.
-import { BUTTONS, spokenInput } from "./input.js";
+import { BUTTONS, isSame, spokenInput } from "./input.js";
 import { request, download } from "./services.js";
 
 const SECOND = 60;
+const FILES = { film: "film", wave: "WAV file", recording: "copy" };
+const ENDINGS = {
+  "video/mp4": ".mp4", "image/png": ".png", "audio/wav": ".wav", "application/octet-stream": ".copy.w4rec",
+};
+const SILENT = ": a moving picture for a browser, without sound, since ffmpeg isn't installed";
 const BUTTON_KEYS = { 16: ["A"], 32: ["D"], 64: ["W"], 128: ["S"], 1: ["1"], 2: ["2"] };
 
 function focus(name) {
@@ -18,6 +23,7 @@ function click(name) {
 export class Acts {
   constructor(parts) {
     Object.assign(this, parts);
+    this.selection.addEventListener("moved", () => this.sayPlace());
   }
 
   all() {
@@ -37,6 +43,8 @@ export class Acts {
       act("second-back", ["PageUp"], "a second back", by(-SECOND, false)),
       act("first", ["Home"], "to the first place", () => this.moveTo(0, false)),
       act("last", ["End"], "to the last place", () => this.moveTo(session.count, false)),
+      act("change-below", ["Ctrl+ArrowDown"], "on to the next change of inputs", () => this.toChange(1)),
+      act("change-above", ["Ctrl+ArrowUp"], "back to the last change of inputs", () => this.toChange(-1)),
       act("place", ["G"], "type a place", () => focus("place")),
       act("faster", ["+", "="], "play faster", () => this.changeSpeed(1)),
       act("slower", ["-"], "play slower", () => this.changeSpeed(-1)),
@@ -94,7 +102,7 @@ export class Acts {
       act("redo", ["Ctrl+Y", "Ctrl+Shift+Z"], "redo", () => this.step("redo", "done again")),
       act("save", ["Ctrl+S"], "save now; it is also saved at each pause", () => this.session.save()),
       act("branch", ["B"], "make a branch", () => this.openBranches()),
-      act("save-recording", [], "", () => this.saveAs("recording", {}, "copy.w4rec")),
+      act("save-recording", ["Shift+S"], "save a copy of the recording", () => this.saveCopy()),
       act("save-film", ["Shift+F"], "save a film of the selected rows, or of all", () => this.saveFilm()),
     ];
   }
@@ -112,7 +120,7 @@ export class Acts {
     const act = (name, keys, title, run) => ({ group: "Panes", name, keys, title, run });
     return [
       act("watch", ["N"], "a new watch", () => this.openWatches()),
-      act("search", ["/"], "search memory", () => this.openPane("search-pane", "search-width")),
+      act("search", ["/"], "search memory", () => this.openPane("search-pane", "start-button")),
       act("hexadecimal", ["H"], "show memory in hexadecimal", () => this.openHexadecimal()),
       act("theme", ["L"], "light or dark", () => click("theme-button")),
       act("help", ["?"], "this page", () => document.getElementById("help").showModal()),
@@ -123,10 +131,21 @@ export class Acts {
 
   moveTo(place, reaches) {
     this.selection.moveTo(place, reaches);
+  }
+
+  sayPlace() {
     const { place: now } = this.player;
     const input = this.session.inputs[now];
     const mark = this.facts.isHeavy(now) ? "; near its budget" : "";
     this.say(input ? `frame ${now}: ${spokenInput(input)}${mark}` : `place ${now}, the end`);
+  }
+
+  // The nearest row, down or up, whose inputs aren't those of the row above it.
+  toChange(step) {
+    const { inputs, count } = this.session;
+    let at = this.player.place + step;
+    while (at > 0 && at < count && isSame(inputs[at], inputs[at - 1])) at += step;
+    this.moveTo(Math.max(0, Math.min(at, count)), false);
   }
 
   moveColumn(step) {
@@ -202,6 +221,7 @@ export class Acts {
     dialog.returnValue = "cancel";
     dialog.addEventListener("close", () => { if (dialog.returnValue === "set") work(); }, { once: true });
     dialog.showModal();
+    if (document.activeElement.select && dialog.id !== "text-dialog") document.activeElement.select();
   }
 
   openPane(pane, field) {
@@ -228,22 +248,32 @@ export class Acts {
     return { from: first + 1, to: Math.max(end, first + 1) };
   }
 
-  async saveAs(kind, query, name) {
-    this.say(`making ${name}`);
+  // A file of the recording's name, with an ending that its type gives.
+  async saveAs(kind, query) {
+    this.closeFault();
+    this.say(`making a ${FILES[kind]}`);
     try {
-      await download(await request(kind, query), name);
-      this.say(`${name} is made`);
+      const response = await request(kind, query);
+      const type = response.headers.get("Content-Type");
+      const name = this.recordingName + ENDINGS[type];
+      await download(response, name);
+      this.say(`${name} is made${type === "image/png" ? SILENT : ""}`);
     } catch (refusal) {
+      this.say(`no ${FILES[kind]} was made`);
       this.fault(refusal.message);
     }
   }
 
+  saveCopy() {
+    return this.saveAs("recording", {});
+  }
+
   saveFilm() {
-    return this.saveAs("film", this.stretch(), "film.mp4");
+    return this.saveAs("film", this.stretch());
   }
 
   saveWave() {
-    return this.saveAs("wave", this.stretch(), "sound.wav");
+    return this.saveAs("wave", this.stretch());
   }
 
   async hear() {

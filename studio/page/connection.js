@@ -43,7 +43,8 @@ export class Connection extends EventTarget {
 
   // Orders of one moment go as one message.
   flush() {
-    if (this.isOpen) this.socket.send(this.lines.join("\n"));
+    const isOpen = this.isOpen && this.socket.readyState === WebSocket.OPEN;
+    if (isOpen) this.socket.send(this.lines.join("\n"));
     this.lines = [];
   }
 

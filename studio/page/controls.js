@@ -116,7 +116,7 @@ export class Controls {
 
   showSelection() {
     const [first, end] = this.selection.range;
-    const text = this.selection.isWide ? `${end - first} rows selected, ${first} to ${end - 1}` : "";
+    const text = this.selection.isWide ? `${end - first} rows, ${first} to ${end - 1}` : "";
     document.getElementById("selection-text").textContent = text;
   }
 

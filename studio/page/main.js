@@ -32,15 +32,25 @@ function say(text) {
 }
 
 function fault(text) {
-  element("fault").textContent = text;
+  element("fault-text").textContent = text;
   element("fault").hidden = false;
 }
 
+function closeFault() {
+  element("fault").hidden = true;
+}
+
+const TWICE = 200; // milliseconds; Chromium makes two events of one Ctrl+Shift+V
+
 function listenToClipboard(rowActs) {
   let isOver = false;
+  let pasted = -TWICE;
   const hasText = () => !document.getSelection().isCollapsed;
   const isElsewhere = (event) => event.target.matches("input, textarea") || hasText();
-  document.addEventListener("keydown", (event) => { isOver = event.shiftKey; }, true);
+  document.addEventListener("keydown", (event) => {
+    isOver = event.shiftKey;
+    pasted = -TWICE;
+  }, true);
   for (const name of ["copy", "cut"]) {
     document.addEventListener(name, (event) => {
       if (isElsewhere(event)) return;
@@ -52,6 +62,8 @@ function listenToClipboard(rowActs) {
   document.addEventListener("paste", (event) => {
     if (event.target.matches("input, textarea")) return;
     event.preventDefault();
+    if (event.timeStamp - pasted < TWICE) return;
+    pasted = event.timeStamp;
     rowActs.paste(event.clipboardData.getData("text/plain"), isOver);
   });
 }
@@ -84,7 +96,7 @@ async function joinParts(session, greeting) {
   const watches = new Watches({ session, player, pages, list: await storedWatches(), say });
   const parts = {
     session, player, selection, roll, rowActs, recorder, controllers, sound, keeper, facts, pages, watches,
-    say, fault,
+    say, fault, closeFault, recordingName: greeting.recording.split("/").pop().replace(/\.w4rec$/, ""),
   };
   new RollPointer(roll);
   new Search(parts);
@@ -109,7 +121,7 @@ async function begin(connection, greeting) {
   document.title = `${greeting.cart} · w4 studio`;
   const session = new Session(connection);
   session.addEventListener("fault", (event) => fault(event.detail.text));
-  session.addEventListener("saved", () => { element("fault").hidden = true; });
+  session.addEventListener("saved", closeFault);
   await session.load();
   const parts = await joinParts(session, greeting);
   window.studio = parts; // for who looks in from the browser's console, and for tests
@@ -118,9 +130,11 @@ async function begin(connection, greeting) {
   }
   element("help-button").addEventListener("click", () => element("help").showModal());
   element("roll-scroll").focus();
+  if (!session.count) say("there are no frames yet: press R (Record), and play with the arrows, X and Z");
 }
 
 function connect() {
+  element("fault-button").addEventListener("click", closeFault);
   const address = new URL("session", location.href);
   address.protocol = "ws:";
   const connection = new Connection(address);

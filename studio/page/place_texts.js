@@ -24,6 +24,7 @@ export class PlaceTexts {
     this.work = new Refresher(() => this.update(), 100);
     player.addEventListener("shown", () => this.work.ask());
     facts.addEventListener("change", () => this.updateHeavy());
+    this.updateHeavy(); // some may be known already
   }
 
   pane(name) {
@@ -93,7 +94,8 @@ export class PlaceTexts {
     const row = document.createElement("li");
     const button = document.createElement("button");
     button.className = "heavy";
-    button.textContent = `frame ${frame}: ${this.facts.of(frame).units} units`;
+    const { units } = this.facts.of(frame);
+    button.textContent = `frame ${frame}: ${typeof units === "number" ? `${units} units` : units}`;
     button.addEventListener("click", () => this.selection.moveTo(frame + 1, false));
     row.append(button);
     return row;

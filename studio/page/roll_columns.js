@@ -8,6 +8,7 @@ const COORDINATE = 48;
 const LANE = 16;
 const UNITS = 46;
 const GAP = 8;
+const PAD_MARKS = ["", "₂", "₃", "₄"]; // behind a button's sign, which gamepad it is of
 
 // Those that a cursor can stand in have a name.
 export function rollColumns(gamepads, withMouse) {
@@ -15,7 +16,8 @@ export function rollColumns(gamepads, withMouse) {
   for (let pad = 0; pad < gamepads; pad += 1) {
     BUTTONS.forEach(({ bit, title, name }, at) => {
       const spoken = pad ? `gamepad ${pad + 1} ${name}` : name;
-      columns.push({ kind: "button", pad, bit, title, name: spoken, width: BUTTON, gap: at ? 0 : GAP });
+      const place = { width: BUTTON, gap: at ? 0 : GAP };
+      columns.push({ kind: "button", pad, bit, title: title + PAD_MARKS[pad], name: spoken, ...place });
     });
   }
   if (withMouse) columns.push(...mouseColumns());

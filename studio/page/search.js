@@ -3,6 +3,7 @@ import { Refresher } from "./refresher.js";
 import { valueAt } from "./memory_page.js";
 
 const SHOWN = 200; // rows of the list
+const SCREEN = [160, 6560]; // the picture's bytes, which change with all that moves
 
 export class Search {
   constructor({ session, player, pages, watches, say }) {
@@ -12,6 +13,7 @@ export class Search {
     this.text = document.getElementById("search-text");
     this.body = document.querySelector("#search-table tbody");
     this.value = document.getElementById("is-value");
+    this.withScreen = document.getElementById("search-screen");
     this.found = null;
     this.values = new Refresher(() => this.updateValues(), 60);
     this.listen();
@@ -25,6 +27,7 @@ export class Search {
       event.preventDefault();
       this.narrow("is");
     });
+    this.withScreen.addEventListener("change", () => { if (this.all) this.show(); });
     this.player.addEventListener("shown", () => this.values.ask());
     this.pane.addEventListener("toggle", () => this.values.ask());
   }
@@ -51,11 +54,23 @@ export class Search {
   }
 
   async list(kind, place) {
-    const [head, ...addresses] = (await this.session.connection.askText("list")).trim().split("\n");
-    this.found = addresses.map(Number);
-    const what = kind === "start" ? "begun" : kind;
+    const [, ...addresses] = (await this.session.connection.askText("list")).trim().split("\n");
+    this.all = addresses.map(Number);
+    this.said = kind === "is" ? `is ${Number(this.value.value)}` : kind;
+    if (kind === "start") this.said = "begun";
+    this.searchedAt = place;
+    this.show();
+  }
+
+  show() {
+    const [first, end] = SCREEN;
+    const isOfScreen = (address) => address >= first && address < end;
+    this.found = this.withScreen.checked ? this.all : this.all.filter((address) => !isOfScreen(address));
+    const left = this.all.length - this.found.length;
+    const hidden = left ? `, and ${left} in the screen` : "";
     const more = this.found.length > SHOWN ? `; the first ${SHOWN} are shown` : "";
-    this.text.textContent = `${head.slice(6)} found (${what} at place ${place})${more}`;
+    const step = `${this.said} at place ${this.searchedAt}`;
+    this.text.textContent = `${this.found.length} found${hidden} (${step})${more}`;
     this.buildRows();
   }
 

@@ -41,6 +41,7 @@ export class Selection extends EventTarget {
     this.head = Math.max(0, Math.min(place, this.session.count));
     this.player.goTo(this.head);
     this.tell();
+    this.dispatchEvent(new Event("moved"));
   }
 
   clear() {
@@ -50,7 +51,7 @@ export class Selection extends EventTarget {
 
   all() {
     this.anchor = 0;
-    this.head = this.session.count;
+    this.head = Math.max(0, this.session.count - 1);
     this.tell();
   }
 

@@ -7,11 +7,14 @@ export async function request(name, query = {}, options = {}) {
   return response;
 }
 
-// Gives the user bytes as a file.
+// Gives the user bytes as a file. The link stays, for where the browser holds a download back, as it does
+// with one that comes long after the key.
 export async function download(response, name) {
-  const link = document.createElement("a");
+  const link = document.getElementById("made");
+  if (link.href) URL.revokeObjectURL(link.href);
   link.href = URL.createObjectURL(await response.blob());
   link.download = name;
+  link.textContent = name;
+  link.hidden = false;
   link.click();
-  setTimeout(() => URL.revokeObjectURL(link.href), 60000);
 }

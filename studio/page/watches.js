@@ -7,6 +7,10 @@ import { request } from "./services.js";
 const PLOTTED = 120; // places
 const HEIGHT = 24;
 
+function addressName(address) {
+  return `0x${hexadecimal(address, 4)}`;
+}
+
 // The watches are stored beside the recording.
 export async function storedWatches() {
   return (await request("watches")).json();
@@ -45,7 +49,7 @@ export class Watches {
   }
 
   add(address, width, name) {
-    this.list.push({ address, width, name: name || `0x${hexadecimal(address, 4)}`, values: new Map() });
+    this.list.push({ address, width, name: name || addressName(address), values: new Map() });
     this.pane.open = true;
     this.store();
   }
@@ -71,7 +75,7 @@ export class Watches {
   buildRow(watch) {
     const row = document.createElement("tr");
     const [name, address, value, plot, remove] = Array.from({ length: 5 }, () => row.insertCell());
-    name.textContent = watch.name;
+    name.append(this.nameField(watch));
     address.textContent = `${watch.address} (${watch.width})`;
     value.className = "number";
     const canvas = document.createElement("canvas");
@@ -87,6 +91,18 @@ export class Watches {
     });
     remove.append(button);
     return { row, watch, value, canvas };
+  }
+
+  // The name can be typed anew, as that of a watch that a search found.
+  nameField(watch) {
+    const field = document.createElement("input");
+    field.value = watch.name;
+    field.setAttribute("aria-label", `Name of the watch of address ${watch.address}`);
+    field.addEventListener("change", () => {
+      watch.name = field.value.trim() || addressName(watch.address);
+      this.store();
+    });
+    return field;
   }
 
   async update() {
