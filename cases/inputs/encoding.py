@@ -14,5 +14,14 @@ def number(n):
     return spelled + bytes([n])
 
 
+def signed_number(n):
+    """A signed LEB128 number in its shortest spelling."""
+    spelled = b""
+    while not -64 <= n < 64:
+        spelled += bytes([n % 128 + 128])
+        n //= 128
+    return spelled + bytes([n % 128])
+
+
 def section(kind, contents):
     return bytes([kind]) + number(len(contents)) + contents

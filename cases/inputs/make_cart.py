@@ -4,8 +4,12 @@
     python3 make_cart.py NUMBER CART REC
 """
 import hashlib
+import os
 import struct
 import sys
+
+sys.path.insert(0, os.path.dirname(os.path.abspath(__file__)))
+from encoding import number, signed_number  # noqa: E402
 
 # add, sub, mul, and, or, xor, shl, shr_s, shr_u, rotl, rotr
 OPERATIONS = bytes.fromhex("6a6b6c7172737475767778")
@@ -13,45 +17,27 @@ FUNCTIONS, FRAMES, BUDGET = 64, 600, 100_000
 WORDS = 6560
 
 
-def draws(number):
+def draws(seed):
     """Numbers of 16 bits, one after another."""
     while True:
-        number = (number * 1_664_525 + 1_013_904_223) % 2**32
-        yield number // 65_536
-
-
-def unsigned(n):
-    """An unsigned LEB128 number, as short as can be."""
-    data = b""
-    while n >= 128:
-        data += bytes([n % 128 + 128])
-        n //= 128
-    return data + bytes([n])
-
-
-def signed(n):
-    """A signed LEB128 number, as short as can be."""
-    data = b""
-    while not -64 <= n < 64:
-        data += bytes([n % 128 + 128])
-        n //= 128
-    return data + bytes([n % 128])
+        seed = (seed * 1_664_525 + 1_013_904_223) % 2**32
+        yield seed // 65_536
 
 
 def const(n):
-    return b"\x41" + signed(n)
+    return b"\x41" + signed_number(n)
 
 
 def vector(items):
-    return unsigned(len(items)) + b"".join(items)
+    return number(len(items)) + b"".join(items)
 
 
 def sized(data):
-    return unsigned(len(data)) + data
+    return number(len(data)) + data
 
 
-def section(number, items):
-    return bytes([number]) + sized(vector(items))
+def section(kind, items):
+    return bytes([kind]) + sized(vector(items))
 
 
 def name(text):
@@ -71,7 +57,7 @@ def small_function(drawn):
 def update():
     load, load_byte, store = b"\x28\x02\x00", b"\x2d\x00\x00", b"\x36\x02\x00"
     steps = b"".join(
-        const(WORDS + 4 * g) * 2 + load + const(22) + load_byte + b"\x10" + unsigned(g + 1) + store
+        const(WORDS + 4 * g) * 2 + load + const(22) + load_byte + b"\x10" + number(g + 1) + store
         for g in range(FUNCTIONS))
     sides = b"".join(const(WORDS + 4 * k) + load_byte for k in range(4))
     return steps + sides + b"\x10\x00"
@@ -83,7 +69,7 @@ def made_cart(drawn):
         section(1, [b"\x60\x00\x00", b"\x60\x02\x7f\x7f\x01\x7f", b"\x60\x04\x7f\x7f\x7f\x7f\x00"]),
         section(2, [name("env") + name("rect") + b"\x00\x02", name("env") + name("memory") + b"\x02\x01\x01\x01"]),
         section(3, [b"\x01"] * FUNCTIONS + [b"\x00"]),
-        section(7, [name("update") + b"\x00" + unsigned(FUNCTIONS + 1)]),
+        section(7, [name("update") + b"\x00" + number(FUNCTIONS + 1)]),
         section(10, bodies),
     ])
 
@@ -94,8 +80,8 @@ def made_recording(cart, drawn):
     return (b"W4RC\x02" + hashlib.sha256(cart).digest() + struct.pack("<IHI", BUDGET, 0, FRAMES) + frames)
 
 
-def made(number):
-    drawn = draws(number)
+def made(seed):
+    drawn = draws(seed)
     cart = made_cart(drawn)
     return cart, made_recording(cart, drawn)
 

@@ -67,6 +67,8 @@ OUTPUTS = {
     "frames 0 400": CLEAR * 401,
     "wave of 400 frames": wave.wav([(True, [])] + [(False, [])] * 400),
     "late-pads": b"".join(late_pads()),
+    "256-watches": (b"watch 22 " + b" ".join(b"%d" % (k - 1) for k in range(100, 201)) + b"\n") * 256,
+    "watches-beside-a-kept-place": b"watch 22 %d\nwatch 22 %d\n" % (398 % 256, 399 % 256) * 100,
     "watch-400": b"watch 22 0 " + b" ".join(b"%d" % (k % 256) for k in range(400)) + b"\n",
     "600-images": b"".join(map(counted, range(600))) + b"refused too long\nrefused no frame\n",
 }

@@ -12,19 +12,10 @@ import sys
 
 HERE = os.path.dirname(os.path.abspath(__file__))
 sys.path.insert(0, os.path.dirname(HERE))
-from encoding import hexed, number, section  # noqa: E402
+from encoding import hexed, number, section, signed_number  # noqa: E402
 
 WANTED = os.path.join(HERE, "..", "..", "wanted", "machine")
 AMPLE = 100_000
-
-
-def signed_number(n):
-    """A signed LEB128 number in its shortest spelling."""
-    spelled = b""
-    while not -64 <= n < 64:
-        spelled += bytes([n % 128 + 128])
-        n //= 128
-    return spelled + bytes([n % 128])
 
 
 def constant(width, n):

@@ -78,27 +78,24 @@ unkept decides p session refusal (inl is) other =
     (ap (λ (r : Option EditRefusal).
     unless r (with_list session (with_kept kept_entries entry session.current.kept))) is)
 
-pub changed_by_keep : {X : Type 0} (result : Result X EditRefusal) → PlacesDecide kept_entries
-    → (p before after : ℕ) (old new : Editing)
-    → OnOk result (IsKeptAt p before after old new)
-    → IfErr result (IsCauseOrMemory (keep_refusal kept_entries p old.session.current))
-    → IfErr result (λ refusal. refusal ≢ OutOfMemory → new ≡ old)
-    → IsChanged result old new (keep places_alone p (place_session old))
-changed_by_keep (Ok x) decides p before after old new ok refused unchanged =
-    (kept_made decides p before after old new ok, kept_rest p before after old new ok)
-changed_by_keep (Err refusal) decides p before after old new ok refused unchanged =
-    λ other. (unkept decides p old.session refusal refused other, unchanged other)
+pub changed_by_keep : PlacesDecide kept_entries → (p before after copied : ℕ) (old new : Editing)
+    → IsKeptAt p before after copied old new
+    → (keep places_alone p (place_session old) ≡ Ok (place_session new)) × KeepsRest old new
+changed_by_keep decides p before after copied old new ok =
+    (kept_made decides p before after copied old new ok, kept_rest p before after copied old new ok)
+
+pub unchanged_by_keep : PlacesDecide kept_entries → (p : ℕ) (old new : Editing) (refusal : EditRefusal)
+    → IsCauseOrMemory (keep_refusal kept_entries p old.session.current) refusal
+    → (refusal ≢ OutOfMemory → new ≡ old)
+    → refusal ≢ OutOfMemory → (keep places_alone p (place_session old) ≡ Err refusal) × (new ≡ old)
+unchanged_by_keep decides p old new refusal refused unchanged other =
+    (unkept decides p old.session refusal refused other, unchanged other)
 
 -- an edit that is refused leaves the recording
 pub recording_unchanged : {X : Type 0} (result : Result X EditRefusal) (old new : Editing)
     → OnErr result (new ≡ old) → OnErr result (current_recording new ≡ current_recording old)
 recording_unchanged (Ok x) old new same = tt
 recording_unchanged (Err refusal) old new same = ap (λ (e : Editing). current_recording e) same
-
-pub recording_kept : {X : Type 0} (result : Result X EditRefusal) (old new : Editing)
-    → OnErr result (KeepsRecording old new) → OnErr result (current_recording new ≡ current_recording old)
-recording_kept (Ok x) old new keeps = tt
-recording_kept (Err refusal) old new keeps = same_recording old new keeps
 
 -- ---- answers
 

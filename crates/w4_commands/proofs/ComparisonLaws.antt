@@ -26,6 +26,7 @@ use Rattle.w4_commands.specs.declared.stage.Stage.{Stage}
 use Rattle.w4_defs.specs.State.{HasGlobals, Moment}
 use Rattle.w4_defs.specs.declared.console.Input.{Input}
 use Rattle.w4_commands.specs.declared.differences.Differences.{Differences}
+use Rattle.w4_commands.proofs.EndLaws.{only_out_fails}
 use Rattle.w4_commands.proofs.OutLaws.{front_does, written_does}
 
 -- two tests of the same fact answer alike
@@ -174,19 +175,22 @@ module _ (first second third : World) (leaves : LeavesReading first second) (res
   lines_stopped : (why : Manner) → StopsWriting second third why lines.text → EndsRefused first third why step
   lines_stopped ReadFailed h = absurd h
   lines_stopped InputFailed h = absurd h
-  lines_stopped WriteFailed h = (
-    subst (λ n. Rises n third.write_faults) leaves.writes h.0,
-    λ files told. let front = front_does first second third lines.text leaves rest h.1 in (
-      compared_result lines,
-      made files told,
-      inl (
-        front.0,
-        inr refl,
-        inl (nothing_saved first third
-            (take front.0 (wrote lines.text)) front.1),
-      ),
-    ),
-  )
+  lines_stopped WriteFailed h =
+      let rise = subst (λ n. Rises n third.write_faults) leaves.writes h.0 in (
+        rise,
+        λ files told. let front = front_does first second third lines.text leaves rest h.1 in (
+          compared_result lines,
+          made files told,
+          inl (
+            front.0,
+            inr refl,
+            inl (
+              nothing_saved first third (take front.0 (wrote lines.text)) front.1,
+              only_out_fails first third front.0 lines.text rise,
+            ),
+          ),
+        ),
+      )
   lines_stopped MemoryRefused h = inr (λ files told.
       let front = front_does first second third lines.text leaves rest h in
       (compared_result lines, made files told, front.0, inl front.1))

@@ -1,11 +1,11 @@
 -- How the whole ended, put together from how its steps ended.
-use Rattle.std.proofs.Common.{◌≡◌, ◌⊎◌, ℕ, inl, inr, List, [], ◌∷◌, ◌++◌, take, Option, Some, option_map, Result, Ok, Err, refl, sym, subst, ap, ◌∙◌}
+use Rattle.std.proofs.Common.{◌≡◌, ◌⊎◌, ◌+◌, ℕ, inl, inr, List, [], ◌∷◌, ◌++◌, take, Option, Some, option_map, Result, Ok, Err, refl, sym, subst, ap, ◌∙◌}
 use Rattle.std.specs.Option.{ForSome}
 use Rattle.std.specs.Prelude.{IsSome}
 use Rattle.std.proofs.lemmas.List.{append-nil}
 use Rattle.w4_defs.specs.Recording.{encoding}
-use Rattle.w4_defs.specs.World.{Event, InputLost, Saved, Files, World, Rises, Does, FailsToSave, not_saved, LeavesReading, LeavesWriting, wrote}
-use Rattle.w4_house.proofs.WorldLaws.{reading_none, rises_later}
+use Rattle.w4_defs.specs.World.{Event, InputLost, Saved, Files, World, Rises, RisesBy, Does, FailsToSave, OutFails, SavesOrFails, failed_saves, not_saved, LeavesReading, LeavesWriting, wrote}
+use Rattle.w4_house.proofs.WorldLaws.{reading_none, rises_later, take-wrote}
 use Rattle.w4_defs.specs.declared.status.Finish.{Finish}
 use Rattle.w4_defs.specs.declared.status.Finish.TheVariants.{Done}
 use Rattle.w4_defs.specs.declared.status.Refusal.{Refusal}
@@ -18,6 +18,7 @@ use Rattle.w4_defs.specs.Outputs.{OutputsBy, OutputsOn, OverCart, OverFile, cart
 use Rattle.w4_defs.specs.Causes.{Ends, EndsRefused, RunsOutAfter, WritesPart, stopped_events}
 use Rattle.w4_commands.specs.Causes.{Carried, DoesFront, EndsDone, finished, MakesOf, ResultsIn, Stops, StopsCarrying, StopsWriting, Written}
 use Rattle.w4_defs.proofs.ThereLaws.{value_there}
+use Rattle.w4_commands.proofs.CountedLaws.{failed-wrote}
 use Rattle.w4_commands.proofs.OutLaws.{does_later, front_does, written_does}
 use Rattle.w4_commands.proofs.StepLaws.{stops_making}
 
@@ -33,19 +34,40 @@ fails_later first second third done saved leaves (inl does) =
 fails_later first second third done saved leaves (inr does) =
     inr (does_later first second third (done ++ saved ++ not_saved saved) leaves does)
 
+out_fails_later : (first second third : World) (done : List Event) → LeavesReading first second
+    → OutFails second third done → OutFails first third done
+out_fails_later first second third done leaves out =
+    subst (λ n. RisesBy (failed_saves done + 1) n third.write_faults) leaves.writes out
+
+saves_later : (first second third : World) (done saved : List Event) → LeavesReading first second
+    → SavesOrFails second third done saved → SavesOrFails first third done saved
+saves_later first second third done saved leaves (inl does) =
+    inl (does_later first second third (done ++ saved) leaves does)
+saves_later first second third done saved leaves (inr fails) =
+    inr (fails_later first second third done saved leaves fails)
+
 part_later : (first second third : World) (output : Output) → LeavesReading first second
     → WritesPart second third output → WritesPart first third output
-part_later first second third output leaves (inl (count, short, inl does)) =
-    inl (count, short, inl (does_later first second third (stopped_events output count) leaves does))
-part_later first second third output leaves (inl (count, short, inr fails)) = inl (
+part_later first second third output leaves (inl (count, short, inl (does, out))) = inl (
   count,
   short,
-  inr (fails_later first second third (take count output.events) (output.rescued count) leaves
-      fails),
+  inl (
+    does_later first second third (stopped_events output count) leaves does,
+    out_fails_later first second third (stopped_events output count) leaves out,
+  ),
 )
-part_later first second third output leaves (inr (inl (count, wants, fails))) = inr (inl (
+part_later first second third output leaves (inl (count, short, inr (fails, out))) = inl (
+  count,
+  short,
+  inr (
+    fails_later first second third (take count output.events) (output.rescued count) leaves fails,
+    out_fails_later first second third (take count output.events ++ not_saved (output.rescued count)) leaves out,
+  ),
+)
+part_later first second third output leaves (inr (inl (count, wants, rise, fails))) = inr (inl (
   count,
   wants,
+  rises_later first.read_faults second.read_faults third.read_faults leaves.later rise,
   fails_later first second third (take count output.events ++ InputLost ∷ []) (output.rescued count) leaves
       fails,
 ))
@@ -56,18 +78,18 @@ runs_out_later : (first second third : World) (output : Output) (count : ℕ) �
     → RunsOutAfter second third output count → RunsOutAfter first third output count
 runs_out_later first second third output count leaves (inl does) =
     inl (does_later first second third (take count output.events) leaves does)
-runs_out_later first second third output count leaves (inr (inl (before, near, inl does))) = inr (inl (
+runs_out_later first second third output count leaves (inr (inl (before, near, saves))) = inr (inl (
   before,
   near,
-  inl (does_later first second third (take count output.events ++ output.rescued before) leaves does),
+  saves_later first second third (take count output.events) (output.rescued before) leaves saves,
 ))
-runs_out_later first second third output count leaves (inr (inl (before, near, inr fails))) = inr (inl (
-  before,
-  near,
-  inr (fails_later first second third (take count output.events) (output.rescued before) leaves fails),
+runs_out_later first second third output count leaves (inr (inr (wants, inl does))) =
+    inr (inr (wants, inl (does_later first second third (take count output.events ++ InputLost ∷ []) leaves does)))
+runs_out_later first second third output count leaves (inr (inr (wants, inr saves))) = inr (inr (
+  wants,
+  inr (saves_later first second third (take count output.events ++ InputLost ∷ []) (output.rescued count) leaves
+      saves),
 ))
-runs_out_later first second third output count leaves (inr (inr (wants, does))) =
-    inr (inr (wants, does_later first second third (take count output.events ++ InputLost ∷ []) leaves does))
 
 refused_later : (first second third : World) (why : Manner) (step : Step) → LeavesReading first second
     → EndsRefused second third why step → EndsRefused first third why step
@@ -244,6 +266,17 @@ ends_unprinted old new why read text leaves h =
 nothing_saved : (old new : World) (done : List Event) → Does old new done → Does old new (done ++ [])
 nothing_saved old new done does = subst (Does old new) (sym (append-nil done)) does
 
+-- a write failed after so many of these bytes, and nothing was to be saved
+no_saves : (count : ℕ) (bytes : List ℕ) → failed_saves (take count (wrote bytes) ++ []) ≡ 0
+no_saves count bytes =
+    ap failed_saves (append-nil (take count (wrote bytes)) ∙ take-wrote count bytes)
+    ∙ failed-wrote (take count bytes)
+
+pub only_out_fails : (old new : World) (count : ℕ) (bytes : List ℕ) → Rises old.write_faults new.write_faults
+    → OutFails old new (take count (wrote bytes) ++ [])
+only_out_fails old new count bytes rise =
+    subst (λ n. RisesBy (n + 1) old.write_faults new.write_faults) (sym (no_saves count bytes)) rise
+
 -- the bytes were written that a step allows
 module _ (first second third : World) (leaves : LeavesReading first second)
     (rest : LeavesWriting second third) (out : List ℕ) (step : Step)
@@ -251,19 +284,22 @@ module _ (first second third : World) (leaves : LeavesReading first second)
   text_stopped : (why : Manner) → StopsWriting second third why out → EndsRefused first third why step
   text_stopped ReadFailed h = absurd h
   text_stopped InputFailed h = absurd h
-  text_stopped WriteFailed h = (
-    subst (λ n. Rises n third.write_faults) leaves.writes h.0,
-    λ files told. let front = front_does first second third out leaves rest h.1 in (
-      only_written out,
-      made files told,
-      inl (
-        front.0,
-        inr refl,
-        inl (nothing_saved first third
-            (take front.0 (wrote out)) front.1),
-      ),
-    ),
-  )
+  text_stopped WriteFailed h =
+      let rise = subst (λ n. Rises n third.write_faults) leaves.writes h.0 in (
+        rise,
+        λ files told. let front = front_does first second third out leaves rest h.1 in (
+          only_written out,
+          made files told,
+          inl (
+            front.0,
+            inr refl,
+            inl (
+              nothing_saved first third (take front.0 (wrote out)) front.1,
+              only_out_fails first third front.0 out rise,
+            ),
+          ),
+        ),
+      )
   text_stopped MemoryRefused h = inr (λ files told.
       let front = front_does first second third out leaves rest h in
       (only_written out, made files told, front.0, inl front.1))
@@ -317,19 +353,23 @@ module _ (first second third : World) (words : EditWords) (cart : CartFile) (l :
       → EndsRefused first third why (MakesOf (λ files. edit_output words cart files))
   edit_stopped ReadFailed h = absurd h
   edit_stopped InputFailed h = absurd h
-  edit_stopped WriteFailed (rise, inl (count, does)) = (
-    subst (λ n. Rises n third.write_faults) leaves.writes rise,
-    λ files told. (
-      edit_result cart.code l words.out out,
-      edit_made files told,
-      inl (
-        count,
-        inr refl,
-        inl (nothing_saved first third (take count (wrote out))
-            (does_later first second third (take count (wrote out)) leaves does)),
-      ),
-    ),
-  )
+  edit_stopped WriteFailed (rise, inl (count, does)) =
+      let since = subst (λ n. Rises n third.write_faults) leaves.writes rise in (
+        since,
+        λ files told. (
+          edit_result cart.code l words.out out,
+          edit_made files told,
+          inl (
+            count,
+            inr refl,
+            inl (
+              nothing_saved first third (take count (wrote out))
+                  (does_later first second third (take count (wrote out)) leaves does),
+              only_out_fails first third count out since,
+            ),
+          ),
+        ),
+      )
   edit_stopped WriteFailed (rise, inr fails) = (
     subst (λ n. Rises n third.write_faults) leaves.writes rise,
     λ files told. (

@@ -3,6 +3,7 @@ pub mod CartLaws
 pub mod LinesLaws
 pub mod LiveAnswerLaws
 pub mod OutLaws
+pub mod CountedLaws
 pub mod OwesLaws
 pub mod SessionLaws
 pub mod ChangeAnswerLaws

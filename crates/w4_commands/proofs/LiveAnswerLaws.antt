@@ -9,6 +9,7 @@ use Rattle.w4_defs.specs.declared.live.LiveOrder.TheVariants as live
 use Rattle.w4_defs.specs.declared.order.Order.{Order}
 use Rattle.w4_defs.specs.declared.order.Order.TheVariants as order
 use Rattle.w4_defs.specs.declared.status.Refusal.{Refusal}
+use Rattle.w4_defs.specs.declared.status.Refusal.TheVariants as refusal
 use Rattle.w4_defs.specs.Answers.{Answered, answer_text, carried_out}
 use Rattle.w4_defs.specs.Endings.{Manner, ReadFailed, InputFailed, WriteFailed, MemoryRefused, Refused as RefusedFor, manner_of}
 use Rattle.w4_defs.specs.Live.{Asked, AsksNothing, NoOrder, Asks, LiveSession, Opened, SaveEnd, Replaced, Refused, RefusedLate, answer_end, answer_step, asked_of, framed, line_step, live_answer, recording_left, refused_save, save_events, taken_lines}
@@ -23,16 +24,17 @@ use Rattle.w4_defs.specs.Search.{Search}
 use Rattle.w4_defs.specs.Session.{Session}
 use Rattle.w4_defs.specs.World.{Event, Wrote, Saved, NotSaved, World, Does, LeavesSaving, LeavesWriting, wrote}
 use Rattle.w4_defs.proofs.LiveThereLaws.{live_answer_there}
-use Rattle.w4_house.proofs.WorldLaws.{does_then, does_wrote, rises_later, wrote-append}
+use Rattle.w4_house.proofs.WorldLaws.{does_then, does_wrote, wrote-append}
 use Rattle.w4_editor.specs.Editing.{Editing, current_recording, editing_setup}
 use Rattle.w4_editor.specs.PlaceSession.{KeepsRest, place_session}
 use Rattle.w4_commands.specs.Causes.{AppendsOut, AppendsOutFront, Replaces, StopsSaving, StopsWriting, Written}
-use Rattle.w4_commands.specs.LiveAnswers.{AnswersSave, Done, DoesPart, GivesPieces, LeavesLive, StopsDoing, asked_answer, asks_save}
+use Rattle.w4_commands.specs.LiveAnswers.{AnswersSave, Done, GivesPieces, LeavesLive, StopsDoing, asked_answer, asks_save}
 use Rattle.w4_commands.specs.OwnAnswers.{IsOwn}
 use Rattle.w4_commands.specs.RamAnswers.{GivesLineAnswer, ask_answer}
 use Rattle.w4_commands.specs.ScriptAnswers.{GivesAnswer, LeavesRecording, OnlyShows, answer_by}
-use Rattle.w4_commands.specs.Serving.{AnswersLine, IsFront, LeavesServing, LineStops, Sits, StepsTo}
+use Rattle.w4_commands.specs.Serving.{AnswersLine, DoesCounted, IsFront, LeavesServing, LineStops, Sits, StepsTo}
 use Rattle.w4_defs.proofs.OptionLaws.{some_same}
+use Rattle.w4_commands.proofs.CountedLaws.{counted_saved, counted_then, counted_wrote, fails_after, fails_wrote}
 use Rattle.w4_commands.proofs.OwesLaws.{there_is}
 use Rattle.w4_commands.proofs.SessionLaws.{appends_nothing, same_disk, same_editing_setup}
 
@@ -51,38 +53,38 @@ front_after : (done front more : List Event) → IsFront front more → IsFront 
 front_after done front more (behind, is) =
     (behind, ap (λ events. done ++ events) is ∙ sym (append_assoc done front behind))
 
-part_written : (old mid new : World) (done : List Event) (bytes : List ℕ) → Does old mid done
-    → LeavesWriting mid new → AppendsOutFront mid.events new.events bytes
-    → DoesPart old new (done ++ wrote bytes)
-part_written old mid new done bytes does rest (count, h) = (
-  done ++ wrote (take count bytes),
-  front_after done (wrote (take count bytes)) (wrote bytes)
-      (subst (λ events. IsFront (wrote (take count bytes)) events) (append-nil (wrote bytes))
-      (bytes_front count bytes [])),
-  does_then old mid new done (wrote (take count bytes)) does
-      (does_wrote mid new (take count bytes) h rest.files),
-)
+part_front : (done : List Event) (count : ℕ) (bytes : List ℕ)
+    → IsFront (done ++ wrote (take count bytes)) (done ++ wrote bytes)
+part_front done count bytes =
+    front_after done (wrote (take count bytes)) (wrote bytes)
+    (subst (λ events. IsFront (wrote (take count bytes)) events) (append-nil (wrote bytes))
+    (bytes_front count bytes []))
 
 stopped_written : (old mid new : World) (why : Manner) (done : List Event) (bytes : List ℕ)
-    → old.write_faults ≤ mid.write_faults → Does old mid done → LeavesWriting mid new
+    → DoesCounted old mid done → LeavesWriting mid new
     → StopsWriting mid new why bytes → StopsDoing old new why (done ++ wrote bytes)
-stopped_written old mid new ReadFailed done bytes le does rest h = h
-stopped_written old mid new InputFailed done bytes le does rest h = h
-stopped_written old mid new WriteFailed done bytes le does rest (rise, front) = (
-  rises_later old.write_faults mid.write_faults new.write_faults le rise,
-  part_written old mid new done bytes does rest front,
+stopped_written old mid new ReadFailed done bytes does rest h = h
+stopped_written old mid new InputFailed done bytes does rest h = h
+stopped_written old mid new WriteFailed done bytes does rest (rise, (count, h)) = (
+  done ++ wrote (take count bytes),
+  part_front done count bytes,
+  fails_after old mid new done (wrote (take count bytes)) does (fails_wrote mid new (take count bytes) rise h rest),
 )
-stopped_written old mid new MemoryRefused done bytes le does rest front =
-    part_written old mid new done bytes does rest front
-stopped_written old mid new (RefusedFor why) done bytes le does rest h = h
+stopped_written old mid new MemoryRefused done bytes does rest (count, h) = (
+  done ++ wrote (take count bytes),
+  part_front done count bytes,
+  does_then old mid new done (wrote (take count bytes)) does.0
+      (does_wrote mid new (take count bytes) h rest.files),
+)
+stopped_written old mid new (RefusedFor why) done bytes does rest h = h
 
 pub done_written : {X : Type 0} (result : Result X Refusal) (old mid new : World) (done : List Event)
-    (bytes : List ℕ) → old.write_faults ≤ mid.write_faults → Does old mid done → LeavesWriting mid new
+    (bytes : List ℕ) → DoesCounted old mid done → LeavesWriting mid new
     → Written mid new result bytes → Done old new result (done ++ wrote bytes)
-done_written (Ok x) old mid new done bytes le does rest h =
-    does_then old mid new done (wrote bytes) does (does_wrote mid new bytes h rest.files)
-done_written (Err why) old mid new done bytes le does rest h =
-    stopped_written old mid new (manner_of why) done bytes le does rest h
+done_written (Ok x) old mid new done bytes does rest h =
+    counted_then old mid new done (wrote bytes) does (counted_wrote mid new bytes h rest)
+done_written (Err why) old mid new done bytes does rest h =
+    stopped_written old mid new (manner_of why) done bytes does rest h
 
 -- ---- a `save`
 
@@ -112,84 +114,68 @@ save_replaced result old mid new o s name left named is le does rest h = (
   Replaced,
   subst (λ events. Done old new result (events ++ wrote answer_end))
       (λ i. Saved (sym named i) (encoding 2 (is i)) ∷ [])
-      (done_written result old mid new (Saved name (encoding 2 left) ∷ []) answer_end le does rest h),
+      (done_written result old mid new (Saved name (encoding 2 left) ∷ []) answer_end
+      (counted_saved old mid name (encoding 2 left) le does) rest h),
 )
 
 -- it wasn't, or it was and that failed
 pub save_refused : {X : Type 0} (result : Result X Refusal) (old mid new : World) (o : Opened)
     (s : LiveSession)
     (name : List ℕ) (left : Recording) → o.out ≡ name → left ≡ recording_left o s
-    → old.write_faults ≤ mid.write_faults → StopsSaving old mid WriteFailed name (encoding 2 left)
+    → StopsSaving old mid WriteFailed name (encoding 2 left)
     → LeavesWriting mid new → Written mid new result (refused_save ++ answer_end)
     → AnswersSave old new result o s
-save_refused result old mid new o s name left named is le (rise, inl does) rest h = (
+save_refused result old mid new o s name left named is (rise, inl does) rest h = (
   Refused,
   subst (λ events. Done old new result (events ++ wrote (refused_save ++ answer_end)))
       (λ i. NotSaved (sym named i) ∷ [])
-      (done_written result old mid new (NotSaved name ∷ []) (refused_save ++ answer_end) le does rest h),
+      (done_written result old mid new (NotSaved name ∷ []) (refused_save ++ answer_end) (does, rise) rest h),
 )
-save_refused result old mid new o s name left named is le (rise, inr does) rest h = (
+save_refused result old mid new o s name left named is (rise, inr does) rest h = (
   RefusedLate,
   subst (λ events. Done old new result (events ++ wrote (refused_save ++ answer_end)))
       (λ i. Saved (sym named i) (encoding 2 (is i)) ∷ NotSaved (sym named i) ∷ [])
       (done_written result old mid new (Saved name (encoding 2 left) ∷ NotSaved name ∷ [])
-      (refused_save ++ answer_end) le does rest h),
+      (refused_save ++ answer_end) (does, rise) rest h),
 )
 
--- it stopped at the file
+-- it stopped at the file, for another reason than a write that failed
 pub save_stopped : (old new : World) (why : Manner) (o : Opened) (s : LiveSession) (name : List ℕ)
-    (left : Recording) → o.out ≡ name → left ≡ recording_left o s
-    → StopsSaving old new why name (encoding 2 left)
+    (left : Recording) → why ≢ WriteFailed → StopsSaving old new why name (encoding 2 left)
     → (end : SaveEnd) × StopsDoing old new why (save_events o s end)
-save_stopped old new ReadFailed o s name left named is h = absurd h
-save_stopped old new InputFailed o s name left named is h = absurd h
-save_stopped old new WriteFailed o s name left named is (rise, inl does) = (
-  Refused,
-  (
-    rise,
-    (
-      NotSaved name ∷ [],
-      (
-        wrote (refused_save ++ answer_end),
-        λ i. NotSaved (named i) ∷ wrote (refused_save ++ answer_end),
-      ),
-      does,
-    ),
-  ),
-)
-save_stopped old new WriteFailed o s name left named is (rise, inr does) = (
-  RefusedLate,
-  (
-    rise,
-    (
-      Saved name (encoding 2 left) ∷ NotSaved name ∷ [],
-      (
-        wrote (refused_save ++ answer_end),
-        λ i. Saved (named i) (encoding 2 (sym is i)) ∷ NotSaved (named i) ∷ wrote
-            (refused_save ++ answer_end),
-      ),
-      does,
-    ),
-  ),
-)
-save_stopped old new MemoryRefused o s name left named is does =
+save_stopped old new ReadFailed o s name left other h = absurd h
+save_stopped old new InputFailed o s name left other h = absurd h
+save_stopped old new WriteFailed o s name left other h = absurd (other refl)
+save_stopped old new MemoryRefused o s name left other does =
     (Replaced, ([], (save_events o s Replaced, refl), does))
-save_stopped old new (RefusedFor why) o s name left named is h = absurd h
+save_stopped old new (RefusedFor why) o s name left other h = absurd h
+
+-- such a reason
+pub other_manner : (why : Refusal) → why ≢ refusal.WriteFault → manner_of why ≢ WriteFailed
+other_manner (refusal.CartRefused kind) other = λ is. absurd cc
+other_manner (refusal.RecordingRefused kind) other = λ is. absurd cc
+other_manner refusal.FontRefused other = λ is. absurd cc
+other_manner (refusal.ScriptRefused kind) other = λ is. absurd cc
+other_manner (refusal.ListRefused kind) other = λ is. absurd cc
+other_manner (refusal.FrameRefused number n) other = λ is. absurd cc
+other_manner refusal.ReadFault other = λ is. absurd cc
+other_manner refusal.InputFault other = λ is. absurd cc
+other_manner refusal.WriteFault other = absurd (other refl)
+other_manner refusal.OutOfMemory other = λ is. absurd cc
 
 line_stopped_save : (old new : World) (why : Manner) (o : Opened) (s : LiveSession) (line : List ℕ)
     (left : Recording) (end : SaveEnd) → asked_of line ≡ Asks live.Save → left ≡ recording_left o s
     → StopsDoing old new why (save_events o s end) → LineStops old new why o s line left
 line_stopped_save old new ReadFailed o s line left end is kept h = h
 line_stopped_save old new InputFailed o s line left end is kept h = h
-line_stopped_save old new WriteFailed o s line left end is kept (rise, (front, is_front, does)) = (
-  rise,
+line_stopped_save old new WriteFailed o s line left end is kept (front, is_front, fails) = (
   (end ∷ []),
   save_events o s end,
   s,
   save_steps o s line end is,
   front,
   is_front,
-  does,
+  fails,
   kept,
 )
 line_stopped_save old new MemoryRefused o s line left end is kept (front, is_front, does) = (
@@ -277,15 +263,14 @@ module _ (o : Opened) (s : LiveSession) (line : List ℕ) (asked : Asked) (is : 
       → StopsDoing old new why (wrote (bytes ++ answer_end)) → LineStops old new why o s line left
   ended old new ReadFailed bytes left there kept h = h
   ended old new InputFailed bytes left there kept h = h
-  ended old new WriteFailed bytes left there kept (rise, (front, is_front, does)) = (
-    rise,
+  ended old new WriteFailed bytes left there kept (front, is_front, fails) = (
     [],
     wrote (bytes ++ answer_end),
     (asked_answer o s asked).session,
     pieces_step bytes there,
     front,
     is_front,
-    does,
+    fails,
     kept,
   )
   ended old new MemoryRefused bytes left there kept (front, is_front, does) = (
@@ -325,8 +310,8 @@ module _ (o : Opened) (s : LiveSession) (line : List ℕ) (asked : Asked) (is : 
       let there = some_value (asked_answer o s asked).out (asked_there o s asked meant) in
       line_ended result old new e search there.0 there.1 sits
       (subst (λ events. Done old new result events) (sym (wrote-append there.0 answer_end))
-      (done_written result old mid new (wrote there.0) answer_end rest.later
-      (does_wrote old mid there.0 (written there.0 there.1) rest.files) ending h))
+      (done_written result old mid new (wrote there.0) answer_end
+      (counted_wrote old mid there.0 (written there.0 there.1) rest) ending h))
 
   pieces_front : (count : ℕ) (bytes : List ℕ)
       → IsFront (wrote (take count bytes)) (wrote (bytes ++ answer_end))
@@ -352,14 +337,13 @@ module _ (o : Opened) (s : LiveSession) (line : List ℕ) (asked : Asked) (is : 
   stopped old new ReadFailed bytes left there rest h kept = h
   stopped old new InputFailed bytes left there rest h kept = h
   stopped old new WriteFailed bytes left there rest (rise, (count, h)) kept = (
-    rise,
     [],
     wrote (bytes ++ answer_end),
     (asked_answer o s asked).session,
     pieces_step bytes there,
     wrote (take count bytes),
     pieces_front count bytes,
-    does_wrote old new (take count bytes) h rest.files,
+    fails_wrote old new (take count bytes) rise h rest,
     kept,
   )
   stopped old new MemoryRefused bytes left there rest (count, h) kept = (

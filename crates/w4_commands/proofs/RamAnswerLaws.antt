@@ -1,18 +1,28 @@
 -- Lines of a query: places that aren't there, and what is told of those that are.
-use Rattle.std.proofs.Common.{◌≡◌, ◌≢◌, ◌⊎◌, ℕ, ◌+◌, ◌<◌, ◌≤◌, inl, inr, true, false, Bool, List, [], ◌∷◌, length, Option, Some, None, option_map, refl, sym, ap, subst}
+use Rattle.std.proofs.Common.{◌≡◌, ◌≢◌, ◌⊎◌, ℕ, ◌+◌, ◌-◌, ◌<◌, ◌≤◌, inl, inr, true, false, Bool, List, [], ◌∷◌, length, map, Option, Some, None, option_map, refl, sym, ap, subst, ◌∙◌}
 use Rattle.std.specs.Prelude.{Result, Ok, Err, OnOk, codes, nat_lt, if◌then◌else◌}
 use Rattle.std.specs.Option.{ForSome}
-use Rattle.std.proofs.lemmas.Bool.{le-leb, lt-leb, ltb-true, ltb-false}
+use Rattle.std.specs.List.{range_with_len}
+use Rattle.std.proofs.lemmas.Bool.{le-leb, le-ltb, lt-leb, ltb-true, ltb-false}
 use Rattle.w4_defs.specs.declared.inspect.Ask.{Ask}
 use Rattle.w4_defs.specs.declared.inspect.Ask.TheVariants.{Watch}
+use Rattle.w4_defs.specs.declared.console.Input.{Input}
+use Rattle.w4_defs.specs.declared.inspect.QueryLine.{QueryLine}
+use Rattle.w4_defs.specs.declared.inspect.QueryLine.TheVariants.{Ask as Request}
 use Rattle.w4_defs.specs.declared.inspect.Test.{Test}
 use Rattle.w4_defs.specs.FrameTexts.{numbered}
 use Rattle.w4_defs.specs.PlaceTexts.{PieceForm, as_it_stands}
 use Rattle.w4_defs.specs.Search.{Search, begin, narrow}
-use Rattle.w4_editor.specs.Editing.{Editing, current_recording}
+use Rattle.w4_editor.specs.Editing.{Editing, current_recording, editing_setup}
 use Rattle.w4_defs.specs.World.{World}
 use Rattle.w4_commands.specs.Causes.{AppendsOut}
+use Rattle.w4_defs.specs.AllThere.{all_some}
+use Rattle.w4_defs.specs.Live.{LiveSession, over_session}
+use Rattle.w4_defs.specs.Run.{run_page}
+use Rattle.w4_defs.specs.Session.{Session}
+use Rattle.w4_defs.specs.ToolOutputs.{line_answer}
 use Rattle.w4_inspect.specs.Pages.{page_at}
+use Rattle.w4_inspect.specs.PlacePages.{AreOf, ReadPages, outside_refusal}
 use Rattle.w4_inspect.specs.Refusals.{IsRefusal, no_frame_refusal, watch_refusal}
 use Rattle.w4_inspect.specs.Watching.{watched}
 use Rattle.w4_inspect.specs.declared.refusal.RamRefusal.{RamRefusal}
@@ -20,11 +30,12 @@ use Rattle.w4_inspect.specs.declared.refusal.RamRefusal.TheVariants.{NoFrame, Ou
 use Rattle.w4_defs.specs.ScriptAnswers.{no_frame}
 use Rattle.w4_defs.specs.Answers.{Answered, answer_text, carried_out}
 use Rattle.w4_commands.specs.Causes.{Written, StopsWriting, WritesNothing}
-use Rattle.w4_commands.specs.ScriptAnswers.{OnlyShows}
+use Rattle.w4_commands.specs.ScriptAnswers.{GivesAnswer, OnlyShows}
 use Rattle.w4_defs.specs.Endings.{Manner, manner_of}
 use Rattle.w4_defs.specs.declared.status.Refusal.{Refusal}
-use Rattle.w4_commands.specs.RamAnswers.{IsLineAnswered, GivesLineAnswer, ask_answer, editor_pages}
-use Rattle.w4_defs.specs.QueryAnswers.{Pages, answer_narrow, answer_start, outside, pages_of, ram_answer, searched, watch_text}
+use Rattle.w4_commands.specs.RamAnswers.{AreHeld, IsLineAnswered, GivesLineAnswer, IsQueryAnswered, GivesQueryAnswer, ask_answer, editor_pages, query_answer, query_session}
+use Rattle.w4_defs.specs.QueryAnswers.{answer_narrow, answer_start, outside, pages_of, searched, watch_text}
+use Rattle.w4_editor.specs.PlaceSession.{KeepsRest}
 use Rattle.w4_defs.proofs.OptionLaws.{some_same}
 use Rattle.w4_commands.proofs.ScriptAnswerLaws.{on_ok}
 use Rattle.w4_commands.proofs.OwesLaws.{stops_untold, there_is}
@@ -206,24 +217,101 @@ same_editor_pages old new shows =
     λ i. pages_of (same_editing_setup old new shows.rest i) (same_disk old new shows.rest i)
     (same_inputs old new shows i)
 
-pub line_answered_at_first : (before after : World) (first old new : Editing) (search left : Option Search)
-    (line :
-    Ask)
-    → OnlyShows first old
-    → IsLineAnswered before after old new left (ask_answer as_it_stands old search line)
-    → IsLineAnswered before after old new left (ram_answer as_it_stands (editor_pages first) search line)
-line_answered_at_first before after first old new search left line shows told =
-    subst (λ (pages : Pages). IsLineAnswered before after old new left
-    (ram_answer as_it_stands pages search line))
-    (same_editor_pages first old shows) told
+-- ---- lines of a query over the whole session
 
-pub ram_stopped_at_first : (before after : World) (why : Manner) (first old : Editing)
-    (search : Option Search)
-    (line : Ask)
-    → OnlyShows first old
-    → ForSome (ask_answer as_it_stands old search line).out (λ text. StopsWriting before after why text)
-    → ForSome (ram_answer as_it_stands (editor_pages first) search line).out
+-- what a list of a query's lines gives past its end
+abbrev pub past_query_line : QueryLine
+past_query_line = Request past_query
+
+pub told_by_request : {X : Type 0} (result : Result X Refusal) (before after : World) (old new : Editing)
+    (search left : Option Search) (ask : Ask)
+    → GivesLineAnswer before after result old new left (ask_answer as_it_stands old search ask)
+    → GivesQueryAnswer before after result old new left (query_answer old search (Request ask))
+told_by_request (Ok x) before after old new search left ask told = record {
+  out = told.out;
+  session = λ i. record { session = told.shows.session i; search = told.search i };
+  rest = told.shows.rest;
+}
+told_by_request (Err why) before after old new search left ask told = told.0
+
+pub told_by_watch : {X : Type 0} (result : Result X Refusal) (before after : World) (old new : Editing)
+    (search : Option Search) (address width a b : ℕ)
+    → ForSome (watch_text as_it_stands (editor_pages old) address width a b)
+    (λ text. Written before after result text)
+    → OnOk result (OnlyShows old new)
+    → GivesQueryAnswer before after result old new search
+    (query_answer old search (Request (Watch address width a b)))
+told_by_watch (Ok x) before after old new search address width a b written shows = record {
+  out = written;
+  session = λ i. record { session = shows.session i; search = search };
+  rest = shows.rest;
+}
+told_by_watch (Err why) before after old new search address width a b written shows = written
+
+pub told_by_order : {X : Type 0} (result : Result X Refusal) (before after : World) (old new : Editing)
+    (search : Option Search) (wanted : Answered (Session ℕ)) → GivesAnswer before after result old new wanted
+    → GivesQueryAnswer before after result old new search (over_session (query_session old search) wanted)
+told_by_order (Ok x) before after old new search wanted told = record {
+  out = told.out;
+  session = λ i. record { session = told.session i; search = search };
+  rest = told.rest;
+}
+told_by_order (Err why) before after old new search wanted told = told.0
+
+-- an answer is the same by what the editor had at first
+same_query_answer : (first old : Editing) (search : Option Search) (x : QueryLine) → KeepsRest first old
+    → query_answer old search x
+    ≡ line_answer (editing_setup first) first.disk (query_session old search) x
+same_query_answer first old search x rest =
+    λ i. line_answer (same_editing_setup first old rest i) (same_disk first old rest i)
+    (query_session old search) x
+
+pub query_answered_at_first : (before after : World) (first old new : Editing) (search left : Option Search)
+    (x : QueryLine) → KeepsRest first old
+    → IsQueryAnswered before after old new left (query_answer old search x)
+    → IsQueryAnswered before after old new left
+    (line_answer (editing_setup first) first.disk (query_session old search) x)
+query_answered_at_first before after first old new search left x rest told =
+    subst (λ (a : Answered LiveSession). IsQueryAnswered before after old new left a)
+    (same_query_answer first old search x rest) told
+
+pub query_stopped_at_first : (before after : World) (why : Manner) (first old : Editing)
+    (search : Option Search) (x : QueryLine) → KeepsRest first old
+    → ForSome (query_answer old search x).out (λ text. StopsWriting before after why text)
+    → ForSome (line_answer (editing_setup first) first.disk (query_session old search) x).out
     (λ text. StopsWriting before after why text)
-ram_stopped_at_first before after why first old search line shows told =
-    subst (λ (pages : Pages). ForSome (ram_answer as_it_stands pages search line).out
-    (λ text. StopsWriting before after why text)) (same_editor_pages first old shows) told
+query_stopped_at_first before after why first old search x rest told =
+    subst (λ (a : Answered LiveSession). ForSome a.out (λ text. StopsWriting before after why text))
+    (same_query_answer first old search x rest) told
+
+-- ---- pages that are held
+
+-- they are still those of an editor that at most shows another place
+pub held_on : (old new : Editing) (held : Option ReadPages) → OnlyShows old new → AreHeld old held
+    → AreHeld new held
+held_on old new None shows are = tt
+held_on old new (Some read) shows are = record {
+  there = subst (λ (inputs : List Input). read.last ≤ length inputs) (sym (same_inputs old new shows))
+      are.there;
+  are = (λ i. all_some (map (λ p. run_page (same_editing_setup old new shows.rest i)
+      (same_disk old new shows.rest i) (same_inputs old new shows i) p)
+      (range_with_len read.first (read.last + 1 - read.first)))) ∙ are.are;
+}
+
+-- those of places that are there are refused as a watch is
+pub held_refusal : (e : Editing) (read : ReadPages) (address width : ℕ) → AreOf e read
+    → watch_refusal e address width read.last ≡ outside_refusal address width
+held_refusal e read address width of =
+    rw (le-ltb (length e.session.current.inputs) read.last of.there) refl
+
+-- the same watch of the editor before, at the places that the pages are of
+pub watched_before : {X : Type 0} (result : Result X Refusal) (before after : World) (old new : Editing)
+    (read : ReadPages) (address width a b : ℕ) → OnlyShows old new → read.first ≡ a → read.last ≡ b
+    → ForSome (watch_text as_it_stands (editor_pages new) address width read.first read.last)
+    (λ text. Written before after result text)
+    → ForSome (watch_text as_it_stands (editor_pages old) address width a b)
+    (λ text. Written before after result text)
+watched_before result before after old new read address width a b shows first last written =
+    subst (λ (text : Option (List ℕ)). ForSome text (λ text. Written before after result text))
+    (λ i. watch_text as_it_stands (same_editor_pages old new shows i) address width (first i) (last i))
+    written

@@ -12,11 +12,12 @@ use Rattle.w4_defs.specs.Endings.{Manner, ReadFailed, InputFailed, WriteFailed, 
 use Rattle.w4_defs.specs.Live.{LiveSession, Opened, SaveEnd, Talk, recording_left, saving, saving_after, serve_result, served, taken_lines}
 use Rattle.w4_defs.specs.Output.{Output, all_events}
 use Rattle.w4_defs.specs.Recording.{Recording, encoding}
-use Rattle.w4_defs.specs.World.{Event, Took, InputEnded, InputLost, Saved, NotSaved, Files, World, Rises, Does, FailsToSave, LeavesSaving, not_saved}
+use Rattle.w4_defs.specs.World.{Event, Took, InputEnded, InputLost, Saved, NotSaved, Files, World, Rises, Does, FailsToSave, OutFails, LeavesSaving, not_saved}
 use Rattle.w4_commands.specs.Causes.{EndsDone, Replaces, StopsSaving}
 use Rattle.w4_commands.specs.Serving.{EndsStopped, HasServed, LeavesEither, ServedStep, stop_refusal, LinesStop, Serves, ServesPart, ServesThen, StepsTo}
 use Rattle.w4_house.proofs.WorldLaws.{does_then, rises_later, rises_on}
-use Rattle.w4_commands.proofs.RunsOutLaws.{ran_out, ran_out_lost, ran_out_saved}
+use Rattle.w4_commands.proofs.CountedLaws.{out_fails_not_saved, out_fails_saved, out_rises}
+use Rattle.w4_commands.proofs.RunsOutLaws.{ran_out, ran_out_lost, ran_out_lost_saved, ran_out_saved}
 use Rattle.w4_commands.proofs.ServingLaws.{saving_is, served_is, served_line, talk_of, taken-append}
 
 -- ---- parts of an output
@@ -130,7 +131,12 @@ module _ (o : Opened) (s : LiveSession) (old mid new : World) (left : Recording)
     wants : WantsInput (slice_get whole.events (length done))
     wants = subst WantsInput (sym (next_event done InputEnded)) tt
 
-    -- a read of the input failed
+    -- what was read of a line is lost
+    does_lost : Does old mid (done ++ InputLost ∷ [])
+        → Does old mid (take (length done) whole.events ++ InputLost ∷ [])
+    does_lost does = subst (λ events. Does old mid (events ++ InputLost ∷ [])) (sym front_is) does
+
+    -- since a read of the input failed
     lost_saved : Does old mid (done ++ InputLost ∷ []) → Does mid new (Saved name bytes ∷ [])
         → LosesInput old new whole
     lost_saved does saved = (
@@ -142,13 +148,14 @@ module _ (o : Opened) (s : LiveSession) (old mid new : World) (left : Recording)
           (does_then old mid new (done ++ InputLost ∷ []) (Saved name bytes ∷ []) does saved),
     )
 
-    lost_failed : Does old mid (done ++ InputLost ∷ []) → FailsToSave mid new [] (Saved name bytes ∷ [])
-        → WritesPart old new whole
-    lost_failed does fails = inr (inl (
+    lost_failed : Rises old.read_faults new.read_faults → Does old mid (done ++ InputLost ∷ [])
+        → FailsToSave mid new [] (Saved name bytes ∷ []) → WritesPart old new whole
+    lost_failed rise does fails = inr (inl (
       length done,
       wants,
+      rise,
       fails_then old mid new (take (length done) whole.events ++ InputLost ∷ []) (whole.rescued (length done))
-          (subst (λ events. Does old mid (events ++ InputLost ∷ [])) (sym front_is) does)
+          (does_lost does)
           (fails_as mid new (Saved name bytes ∷ []) (whole.rescued (length done)) (sym rescue_is) fails),
     ))
 
@@ -160,6 +167,32 @@ module _ (o : Opened) (s : LiveSession) (old mid new : World) (left : Recording)
           ∙ ap (λ events. events ++ InputLost ∷ []) (sym front_is))
           (does_then old mid new (done ++ InputLost ∷ []) [] does none)),
     )
+
+    -- memory had run out for a line of which a part was read
+    lost_out_by : Does old mid (done ++ InputLost ∷ []) → (why : Manner) → StopsSaving mid new why name bytes
+        → (count : ℕ) × RunsOutAfter old new whole count
+    lost_out_by does ReadFailed h = absurd h
+    lost_out_by does InputFailed h = absurd h
+    lost_out_by does WriteFailed (rise, fails) = (
+      length done,
+      ran_out_lost_saved old new whole (length done) wants (inr
+          (fails_then old mid new (take (length done) whole.events ++ InputLost ∷ []) (whole.rescued (length done))
+          (does_lost does)
+          (fails_as mid new (Saved name bytes ∷ []) (whole.rescued (length done)) (sym rescue_is) fails))),
+    )
+    lost_out_by does MemoryRefused h = lost_ran_out does h
+    lost_out_by does (Refused why) h = absurd h
+
+    lost_out : {X : Type 0} → Does old mid (done ++ InputLost ∷ []) → (result : Result X Refusal)
+        → Replaces mid new result name bytes → (count : ℕ) × RunsOutAfter old new whole count
+    lost_out does (Ok x) saved = (
+      length done,
+      ran_out_lost_saved old new whole (length done) wants (inl
+          (does_then old mid new (take (length done) whole.events ++ InputLost ∷ []) (whole.rescued (length done))
+          (does_lost does)
+          (saved_as mid new (Saved name bytes ∷ []) (whole.rescued (length done)) (sym rescue_is) saved))),
+    )
+    lost_out does (Err why) h = lost_out_by does (manner_of why) h
 
 -- ---- a first part of a session's events was done that took all its lines
 
@@ -184,6 +217,26 @@ module _ (o : Opened) (s : LiveSession) (lines : List (List ℕ)) (saves : List 
   short : IsShort part_whole (length front)
   short = inl (subst (λ events. length front < length (events ++ InputEnded ∷ [])) (sym is_done)
       (longer front behind InputEnded))
+
+  -- a write to standard output had failed, and then the recording was saved or not
+  stopped_is : stopped_events part_whole (length front) ≡ front ++ saving o s
+  stopped_is = ap (λ events. events ++ part_whole.rescued (length front)) part_front
+      ∙ ap (λ events. front ++ events) part_rescue
+
+  saved_out_fails : OutFails old mid front → mid.write_faults ≤ new.write_faults
+      → OutFails old new (stopped_events part_whole (length front))
+  saved_out_fails fails later = subst (OutFails old new) (sym stopped_is)
+      (out_fails_saved old mid new front o.out (encoding 2 (recording_left o s)) fails later)
+
+  unsaved_is : take (length front) part_whole.events ++ not_saved (part_whole.rescued (length front))
+      ≡ front ++ NotSaved o.out ∷ []
+  unsaved_is = ap (λ events. events ++ not_saved (part_whole.rescued (length front))) part_front
+      ∙ ap (λ events. front ++ not_saved events) part_rescue
+
+  unsaved_out_fails : OutFails old mid front → Rises mid.write_faults new.write_faults
+      → OutFails old new (take (length front) part_whole.events ++ not_saved (part_whole.rescued (length front)))
+  unsaved_out_fails fails rise = subst (OutFails old new) (sym unsaved_is)
+      (out_fails_not_saved old mid new front o.out fails rise)
 
   part_saved : Does mid new (saving o s) → Does old new (stopped_events part_whole (length front))
   part_saved saved =
@@ -296,33 +349,37 @@ module _ (o : Opened) (old mid new : World) (left : Recording) (rest : LeavesSav
   serve_ended s then is later (Err why) h = ended_stopped s then is later (manner_of why) h
 
   -- a read of the input failed
+  reads_rose : Rises old.read_faults mid.read_faults → Rises old.read_faults new.read_faults
+  reads_rose lost = subst (Rises old.read_faults) (sym rest.reads) lost
+
   lost_stopped : (s : LiveSession) (then : ServesThen old mid o s InputLost) → left ≡ recording_left o s
-      → old.write_faults ≤ mid.write_faults → (why : Manner) → StopsSaving mid new why o.out Bytes
-      → EndsRefused old new why (ServedStep o)
-  lost_stopped s then is later ReadFailed h = absurd h
-  lost_stopped s then is later InputFailed h = absurd h
-  lost_stopped s then is later WriteFailed (rise, fails) = (
+      → Rises old.read_faults mid.read_faults → old.write_faults ≤ mid.write_faults → (why : Manner)
+      → StopsSaving mid new why o.out Bytes → EndsRefused old new why (ServedStep o)
+  lost_stopped s then is lost later ReadFailed h = absurd h
+  lost_stopped s then is lost later InputFailed h = absurd h
+  lost_stopped s then is lost later WriteFailed (rise, fails) = (
     rises_later old.write_faults mid.write_faults new.write_faults later rise,
     λ files told. (
       output o s then.lines then.saves then.done then.served,
       made o s then.lines then.saves then.done then.served files,
-      lost_failed o s old mid new left is then.lines then.saves then.done then.served then.does fails,
+      lost_failed o s old mid new left is then.lines then.saves then.done then.served (reads_rose lost) then.does
+          fails,
     ),
   )
-  lost_stopped s then is later MemoryRefused h = inr (λ files told.
+  lost_stopped s then is lost later MemoryRefused h = inr (λ files told.
       let out = lost_ran_out o s old mid new left is then.lines then.saves then.done then.served then.does h in (
         output o s then.lines then.saves then.done then.served,
         made o s then.lines then.saves then.done then.served files,
         out.0,
         out.1,
       ))
-  lost_stopped s then is later (Refused why) h = absurd h
+  lost_stopped s then is lost later (Refused why) h = absurd h
 
   lost_saved_too : (s : LiveSession) (then : ServesThen old mid o s InputLost) → left ≡ recording_left o s
       → Rises old.read_faults mid.read_faults → Does mid new (Saved o.out Bytes ∷ [])
       → EndsRefused old new InputFailed (ServedStep o)
   lost_saved_too s then is rise h = (
-    subst (Rises old.read_faults) (sym rest.reads) rise,
+    reads_rose rise,
     λ files told. (
       output o s then.lines then.saves then.done then.served,
       made o s then.lines then.saves then.done then.served files,
@@ -363,11 +420,12 @@ module _ (o : Opened) (old mid new : World) (left : Recording) (rest : LeavesSav
     part_made : (files : Files) → ServedStep o files (Ok part_output)
     part_made files = made o next part_lines part_saves part_done part_served files
 
-    part_stopped : left ≡ recording_left o next → old.write_faults ≤ mid.write_faults → (why : Manner)
+    part_stopped : left ≡ recording_left o next → OutFails old mid part_events
+        → old.write_faults ≤ mid.write_faults → (why : Manner)
         → StopsSaving mid new why o.out Bytes → EndsRefused old new why (ServedStep o)
-    part_stopped is later ReadFailed h = absurd h
-    part_stopped is later InputFailed h = absurd h
-    part_stopped is later WriteFailed (rise, fails) = (
+    part_stopped is out later ReadFailed h = absurd h
+    part_stopped is out later InputFailed h = absurd h
+    part_stopped is out later WriteFailed (rise, fails) = (
       rises_later old.write_faults mid.write_faults new.write_faults later rise,
       λ files told. (
         part_output,
@@ -376,22 +434,26 @@ module _ (o : Opened) (old mid new : World) (left : Recording) (rest : LeavesSav
           length part_events,
           short o next part_lines part_saves part_done part_served part_events part.is_front.0 events_behind
               takes_all old mid new part.does,
-          inr (part_failed o next part_lines part_saves part_done part_served part_events part.is_front.0
-              events_behind takes_all old mid new part.does
-              (fails_as mid new (Saved o.out Bytes ∷ []) (saving o next) (replaced o next left is) fails)),
+          inr (
+            part_failed o next part_lines part_saves part_done part_served part_events part.is_front.0
+                events_behind takes_all old mid new part.does
+                (fails_as mid new (Saved o.out Bytes ∷ []) (saving o next) (replaced o next left is) fails),
+            unsaved_out_fails o next part_lines part_saves part_done part_served part_events part.is_front.0
+                events_behind takes_all old mid new part.does out rise,
+          ),
         ),
       ),
     )
-    part_stopped is later MemoryRefused h = inr (λ files told.
+    part_stopped is out later MemoryRefused h = inr (λ files told.
         let out = part_ran_out o next part_lines part_saves part_done part_served part_events part.is_front.0
         events_behind takes_all old mid new part.does h in
         (part_output, part_made files, out.0, out.1))
-    part_stopped is later (Refused why) h = absurd h
+    part_stopped is out later (Refused why) h = absurd h
 
-    part_saved_too : left ≡ recording_left o next → Rises old.write_faults mid.write_faults
+    part_saved_too : left ≡ recording_left o next → OutFails old mid part_events
         → Does mid new (Saved o.out Bytes ∷ []) → EndsRefused old new WriteFailed (ServedStep o)
-    part_saved_too is rise h = (
-      rises_on old.write_faults mid.write_faults new.write_faults rise rest.later,
+    part_saved_too is out h = (
+      rises_on old.write_faults mid.write_faults new.write_faults (out_rises old mid part_events out) rest.later,
       λ files told. (
         part_output,
         part_made files,
@@ -399,9 +461,13 @@ module _ (o : Opened) (old mid new : World) (left : Recording) (rest : LeavesSav
           length part_events,
           short o next part_lines part_saves part_done part_served part_events part.is_front.0 events_behind
               takes_all old mid new part.does,
-          inl (part_saved o next part_lines part_saves part_done part_served part_events part.is_front.0
-              events_behind takes_all old mid new part.does
-              (saved_as mid new (Saved o.out Bytes ∷ []) (saving o next) (replaced o next left is) h)),
+          inl (
+            part_saved o next part_lines part_saves part_done part_served part_events part.is_front.0
+                events_behind takes_all old mid new part.does
+                (saved_as mid new (Saved o.out Bytes ∷ []) (saving o next) (replaced o next left is) h),
+            saved_out_fails o next part_lines part_saves part_done part_served part_events part.is_front.0
+                events_behind takes_all old mid new part.does out rest.later,
+          ),
         ),
       ),
     )
@@ -457,9 +523,21 @@ module _ (o : Opened) (old mid new : World) (left : Recording) (rest : LeavesSav
         made o s serves.lines serves.saves done serves.served files,
         length done,
         still_out o s serves.lines serves.saves done serves.served done [] is_done serves.served.taken old mid new
-            serves.does left s (length done) (inl refl)
+            serves.does.0 left s (length done) (inl refl)
             (part_rescue o s serves.lines serves.saves done serves.served done [] is_done serves.served.taken old
-            mid new serves.does) is result h,
+            mid new serves.does.0) is result h,
+      ))
+
+  -- or for a line of which a part was read
+  within_out : {X : Type 0} (s : LiveSession) (then : ServesThen old mid o s InputLost)
+      → left ≡ recording_left o s → (result : Result X Refusal) → Replaces mid new result o.out Bytes
+      → EndsRefused old new MemoryRefused (ServedStep o)
+  within_out s then is result h = inr (λ files told.
+      let out = lost_out o s old mid new left is then.lines then.saves then.done then.served then.does result h in (
+        output o s then.lines then.saves then.done then.served,
+        made o s then.lines then.saves then.done then.served files,
+        out.0,
+        out.1,
       ))
 
   either_out : {X : Type 0} (s next : LiveSession) (part : ServesPart old mid o s next)
@@ -468,12 +546,11 @@ module _ (o : Opened) (old mid new : World) (left : Recording) (rest : LeavesSav
   either_out s next part (inl is) result h = part_out s next part is result h
   either_out s next part (inr (none, is)) result h = unmade_out s next part none is result h
 
-  out_by : {X : Type 0} → ((s : LiveSession) × Serves old mid o s × (left ≡ recording_left o s))
-      ⊎ ((s next : LiveSession) × (part : ServesPart old mid o s next) × LeavesEither o s next part.front left)
-      → (result : Result X Refusal) → Replaces mid new result o.out Bytes
-      → EndsRefused old new MemoryRefused (ServedStep o)
+  out_by : {X : Type 0} → LinesStop old mid MemoryRefused o left → (result : Result X Refusal)
+      → Replaces mid new result o.out Bytes → EndsRefused old new MemoryRefused (ServedStep o)
   out_by (inl (s, serves, is)) result h = between_out s serves is result h
-  out_by (inr (s, next, part, either)) result h = either_out s next part either result h
+  out_by (inr (inl (s, then, is))) result h = within_out s then is result h
+  out_by (inr (inr (s, next, part, either))) result h = either_out s next part either result h
 
   -- the lines stopped, and then the recording left was saved or not
   pub serve_stopped : {X : Type 0} (why : Refusal) → LinesStop old mid (manner_of why) o left
@@ -488,11 +565,11 @@ module _ (o : Opened) (old mid new : World) (left : Recording) (rest : LeavesSav
   serve_stopped refusal.ReadFault stop later result h = absurd stop
   serve_stopped refusal.InputFault (rise, s, then, is) later (Ok x) h = lost_saved_too s then is rise h
   serve_stopped refusal.InputFault (rise, s, then, is) later (Err fault) h =
-      lost_stopped s then is later (manner_of fault) h
-  serve_stopped refusal.WriteFault (rise, s, next, part, is) later (Ok x) h =
-      part_saved_too s next part is rise h
-  serve_stopped refusal.WriteFault (rise, s, next, part, is) later (Err fault) h =
-      part_stopped s next part is later (manner_of fault) h
+      lost_stopped s then is rise later (manner_of fault) h
+  serve_stopped refusal.WriteFault (s, next, part, out, is) later (Ok x) h =
+      part_saved_too s next part is out h
+  serve_stopped refusal.WriteFault (s, next, part, out, is) later (Err fault) h =
+      part_stopped s next part is out later (manner_of fault) h
   serve_stopped refusal.OutOfMemory stop later result h = out_by stop result h
 
   pub stopped_ends : {X : Type 0} (why : Refusal) → LinesStop old mid (manner_of why) o left

@@ -9,7 +9,8 @@ use Rattle.w4_defs.specs.World.{Event, Took, InputEnded, InputLost, World, Does,
 use Rattle.w4_defs.specs.State.{State}
 use Rattle.w4_editor.specs.Editing.{Editing, new_editing}
 use Rattle.w4_house.proofs.WorldLaws.{does_nothing, does_then, rises_later}
-use Rattle.w4_commands.specs.Serving.{LeavesServing, LineAnswered, LineStops, LinesStop, LosesLine, Serves, ServesPart, ServesThen, Sits}
+use Rattle.w4_commands.specs.Serving.{DoesCounted, FailsToWrite, LeavesServing, LineAnswered, LineStops, LinesStop, LosesLine, Serves, ServesPart, ServesThen, Sits}
+use Rattle.w4_commands.proofs.CountedLaws.{counted_nothing, counted_then, counted_took, fails_after}
 use Rattle.w4_commands.proofs.ServingLaws.{served_line, served_none}
 
 -- ---- what is left
@@ -52,17 +53,30 @@ serves_none world o = record {
   saves = [];
   done = [];
   served = served_none o;
-  does = does_nothing world world refl refl;
+  does = counted_nothing world world (omega arith) (does_nothing world world refl refl);
 }
 
--- a line was taken, and so much of what it does was done
-took : (old now mid new : World) (done front : List Event) (line : List ℕ) → Does old now done
-    → Does now mid (Took line ∷ []) → Does mid new front → Does old new (done ++ Took line ∷ front)
-took old now mid new done front line before taken after =
-    does_then old now new done (Took line ∷ front) before (does_then now mid new (Took line ∷ []) front taken after)
-
+-- a line was taken
 module _ (old now mid new : World) (o : Opened) (s : LiveSession) (line : List ℕ) (serves : Serves old now o s)
-    (taken : Does now mid (Took line ∷ [])) where
+    (leaves : LeavesTaking now mid) (taken : Does now mid (Took line ∷ [])) where
+  -- and what it does was done, or so much of it
+  took : (front : List Event) → Does mid new front → Does old new (serves.done ++ Took line ∷ front)
+  took front after =
+      does_then old now new serves.done (Took line ∷ front) serves.does.0
+      (does_then now mid new (Took line ∷ []) front taken after)
+
+  took_counted : (events : List Event) → DoesCounted mid new events
+      → DoesCounted old new (serves.done ++ Took line ∷ events)
+  took_counted events after =
+      counted_then old now new serves.done (Took line ∷ events) serves.does
+      (counted_then now mid new (Took line ∷ []) events (counted_took now mid line leaves taken) after)
+
+  took_failing : (front : List Event) → FailsToWrite mid new front
+      → FailsToWrite old new (serves.done ++ Took line ∷ front)
+  took_failing front after =
+      fails_after old now new serves.done (Took line ∷ front) serves.does
+      (fails_after now mid new (Took line ∷ []) front (counted_took now mid line leaves taken) after)
+
   -- it was answered
   pub serves_line : (e : Editing) (search : Option Search) → LineAnswered mid new o s line e search
       → (next : LiveSession) × Serves old new o next × Sits o next e search
@@ -73,18 +87,17 @@ module _ (old now mid new : World) (o : Opened) (s : LiveSession) (line : List �
       saves = serves.saves ++ mine;
       done = serves.done ++ Took line ∷ events;
       served = served_line o s next serves.lines serves.saves mine serves.done events line serves.served step;
-      does = took old now mid new serves.done events line serves.does taken does;
+      does = took_counted events does;
     },
     sits,
   )
 
   -- its answer stopped
-  pub line_stopped : (why : Manner) (left : Recording) → old.write_faults ≤ mid.write_faults
-      → LineStops mid new why o s line left → LinesStop old new why o left
-  line_stopped ReadFailed left later h = absurd h
-  line_stopped InputFailed left later h = absurd h
-  line_stopped WriteFailed left later (rise, mine, events, next, step, front, is_front, does, is) = (
-    rises_later old.write_faults mid.write_faults new.write_faults later rise,
+  pub line_stopped : (why : Manner) (left : Recording) → LineStops mid new why o s line left
+      → LinesStop old new why o left
+  line_stopped ReadFailed left h = absurd h
+  line_stopped InputFailed left h = absurd h
+  line_stopped WriteFailed left (mine, events, next, step, front, is_front, fails, is) = (
     s,
     next,
     record {
@@ -98,11 +111,12 @@ module _ (old now mid new : World) (o : Opened) (s : LiveSession) (line : List �
       step = step;
       front = front;
       is_front = is_front;
-      does = took old now mid new serves.done front line serves.does taken does;
+      does = (took_failing front fails).0;
     },
+    (took_failing front fails).1,
     is,
   )
-  line_stopped MemoryRefused left later (mine, events, next, step, front, is_front, does, is) = inr (
+  line_stopped MemoryRefused left (mine, events, next, step, front, is_front, does, is) = inr (inr (
     s,
     next,
     record {
@@ -116,22 +130,26 @@ module _ (old now mid new : World) (o : Opened) (s : LiveSession) (line : List �
       step = step;
       front = front;
       is_front = is_front;
-      does = took old now mid new serves.done front line serves.does taken does;
+      does = took front does;
     },
     is,
-  )
-  line_stopped (Refused why) left later h = absurd h
+  ))
+  line_stopped (Refused why) left h = absurd h
 
 -- no line was taken
-module _ (old now new : World) (o : Opened) (s : LiveSession) (serves : Serves old now o s) where
-  pub lines_ended : Does now new (InputEnded ∷ []) → ServesThen old new o s InputEnded
-  lines_ended ended = record {
+module _ (old now new : World) (o : Opened) (s : LiveSession) (serves : Serves old now o s)
+    (leaves : LeavesTaking now new) where
+  one_more : (last : Event) → Does now new (last ∷ []) → ServesThen old new o s last
+  one_more last does = record {
     lines = serves.lines;
     saves = serves.saves;
     done = serves.done;
     served = serves.served;
-    does = does_then old now new serves.done (InputEnded ∷ []) serves.does ended;
+    does = does_then old now new serves.done (last ∷ []) serves.does.0 does;
   }
+
+  pub lines_ended : Does now new (InputEnded ∷ []) → ServesThen old new o s InputEnded
+  lines_ended ended = one_more InputEnded ended
 
   pub lines_lost : (why : Manner) (left : Recording) → left ≡ recording_left o s
       → old.read_faults ≤ now.read_faults → LosesLine now new why → LinesStop old new why o left
@@ -139,25 +157,21 @@ module _ (old now new : World) (o : Opened) (s : LiveSession) (serves : Serves o
   lines_lost InputFailed left is later (rise, lost) = (
     rises_later old.read_faults now.read_faults new.read_faults later rise,
     s,
-    record {
-      lines = serves.lines;
-      saves = serves.saves;
-      done = serves.done;
-      served = serves.served;
-      does = does_then old now new serves.done (InputLost ∷ []) serves.does lost;
-    },
+    one_more InputLost lost,
     is,
   )
   lines_lost WriteFailed left is later h = absurd h
-  lines_lost MemoryRefused left is later none = inl (
+  lines_lost MemoryRefused left is later (inr lost) = inr (inl (s, one_more InputLost lost, is))
+  lines_lost MemoryRefused left is later (inl none) = inl (
     s,
     record {
       lines = serves.lines;
       saves = serves.saves;
       done = serves.done;
       served = serves.served;
-      does = subst (Does old new) (append-nil serves.done)
-          (does_then old now new serves.done [] serves.does none);
+      does = subst (DoesCounted old new) (append-nil serves.done)
+          (counted_then old now new serves.done [] serves.does
+          (counted_nothing now new (omega (arith, leaves.writes)) none));
     },
     is,
   )

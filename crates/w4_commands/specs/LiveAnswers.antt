@@ -10,9 +10,9 @@ use Rattle.w4_defs.specs.Output.{run_setup}
 use Rattle.w4_defs.specs.Recording.{Recording}
 use Rattle.w4_defs.specs.ScriptAnswers.{refused_line}
 use Rattle.w4_defs.specs.Search.{Search}
-use Rattle.w4_defs.specs.World.{Event, World, Does, Rises}
+use Rattle.w4_defs.specs.World.{Event, World, Does}
 use Rattle.w4_commands.specs.Causes.{AppendsOut, StopsWriting}
-use Rattle.w4_commands.specs.Serving.{IsFront, Sits}
+use Rattle.w4_commands.specs.Serving.{DoesCounted, FailsToWrite, IsFront, Sits}
 use Rattle.w4_editor.specs.Editing.{Editing, current_recording}
 
 -- whether a line asks for OUT to be saved
@@ -52,13 +52,13 @@ DoesPart old new events = (front : List Event) × IsFront front events × Does o
 abbrev pub StopsDoing : World → World → Manner → List Event → Type 0
 StopsDoing old new ReadFailed events = ⊥
 StopsDoing old new InputFailed events = ⊥
-StopsDoing old new WriteFailed events = Rises old.write_faults new.write_faults × DoesPart old new events
+StopsDoing old new WriteFailed events = (front : List Event) × IsFront front events × FailsToWrite old new front
 StopsDoing old new MemoryRefused events = DoesPart old new events
 StopsDoing old new (Refused why) events = ⊥
 
 -- what doing them gave
 abbrev pub Done : {X : Type 0} → World → World → Result X Refusal → List Event → Type 0
-Done old new (Ok x) events = Does old new events
+Done old new (Ok x) events = DoesCounted old new events
 Done old new (Err why) events = StopsDoing old new (manner_of why) events
 
 -- what a `save` gave: it ended so

@@ -7,7 +7,7 @@ use Rattle.w4_defs.specs.Live.{LiveSession, LiveStep, Opened, SaveEnd, Talk, ask
 use Rattle.w4_defs.specs.Output.{Output, run_setup}
 use Rattle.w4_defs.specs.Recording.{Recording}
 use Rattle.w4_defs.specs.Search.{Search}
-use Rattle.w4_defs.specs.World.{Event, Files, Took, InputEnded, InputLost, World, Rises, Does}
+use Rattle.w4_defs.specs.World.{Event, Files, Took, InputEnded, InputLost, World, Rises, RisesBy, Does, OutFails, failed_saves}
 use Rattle.w4_commands.specs.Causes.{Replaces}
 use Rattle.w4_editor.specs.Editing.{Editing, current_recording, editing_setup}
 use Rattle.w4_editor.specs.PlaceSession.{place_session}
@@ -47,14 +47,21 @@ IsFront front events = (behind : List Event) × (events ≡ front ++ behind)
 abbrev pub LeavesEither : Opened → LiveSession → LiveSession → List Event → Recording → Type 0
 LeavesEither o s next front left = (left ≡ recording_left o next) ⊎ ((front ≡ []) × (left ≡ recording_left o s))
 
+-- just these events have happened, and the count of writes has risen with each save among them that failed
+abbrev pub DoesCounted : World → World → List Event → Type 0
+DoesCounted old new done = Does old new done × RisesBy (failed_saves done) old.write_faults new.write_faults
+
+-- just these events have happened, and then a write to standard output failed
+abbrev pub FailsToWrite : World → World → List Event → Type 0
+FailsToWrite old new done = Does old new done × OutFails old new done
+
 -- why the answer of a line stopped; a first part of what the line does was done, and this recording is left
 abbrev pub LineStops : World → World → Manner → Opened → LiveSession → List ℕ → Recording → Type 0
 LineStops old new ReadFailed o s line left = ⊥
 LineStops old new InputFailed o s line left = ⊥
 LineStops old new WriteFailed o s line left =
-    Rises old.write_faults new.write_faults
-    × (mine : List SaveEnd) × (events : List Event) × (next : LiveSession) × StepsTo o s line mine events next
-    × (front : List Event) × IsFront front events × Does old new front × (left ≡ recording_left o next)
+    (mine : List SaveEnd) × (events : List Event) × (next : LiveSession) × StepsTo o s line mine events next
+    × (front : List Event) × IsFront front events × FailsToWrite old new front × (left ≡ recording_left o next)
 LineStops old new MemoryRefused o s line left =
     (mine : List SaveEnd) × (events : List Event) × (next : LiveSession) × StepsTo o s line mine events next
     × (front : List Event) × IsFront front events × Does old new front × LeavesEither o s next front left
@@ -64,7 +71,7 @@ LineStops old new (Refused why) o s line left = ⊥
 abbrev pub LineAnswered : World → World → Opened → LiveSession → List ℕ → Editing → Option Search → Type 0
 LineAnswered old new o s line e search =
     (mine : List SaveEnd) × (events : List Event) × (next : LiveSession) × StepsTo o s line mine events next
-    × Does old new events × Sits o next e search
+    × DoesCounted old new events × Sits o next e search
 
 -- what answering a line gave
 abbrev pub AnswersLine : {X : Type 0} → World → World → Result X Refusal → Opened → LiveSession → List ℕ
@@ -79,7 +86,7 @@ pub record Serves (old new : World) (o : Opened) (s : LiveSession) : Type 0 wher
   pub saves : List SaveEnd
   pub done : List Event
   pub served : HasServed o lines saves done s
-  pub does : Does old new done
+  pub does : DoesCounted old new done
 
 -- then a line was taken, and a first part of what it does was done
 pub record ServesPart (old new : World) (o : Opened) (s next : LiveSession) : Type 0 where
@@ -108,11 +115,13 @@ abbrev pub LinesStop : World → World → Manner → Opened → Recording → T
 LinesStop old new ReadFailed o left = ⊥
 LinesStop old new InputFailed o left = Rises old.read_faults new.read_faults
     × (s : LiveSession) × ServesThen old new o s InputLost × (left ≡ recording_left o s)
-LinesStop old new WriteFailed o left = Rises old.write_faults new.write_faults
-    × (s next : LiveSession) × ServesPart old new o s next × (left ≡ recording_left o next)
+LinesStop old new WriteFailed o left =
+    (s next : LiveSession) × (part : ServesPart old new o s next)
+    × OutFails old new (part.done ++ Took part.line ∷ part.front) × (left ≡ recording_left o next)
 LinesStop old new MemoryRefused o left =
     ((s : LiveSession) × Serves old new o s × (left ≡ recording_left o s))
-    ⊎ ((s next : LiveSession) × (part : ServesPart old new o s next) × LeavesEither o s next part.front left)
+    ⊎ (((s : LiveSession) × ServesThen old new o s InputLost × (left ≡ recording_left o s))
+    ⊎ ((s next : LiveSession) × (part : ServesPart old new o s next) × LeavesEither o s next part.front left))
 LinesStop old new (Refused why) o left = ⊥
 
 -- what answering all lines gave: the input is at its end, or why they stopped
@@ -143,7 +152,7 @@ abbrev pub LosesLine : World → World → Manner → Type 0
 LosesLine old new ReadFailed = ⊥
 LosesLine old new InputFailed = Rises old.read_faults new.read_faults × Does old new (InputLost ∷ [])
 LosesLine old new WriteFailed = ⊥
-LosesLine old new MemoryRefused = Does old new []
+LosesLine old new MemoryRefused = Does old new [] ⊎ Does old new (InputLost ∷ [])
 LosesLine old new (Refused why) = ⊥
 
 -- the recording left was saved or not after a stop

@@ -3,6 +3,7 @@
 ghost use Rattle.std.specs.Prelude.{◌≡◌, OnErr};
 ghost use Rattle.w4_defs.specs.World.{LeavesWriting};
 ghost use Rattle.w4_defs.specs.ScriptAnswers.{answer_change};
+ghost use Rattle.w4_defs.specs.Session.{keep, keep_every, places_alone};
 ghost use Rattle.w4_commands.specs.ScriptAnswers.{GivesAnswer, changed};
 ghost use Rattle.w4_editor.specs.Editing.{current_recording};
 ghost use Rattle.w4_editor.specs.PlaceSession.{IsChanged, place_session};
@@ -56,9 +57,46 @@ fn change<L: Ledger>(
         Order::Delete { k } => editor.delete(alloc, k as usize),
         Order::Undo => editor.undo(alloc),
         Order::Redo => editor.redo(alloc),
-        Order::Keep { p } => editor.keep(alloc, p as usize, steps),
-        Order::KeepEvery { every } => keep_every(alloc, editor, every, steps),
+        Order::Keep { p } => keep_place(alloc, editor, p as usize, steps),
+        Order::KeepEvery { every } => keep_multiples(alloc, editor, every, steps),
         Order::DropKept { p } => editor.drop_kept(p as usize),
         _ => Ok(()),
+    }
+}
+
+/// Keeps a place.
+fn keep_place<L: Ledger>(
+    alloc: Global,
+    editor: &mut Editor,
+    place: usize,
+    steps: &mut Steps<L>,
+) -> Result<(), EditRefusal>
+    ensures changed { IsChanged result editor.old editor.new
+        (keep places_alone place (place_session editor.old)) }
+    ensures recording { OnErr result
+        (current_recording editor.new ≡ current_recording editor.old) }
+{
+    places_decide();
+    match editor.keep(alloc, place, steps) {
+        Ok(_copied) => Ok(()),
+        Err(refusal) => Err(refusal),
+    }
+}
+
+/// Keeps each multiple of a number.
+fn keep_multiples<L: Ledger>(
+    alloc: Global,
+    editor: &mut Editor,
+    every: u32,
+    steps: &mut Steps<L>,
+) -> Result<(), EditRefusal>
+    ensures changed { IsChanged result editor.old editor.new
+        (keep_every every (place_session editor.old)) }
+    ensures recording { OnErr result
+        (current_recording editor.new ≡ current_recording editor.old) }
+{
+    match keep_every(alloc, editor, every, steps) {
+        Ok(_copied) => Ok(()),
+        Err(refusal) => Err(refusal),
     }
 }

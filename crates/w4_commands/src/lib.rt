@@ -13,6 +13,7 @@ mod differences;
 mod edit;
 mod film_answer;
 pub mod forms;
+mod held_pages;
 mod inputs_text;
 mod lines_status;
 mod live_answer;

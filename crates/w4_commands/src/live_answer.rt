@@ -133,8 +133,10 @@ fn answer_save<H: House>(
 {
     match save_recording(alloc, house, desk, out) {
         Ok(()) => write_bytes(alloc, house, b"0\n"),
-        Err(Refusal::WriteFault) => refuse_save(alloc, house),
-        Err(why) => Err(why),
+        Err(why) => match why {
+            Refusal::WriteFault => refuse_save(alloc, house),
+            _ => Err(why),
+        },
     }
 }
 

@@ -2,7 +2,7 @@
 
 ghost use Rattle.std.specs.Prelude.{◌≡◌, All, IfOk, length, map, string_bytes};
 ghost use Rattle.w4_defs.specs.World.{LeavesReading};
-ghost use Rattle.w4_script.specs.Requests.{IsRequest};
+ghost use Rattle.w4_script.specs.Requests.{IsQueryLine};
 ghost use Rattle.w4_commands.specs.Causes.{ResultsIn, StepGives};
 ghost use Rattle.w4_commands.specs.Reads.{GivesValue};
 ghost use Rattle.w4_defs.specs.ToolOutputs.{
@@ -31,7 +31,7 @@ use crate::lines_status::{LinesFile, lines_status};
 use crate::load::{Played, load_font, load_run, read_file};
 use std::alloc::Global;
 use w4_defs::Refusal;
-use w4_defs::inspect::Ask;
+use w4_defs::inspect::QueryLine;
 use w4_defs::netplay::NetOrder;
 use w4_font::Font;
 use w4_house::House;
@@ -48,7 +48,7 @@ pub struct NetLoaded {
 #[derive(Drop)]
 pub struct RamLoaded {
     pub run: Played,
-    pub lines: Vec<Ask>,
+    pub lines: Vec<QueryLine>,
 }
 
 /// The files of a batch, without the cart: the bytes of the listed files are in the order of the names.
@@ -72,9 +72,9 @@ fn judge_log(alloc: Global, bytes: &[u8]) -> Result<Vec<NetOrder>, Refusal>
 
 /// The lines of a query.
 #[tactic(auto, unfolding(w4_defs::specs::ToolOutputs::query_lines))]
-fn judge_query(alloc: Global, bytes: &[u8]) -> Result<Vec<Ask>, Refusal>
+fn judge_query(alloc: Global, bytes: &[u8]) -> Result<Vec<QueryLine>, Refusal>
     ensures lines { GivesValue (λ lines. lines.items) result (query_lines bytes.now) }
-    ensures fit { IfOk result (λ lines. All IsRequest lines.items) }
+    ensures fit { IfOk result (λ lines. All IsQueryLine lines.items) }
 {
     match read_query(alloc, bytes) {
         Ok(lines) => Ok(lines),
@@ -104,10 +104,10 @@ fn load_log<H: House>(alloc: Global, house: &mut H, name: &str) -> Result<Vec<Ne
 }
 
 #[tactic(auto, unfolding(w4_defs::specs::ToolOutputs::query_in))]
-fn load_query<H: House>(alloc: Global, house: &mut H, name: &str) -> Result<Vec<Ask>, Refusal>
+fn load_query<H: House>(alloc: Global, house: &mut H, name: &str) -> Result<Vec<QueryLine>, Refusal>
     ensures gives { StepGives (H.world house.old) (H.world house.new) (λ lines. lines.items) result
         (ResultsIn (λ files. query_in files name.now)) }
-    ensures fit { IfOk result (λ lines. All IsRequest lines.items) }
+    ensures fit { IfOk result (λ lines. All IsQueryLine lines.items) }
     ensures rest { LeavesReading (H.world house.old) (H.world house.new) }
 {
     let bytes = read_file(alloc, house, name, w4_script::MOST_BYTES + 1)?;
@@ -172,7 +172,7 @@ pub fn load_ram<H: House>(
 ) -> Result<RamLoaded, Refusal>
     ensures gives { StepGives (H.world house.old) (H.world house.new) ram_loaded_view result
         (ResultsIn (λ files. ram_files digest.now (run_view names.entry) query.now files)) }
-    ensures fit { IfOk result (λ loaded. All IsRequest loaded.lines.items) }
+    ensures fit { IfOk result (λ loaded. All IsQueryLine loaded.lines.items) }
     ensures rest { LeavesReading (H.world house.old) (H.world house.new) }
 {
     let run = load_run(alloc, house, digest, names)?;

@@ -1,18 +1,20 @@
 //! `ram`: values and searches of memory, over the places of a recording.
 
-ghost use Rattle.std.specs.Prelude.{◌≡◌, ◌<◌, All, None};
+ghost use Rattle.std.specs.Prelude.{◌≡◌, ◌<◌, All, None, OnOk, length};
 ghost use Rattle.std.specs.Option.{ForSome};
 ghost use Rattle.w4_defs.specs.Meaning.{RunsHaveMeaning};
 ghost use Rattle.w4_defs.specs.World.{LeavesWriting};
-ghost use Rattle.w4_script.specs.Requests.{IsRequest};
+ghost use Rattle.w4_defs.specs.declared.inspect.QueryLine.TheVariants.{Ask as Request};
+ghost use Rattle.w4_script.specs.Requests.{IsQueryLine, IsRequest};
 ghost use Rattle.w4_defs.specs.Causes.{LeavesErr};
 ghost use Rattle.w4_commands.specs.Causes.{EndsDone, MakesOf, Written};
-ghost use Rattle.w4_commands.specs.RamAnswers.{editor_pages};
-ghost use Rattle.w4_defs.specs.QueryAnswers.{ram_answers};
+ghost use Rattle.w4_commands.specs.RamAnswers.{AreHeld, GivesQueryAnswer, query_answer, query_answers};
 ghost use Rattle.w4_defs.specs.ToolOutputs.{ram_output, ram_text};
 ghost use Rattle.w4_commands.specs.Views.{cart_view, ram_loaded_view, run_view};
 
+use crate::change_answer::answer_change;
 use crate::forms::RunNames;
+use crate::held_pages::answer_held;
 use crate::load::Played;
 use crate::load_tools::{RamLoaded, load_ram};
 use crate::ram_answers::answer_line;
@@ -21,10 +23,11 @@ use std::alloc::Global;
 use std::marker::Brand;
 use std::sync::ledger::{Blank, Ledger};
 use w4_cart::CartFile;
-use w4_defs::inspect::Ask;
-use w4_defs::{Refusal, Steps};
+use w4_defs::inspect::{Ask, QueryLine};
+use w4_defs::{Order, Refusal, Steps};
 use w4_editor::Editor;
 use w4_house::House;
+use w4_inspect::{PlacePages, Search};
 use wasm_valid::Cart;
 
 /// `ram CART REC FONT QUERY`.
@@ -52,7 +55,7 @@ fn answer_query<H: House>(
     cart: Cart,
     loaded: RamLoaded,
 ) -> Result<(), Refusal>
-    requires { All IsRequest loaded.lines.items }
+    requires { All IsQueryLine loaded.lines.items }
     ensures out { ForSome (ram_text cart (ram_loaded_view loaded))
         (λ text. Written (H.world house.old) (H.world house.new) result text) }
     ensures rest { LeavesWriting (H.world house.old) (H.world house.new) }
@@ -68,21 +71,123 @@ fn answer_lines<L: Ledger, H: House>(
     alloc: Global,
     house: &mut H,
     editor: &mut Editor,
-    lines: &[Ask],
+    lines: &[QueryLine],
     blank: Blank,
 ) -> Result<(), Refusal>
-    requires ranges { All IsRequest lines.now }
+    requires ranges { All IsQueryLine lines.now }
     requires name { blank.name ≡ L.name }
     requires parts { blank.parts ≡ L.parts }
     requires some { 0 < L.parts }
-    ensures out { ForSome (ram_answers (editor_pages editor.old) None lines.now).out
+    ensures out { ForSome (query_answers editor.old None lines.now).out
         (λ text. Written (H.world house.old) (H.world house.new) result text) }
     ensures rest { LeavesWriting (H.world house.old) (H.world house.new) }
 {
     let mut steps: Steps<L> = Steps::new(blank);
     let mut search = None;
-    for line in lines {
-        answer_line::<Plain, L, H>(alloc, house, editor, &mut search, line, &mut steps)?;
+    let mut held = None;
+    for i in 0..lines.len() {
+        let line = lines[i];
+        let again = watch_again(lines, i);
+        answer_query_line(
+            alloc,
+            house,
+            editor,
+            &mut search,
+            &mut held,
+            line,
+            again,
+            &mut steps,
+        )?;
     }
     Ok(())
+}
+
+/// Whether this line and the next watch the same places.
+fn watch_again(lines: &[QueryLine], i: usize) -> bool
+    requires { i < length lines.now }
+{
+    match lines.get(i + 1) {
+        Some(next) => match (places_of(&lines[i]), places_of(next)) {
+            (Some(places), Some(others)) => places == others,
+            _ => false,
+        },
+        None => false,
+    }
+}
+
+/// The places that a line watches.
+fn places_of(line: &QueryLine) -> Option<(u32, u32)> {
+    match *line {
+        QueryLine::Ask {
+            ask: Ask::Watch { a, b, .. },
+        } => Some((a, b)),
+        _ => None,
+    }
+}
+
+/// Answers a line of the query. `again` says whether the next line watches the same places.
+fn answer_query_line<L: Ledger, H: House>(
+    alloc: Global,
+    house: &mut H,
+    editor: &mut Editor,
+    search: &mut Option<Search>,
+    held: &mut Option<PlacePages>,
+    line: QueryLine,
+    again: bool,
+    steps: &mut Steps<L>,
+) -> Result<(), Refusal>
+    requires fit { IsQueryLine line }
+    requires held { AreHeld editor.old held.old }
+    ensures told { GivesQueryAnswer (H.world house.old) (H.world house.new) result
+        editor.old editor.new search.new (query_answer editor.old search.old line) }
+    ensures held { OnOk result (AreHeld editor.new held.new) }
+    ensures rest { LeavesWriting (H.world house.old) (H.world house.new) }
+{
+    match line {
+        QueryLine::Ask { ask } => {
+            answer_request(alloc, house, editor, search, held, ask, again, steps)
+        }
+        QueryLine::Keep { p } => {
+            *held = None;
+            answer_change::<Plain, L, H>(alloc, house, editor, &Order::Keep { p }, steps)
+        }
+        QueryLine::KeepEvery { every } => {
+            *held = None;
+            answer_change::<Plain, L, H>(alloc, house, editor, &Order::KeepEvery { every }, steps)
+        }
+    }
+}
+
+/// Answers a request.
+fn answer_request<L: Ledger, H: House>(
+    alloc: Global,
+    house: &mut H,
+    editor: &mut Editor,
+    search: &mut Option<Search>,
+    held: &mut Option<PlacePages>,
+    ask: Ask,
+    again: bool,
+    steps: &mut Steps<L>,
+) -> Result<(), Refusal>
+    requires fit { IsRequest ask }
+    requires held { AreHeld editor.old held.old }
+    ensures told { GivesQueryAnswer (H.world house.old) (H.world house.new) result
+        editor.old editor.new search.new (query_answer editor.old search.old (Request ask)) }
+    ensures held { OnOk result (AreHeld editor.new held.new) }
+    ensures rest { LeavesWriting (H.world house.old) (H.world house.new) }
+{
+    match ask {
+        Ask::Watch {
+            address,
+            width,
+            a,
+            b,
+        } => answer_held(
+            alloc, house, editor, held, address, width, a, b, again, steps,
+        ),
+        _ => {
+            *held = None;
+            answer_line::<Plain, L, H>(alloc, house, editor, search, &ask, steps)
+        }
+    }
 }

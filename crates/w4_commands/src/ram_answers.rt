@@ -1,4 +1,4 @@
-//! The answer of one line of a query.
+//! The answer of one request of a query.
 
 ghost use Rattle.std.specs.Prelude.{◌≡◌, ◌≢◌, ◌⊎◌, ◌++◌, ◌∷◌, ◌≤◌, IfOk, OnOk, codes, decimal};
 ghost use Rattle.std.specs.Option.{ForSome};
@@ -25,7 +25,7 @@ use w4_editor::Editor;
 use w4_house::House;
 use w4_inspect::{RamRefusal, Search, watch};
 
-/// Answers one line.
+/// Answers one request.
 pub fn answer_line<S: Shape, L: Ledger, H: House>(
     alloc: Global,
     house: &mut H,
@@ -58,7 +58,7 @@ pub fn answer_line<S: Shape, L: Ledger, H: House>(
 }
 
 /// Writes the values at an address.
-fn answer_watch<S: Shape, L: Ledger, H: House>(
+pub(crate) fn answer_watch<S: Shape, L: Ledger, H: House>(
     alloc: Global,
     house: &mut H,
     editor: &mut Editor,
@@ -88,7 +88,11 @@ fn answer_watch<S: Shape, L: Ledger, H: House>(
 }
 
 /// The line of the values at an address.
-fn watched_line(alloc: Global, address: u32, values: &[u32]) -> Result<Vec<u8>, OutOfMemory>
+pub(crate) fn watched_line(
+    alloc: Global,
+    address: u32,
+    values: &[u32],
+) -> Result<Vec<u8>, OutOfMemory>
     ensures { IfOk result (λ line. line.items ≡ numbered (codes "watch") (address ∷ values.now)) }
 {
     let mut line = Vec::new(alloc);

@@ -4,7 +4,7 @@ use Rattle.std.specs.Prelude.{IsSome, Result, Ok}
 use Rattle.std.specs.List.{AllByRecursion}
 use Rattle.std.proofs.lemmas.Bool.{le-leb}
 use Rattle.std.proofs.lemmas.Slice.Eq.{bytes_eq-Decides}
-use Rattle.w4_defs.specs.declared.inspect.Ask.{Ask}
+use Rattle.w4_defs.specs.declared.inspect.QueryLine.{QueryLine}
 use Rattle.w4_defs.specs.declared.netplay.NetOrder.{NetOrder}
 use Rattle.w4_defs.specs.declared.order.Order.{Order}
 use Rattle.w4_defs.specs.declared.place_text.PlaceText.{PlaceText}
@@ -119,7 +119,7 @@ log_there files name orders has =
     judged_there 1048576 log_orders files name has.bytes orders has.there
     (ap (lines_or ScriptRefused) has.read_as)
 
-query_there : (files : Files) (name : List ℕ) (lines : List Ask)
+query_there : (files : Files) (name : List ℕ) (lines : List QueryLine)
     → HasLines files name 1048577 query_of lines → query_in files name ≡ Ok lines
 unfolding query_in query_lines
 query_there files name lines has =
@@ -151,7 +151,7 @@ net_there files words font orders has lines =
     let log = log_there files words.log orders lines in
     rw (first, log) refl
 
-ram_there : (files : Files) (words : RunWords) (query digest : List ℕ) (run : Played) (lines : List Ask)
+ram_there : (files : Files) (words : RunWords) (query digest : List ℕ) (run : Played) (lines : List QueryLine)
     → HasRun files words digest run → HasLines files query 1048577 query_of lines
     → ram_files digest words query files ≡ Ok (record { run = run; lines = lines })
 unfolding ram_files

@@ -1,5 +1,5 @@
 -- What the program makes is there, where the runs of its cart have a meaning.
-use Rattle.std.proofs.Common.{ℕ, ◌+◌, ◌-◌, List, [], ◌++◌, length, replicate, Option, Some, None, option_map, refl, ◌≡◌}
+use Rattle.std.proofs.Common.{ℕ, ◌+◌, ◌-◌, List, [], ◌++◌, length, replicate, Option, Some, option_map, refl, ◌≡◌}
 use Rattle.std.specs.Prelude.{IsSome, Result, Ok, Err}
 use Rattle.std.specs.List.{range_with_len}
 use Rattle.sha2.specs.Sha256.{sha256}
@@ -16,24 +16,23 @@ use Rattle.w4_defs.specs.MadeSummary.{made_setup, summary_text}
 use Rattle.w4_defs.specs.Meaning.{RunsHaveMeaning}
 use Rattle.w4_defs.specs.Module.{WasmModule}
 use Rattle.w4_defs.specs.Output.{CartFile, CartIn, JudgedCart, Loaded, Output, Played, blank_recording, checked, reading, edit_answers, edit_files, edit_output, edit_result, disk_output, images_output, made_text, making, moment_at, only_written, place_texts_from, printing, run_files, run_files_to, run_setup, texts_output}
-use Rattle.w4_defs.specs.Live.{Opened, Talk, first_live_session, serve_output, serve_result, served, session_events}
+use Rattle.w4_defs.specs.Live.{Opened, Talk, first_live_session, new_live_session, serve_output, serve_result, served, session_events}
 use Rattle.w4_defs.specs.Outputs.{OutputsOn, cart_word}
 use Rattle.w4_defs.specs.RecordingOutputs.{blank_disk_output, compare_files, compare_output, compared_runs, rebind_output, run_units, units_output}
 use Rattle.w4_defs.specs.Recording.{encoding}
 use Rattle.w4_defs.specs.OutputsThere.{CartsHaveMeaning, IsSecondJudged, MadeOutputsAreThere, OutputsAreThere}
 use Rattle.w4_defs.specs.PlaceTexts.{as_it_stands, place_text}
-use Rattle.w4_defs.specs.QueryAnswers.{pages_of, ram_answer}
 use Rattle.w4_defs.specs.Run.{run_state}
 use Rattle.w4_defs.specs.ScriptAnswers.{answer}
 use Rattle.w4_defs.specs.Session.{new_session}
 use Rattle.w4_defs.specs.Sound.{samples, wav_header}
 use Rattle.w4_defs.specs.State.{Moment, FrameRecord}
-use Rattle.w4_defs.specs.ToolOutputs.{BatchLoaded, NetLoaded, RamLoaded, batch_files, batch_output, batch_text, net_files, net_output, net_text, ram_files, ram_output, ram_text, records_of, wave_output, wave_text}
+use Rattle.w4_defs.specs.ToolOutputs.{BatchLoaded, NetLoaded, RamLoaded, batch_files, batch_output, batch_text, line_answer, live_order, net_files, net_output, net_text, ram_files, ram_output, ram_text, records_of, wave_output, wave_text}
 use Rattle.w4_defs.specs.World.{Files}
 use Rattle.w4_defs.proofs.UnitsThereLaws.{units_text_there}
 use Rattle.w4_defs.proofs.ComparedThereLaws.{compared_there}
-use Rattle.w4_defs.proofs.LiveThereLaws.{session_events_there}
-use Rattle.w4_defs.proofs.ThereLaws.{RunsAreThere, value_there, answer_there, answers_there, file_row_there, mapped_there, net_answer_there, place_text_there, places_there, ram_answer_there, rows_there, run_page_there, run_state_there, values_there}
+use Rattle.w4_defs.proofs.LiveThereLaws.{live_answer_there, session_events_there}
+use Rattle.w4_defs.proofs.ThereLaws.{RunsAreThere, value_there, answer_there, answers_there, file_row_there, mapped_there, net_answer_there, place_text_there, places_there, rows_there, run_state_there, values_there}
 
 -- ---- texts
 
@@ -68,10 +67,9 @@ module _ (m : WasmModule) (meant : RunsHaveMeaning m) where
   ram_text_there l =
       let r = l.run.recording in
       let setup = run_setup m l.run in
-      let pages = pages_of setup r.disk r.frames in
-      answers_there (ram_answer as_it_stands pages)
-      (ram_answer_there as_it_stands pages (run_page_there setup r.disk (runs_there l.run) r.frames)) None
-      l.lines
+      answers_there (line_answer setup r.disk)
+      (λ session line. live_answer_there as_it_stands setup r.disk (runs_there l.run) session (live_order line))
+      (new_live_session r.frames) l.lines
 
   pub records_there : (p : Played) (places : ℕ) → IsSome (records_of m p places)
   records_there p places =

@@ -10,7 +10,7 @@ use Rattle.w4_defs.specs.declared.status.Status.TheVariants as status
 use Rattle.w4_defs.specs.Endings.{Manner, ReadFailed, InputFailed, WriteFailed, MemoryRefused, Refused, manner_of, status_of_finish, status_of_refusal}
 use Rattle.w4_defs.specs.Output.{Output, all_events}
 use Rattle.w4_defs.specs.StatusLines.{status_line}
-use Rattle.w4_defs.specs.World.{Event, Took, InputEnded, InputLost, Files, World, Rises, Appends, AppendsFront, Does, FailsToSave}
+use Rattle.w4_defs.specs.World.{Event, Took, InputEnded, InputLost, Files, World, Rises, Appends, AppendsFront, Does, FailsToSave, OutFails, SavesOrFails, not_saved}
 
 -- a read failed, or a file whose turn came isn't among those that the house tells
 abbrev pub ReadFails : {Y : Type 0} → World → World → (Files → Result Y Refusal → Type 0) → Type 0
@@ -35,20 +35,20 @@ WantsInput other = ⊥
 abbrev pub stopped_events : Output → ℕ → List Event
 stopped_events output count = take count output.events ++ output.rescued count
 
--- a write to standard output failed after so many of the events, of which more were to come unless nothing
--- is saved after a stop
+-- more events were to come than so many, or nothing is saved after a stop
 abbrev pub IsShort : Output → ℕ → Type 0
 IsShort output count = (count < length output.events) ⊎ (output.rescued count ≡ [])
 
--- a write failed: one to standard output, after which the file was replaced that is saved after a stop, or
--- that failed too; or, after a read of standard input that failed, replacing this file; or replacing the one
--- at the end
+-- a write failed: one to standard output, however many saves had failed before, after which the file was
+-- replaced that is saved after a stop, or that failed too; or, after a read of standard input that failed,
+-- replacing this file; or replacing the one at the end
 abbrev pub WritesPart : World → World → Output → Type 0
 WritesPart old new output =
     ((count : ℕ) × IsShort output count
-    × (Does old new (stopped_events output count)
-    ⊎ FailsToSave old new (take count output.events) (output.rescued count)))
-    ⊎ (((count : ℕ) × WantsInput (slice_get output.events count)
+    × ((Does old new (stopped_events output count) × OutFails old new (stopped_events output count))
+    ⊎ (FailsToSave old new (take count output.events) (output.rescued count)
+    × OutFails old new (take count output.events ++ not_saved (output.rescued count)))))
+    ⊎ (((count : ℕ) × WantsInput (slice_get output.events count) × Rises old.read_faults new.read_faults
     × FailsToSave old new (take count output.events ++ InputLost ∷ []) (output.rescued count))
     ⊎ FailsToSave old new output.events output.saved)
 
@@ -59,16 +59,17 @@ LosesInput old new output = (count : ℕ) × WantsInput (slice_get output.events
     × Does old new (take count output.events ++ InputLost ∷ output.rescued count)
 
 -- memory ran out after so many of the events: no more has happened; or the file was replaced that is saved
--- after these or, where the last of them asked for an edit that wasn't made, after those before it; or that
--- failed too; or it was to be replaced after a read of standard input that failed
+-- after these or, where the last of them is a line whose edit wasn't made, after those before it; or
+-- replacing it failed; or, where a line was wanted, what was read of it is lost, and no more has happened
+-- since, or the file was replaced, or that failed
 abbrev pub RunsOutAfter : World → World → Output → ℕ → Type 0
 RunsOutAfter old new output count =
     Does old new (take count output.events)
     ⊎ (((before : ℕ) × ((before ≡ count) ⊎ (before + 1 ≡ count))
-    × (Does old new (take count output.events ++ output.rescued before)
-    ⊎ FailsToSave old new (take count output.events) (output.rescued before)))
+    × SavesOrFails old new (take count output.events) (output.rescued before))
     ⊎ (WantsInput (slice_get output.events count)
-    × Does old new (take count output.events ++ InputLost ∷ [])))
+    × (Does old new (take count output.events ++ InputLost ∷ [])
+    ⊎ SavesOrFails old new (take count output.events ++ InputLost ∷ []) (output.rescued count))))
 
 -- how a step that wasn't done ended
 abbrev pub EndsRefused : World → World → Manner → (Files → Result Output Refusal → Type 0) → Type 0

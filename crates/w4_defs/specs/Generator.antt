@@ -124,8 +124,8 @@ made_budget = 100000
 
 -- Worked cases: number 0 draws 15,470, 18,256 and 53,708 first, so that its first function is `local.get 0`,
 -- `local.get 1`, `i32.or`, `i32.const 18256`, `i32.shl`; its 193rd draw is 65,044, so that its first frame
--- has gamepad 1 at 20. Number 4,294,967,295, whose first step wraps, has other draws in its first and last
--- functions and frames.
+-- has gamepad 1 at 20. Of number 4,294,967,295, whose first step wraps: the draws of its first and last small
+-- functions and of its first and last frames, and these.
 abbrev pub GeneratorCases : Type 0
 GeneratorCases =
     (map (draw 0) (0 ∷ 1 ∷ 2 ∷ 192 ∷ []) ≡ 15470 ∷ 18256 ∷ 53708 ∷ 65044 ∷ [])

@@ -37,7 +37,7 @@ use Rattle.w4_defs.specs.Search.{Search}
 use Rattle.w4_defs.specs.Session.{Session, new_session}
 use Rattle.w4_defs.specs.State.{State}
 use Rattle.w4_defs.specs.Units.{units_at}
-use Rattle.w4_defs.specs.World.{Event, Files, Took, InputEnded, Wrote, Saved, NotSaved, wrote}
+use Rattle.w4_defs.specs.World.{Event, Files, Took, InputEnded, Wrote, Saved, NotSaved, wrote, written_by}
 use Rattle.w4_defs.specs.Limits.{live_line_limit}
 
 -- ---- lines
@@ -104,7 +104,8 @@ over_search s answered = record { out = answered.out; session = record s { searc
 abbrev pub answer_at : PieceForm → LiveSession → ℕ → Option (List ℕ) → Answered LiveSession
 answer_at form s last out = answer_text s (if_place form s.session last out)
 
--- the answer of an order; what `save` does is said below, by how it ends
+-- the answer of an order but `save`, which `order_step` takes before: what it does is said below, by how it
+-- ends
 abbrev pub live_answer : PieceForm → Setup → List ℕ → LiveSession → LiveOrder → Answered LiveSession
 live_answer form setup disk s (live.Script order) = over_session s (answer form setup disk s.session order)
 live_answer form setup disk s (live.Query ask) =
@@ -257,12 +258,6 @@ worked_session cart = record {
   };
   out = codes "o";
 }
-
--- the bytes that events write
-abbrev pub written_by : List Event → List ℕ
-written_by [] = []
-written_by (Wrote byte ∷ events) = byte ∷ written_by events
-written_by (event ∷ events) = written_by events
 
 abbrev answers_to : WasmModule → List SaveEnd → List (List ℕ) → Option (List ℕ)
 answers_to cart saves lines = option_map (λ output. written_by (all_events output))

@@ -43,8 +43,8 @@ unfoldable pub names_of : List ℕ → Result (List (List ℕ)) ScriptKind
 names_of bytes =
     if nat_le (length bytes) name_list_limit then names_after 0 (name_lines bytes) else Err TooLong
 
--- Worked cases: a list with an empty line, a byte 13 and no byte 10 at its end; no name at all; 256 bytes
--- after an empty line; the 256th name, and the 257th.
+-- Worked cases: a list with an empty line, a byte 13 and no byte 10 at its end; the numbers of lines that are
+-- left where others are empty; no name at all; 256 bytes after an empty line; the 256th name, and the 257th.
 abbrev pub NameListCases : Type 0
 NameListCases =
     (names_of (codes "a" ++ 13 ∷ 10 ∷ 13 ∷ 10 ∷ 10 ∷ codes " b #") ≡ Ok (codes "a" ∷ codes " b #" ∷ []))

@@ -1,5 +1,5 @@
--- What the program does for its words and the files that it finds, or the first refusal (project rule): the
--- words are judged first, then the cart where the form names one, then the rest.
+-- What each form of words has the program do (project rule): the cart is judged first where the form names
+-- one, then a second cart where it names two, and then the rest. Words without a form have no output.
 use Rattle.std.specs.Prelude.{◌≡◌, ℕ, List, Option, Some, None, Result, Ok, Err}
 use Rattle.w4_defs.specs.World.{Files}
 use Rattle.w4_defs.specs.declared.place_text.PlaceText.TheVariants.{Schedule, Traces}

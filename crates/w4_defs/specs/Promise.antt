@@ -63,9 +63,10 @@ pub record KeepsPromise (old new : World) (words : List (List ℕ)) (result : St
   pub input_fault : result ≡ InputFault → Rises old.read_faults new.read_faults
   pub input_fault_output : result ≡ InputFault → ForSome old.files (λ files. (output : Output)
       × Outputs words files (Ok output) × LosesInput old new output)
-  -- It comes only where a write failed, and the definition has an output. A first part of its events has
-  -- happened, and a session has then saved OUT as the lines taken leave it; or all has been done, but that
-  -- replacing the file at the end failed.
+  -- It comes only where a write failed, and the definition has an output. A write to standard output failed
+  -- when a first part of its events had happened, and a session has then saved OUT as the lines taken leave
+  -- it, or that failed too; or OUT couldn't be replaced after a read of standard input that failed, or at the
+  -- end, when all else was done.
   pub write_fault : result ≡ WriteFault → Rises old.write_faults new.write_faults
   pub write_fault_output : result ≡ WriteFault → ForSome old.files (λ files. (output : Output)
       × Outputs words files (Ok output) × WritesPart old new output)

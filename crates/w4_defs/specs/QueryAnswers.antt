@@ -1,6 +1,7 @@
--- The answers of a query (project rule): what is read and searched in the pages of a run from reset. `watch`
--- writes the values at an address, `list` how many addresses the search has left and each of them. A search
--- stands until an accepted `start` begins another. A refused line writes one line and changes nothing.
+-- The answers of a query's requests (project rule): what is read and searched in the pages of a run from
+-- reset. `watch` writes the values at an address, `list` how many addresses the search has left and each of
+-- them. A search stands until an accepted `start` begins another. A refused line writes one line and changes
+-- nothing.
 use Rattle.std.specs.Prelude.{◌≡◌, ℕ, ◌+◌, ◌-◌, List, [], ◌∷◌, ◌++◌, length, map, flat_map, nat_lt, nat_le, codes, decimal, Option, Some, None, option_map, if◌then◌else◌, refl}
 use Rattle.std.specs.Fmt.{digits}
 use Rattle.std.specs.List.{range_with_len}
@@ -71,17 +72,13 @@ abbrev pub list_text : Option Search → List ℕ
 list_text None = no_search
 list_text (Some search) = found_text search.candidates
 
--- the answer of one line, each piece of it in a form; `ram` writes it as it stands
+-- the answer of one request, each piece of it in a form; `ram` writes it as it stands
 abbrev pub ram_answer : PieceForm → Pages → Option Search → Ask → Answered (Option Search)
 ram_answer form pages search (ask.Watch address width a b) =
     answer_text search (watch_text form pages address width a b)
 ram_answer form pages search (ask.Start width p) = answer_start form pages search width p
 ram_answer form pages search (ask.Narrow p test) = answer_narrow form pages search p test
 ram_answer form pages search ask.List = answer_text search (Some (form (list_text search)))
-
--- the answers of a query, in order
-abbrev pub ram_answers : Pages → Option Search → List Ask → Answered (Option Search)
-ram_answers pages search lines = answers_by (ram_answer as_it_stands pages) search lines
 
 -- Worked cases, over three pages of four bytes: what stands before a search; a value of two bytes at each
 -- place; an address at the page's end; a place that isn't there; and a `start` that is refused, which leaves
@@ -92,14 +89,17 @@ short_pages = record { at = λ p. Some (p ∷ 1 ∷ 7 ∷ 0 ∷ []); last = 2 }
 abbrev pub short_search : Option Search
 short_search = Some (record { width = 1; page = 0 ∷ 1 ∷ 7 ∷ 0 ∷ []; candidates = 0 ∷ 1 ∷ 2 ∷ [] })
 
+abbrev short_answers : Option Search → List Ask → Option (List ℕ)
+short_answers search requests = (answers_by (ram_answer as_it_stands short_pages) search requests).out
+
 abbrev pub RamAnswerCases : Type 0
 RamAnswerCases =
-    ((ram_answers short_pages None (ask.List ∷ ask.Narrow 9 Same ∷ [])).out
+    (short_answers None (ask.List ∷ ask.Narrow 9 Same ∷ [])
     ≡ Some (codes "refused no search\nrefused no search\n"))
-    × ((ram_answers short_pages None (ask.Watch 0 2 0 2 ∷ [])).out ≡ Some (codes "watch 0 256 257 258\n"))
-    × ((ram_answers short_pages None (ask.Watch 65535 2 0 0 ∷ ask.Watch 0 1 0 3 ∷ ask.Start 4 3 ∷ [])).out
+    × (short_answers None (ask.Watch 0 2 0 2 ∷ []) ≡ Some (codes "watch 0 256 257 258\n"))
+    × (short_answers None (ask.Watch 65535 2 0 0 ∷ ask.Watch 0 1 0 3 ∷ ask.Start 4 3 ∷ [])
     ≡ Some (codes "refused outside\nrefused no frame\nrefused no frame\n"))
-    × ((ram_answers short_pages short_search (ask.Start 1 3 ∷ ask.Narrow 2 Same ∷ ask.List ∷ [])).out
+    × (short_answers short_search (ask.Start 1 3 ∷ ask.Narrow 2 Same ∷ ask.List ∷ [])
     ≡ Some (codes "refused no frame\nfound 2\n1\n2\n"))
 
 pub ram-answer-cases : RamAnswerCases

@@ -4,16 +4,24 @@
 --   start WIDTH P
 --   is P VALUE, same P, changed P, more P, less P
 --   list
+-- These are requests. Of the orders of a script a query may have those that keep places:
+--   keep P, keep-every E           as in a script
 -- Anything else makes a line bad.
-use Rattle.std.specs.Prelude.{◌≡◌, ℕ, ◌==◌, ◌||◌, nat_le, List, [], ◌∷◌, ◌++◌, codes, if◌then◌else◌, Option, Some, None, Result, Ok, Err, refl}
+use Rattle.std.specs.Prelude.{◌≡◌, ℕ, ◌==◌, ◌||◌, nat_le, List, [], ◌∷◌, ◌++◌, codes, if◌then◌else◌, Option, Some, None, option_map, Result, Ok, Err, refl}
+use Rattle.std.specs.Option.{option_or}
 use Rattle.w4_defs.specs.declared.inspect.Ask.{Ask}
 use Rattle.w4_defs.specs.declared.inspect.Ask.TheVariants as ask
+use Rattle.w4_defs.specs.declared.inspect.QueryLine.{QueryLine}
+use Rattle.w4_defs.specs.declared.inspect.QueryLine.TheVariants as line
 use Rattle.w4_defs.specs.declared.inspect.Test.{Test}
 use Rattle.w4_defs.specs.declared.inspect.Test.TheVariants.{Is, Same, Changed, More, Less}
+use Rattle.w4_defs.specs.declared.order.Order.{Order}
+use Rattle.w4_defs.specs.declared.order.Order.TheVariants as order
 use Rattle.w4_defs.specs.Reading.{◌>>=◌}
 use Rattle.w4_defs.specs.Lines.{lines_from, decimal_value, number_of}
 use Rattle.w4_defs.specs.OrderWords.{no_word, one_number}
 use Rattle.w4_defs.specs.OrderFile.{OrderRow, order_by, orders_in, file_of}
+use Rattle.w4_defs.specs.Script.{script_rows, order_of}
 use Rattle.w4_defs.specs.declared.status.ScriptKind.{ScriptKind}
 use Rattle.w4_defs.specs.declared.status.ScriptKind.TheVariants.{BadLine}
 
@@ -22,8 +30,8 @@ abbrev pub decimal_width : List ℕ → Option ℕ
 decimal_width word = number_of word >>= λ n. if n == 1 || n == 2 || n == 4 then Some n else None
 
 abbrev pub watch_words : List (List ℕ) → Option Ask
-watch_words (place ∷ size ∷ first ∷ last ∷ []) = do
-  address ← number_of place
+watch_words (number ∷ size ∷ first ∷ last ∷ []) = do
+  address ← number_of number
   width ← decimal_width size
   a ← number_of first
   b ← number_of last
@@ -65,9 +73,19 @@ query_rows =
 abbrev pub ask_of : List (List ℕ) → Option Ask
 ask_of words = order_by query_rows words
 
--- the requests of a query
-unfoldable pub query_of : List ℕ → Result (List Ask) ScriptKind
-query_of bytes = file_of ask_of bytes
+-- the line that an order of a script is, where it keeps places
+abbrev pub keeping : Order → Option QueryLine
+keeping (order.Keep p) = Some (line.Keep p)
+keeping (order.KeepEvery every) = Some (line.KeepEvery every)
+keeping order = None
+
+-- the line of these words: a request, or an order that keeps places
+abbrev pub query_line_of : List (List ℕ) → Option QueryLine
+query_line_of words = option_or (option_map line.Ask (ask_of words)) (order_of words >>= keeping)
+
+-- the lines of a query
+unfoldable pub query_of : List ℕ → Result (List QueryLine) ScriptKind
+query_of bytes = file_of query_line_of bytes
 
 -- Worked cases: each kind of line, ways to be bad, and a query whose second line is bad
 abbrev pub AskCases : Type 0
@@ -83,7 +101,8 @@ AskCases =
     × (ask_of (codes "more" ∷ codes "3" ∷ []) ≡ Some (ask.Narrow 3 More))
     × (ask_of (codes "less" ∷ codes "3" ∷ []) ≡ Some (ask.Narrow 3 Less))
     × (ask_of (codes "list" ∷ []) ≡ Some ask.List)
-    × (query_of (codes "start 1 1" ++ 10 ∷ codes "list") ≡ Ok (ask.Start 1 1 ∷ ask.List ∷ []))
+    × (query_of (codes "start 1 1" ++ 10 ∷ codes "list")
+    ≡ Ok (line.Ask (ask.Start 1 1) ∷ line.Ask ask.List ∷ []))
 
 abbrev pub BadAskCases : Type 0
 BadAskCases =
@@ -98,10 +117,27 @@ BadAskCases =
     × (ask_of (codes "find" ∷ []) ≡ None)
     × (query_of (codes "list" ++ 10 ∷ codes "start 3 1" ++ 10 ∷ []) ≡ Err (BadLine 2))
 
+-- orders that keep places, and orders of a script that don't
+abbrev pub KeepingCases : Type 0
+KeepingCases =
+    (query_of (codes "keep-every 60" ++ 10 ∷ codes "keep 07" ++ 10 ∷ codes "list")
+    ≡ Ok (line.KeepEvery 60 ∷ line.Keep 7 ∷ line.Ask ask.List ∷ []))
+    × (query_line_of (codes "keep" ∷ codes "4294967295" ∷ []) ≡ Some (line.Keep 4294967295))
+    × (query_line_of (codes "keep" ∷ []) ≡ None)
+    × (query_line_of (codes "keep" ∷ codes "1" ∷ codes "2" ∷ []) ≡ None)
+    × (query_line_of (codes "keep-every" ∷ codes "0" ∷ []) ≡ None)
+    × (query_line_of (codes "drop" ∷ codes "1" ∷ []) ≡ None)
+    × (query_line_of (codes "show" ∷ codes "1" ∷ []) ≡ None)
+    × (query_of (codes "keep 1" ++ 10 ∷ codes "undo" ++ 10 ∷ []) ≡ Err (BadLine 2))
+
 pub ask-cases : AskCases
-unfolding query_of orders_in lines_from query_rows decimal_value number_of
+unfolding query_of orders_in lines_from query_rows script_rows decimal_value number_of
 ask-cases = (refl, refl, refl, refl, refl, refl, refl, refl, refl, refl)
 
 pub bad-ask-cases : BadAskCases
-unfolding query_of orders_in lines_from query_rows decimal_value number_of
+unfolding query_of orders_in lines_from query_rows script_rows decimal_value number_of
 bad-ask-cases = (refl, refl, refl, refl, refl, refl, refl, refl, refl, refl)
+
+pub keeping-cases : KeepingCases
+unfolding query_of orders_in lines_from query_rows script_rows decimal_value number_of
+keeping-cases = (refl, refl, refl, refl, refl, refl, refl, refl)

@@ -1,6 +1,5 @@
 -- Reading from the front: a field is a value and the bytes after it, or None where the bytes don't have it.
-use Rattle.std.specs.Prelude.{ℕ, ◌+◌, ◌<◌, ◌==◌, List, length, take, drop, slice_index, Option, Some, None, nat_lt, if◌then◌else◌}
-use Rattle.std.specs.List.{position}
+use Rattle.std.specs.Prelude.{ℕ, ◌<◌, List, length, take, drop, slice_index, Option, Some, None, nat_lt, if◌then◌else◌}
 use Rattle.std.specs.Int.{Width, byte_len, from_le_bytes}
 
 infixl 10 ◌>>=◌
@@ -20,7 +19,3 @@ front_at n bytes = if nat_lt (length bytes) n then None else Some (take n bytes,
 abbrev pub little_endian_at : Width → List ℕ → Option (ℕ × List ℕ)
 little_endian_at w bytes = if nat_lt (length bytes) (byte_len w) then None
     else Some (from_le_bytes w (take (byte_len w) bytes), drop (byte_len w) bytes)
-
--- the bytes before the first byte that is `mark`, and those after it; None where there is none
-abbrev pub cut_at : ℕ → List ℕ → Option (List ℕ × List ℕ)
-cut_at mark bytes = position (λ b. b == mark) bytes >>= λ i. Some (take i bytes, drop (i + 1) bytes)

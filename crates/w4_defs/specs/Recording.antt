@@ -187,11 +187,12 @@ RecordingCases =
     × (recording_of (case_front 2 ++ case_frame ++ 0 ∷ []) ≡ Some plain)
     × (recording_of (case_front 2 ++ case_frame ++ 1 ∷ []) ≡ Some reset)
 
--- no bytes, another version, a flag of 2, a byte too many or too few, a good one of no frames, a budget of 0,
--- a disk of 1,025 bytes, 36,001 frames
+-- a heading and a digest, and these fields
 abbrev front_with : List ℕ → List ℕ → List ℕ → List ℕ → List ℕ
 front_with budget size disk count = heading 1 ++ replicate 32 7 ++ budget ++ size ++ disk ++ count
 
+-- no bytes, another version, a flag of 2, a byte too many or too few, a good one of no frames, a budget of 0,
+-- a disk of 1,025 bytes, 36,001 frames
 abbrev pub BadRecordingCases : Type 0
 BadRecordingCases =
     let one = 1 ∷ 0 ∷ 0 ∷ 0 ∷ [] in

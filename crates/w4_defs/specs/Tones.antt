@@ -164,7 +164,7 @@ SilencedCase =
 pub silenced-case : SilencedCase
 silenced-case = refl
 
--- a channel after so many frames
+-- a channel after so many frames, of which a law says when its tone ends
 abbrev pub aged_often : ℕ → Option Voice → Option Voice
 aged_often zero channel = channel
 aged_often (suc frames) channel = aged_often frames (aged channel)

@@ -1,10 +1,14 @@
 -- What `net`, `ram`, `wave` and `batch` make of their words and files (project rule). As in all commands the
 -- cart is judged first, then the files in the order of the words, each before the next is read.
-use Rattle.std.specs.Prelude.{ℕ, ◌+◌, List, [], ◌∷◌, ◌++◌, length, map, Option, None, option_map, Result, Ok}
+use Rattle.std.specs.Prelude.{ℕ, ◌+◌, List, [], ◌∷◌, ◌++◌, length, map, Option, option_map, Result, Ok}
 use Rattle.std.specs.List.{range_with_len}
 use Rattle.sha2.specs.Sha256.{sha256}
-use Rattle.w4_defs.specs.declared.inspect.Ask.{Ask}
+use Rattle.w4_defs.specs.declared.inspect.QueryLine.{QueryLine}
+use Rattle.w4_defs.specs.declared.inspect.QueryLine.TheVariants as line
+use Rattle.w4_defs.specs.declared.live.LiveOrder.{LiveOrder}
+use Rattle.w4_defs.specs.declared.live.LiveOrder.TheVariants as live
 use Rattle.w4_defs.specs.declared.netplay.NetOrder.{NetOrder}
+use Rattle.w4_defs.specs.declared.order.Order.TheVariants as order
 use Rattle.w4_defs.specs.AllThere.{all_some}
 use Rattle.w4_defs.specs.Batch.{file_rows}
 use Rattle.w4_defs.specs.Board.{console_setup}
@@ -20,7 +24,10 @@ use Rattle.w4_defs.specs.declared.status.Refusal.TheVariants.{ListRefused, Scrip
 use Rattle.w4_defs.specs.Commands.{RunWords, NetWords, BatchWords}
 use Rattle.w4_defs.specs.Output.{◌>>=◌, CartFile, Output, Played, reading, judged, font_in, lines_or, run_files, run_setup, moment_at, printing}
 use Rattle.w4_defs.specs.LogAnswers.{first_session, net_answers}
-use Rattle.w4_defs.specs.QueryAnswers.{pages_of, ram_answers}
+use Rattle.w4_defs.specs.Answers.{Answered, answers_by}
+use Rattle.w4_defs.specs.Live.{LiveSession, live_answer, new_live_session}
+use Rattle.w4_defs.specs.PlaceTexts.{as_it_stands}
+use Rattle.w4_defs.specs.Reset.{Setup}
 use Rattle.w4_defs.specs.BatchRows.{rows_text}
 use Rattle.w4_defs.specs.Limits.{script_limit, name_list_limit, recording_limit}
 
@@ -32,10 +39,10 @@ log_orders bytes = lines_or ScriptRefused (net_log_of bytes)
 unfoldable pub log_in : Files → List ℕ → Result (List NetOrder) Refusal
 log_in = judged script_limit log_orders
 
-unfoldable pub query_lines : List ℕ → Result (List Ask) Refusal
+unfoldable pub query_lines : List ℕ → Result (List QueryLine) Refusal
 query_lines bytes = lines_or ScriptRefused (query_of bytes)
 
-unfoldable pub query_in : Files → List ℕ → Result (List Ask) Refusal
+unfoldable pub query_in : Files → List ℕ → Result (List QueryLine) Refusal
 query_in = judged script_limit query_lines
 
 -- ---- `net`: the answers of the log, over a cart without a disk
@@ -57,12 +64,13 @@ net_text m budget l = (net_answers (console_setup m l.font budget) first_session
 unfoldable pub net_output : NetWords → CartFile → Files → Option (Result Output Refusal)
 net_output words cart files = printing (net_files words files) (net_text cart.code words.budget)
 
--- ---- `ram`: the answers of the query, over the recording
+-- ---- `ram`: the answers of the query, over the recording. Each line has the answer that it has in a live
+-- session, as it stands; an order that keeps places changes the answer of no request
 
 -- what a query is answered over, and its lines
 pub record RamLoaded : Type 0 where
   pub run : Played
-  pub lines : List Ask
+  pub lines : List QueryLine
 
 unfoldable pub ram_files : List ℕ → RunWords → List ℕ → Files → Result RamLoaded Refusal
 ram_files digest words query files = do
@@ -70,10 +78,23 @@ ram_files digest words query files = do
   lines ← query_in files query
   Ok (record { run = run; lines = lines })
 
+-- the order of a live session that a line is
+abbrev pub live_order : QueryLine → LiveOrder
+live_order (line.Ask ask) = live.Query ask
+live_order (line.Keep p) = live.Script (order.Keep p)
+live_order (line.KeepEvery every) = live.Script (order.KeepEvery every)
+
+abbrev pub line_answer : Setup → List ℕ → LiveSession → QueryLine → Answered LiveSession
+line_answer setup disk session line = live_answer as_it_stands setup disk session (live_order line)
+
+-- the answers of a query, in order
+abbrev pub ram_answers : Setup → List ℕ → LiveSession → List QueryLine → Answered LiveSession
+ram_answers setup disk session lines = answers_by (line_answer setup disk) session lines
+
 abbrev pub ram_text : WasmModule → RamLoaded → Option (List ℕ)
 ram_text m l =
     let r = l.run.recording in
-    (ram_answers (pages_of (run_setup m l.run) r.disk r.frames) None l.lines).out
+    (ram_answers (run_setup m l.run) r.disk (new_live_session r.frames) l.lines).out
 
 unfoldable pub ram_output : RunWords → List ℕ → CartFile → Files → Option (Result Output Refusal)
 ram_output words query cart files =

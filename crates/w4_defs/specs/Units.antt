@@ -92,8 +92,8 @@ after_reset None = []
 after_reset (Some taken) = codes " start " ++ taken_words taken
 
 abbrev pub units_line : ℕ → Taken → Option Taken → List ℕ
-units_line k taken start =
-    codes "units" ++ spaced k ++ 32 ∷ taken_words taken ++ after_reset start ++ line_end
+units_line k taken reset_taken =
+    codes "units" ++ spaced k ++ 32 ∷ taken_words taken ++ after_reset reset_taken ++ line_end
 
 -- the reset of an input that has one
 abbrev pub reset_units : Setup → State → Input → Option (Option Taken)
@@ -106,8 +106,8 @@ units_at form setup disk inputs k = do
   state ← run_state setup disk inputs k
   input ← slice_get inputs k
   taken ← frame_units setup state input
-  start ← reset_units setup state input
-  Some (form (units_line k taken start))
+  reset_taken ← reset_units setup state input
+  Some (form (units_line k taken reset_taken))
 
 -- what the command writes: the line of the reset, and those of all frames
 abbrev pub units_text : Setup → List ℕ → List Input → Option (List ℕ)
@@ -116,9 +116,8 @@ units_text setup disk inputs =
     (place_texts (units_at as_it_stands setup disk inputs) 0 (length inputs))
 
 -- ---- worked cases: the cart whose `update` does nothing; one whose `update` is an endless loop, with a
--- budget
--- of 50 and two frames; one whose `update` traps; a frame with a reset, whose `start` has two instructions;
--- and the same cart with a budget of 1, which its first reset spends
+-- budget of 50 and two frames; one whose `update` traps; a frame with a reset, whose `start` has two
+-- instructions; and the same cart with a budget of 1, which its first reset spends
 abbrev updating : Expr → WasmModule
 updating body = record empty_module { bodies = record { runs = []; list = body } ∷ [] }
 

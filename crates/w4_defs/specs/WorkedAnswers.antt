@@ -8,6 +8,8 @@ use Rattle.w4_defs.specs.declared.batch.BatchRow.TheVariants.{Ran}
 use Rattle.w4_defs.specs.declared.console.Halt.TheVariants.{Running}
 use Rattle.w4_defs.specs.declared.console.Input.{Input}
 use Rattle.w4_defs.specs.declared.film_refusal.FilmRefusal.TheVariants as film
+use Rattle.w4_defs.specs.declared.inspect.Ask.TheVariants as ask
+use Rattle.w4_defs.specs.declared.inspect.QueryLine.TheVariants as line
 use Rattle.w4_defs.specs.declared.order.Order.{Order}
 use Rattle.w4_defs.specs.declared.order.Order.TheVariants as order
 use Rattle.w4_defs.specs.declared.place_text.PlaceText.TheVariants.{Image}
@@ -24,7 +26,7 @@ use Rattle.w4_defs.specs.Film.{film_refusal, run_images}
 use Rattle.w4_defs.specs.Frame.{cleared, frame}
 use Rattle.w4_defs.specs.FrameTexts.{schedule_text, state_line, trace_text}
 use Rattle.w4_defs.specs.Lines.{decimal_value, number_of}
-use Rattle.w4_defs.specs.Live.{own_rows, served, session_events, written_by}
+use Rattle.w4_defs.specs.Live.{LiveSession, new_live_session, own_rows, served, session_events}
 use Rattle.w4_defs.specs.RamQuery.{query_rows}
 use Rattle.w4_defs.specs.RecordingOutputs.{compared_result}
 use Rattle.w4_defs.specs.Script.{script_rows}
@@ -38,7 +40,8 @@ use Rattle.w4_defs.specs.Run.{run}
 use Rattle.w4_defs.specs.ScriptAnswers.{answer, script_answers}
 use Rattle.w4_defs.specs.Session.{Session}
 use Rattle.w4_defs.specs.State.{zero_page}
-use Rattle.w4_defs.specs.World.{Files}
+use Rattle.w4_defs.specs.ToolOutputs.{line_answer, ram_answers}
+use Rattle.w4_defs.specs.World.{Files, written_by}
 
 abbrev still : Input
 still = record { pads = 0 ∷ 0 ∷ 0 ∷ 0 ∷ []; mouse_x = pos 0; mouse_y = pos 0; buttons = 0; reset = false }
@@ -119,8 +122,7 @@ unfolding answers_by run_images
 image-answer-cases setup = (refl, refl, refl, refl, refl, refl, refl, refl)
 
 -- ---- kept places: with 1,024 of them `keep` and `keep-every` are refused, and with 1,023 another is kept;
--- a place
--- that is kept, and one that isn't there, have refusals of their own
+-- a place that is kept, and one that isn't there, have refusals of their own
 
 abbrev crowded : ℕ → Session ℕ
 crowded many = record {
@@ -142,6 +144,38 @@ KeptAnswerCases = (setup : Setup) →
 pub kept-answer-cases : KeptAnswerCases
 kept-answer-cases setup = (refl, refl, refl, refl, refl)
 
+-- ---- a query: orders that keep places write nothing, or are refused as in a script
+
+abbrev query_session : ℕ → LiveSession
+query_session many = record { session = crowded many; search = None }
+
+abbrev pub KeepingAnswerCases : Type 0
+KeepingAnswerCases = (setup : Setup) →
+    ((ram_answers setup [] (new_live_session (replicate 2 still))
+    (line.Keep 2 ∷ line.Ask ask.List ∷ line.Keep 2 ∷ line.Keep 0 ∷ line.Keep 3 ∷ [])).out
+    ≡ Some (codes "refused no search\nrefused kept\nrefused kept\nrefused no frame\n"))
+    × ((ram_answers setup [] (new_live_session (replicate 5 still))
+    (line.KeepEvery 2 ∷ line.Keep 3 ∷ line.Keep 4 ∷ [])).out ≡ Some (codes "refused kept\n"))
+    × ((line_answer setup [] (query_session 1023) (line.Keep 1050)).out ≡ Some [])
+    × ((line_answer setup [] (query_session 1024) (line.Keep 1050)).out ≡ Some (codes "refused full\n"))
+    × ((line_answer setup [] (query_session 1024) (line.KeepEvery 1050)).out ≡ Some (codes "refused full\n"))
+
+pub keeping-answer-cases : KeepingAnswerCases
+unfolding answers_by
+keeping-answer-cases setup = (refl, refl, refl, refl, refl)
+
+-- a value that is watched before and after places are kept: the mouse's x, over the cart whose `update` does
+-- nothing
+abbrev pub KeptWatchCase : Type 0
+KeptWatchCase =
+    (ram_answers (console_setup empty_module [] 9) [] (new_live_session (replicate 2 still))
+    (line.Ask (ask.Watch 26 2 0 2) ∷ line.KeepEvery 1 ∷ line.Ask (ask.Watch 26 2 0 2) ∷ [])).out
+    ≡ Some (codes "watch 26 32767 0 0\nwatch 26 32767 0 0\n")
+
+pub kept-watch-case : KeptWatchCase
+unfolding answers_by eval eval_within zero_page first_page start_page start reset cleared frame digits
+kept-watch-case = refl
+
 -- ---- a batch's row of a recording that was run
 
 abbrev pub RanRowCase : Type 0
@@ -154,8 +188,7 @@ unfolding file_row recording_of frames_of eval eval_within zero_page first_page 
 ran-row-case = refl
 
 -- ---- which refusal comes first, whatever the files: the recording's, then the font's, then the script's;
--- and of a
--- command that names a place, the place's last
+-- and of a command that names a place, the place's last
 abbrev pub RefusalsInOrder : Type 0
 RefusalsInOrder =
     (digest : List ℕ) (words : EditWords) (files : Files) (recording : Recording) (font : List ℕ)

@@ -15,7 +15,7 @@ Files = FinMap (slice_cmp nat_cmp) (List ℕ)
 --   Took: a line of standard input is taken, without its byte 10; of a line of more than 1,024 bytes, its
 --     first 1,025. The last line may lack its byte 10, and is a line where it has a byte.
 --   InputEnded: standard input is found to be at its end.
---   InputLost: a read of standard input failed; what was read of a line is lost.
+--   InputLost: a read of standard input failed, or memory ran out for a line; what was read of it is lost.
 --   Wrote: a byte is written to standard output.
 --   Saved: all of a file is replaced.
 --   NotSaved: replacing a file failed.
@@ -30,6 +30,12 @@ pub data Event : Type 0 where
 -- bytes that are written to standard output, one after another
 abbrev pub wrote : List ℕ → List Event
 wrote bytes = map Wrote bytes
+
+-- all bytes that these events write to standard output
+abbrev pub written_by : List Event → List ℕ
+written_by [] = []
+written_by (Wrote byte ∷ events) = byte ∷ written_by events
+written_by (event ∷ events) = written_by events
 
 -- The files after these events.
 abbrev pub files_after : Files → List Event → Files
@@ -54,6 +60,10 @@ raised count = min (count + 1) (2 ^ 64 - 1)
 -- A count rises by one at least. It is also said to rise where it stands at 2^64 - 1.
 abbrev pub Rises : ℕ → ℕ → Type 0
 Rises before now = raised before ≤ now
+
+-- A count rises by so many at least, or stands at 2^64 - 1.
+abbrev pub RisesBy : ℕ → ℕ → ℕ → Type 0
+RisesBy many before now = min (before + many) (2 ^ 64 - 1) ≤ now
 
 -- The first `most` bytes of the file of this name, or all of them where there are fewer; None without a file.
 abbrev pub front_of : Files → List ℕ → ℕ → Option (List ℕ)
@@ -88,15 +98,31 @@ abbrev pub FailsToSave : World → World → List Event → List Event → Type 
 FailsToSave old new done saved =
     Does old new (done ++ not_saved saved) ⊎ Does old new (done ++ saved ++ not_saved saved)
 
--- A file of which all is replaced twice has what came last.
+-- These events have happened, and then the file was replaced, or that failed.
+abbrev pub SavesOrFails : World → World → List Event → List Event → Type 0
+SavesOrFails old new done saved = Does old new (done ++ saved) ⊎ FailsToSave old new done saved
+
+-- How often replacing a file has failed among these events.
+abbrev pub failed_saves : List Event → ℕ
+failed_saves [] = 0
+failed_saves (NotSaved name ∷ events) = failed_saves events + 1
+failed_saves (event ∷ events) = failed_saves events
+
+-- Writing to standard output failed: the count of writes has risen by one more than replacing a file failed
+-- among these events.
+abbrev pub OutFails : World → World → List Event → Type 0
+OutFails old new done = RisesBy (failed_saves done + 1) old.write_faults new.write_faults
+
+-- A file of which all is replaced twice has what came last; and a save that failed twice.
 abbrev pub FilesAfterCases : Type 0
 FilesAfterCases = (files : Files) (name one next : List ℕ) →
     (files_after files (Saved name one ∷ Wrote 7 ∷ Saved name next ∷ NotSaved name ∷ [])
     ≡ insert (insert files name one) name next)
     × (not_saved (Saved name one ∷ []) ≡ NotSaved name ∷ [])
+    × (failed_saves (NotSaved name ∷ Wrote 7 ∷ Saved name one ∷ NotSaved name ∷ InputEnded ∷ []) ≡ 2)
 
 pub files-after-cases : FilesAfterCases
-files-after-cases files name one next = (refl, refl)
+files-after-cases files name one next = (refl, refl, refl)
 
 -- Where told, the file of this name has just these bytes, and all other files are unchanged.
 abbrev pub Puts : Option Files → Option Files → List ℕ → List ℕ → Type 0

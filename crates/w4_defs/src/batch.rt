@@ -1,4 +1,4 @@
-//! What is told of one recording of many.
+//! What is reported of one recording of many.
 
 use crate::console::Halt;
 

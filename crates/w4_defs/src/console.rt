@@ -6,8 +6,8 @@ use crate::value::Cause;
 
 /// One frame's input: four gamepads, the mouse, and whether the frame begins with a reset.
 ///
-/// Pad bits: 1 button 1, 2 button 2, 16 left, 32 right, 64 up, 128 down. Mouse buttons: 1 left,
-/// 2 right, 4 middle. A reset starts the cart anew and keeps the disk.
+/// Pad bits: 1 button 1, 2 button 2, 16 left, 32 right, 64 up, 128 down. Mouse buttons: 1 left, 2 right, 4
+/// middle. A reset restarts the cart and keeps the disk.
 #[derive(Clone, Copy, PartialEq, Eq, Debug)]
 pub struct Input {
     pub pads: [u8; 4],
@@ -85,8 +85,8 @@ pub struct Sound {
     pub frequency: u16,
 }
 
-/// Where a text stands in the page: up to a zero byte, as bytes, or as little-endian 16-bit units.
-/// `len` counts bytes.
+/// Where a text is in the page: up to a zero byte, as bytes, or as little-endian 16-bit units. `len` counts
+/// bytes.
 #[derive(Clone, Copy, PartialEq, Eq, Debug)]
 pub enum TextSource {
     Cstr { ptr: u32 },

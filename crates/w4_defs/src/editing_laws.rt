@@ -46,7 +46,7 @@ pub fn places_decide()
 {}
 
 /// Which places are kept after an edit of input K. An insert moves those above K up by 1, and a delete down
-/// by 1; of two that would then stand on K one does.
+/// by 1; if two would then be at K, one is.
 pub fn places_after_edits()
     ensures { PlacesAfterEdits }
 {}

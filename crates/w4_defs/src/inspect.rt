@@ -1,6 +1,7 @@
-//! What a memory search asks for.
+//! What a query of memory asks for.
 
-/// What a narrowing asks of the value at an address, now and at the narrowing before. Numbers are unsigned.
+/// What a narrowing asks of the value at an address, at its place and at that of the call before. Numbers are
+/// unsigned.
 #[derive(Clone, Copy, PartialEq, Eq, Debug)]
 pub enum Test {
     /// The new value is this number.
@@ -15,7 +16,7 @@ pub enum Test {
     Less,
 }
 
-/// One line of a query. A width is 1, 2 or 4 bytes; places count frames from the reset.
+/// A request of a query. A width is 1, 2 or 4 bytes; places count frames from the reset.
 #[derive(Clone, Copy, PartialEq, Eq, Debug)]
 pub enum Ask {
     /// The values at an address, at each place from `a` to `b`, where `a` is at most `b`.
@@ -37,4 +38,15 @@ pub enum Ask {
     },
     /// The addresses that are left are listed.
     List,
+}
+
+/// One line of a query: a request, or one of the orders of a script that keep places.
+#[derive(Clone, Copy, PartialEq, Eq, Debug)]
+pub enum QueryLine {
+    /// A request.
+    Ask { ask: Ask },
+    /// The state of place `p` is kept.
+    Keep { p: u32 },
+    /// Each place that is a multiple of `every`, at least 1, is kept.
+    KeepEvery { every: u32 },
 }

@@ -4,13 +4,13 @@ ghost use Rattle.w4_defs.specs.OneOutput.{OthersTakeNoLines};
 ghost use Rattle.w4_defs.specs.OutputsThere.{CompleteIsDone, MadeOutputsAreThere, OutputsAreThere};
 ghost use Rattle.w4_defs.specs.WorkedAnswers.{RefusalsInOrder};
 
-/// What is made of words and files is there, where the runs of the cart that is named or made have a meaning.
+/// What comes of arguments and files is there, if the runs of the cart that is named or made have a meaning.
 pub fn outputs_are_there()
     ensures over_carts { OutputsAreThere }
     ensures made { MadeOutputsAreThere }
 {}
 
-/// Where all is there that a command names, what is made of it is no refusal.
+/// If everything is there that a command names, its output is no refusal.
 pub fn complete_is_done()
     ensures { CompleteIsDone }
 {}

@@ -4,7 +4,7 @@
 /// and the first that holds is the answer. Numbers count from 0.
 #[derive(Clone, Copy, PartialEq, Eq, Debug)]
 pub enum ProfileRefusal {
-    /// An f32 or f64 stands in a type, or a float instruction anywhere.
+    /// An f32 or f64 occurs in a type, or a float instruction anywhere.
     Floats,
     /// An own function has more than 1,024 parameters and locals together.
     TooManyLocals,

@@ -10,7 +10,7 @@ use std::alloc::{AllocError, AllocFailed};
 /// Why a recording is refused.
 #[derive(Clone, Copy, PartialEq, Eq, Debug)]
 pub enum RecordingKind {
-    /// The bytes encode no recording.
+    /// The bytes encode no recording, or are a disk of more than 1,024 bytes.
     Bad,
     /// Its digest isn't the SHA-256 of the cart.
     WrongCart,
@@ -39,7 +39,7 @@ pub enum Finish {
 pub enum Refusal {
     /// The bytes of the cart's file are no cart, by the first cause that holds.
     CartRefused(CartKind),
-    /// The bytes encode no recording, or one of another cart.
+    /// The bytes encode no recording, or one of another cart; or a disk has more than 1,024 bytes.
     RecordingRefused(RecordingKind),
     /// The font hasn't 1,792 bytes.
     FontRefused,
@@ -70,7 +70,7 @@ pub enum Status {
     Usage,
     /// The bytes of the cart's file are no cart, by the first cause that holds.
     CartRefused(CartKind),
-    /// The bytes encode no recording, or one of another cart.
+    /// The bytes encode no recording, or one of another cart; or a disk has more than 1,024 bytes.
     RecordingRefused(RecordingKind),
     /// The font hasn't 1,792 bytes.
     FontRefused,

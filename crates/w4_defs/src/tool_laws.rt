@@ -6,7 +6,7 @@ ghost use Rattle.w4_defs.specs.Generator.{GeneratorCases};
 ghost use Rattle.w4_defs.specs.MadeLaws.{DrawsAreSmall, MadeInputsAreCounted, MadeModulesAreAccepted};
 ghost use Rattle.w4_defs.specs.MadeSummary.{SummaryCase};
 ghost use Rattle.w4_defs.specs.NetLog.{BadNetOrderCases, NetOrderCases};
-ghost use Rattle.w4_defs.specs.RamQuery.{AskCases, BadAskCases};
+ghost use Rattle.w4_defs.specs.RamQuery.{AskCases, BadAskCases, KeepingCases};
 ghost use Rattle.w4_defs.specs.Rollback.{
   InputsGrow,
   NothingPredictsZero,
@@ -62,7 +62,7 @@ pub fn sound_laws()
     ensures header { HeaderIsCounted }
 {}
 
-/// The made cart is accepted, whatever its number.
+/// Every made cart passes the profile and is valid; each draw has 16 bits; and there are 600 inputs.
 pub fn generator_laws()
     ensures accepted { MadeModulesAreAccepted }
     ensures draws { DrawsAreSmall }
@@ -75,9 +75,10 @@ pub fn order_cases()
     ensures bad_log { BadNetOrderCases }
     ensures query { AskCases }
     ensures bad_query { BadAskCases }
+    ensures keeping { KeepingCases }
 {}
 
-/// Where a reset or a frame is there, so are its units, and they tell how its calls ended.
+/// If a reset or a frame is there, so are its units, and they say how its calls ended.
 pub fn units_laws()
     ensures resets { ResetsHaveUnits }
     ensures frames { FramesHaveUnits }

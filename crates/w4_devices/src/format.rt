@@ -47,7 +47,7 @@ fn formatted_line(page: &PageBytes, format: &[u8], args: usize) -> Line
     line
 }
 
-/// Adds what `%` and a letter stand for, whose argument stands at `at`.
+/// Adds what `%` and a letter stand for, whose argument is at `at`.
 fn add_argument(line: &mut Line, page: &PageBytes, letter: u8, at: usize)
     requires { at < 2 ^ 40 }
     ensures { line.new ≡ line_of (line.old ++ argument_text page.now letter at) }

@@ -15,7 +15,7 @@ pub fn bytes_from(page: &PageBytes, at: u32) -> &[u8]
     &page[start..]
 }
 
-/// The first so many bytes, or all where there are fewer.
+/// The first `count` bytes, or all if there are fewer.
 pub fn first_bytes(bytes: &[u8], count: usize) -> &[u8]
     ensures { result.now ≡ take count bytes.now }
 {

@@ -49,7 +49,7 @@ impl TraceLog {
         self.add(trace_line(page, source));
     }
 
-    /// Adds the line of `tracef`: the format stands at `ptr`, its arguments from `args` on.
+    /// Adds the line of `tracef`: the format is at `ptr`, its arguments from `args` on.
     pub fn tracef(&mut self, page: &PageBytes, ptr: u32, args: u32)
         ensures { self.new ≡ logged kept_lines self.old (tracef_line page.now ptr args) }
     {

@@ -18,7 +18,7 @@ use Rattle.w4_defs.specs.KeptList.{IsConsistent, IsSettled}
 use Rattle.w4_defs.proofs.KeptListLaws.{linked_is_run}
 use Rattle.w4_devices.specs.declared.frame_record.FrameRecord.{FrameRecord as Record}
 use Rattle.w4_editor.specs.Playing.{Player, setup_of, in_state}
-use Rattle.w4_editor.specs.Settling.{AreLinked, linked_entry}
+use Rattle.w4_editor.specs.Settling.{AreLinked, copied_beside, linked_entry}
 use Rattle.w4_editor.specs.Editing.{Editing, IsEditor, IsShownAt, editing_setup, session_of}
 use Rattle.w4_editor.specs.Showing.{CanKeep, IsPut, IsShown, IsStepped}
 use Rattle.w4_editor.proofs.KeepLaws.{keep_consistent}
@@ -142,14 +142,16 @@ module _ (player : Player) (r : Recording) (kept : List Entry) (olds news : Buff
   pub is_put : (p : ℕ) → place ≡ Some p → is_kept kept_entries p kept ≡ false → length kept < 1024
       → (new : List Entry)
       → new ≡ with_kept kept_entries (linked_entry p player.state) kept
-      → IsPut p (view player r kept olds news place) (view player r new olds news place)
-  is_put p at fresh room new is = record {
+      → (copied : ℕ) → copied ≡ copied_beside p player.state kept
+      → IsPut p copied (view player r kept olds news place) (view player r new olds news place)
+  is_put p at fresh room new is copied copies = record {
     state = player.state;
     of_run = run_here p at;
     kept = ap (λ refusal. unless refusal (with_list (session_of r kept olds.items news.items)
         (with_kept kept_entries (linked_entry p player.state) kept)))
         (may_keep p (record { inputs = r.frames; kept = kept }) (within_here p at) fresh room)
         ∙ ap (λ entries. Ok (session_of r entries olds.items news.items)) (sym is);
+    copies = copies;
     same = refl;
   }
 

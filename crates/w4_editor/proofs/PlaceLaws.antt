@@ -1,5 +1,5 @@
 -- An editor's session of places, from one call to the next.
-use Rattle.std.proofs.Common.{◌≡◌, ℕ, suc, Some, None, List, [], ◌∷◌, map, length, Option, false, refl, sym, ap, ◌∙◌, arith, pos}
+use Rattle.std.proofs.Common.{◌≡◌, ℕ, suc, ◌+◌, Some, None, List, [], ◌∷◌, ◌++◌, map, length, Option, false, refl, sym, ap, ◌∙◌, arith, pos, subst}
 use Rattle.std.specs.Prelude.{Result, Ok}
 use Rattle.w4_defs.specs.declared.console.Input.{Input}
 use Rattle.w4_defs.specs.declared.editing.EditRefusal.{EditRefusal}
@@ -8,7 +8,7 @@ use Rattle.w4_defs.specs.Session.{Session, PlacesDecide, draft_of_places, places
 use Rattle.w4_editor.specs.Editing.{Editing, current_recording, with_session}
 use Rattle.w4_editor.specs.PlaceSession.{KeepsRest, place_session}
 use Rattle.w4_editor.specs.Settling.{linked_entry}
-use Rattle.w4_editor.specs.Showing.{IsKeptAt, KeepsRecording}
+use Rattle.w4_editor.specs.Showing.{AreKeptInTurn, IsKeptAt, KeepsRecording}
 
 -- ---- cart, font, digest, budget and disk
 
@@ -82,10 +82,10 @@ left_by_edit wanted alone new law is = sym law ∙ ap (λ (m : EditResult). resu
 
 -- ---- keeping
 
-pub kept_made : PlacesDecide kept_entries → (p before after : ℕ) (old new : Editing)
-    → IsKeptAt p before after old new
+pub kept_made : PlacesDecide kept_entries → (p before after copied : ℕ) (old new : Editing)
+    → IsKeptAt p before after copied old new
     → keep places_alone p (place_session old) ≡ Ok (place_session new)
-kept_made decides p before after old new h =
+kept_made decides p before after copied old new h =
     let shown = h.shown in
     let entry = linked_entry p h.put.state in
     let law = (decides shown.session 0 no_input entry).5 in
@@ -95,10 +95,38 @@ kept_made decides p before after old new h =
     new.session law
     h.put.kept
 
-pub kept_rest : (p before after : ℕ) (old new : Editing) → IsKeptAt p before after old new
+pub kept_rest : (p before after copied : ℕ) (old new : Editing) → IsKeptAt p before after copied old new
     → KeepsRest old new
-kept_rest p before after old new h =
+kept_rest p before after copied old new h =
     rest_then old h.shown new h.is_shown.recording.same (rest_at h.shown new h.shown.at h.put.same)
+
+-- one place is kept
+pub one_kept : (p before after copied : ℕ) (old new : Editing) → IsKeptAt p before after copied old new
+    → (places : List ℕ) × AreKeptInTurn places before after copied old new
+one_kept p before after copied old new kept =
+    (p ∷ [], (after, copied, 0, new, omega arith, kept, (refl, refl, refl)))
+
+-- some places are kept, and then some more
+pub kept_then : (places more : List ℕ) (before between after copied then_copied : ℕ) (old then new : Editing)
+    → AreKeptInTurn places before between copied old then
+    → AreKeptInTurn more between after then_copied then new
+    → AreKeptInTurn (places ++ more) before after (copied + then_copied) old new
+kept_then [] more before between after copied then_copied old then new first next =
+    let none = first.1 in
+    let sum : then_copied ≡ copied + then_copied = omega (arith, none) in
+    subst (λ (e : Editing). AreKeptInTurn more before after (copied + then_copied) e new) first.2
+    (subst (λ (n : ℕ). AreKeptInTurn more before after n then new) sum
+    (subst (λ (n : ℕ). AreKeptInTurn more n after then_copied then new) first.0 next))
+kept_then (p ∷ places) more before between after copied then_copied old then new first next =
+    let here = first.4 in (
+      first.0,
+      first.1,
+      first.2 + then_copied,
+      first.3,
+      omega (arith, here),
+      first.5,
+      kept_then places more first.0 between after first.2 then_copied first.3 then new first.6 next,
+    )
 
 -- what an accepted change makes
 pub accepted_is : (refusal : Option EditRefusal) (after left_by_edit : Session ℕ)

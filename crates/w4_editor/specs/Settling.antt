@@ -8,7 +8,8 @@ use Rattle.w4_defs.specs.State.{State, Moment, HasGlobals}
 use Rattle.w4_defs.specs.Reset.{Setup}
 use Rattle.w4_defs.specs.Run.{fold, run, run_state}
 use Rattle.w4_defs.specs.KeptList.{Entry, kept_entry_at, place_at, state_at, linked_at, computed, is_sure}
-use Rattle.w4_defs.specs.KeptList.{IsConsistent, SamePlaces}
+use Rattle.w4_defs.specs.KeptList.{IsConsistent, SamePlaces, last_up_to}
+use Rattle.w4_snap.specs.Chunks.{copied_chunks}
 
 -- the entries up to this one are linked
 abbrev pub AreLinked : ℕ → List Entry → Type 0
@@ -53,3 +54,7 @@ TakesOn setup inputs p state taken = (disk : List ℕ) →
 -- the linked entry of place P with this state
 abbrev pub linked_entry : ℕ → State → Entry
 linked_entry p state = record { place = p; state = state; linked = true }
+
+-- how many chunks are copied where place P is kept with this state, beside the last kept place before it
+abbrev pub copied_beside : ℕ → State → List Entry → ℕ
+copied_beside p state kept = copied_chunks (Some (state_at kept (last_up_to p kept))) state

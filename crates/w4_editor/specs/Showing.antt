@@ -1,5 +1,5 @@
 -- What showing, stepping, keeping and settling do to an editor.
-use Rattle.std.specs.Prelude.{◌≡◌, ℕ, ◌+◌, ◌-◌, ◌<◌, ◌⊎◌, false, length, Option, Some, None, option_map}
+use Rattle.std.specs.Prelude.{◌≡◌, ℕ, ◌+◌, ◌-◌, ◌<◌, ◌⊎◌, false, List, [], ◌∷◌, length, Option, Some, None, option_map}
 use Rattle.std.specs.Prelude.{Ok}
 use Rattle.w4_defs.specs.declared.editing.EditRefusal.{EditRefusal}
 use Rattle.w4_defs.specs.declared.editing.EditRefusal.TheVariants.{OutOfMemory}
@@ -9,7 +9,7 @@ use Rattle.w4_defs.specs.Session.{is_kept, keep}
 use Rattle.w4_defs.specs.State.{State, Moment, FrameRecord}
 use Rattle.w4_defs.specs.KeptList.{kept_entries, place_at, state_at, SamePlaces, IsSettled, last_up_to}
 use Rattle.w4_defs.specs.KeptList.{show_frames, settle_frames}
-use Rattle.w4_editor.specs.Settling.{AreLinked, linked_entry}
+use Rattle.w4_editor.specs.Settling.{AreLinked, copied_beside, linked_entry}
 use Rattle.w4_editor.specs.Editing.{Editing, editing_setup, with_session}
 
 -- recording, history and kept places are unchanged; kept states and links may be newer
@@ -68,15 +68,26 @@ pub record CanKeep (p : ℕ) (e : Editing) : Type 0 where
   pub room : length e.session.current.kept < 1024
   pub linked : AreLinked (last_up_to p e.session.current.kept) e.session.current.kept
 
--- the state of the run at place P is kept, and linked
-pub record IsPut (p : ℕ) (old new : Editing) : Type 0 where
+-- the state of the run at place P is kept, and linked, and so many chunks are copied
+pub record IsPut (p copied : ℕ) (old new : Editing) : Type 0 where
   pub state : State
   pub of_run : run_state (editing_setup old) old.disk old.session.current.inputs p ≡ Some state
   pub kept : keep kept_entries (linked_entry p state) old.session ≡ Ok new.session
+  pub copies : copied ≡ copied_beside p state old.session.current.kept
   pub same : new ≡ with_session old new.session old.at
 
 -- place P is shown, and then kept
-pub record IsKeptAt (p ticks_before ticks_after : ℕ) (old new : Editing) : Type 0 where
+pub record IsKeptAt (p ticks_before ticks_after copied : ℕ) (old new : Editing) : Type 0 where
   pub shown : Editing
   pub is_shown : IsShown p ticks_before ticks_after old shown
-  pub put : IsPut p shown new
+  pub put : IsPut p copied shown new
+
+-- these places are shown and kept, one after another, and so many chunks are copied in all
+abbrev pub AreKeptInTurn : List ℕ → (ticks_before ticks_after copied : ℕ) → (old new : Editing) → Type 0
+AreKeptInTurn [] ticks_before ticks_after copied old new =
+    (ticks_after ≡ ticks_before) × (copied ≡ 0) × (new ≡ old)
+AreKeptInTurn (p ∷ places) ticks_before ticks_after copied old new =
+    (ticks_then : ℕ) × (first rest : ℕ) × (then : Editing)
+    × (copied ≡ first + rest)
+    × IsKeptAt p ticks_before ticks_then first old then
+    × AreKeptInTurn places ticks_then ticks_after rest then new

@@ -74,7 +74,8 @@ impl Editor {
         let mut player = Player::new(alloc, cart, font, recording.budget)?;
         player.reset(recording.disk.as_slice(), &mut reset_frame);
         let mut kept = Vec::with_capacity(alloc, 1)?;
-        kept.push(Kept::new(0, player.capture(alloc, None)?))?;
+        let (snap, _copied) = player.capture(alloc, None)?;
+        kept.push(Kept::new(0, snap))?;
         Ok(Editor {
             player,
             recording,

@@ -1,9 +1,10 @@
 //! Keeping each multiple of a number, once it is known that there is room for all of them.
 
-ghost use Rattle.std.specs.Prelude.{◌≡◌, ◌%◌, ◌≤◌, ◌==◌, OnErr, OnOk, length, nat_le};
+ghost use Rattle.std.specs.Prelude.{◌≡◌, ℕ, ◌%◌, ◌≤◌, ◌==◌, IfOk, List, OnErr, OnOk, length, nat_le};
 ghost use Rattle.w4_defs.specs.Session.{is_kept, keep_every, places_alone, with_list};
 ghost use Rattle.w4_editor.specs.Editing.{current_recording};
 ghost use Rattle.w4_editor.specs.PlaceSession.{IsChanged, KeepsRest, all_to_keep, is_fresh_multiple, place_session, with_multiple};
+ghost use Rattle.w4_editor.specs.Showing.{AreKeptInTurn};
 
 use crate::editor::Editor;
 use crate::places::last_place;
@@ -13,24 +14,25 @@ use std::sync::ledger::Ledger;
 use w4_defs::editing_laws::places_decide;
 use w4_defs::{EditRefusal, OutOfMemory, Steps};
 
-/// Keeps each multiple of a number that isn't kept, in rising order. Errors: FullSnapshots, before any is
-/// kept, if more than 1,024 places would be; OutOfMemory.
+/// Keeps each multiple of a number that isn't kept, in rising order, and says how many chunks were copied in
+/// all. Errors: FullSnapshots, before any is kept, if more than 1,024 places would be; OutOfMemory.
 pub fn keep_every<L: Ledger>(
     alloc: Global,
     editor: &mut Editor,
     every: u32,
     steps: &mut Steps<L>,
-) -> Result<(), EditRefusal>
+) -> Result<u64, EditRefusal>
     ensures changed { IsChanged result editor.old editor.new
         (keep_every every (place_session editor.old)) }
+    ensures copied { IfOk result (λ copied. (places : List ℕ)
+        × AreKeptInTurn places steps.old steps.new copied editor.old editor.new) }
     ensures recording { OnErr result
         (current_recording editor.new ≡ current_recording editor.old) }
 {
     if !has_room(editor, every) {
         return Err(EditRefusal::FullSnapshots);
     }
-    keep_all(alloc, editor, every, steps)?;
-    Ok(())
+    Ok(keep_all(alloc, editor, every, steps)?)
 }
 
 /// Whether at most 1,024 places would be kept.
@@ -48,49 +50,54 @@ fn has_room(editor: &Editor, every: u32) -> bool
     count <= MOST_KEPT
 }
 
-/// Keeps each multiple that isn't kept yet.
+/// Keeps each multiple that isn't kept yet, and says how many chunks were copied in all.
 fn keep_all<L: Ledger>(
     alloc: Global,
     editor: &mut Editor,
     every: u32,
     steps: &mut Steps<L>,
-) -> Result<(), OutOfMemory>
+) -> Result<u64, OutOfMemory>
     requires room { length (all_to_keep every (place_session editor.old)) ≤ 1024 }
     ensures kept { OnOk result (place_session editor.new
         ≡ with_list (place_session editor.old) (all_to_keep every (place_session editor.old))) }
     ensures rest { OnOk result (KeepsRest editor.old editor.new) }
+    ensures copied { IfOk result (λ copied. (places : List ℕ)
+        × AreKeptInTurn places steps.old steps.new copied editor.old editor.new) }
     ensures recording { OnErr result
         (current_recording editor.new ≡ current_recording editor.old) }
 {
     let last = last_place(editor);
+    let mut copied = 0;
     for place in 0..last + 1 {
-        keep_wanted(alloc, editor, every, place, steps)?;
+        copied += u64::from(keep_wanted(alloc, editor, every, place, steps)?);
     }
-    Ok(())
+    Ok(copied)
 }
 
-/// Keeps a place if it is a multiple that isn't kept yet.
+/// Keeps a place if it is a multiple that isn't kept yet, and says how many chunks were copied.
 fn keep_wanted<L: Ledger>(
     alloc: Global,
     editor: &mut Editor,
     every: u32,
     place: usize,
     steps: &mut Steps<L>,
-) -> Result<(), OutOfMemory>
+) -> Result<u32, OutOfMemory>
     requires place { place ≤ length (place_session editor.old).current.inputs }
     requires room { length (with_multiple every place (place_session editor.old).current.kept) ≤ 1024 }
     ensures kept { OnOk result (place_session editor.new ≡ with_list (place_session editor.old)
         (with_multiple every place (place_session editor.old).current.kept)) }
     ensures rest { OnOk result (KeepsRest editor.old editor.new) }
+    ensures copied { IfOk result (λ copied. (places : List ℕ)
+        × AreKeptInTurn places steps.old steps.new copied editor.old editor.new) }
     ensures recording { OnErr result
         (current_recording editor.new ≡ current_recording editor.old) }
 {
     places_decide();
     if !is_wanted(editor, every, place) {
-        return Ok(());
+        return Ok(0);
     }
     match editor.keep(alloc, place, steps) {
-        Ok(()) => Ok(()),
+        Ok(copied) => Ok(copied),
         Err(_) => Err(OutOfMemory),
     }
 }

@@ -1,6 +1,6 @@
 //! A console with its cart and its font, under one budget.
 
-ghost use Rattle.std.specs.Prelude.{◌≡◌, ◌+◌, ◌<◌, ◌≤◌, IfOk, length, Some};
+ghost use Rattle.std.specs.Prelude.{◌≡◌, ◌+◌, ◌<◌, ◌≤◌, IfOk, length, option_map, Some};
 ghost use Rattle.w4_console.specs.ConsoleCalls.{moment};
 ghost use Rattle.w4_console.specs.TakenUnits.{FrameTakes};
 ghost use Rattle.w4_defs.specs.Frame.{frame};
@@ -8,6 +8,7 @@ ghost use Rattle.w4_defs.specs.State.{HasGlobals};
 ghost use Rattle.w4_defs.specs.Reset.{reset};
 ghost use Rattle.w4_defs.specs.Run.{fold};
 ghost use Rattle.w4_editor.specs.Playing.{IsPlayer, in_state, setup_of};
+ghost use Rattle.w4_snap.specs.Chunks.{copied_chunks};
 
 use std::alloc::Global;
 use std::marker::{Brand, Model};
@@ -124,13 +125,16 @@ impl Player {
         snap.restore(self.console.state_mut());
     }
 
-    /// A snapshot of the state, which shares with the one before what is equal.
+    /// A snapshot of the state, which shares with the one before what is equal, and how many chunks were
+    /// copied.
     pub(crate) fn capture(
         &self,
         alloc: Global,
         before: Option<&Snap>,
-    ) -> Result<Rc<Snap>, OutOfMemory>
-        ensures state { IfOk result (λ snap. snap.value ≡ self.now.state) }
+    ) -> Result<(Rc<Snap>, u32), OutOfMemory>
+        ensures state { IfOk result (λ r. r.0.value ≡ self.now.state) }
+        ensures copied { IfOk result (λ r. r.1
+            ≡ copied_chunks (option_map (λ s. s.now) before.entry) self.now.state) }
         ensures globals { HasGlobals self.now.cart self.now.state }
     {
         capture_alone(alloc, before, self.console.state())
@@ -165,17 +169,18 @@ pub(crate) fn has_types(player: &Player)
     let _budget = player.budget;
 }
 
-/// A snapshot of a state, which shares with the one before what is equal. How many chunks were copied isn't
-/// returned.
+/// A snapshot of a state, which shares with the one before what is equal, and how many chunks were copied.
 pub(crate) fn capture_alone(
     alloc: Global,
     before: Option<&Snap>,
     state: &State,
-) -> Result<Rc<Snap>, OutOfMemory>
-    ensures { IfOk result (λ snap. snap.value ≡ state.now) }
+) -> Result<(Rc<Snap>, u32), OutOfMemory>
+    ensures state { IfOk result (λ r. r.0.value ≡ state.now) }
+    ensures copied { IfOk result (λ r. r.1
+        ≡ copied_chunks (option_map (λ s. s.now) before.entry) state.now) }
 {
-    let snap = captured::<Brand>(alloc, before, state, Blank::new(1))?;
-    Ok(Rc::new(alloc, snap)?)
+    let (snap, copied) = captured::<Brand>(alloc, before, state, Blank::new(1))?;
+    Ok((Rc::new(alloc, snap)?, copied))
 }
 
 /// A capture under a counter of its own.
@@ -184,12 +189,13 @@ fn captured<L: Ledger>(
     before: Option<&Snap>,
     state: &State,
     blank: Blank,
-) -> Result<Snap, OutOfMemory>
+) -> Result<(Snap, u32), OutOfMemory>
     requires name { blank.name ≡ L.name }
     requires parts { blank.parts ≡ L.parts }
     requires some { 0 < L.parts }
-    ensures { IfOk result (λ snap. snap ≡ state.now) }
+    ensures state { IfOk result (λ r. r.0 ≡ state.now) }
+    ensures copied { IfOk result (λ r. r.1
+        ≡ copied_chunks (option_map (λ s. s.now) before.entry) state.now) }
 {
-    let (snap, _copied) = capture(alloc, before, state, &mut Steps::<L>::new(blank))?;
-    Ok(snap)
+    capture(alloc, before, state, &mut Steps::<L>::new(blank))
 }

@@ -179,16 +179,17 @@ impl Editor {
 
 /// Keeping.
 impl Editor {
-    /// Shows place `p` and keeps it. Errors: NoFrame if there is no such place; Kept if it is kept;
-    /// FullSnapshots if 1,024 places are; after these nothing has changed. OutOfMemory, and then no place
-    /// is shown, kept states and links may be newer, and recording, history and kept places are unchanged.
+    /// Shows place `p` and keeps it, and says how many chunks of 1,024 bytes were copied. Errors: NoFrame if
+    /// there is no such place; Kept if it is kept; FullSnapshots if 1,024 places are; after these nothing has
+    /// changed. OutOfMemory, and then no place is shown, kept states and links may be newer, and recording,
+    /// history and kept places are unchanged.
     pub fn keep<L: Ledger>(
         &mut self,
         alloc: Global,
         p: usize,
         steps: &mut Steps<L>,
-    ) -> Result<(), EditRefusal>
-        ensures ok { OnOk result (IsKeptAt p steps.old steps.new self.old self.new) }
+    ) -> Result<u32, EditRefusal>
+        ensures ok { IfOk result (λ copied. IsKeptAt p steps.old steps.new copied self.old self.new) }
         ensures err { OnErr result (KeepsRecording self.old self.new) }
         ensures at { IfErr result (λ refusal. refusal ≡ NoMemory → self.new.at ≡ None) }
         ensures refused { IfErr result
@@ -201,21 +202,20 @@ impl Editor {
             return Err(refusal);
         }
         self.go_to(alloc, p, steps)?;
-        self.keep_shown(alloc, p)?;
-        Ok(())
+        Ok(self.keep_shown(alloc, p)?)
     }
 
     /// Keeps the place that is shown, where the entries below it are linked. Errors: OutOfMemory, and then no
     /// place is shown.
-    fn keep_shown(&mut self, alloc: Global, p: usize) -> Result<(), OutOfMemory>
+    fn keep_shown(&mut self, alloc: Global, p: usize) -> Result<u32, OutOfMemory>
         requires { CanKeep p self.old }
-        ensures ok { OnOk result (IsPut p self.old self.new) }
+        ensures ok { IfOk result (λ copied. IsPut p copied self.old self.new) }
         ensures err { OnErr result (self.new ≡ with_session self.old self.old.session None) }
     {
         self.at = None;
-        keep(alloc, &self.player, &mut self.kept, p)?;
+        let copied = keep(alloc, &self.player, &mut self.kept, p)?;
         self.at = Some(p);
-        Ok(())
+        Ok(copied)
     }
 
     /// Makes a state that of entry `i`.

@@ -58,7 +58,7 @@ fn settle_one<L: Ledger>(
         link_at(kept, i + 1);
         return Ok(());
     }
-    let snap = player.capture(alloc, Some(entry_at(kept, i).snap()))?;
+    let (snap, _copied) = player.capture(alloc, Some(entry_at(kept, i).snap()))?;
     replace_at(kept, i + 1, snap);
     Ok(())
 }

@@ -1,6 +1,6 @@
 //! What is done to a recording's kept list and to the player: showing, moving on, settling and keeping.
 
-ghost use Rattle.std.specs.Prelude.{◌≡◌, ℕ, ◌+◌, ◌-◌, ◌<◌, ◌≤◌, true, IfNone, IfSome, IsOk, OnErr, OnOk};
+ghost use Rattle.std.specs.Prelude.{◌≡◌, ℕ, ◌+◌, ◌-◌, ◌<◌, ◌≤◌, true, IfNone, IfOk, IfSome, IsOk, OnErr, OnOk};
 ghost use Rattle.std.specs.Prelude.{length, Some};
 ghost use Rattle.w4_console.specs.ConsoleCalls.{moment};
 ghost use Rattle.w4_defs.specs.KeptList.{IsSettled, SamePlaces, kept_entries, last_up_to, linked_at};
@@ -11,7 +11,7 @@ ghost use Rattle.w4_defs.specs.State.{HasGlobals};
 ghost use Rattle.w4_defs.specs.Session.{keep_refusal, with_kept};
 ghost use Rattle.w4_editor.specs.Playing.{in_state, setup_of};
 ghost use Rattle.w4_editor.specs.Settling.{AreLinked, IsOfRun, MovesOn, ShowsFrom, TakesOn};
-ghost use Rattle.w4_editor.specs.Settling.{StaysConsistent, linked_entry};
+ghost use Rattle.w4_editor.specs.Settling.{StaysConsistent, copied_beside, linked_entry};
 
 use crate::kept::Kept;
 use crate::kept_list::{entry_at, first_above, insert_entry, is_kept, link_at, replace_at};
@@ -174,24 +174,26 @@ pub(crate) fn keep_refusal(recording: &Recording, kept: &Vec<Kept>, p: usize) ->
     None
 }
 
-/// Keeps the state that is shown, as that of place `p`. Errors: OutOfMemory, and then nothing has changed.
+/// Keeps the state that is shown, as that of place `p`, and says how many chunks were copied. Errors:
+/// OutOfMemory, and then nothing has changed.
 pub(crate) fn keep(
     alloc: Global,
     player: &Player,
     kept: &mut Vec<Kept>,
     p: usize,
-) -> Result<(), OutOfMemory>
+) -> Result<u32, OutOfMemory>
     requires { 0 < length kept.old.items }
     ensures ok { OnOk result (kept.new.items
         ≡ with_kept kept_entries (linked_entry p player.now.state) kept.old.items) }
+    ensures copied { IfOk result (λ copied. copied ≡ copied_beside p player.now.state kept.old.items) }
     ensures err { OnErr result (kept.new.items ≡ kept.old.items) }
     ensures globals { HasGlobals player.now.cart player.now.state }
 {
     let last = last_up_to(kept.as_slice(), p);
     let before = entry_at(kept.as_slice(), last);
-    let snap = player.capture(alloc, Some(before.snap()))?;
+    let (snap, copied) = player.capture(alloc, Some(before.snap()))?;
     insert_entry(kept, Kept::new(p, snap))?;
-    Ok(())
+    Ok(copied)
 }
 
 /// Links entry `i`, which keeps its state.
@@ -216,7 +218,7 @@ pub(crate) fn replace(
     ensures err { OnErr result (kept.new.items ≡ kept.old.items) }
 {
     let before = entry_at(kept.as_slice(), i - 1);
-    let snap = capture_alone(alloc, Some(before.snap()), state)?;
+    let (snap, _copied) = capture_alone(alloc, Some(before.snap()), state)?;
     replace_at(kept.as_mut_slice(), i, snap);
     Ok(())
 }

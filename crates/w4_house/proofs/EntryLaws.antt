@@ -1,8 +1,8 @@
 -- What events write, and what one entry more adds to the events of a log.
 use Rattle.std.proofs.Common.{◌≡◌, ℕ, List, [], ◌∷◌, ◌++◌, refl, ap, ◌∙◌, append-nil}
 use Rattle.std.proofs.lemmas.List.Concat.{flat_map-append}
-use Rattle.w4_defs.specs.World.{Event, Took, InputEnded, InputLost, Wrote, Saved, NotSaved, wrote}
-use Rattle.w4_house.specs.Entries.{events_of, logged, written_by}
+use Rattle.w4_defs.specs.World.{Event, Took, InputEnded, InputLost, Wrote, Saved, NotSaved, wrote, written_by}
+use Rattle.w4_house.specs.Entries.{events_of, logged}
 use Rattle.w4_house.specs.declared.log_entry.LogEntry.{LogEntry}
 
 pub written_by-append : (some more : List Event)

@@ -1,7 +1,7 @@
--- The events of a log, and the bytes that events write.
-use Rattle.std.specs.Prelude.{ℕ, List, [], ◌∷◌, string_bytes}
+-- The events of a log.
+use Rattle.std.specs.Prelude.{List, [], ◌∷◌, string_bytes}
 use Rattle.std.specs.List.{flat_map}
-use Rattle.w4_defs.specs.World.{Event, Took, InputEnded, InputLost, Wrote, Saved, NotSaved, wrote}
+use Rattle.w4_defs.specs.World.{Event, Took, InputEnded, InputLost, Saved, NotSaved, wrote}
 use Rattle.w4_house.specs.declared.log_entry.LogEntry.{LogEntry}
 use Rattle.w4_house.specs.declared.log_entry.LogEntry.TheVariants.{Line, InputEnd, InputFault, Output, File, FileFault}
 
@@ -16,9 +16,3 @@ events_of (FileFault name) = NotSaved (string_bytes name) ∷ []
 
 abbrev pub logged : List LogEntry → List Event
 logged entries = flat_map events_of entries
-
--- All bytes that these events write to standard output.
-abbrev pub written_by : List Event → List ℕ
-written_by [] = []
-written_by (Wrote byte ∷ events) = byte ∷ written_by events
-written_by (event ∷ events) = written_by events

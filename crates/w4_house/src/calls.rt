@@ -2,6 +2,7 @@
 
 ghost use Rattle.std.specs.Prelude.{
   ◌≡◌,
+  ◌⊎◌,
   ◌≤◌,
   ◌+◌,
   ◌∷◌,
@@ -101,13 +102,13 @@ impl From<AllocError> for WriteRefusal {
 
 /// Files, standard input, two outputs and three counts of faults, which never fall.
 ///
-/// The counts are those of reads, of writes to standard output and to files, and of writes to
-/// standard error. Each call leaves the two counts that aren't its own, and all else that isn't named
-/// for it. Names are compared byte by byte.
+/// The counts are those of reads, of writes to standard output and to files, and of writes to standard error.
+/// Each call leaves the two counts that aren't its own, and everything else that isn't named for it. Names
+/// are compared byte by byte.
 pub trait House {
     ghost world: { Self → World };
 
-    /// The first `most` bytes of a file, or all where it has fewer.
+    /// The first `most` bytes of a file, or all if it has fewer.
     fn read_front(&mut self, alloc: Global, name: &str, most: usize) -> Result<Vec<u8>, HouseFault>
         ensures bytes { IfOk result
             (λ bytes. ForSome (world self.old).files
@@ -122,9 +123,10 @@ pub trait House {
 
     /// The next line of standard input, without its byte 10, or None at the end.
     ///
-    /// The last line may lack its byte 10, and is a line where it has a byte. Of a line of more than
-    /// 1,024 bytes these are its first 1,025; its rest is read and passed over, and takes no memory.
-    /// After a refusal no line is taken, and what was read of one is lost.
+    /// The last line may lack its byte 10, and counts as a line if it has a byte. Of a line of more than
+    /// 1,024 bytes the first 1,025 are returned; the rest is read and dropped, and takes no memory. After a
+    /// refusal no line is taken, and what was read of one is lost; if memory ran out, it may be that nothing
+    /// was read.
     fn read_line(&mut self, alloc: Global) -> Result<Option<Vec<u8>>, HouseFault>
         ensures taken { IfOk result (λ line. Does (world self.old) (world self.new)
             (taken (option_map (λ bytes. bytes.items) line) ∷ [])) }
@@ -136,7 +138,8 @@ pub trait House {
         ensures failed { IsErrOf result HouseFault.Failed
             → Rises (world self.old).read_faults (world self.new).read_faults }
         ensures out_of_memory { IsErrOf result HouseFault.OutOfMemory
-            → Does (world self.old) (world self.new) [] }
+            → Does (world self.old) (world self.new) []
+            ⊎ Does (world self.old) (world self.new) (InputLost ∷ []) }
         ensures rest { LeavesTaking (world self.old) (world self.new) };
 
     /// Writes to standard output, at once. After a refusal it has got a first part of the bytes.
@@ -157,8 +160,8 @@ pub trait House {
             → Rises (world self.old).err_faults (world self.new).err_faults }
         ensures rest { LeavesReporting (world self.old) (world self.new) };
 
-    /// Makes a file of just these bytes. After a failure it has the bytes that it had, or is absent as it
-    /// was, or has just these; when memory runs out, it is unchanged. Every other file is unchanged.
+    /// Makes a file of exactly these bytes. After a failure it has the bytes that it had, or is absent as it
+    /// was, or has exactly these; when memory runs out, it is unchanged. Every other file is unchanged.
     fn write_file(&mut self, alloc: Global, name: &str, bytes: &[u8]) -> Result<(), WriteRefusal>
         ensures saved { OnOk result
             (Does (world self.old) (world self.new) (Saved name.now bytes.now ∷ [])) }

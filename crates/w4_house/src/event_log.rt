@@ -1,8 +1,8 @@
 //! The log of a house in memory.
 
 ghost use Rattle.std.specs.Prelude.{◌≡◌, ◌++◌, ◌<◌, [], List, OnOk, OnErr, vec_len, vec_capacity};
-ghost use Rattle.w4_defs.specs.World.{wrote};
-ghost use Rattle.w4_house.specs.Entries.{events_of, logged, written_by};
+ghost use Rattle.w4_defs.specs.World.{written_by, wrote};
+ghost use Rattle.w4_house.specs.Entries.{events_of, logged};
 
 use crate::log_entry::LogEntry;
 use std::alloc::{AllocError, Global};
@@ -40,7 +40,7 @@ impl EventLog {
         self.out.as_slice()
     }
 
-    /// Makes room for one more entry, so that none is refused once the thing is done.
+    /// Makes room for one more entry, so that adding it can't fail once the thing is done.
     pub(crate) fn reserve(&mut self) -> Result<(), AllocError>
         ensures room { OnOk result (vec_len self.new.entries < vec_capacity self.new.entries) }
         ensures same { self.new.entries.items ≡ self.old.entries.items }

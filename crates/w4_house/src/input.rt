@@ -25,14 +25,14 @@ fn line_end(bytes: &[u8]) -> Option<usize>
     bytes.iter().position(|byte| *byte == b'\n')
 }
 
-/// Those of some bytes that are left where so many were passed.
+/// The rest of some bytes, after the first `passed`.
 pub(crate) fn left(bytes: &[u8], passed: usize) -> &[u8]
     ensures { result.now ≡ drop passed bytes.now }
 {
     &bytes[passed.min(bytes.len())..]
 }
 
-/// The first `most` of some bytes, or all where there are fewer.
+/// The first `most` of some bytes, or all if there are fewer.
 fn front(bytes: &[u8], most: usize) -> &[u8]
     ensures { result.now ≡ take most bytes.now }
 {

@@ -1,6 +1,6 @@
-//! The house: all that the program reaches outside itself, as a trait of five calls, and three that
-//! keep it. A caller relies on the clauses of `House` alone, which say what a call gives and leaves,
-//! and that a count rose wherever a call failed.
+//! The house: everything that the program reaches outside itself, as a trait of five calls and three
+//! implementations. A caller relies only on the clauses of `House`, which say what a call returns and leaves,
+//! and that a count rose if a call failed.
 #![tactic(auto)]
 
 pub mod calls;

@@ -29,7 +29,7 @@ use std::io::{ErrorKind, Read};
 /// longer one is seen to be longer.
 pub(crate) const MOST_LINE_BYTES: usize = 1_024 + 1;
 
-/// The next byte, or None at the end. A read that a signal interrupts is made again.
+/// The next byte, or None at the end. A read that a signal interrupts is retried.
 fn next_byte<R: Read>(reader: &mut R) -> Result<Option<u8>, HouseFault>
     ensures byte { IfOk result (λ byte. GivesByte (R.remaining reader.old) (R.remaining reader.new) byte) }
     ensures kept { OnErr result (Keeps (R.remaining reader.old) (R.remaining reader.new)) }
@@ -51,7 +51,7 @@ fn next_byte<R: Read>(reader: &mut R) -> Result<Option<u8>, HouseFault>
     Err(HouseFault::Failed)
 }
 
-/// Adds one more byte to the front of a line, where there is room.
+/// Adds one more byte to the front of a line, if there is room.
 fn add_to_front(front: &mut Vec<u8>, byte: u8, most: usize) -> Result<(), HouseFault>
     requires within { length front.old.items ≤ most }
     ensures front { OnOk result (front.new.items ≡ take most (front.old.items ++ byte ∷ [])) }

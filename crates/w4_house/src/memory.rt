@@ -31,12 +31,12 @@ use crate::sure::SureHouse;
 use std::alloc::Global;
 use w4_defs::OutOfMemory;
 
-/// It tells everything, and has a list of the numbers of calls that are to fail.
+/// Tells everything, and has a list of the numbers of the calls that are to fail.
 ///
-/// The calls of the trait are numbered from 1 in the order in which they come. One whose number is in
-/// the list returns Failed, raises its own count, and appends and changes nothing, but that a failed
-/// `read_line` or `write_file` is logged. Where memory for that runs out, the count rises all the same,
-/// and the call returns OutOfMemory.
+/// The calls of the trait are numbered from 1 in the order in which they come. One whose number is in the
+/// list returns Failed, raises its own count, and appends and changes nothing, but a failed `read_line` or
+/// `write_file` is logged. If memory for that runs out, the count rises all the same, and the call returns
+/// OutOfMemory.
 #[derive(Drop)]
 pub struct MemoryHouse {
     store: SureHouse,
@@ -49,8 +49,8 @@ pub struct MemoryHouse {
 
 impl MemoryHouse {
     ghost use Rattle.std.specs.FinMap.{get, empty};
-    ghost use Rattle.w4_defs.specs.World.{Puts, OnlyFiles, SameWorld};
-    ghost use Rattle.w4_house.specs.Entries.{logged, written_by};
+    ghost use Rattle.w4_defs.specs.World.{written_by, Puts, OnlyFiles, SameWorld};
+    ghost use Rattle.w4_house.specs.Entries.{logged};
     ghost use Rattle.w4_house.specs.InMemory.{
       failing_calls,
       last_call,
@@ -223,8 +223,11 @@ impl House for MemoryHouse {
         ensures failed { IsErrOf result HouseFault.Failed
             → Rises (memory_world self.old).read_faults (memory_world self.new).read_faults }
         ensures out_of_memory { IsErrOf result HouseFault.OutOfMemory
-            → Does (memory_world self.old) (memory_world self.new) [] }
+            → Does (memory_world self.old) (memory_world self.new) []
+            ⊎ Does (memory_world self.old) (memory_world self.new) (InputLost ∷ []) }
         ensures rest { LeavesTaking (memory_world self.old) (memory_world self.new) }
+        ensures nothing_lost { IsErrOf result HouseFault.OutOfMemory
+            → Does (memory_world self.old) (memory_world self.new) [] }
         ensures line { IfOk result (λ line. GivesLine (live_line_limit + 1) (Some (memory_input self.old))
             (Some (memory_input self.new)) (option_map (λ bytes. bytes.items) line)) }
         ensures left { OnErr result (memory_input self.new ≡ memory_input self.old) }

@@ -2,6 +2,7 @@
 
 ghost use Rattle.std.specs.Prelude.{
   ◌≡◌,
+  ◌⊎◌,
   ◌≤◌,
   ◌+◌,
   ◌∷◌,
@@ -31,8 +32,8 @@ use std::rt::Files;
 
 /// Over the files of a runtime, a reader and two writers, in the program its standard streams.
 ///
-/// It tells no content. Each count rises at each refusal of its calls, an absent file and running out of
-/// memory among them.
+/// Tells no contents. Each count rises at each refusal of its calls, including an absent file and running out
+/// of memory.
 #[derive(Drop)]
 pub struct RealHouse<'a, R: Files, I: Read + Drop, O: Write + Drop, E: Write + Drop> {
     runtime: &'a R,
@@ -68,7 +69,7 @@ impl<'a, R: Files, I: Read + Drop, O: Write + Drop, E: Write + Drop> RealHouse<'
     }
 }
 
-/// The first `most` bytes that a reader gives, or all. A read that a signal interrupts is made again.
+/// The first `most` bytes that a reader gives, or all. A read that a signal interrupts is retried.
 fn read_some<F: Read + Drop>(alloc: Global, file: F, most: usize) -> Result<Vec<u8>, HouseFault>
     ensures bytes { IfOk result
         (λ bytes. ForSome (F.remaining file) (λ left. bytes.items ≡ take most left)) }
@@ -106,7 +107,7 @@ fn read_file<R: Files>(
     }
 }
 
-/// The file of this name, replaced. Where memory ran out, it is unchanged.
+/// The file of this name, replaced. If memory ran out, it is unchanged.
 fn write_whole<R: Files>(
     alloc: Global,
     runtime: &R,
@@ -183,7 +184,8 @@ impl<'a, R: Files, I: Read + Drop, O: Write + Drop, E: Write + Drop> House
         ensures failed { IsErrOf result HouseFault.Failed
             → Rises (real_world self.old).read_faults (real_world self.new).read_faults }
         ensures out_of_memory { IsErrOf result HouseFault.OutOfMemory
-            → Does (real_world self.old) (real_world self.new) [] }
+            → Does (real_world self.old) (real_world self.new) []
+            ⊎ Does (real_world self.old) (real_world self.new) (InputLost ∷ []) }
         ensures rest { LeavesTaking (real_world self.old) (real_world self.new) }
         ensures line { IfOk result (λ line. GivesLine (live_line_limit + 1) (I.remaining self.old.input)
             (I.remaining self.new.input) (option_map (λ bytes. bytes.items) line)) }

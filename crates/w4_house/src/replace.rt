@@ -1,4 +1,5 @@
-//! Files of the system that are replaced whole: a new file is written beside, and then takes the name.
+//! Files of the system, replaced whole: a new file is written beside the old one, if any, and then takes the
+//! name.
 //!
 //! No clause speaks of what stands in the system's files. Until the rename the old file is as it was, and
 //! whatever fails, the file beside is removed again.
@@ -19,8 +20,8 @@ const LINKS: u32 = 40;
 /// The permissions of a file beside, until it gets those of the file that it replaces.
 const OWNER_ALONE: u32 = 0o600;
 
-/// Makes a file of just these bytes. A link stays, and the file that it leads to is made. What is there and
-/// is no regular file, as a device or a pipe, is written into.
+/// Makes a file of exactly these bytes. A link stays, and the file that it leads to is made. Anything but a
+/// regular file, such as a device or a pipe, is written into.
 pub(crate) fn replace<R: Files>(
     alloc: Global,
     runtime: &R,
@@ -47,8 +48,8 @@ pub(crate) fn replace<R: Files>(
     }
 }
 
-/// Writes into what is no regular file. Since some bytes may have gone before it failed, it never says that
-/// memory ran out.
+/// Writes into something that isn't a regular file. Since some bytes may have gone before it failed, it never
+/// says that memory ran out.
 fn write_into<R: Files>(runtime: &R, name: &str, bytes: &[u8]) -> io::Result<()> {
     let mut file = OpenOptions::new().write(true).open(runtime, name)?;
     match file.write_all(bytes) {
@@ -112,7 +113,7 @@ fn put_beside<R: Files>(
     Err(io::Error::from(ErrorKind::AlreadyExists))
 }
 
-/// A file that wasn't there. Where it is to replace another, none but its owner may open it as yet.
+/// A file that wasn't there. If it is to replace another, none but its owner may open it as yet.
 fn create<R: Files>(runtime: &R, path: &str, found: Option<&Metadata>) -> io::Result<R::File> {
     let mut options = OpenOptions::new();
     options.write(true).create_new(true);

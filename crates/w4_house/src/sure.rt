@@ -2,6 +2,7 @@
 
 ghost use Rattle.std.specs.Prelude.{
   ◌≡◌,
+  ◌⊎◌,
   ◌≤◌,
   ◌+◌,
   [],
@@ -47,6 +48,7 @@ impl SureHouse {
       Files,
       InputLost,
       NotSaved,
+      written_by,
       Puts,
       Does,
       LeavesTaking,
@@ -54,7 +56,7 @@ impl SureHouse {
       OnlyFiles,
       SameWorld,
     };
-    ghost use Rattle.w4_house.specs.Entries.{logged, written_by};
+    ghost use Rattle.w4_house.specs.Entries.{logged};
     ghost use Rattle.w4_house.specs.InMemory.{sure_files, sure_input, sure_events, sure_world};
 
     /// A house with no files and no input, in which nothing was done.
@@ -210,8 +212,11 @@ impl House for SureHouse {
         ensures failed { IsErrOf result HouseFault.Failed
             → Rises (sure_world self.old).read_faults (sure_world self.new).read_faults }
         ensures out_of_memory { IsErrOf result HouseFault.OutOfMemory
-            → Does (sure_world self.old) (sure_world self.new) [] }
+            → Does (sure_world self.old) (sure_world self.new) []
+            ⊎ Does (sure_world self.old) (sure_world self.new) (InputLost ∷ []) }
         ensures rest { LeavesTaking (sure_world self.old) (sure_world self.new) }
+        ensures nothing_lost { IsErrOf result HouseFault.OutOfMemory
+            → Does (sure_world self.old) (sure_world self.new) [] }
         ensures line { IfOk result (λ line. GivesLine (live_line_limit + 1) (Some (sure_input self.old))
             (Some (sure_input self.new)) (option_map (λ bytes. bytes.items) line)) }
         ensures left { OnErr result (sure_input self.new ≡ sure_input self.old) }

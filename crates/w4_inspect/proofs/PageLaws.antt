@@ -25,6 +25,11 @@ pub of_page : {A : Type 0} (e : Editing) (p : ℕ) (state : State) (make : List 
 of_page e p state make made shown is =
     ap (λ (s : Option State). option_map make (option_map (λ (x : State). x.page) s)) shown ∙ ap Some (sym is)
 
+-- a page that is read when another place is shown
+pub moved_page : (e moved : Editing) (at : Option ℕ) (page : List ℕ) (p : ℕ)
+    → moved ≡ with_session e e.session at → page_at moved p ≡ Some page → page_at e p ≡ Some page
+moved_page e moved at page p is read = ap (λ m. page_at m p) (sym is) ∙ read
+
 -- a value that is read when another place is shown
 pub moved_value : (e moved : Editing) (at : Option ℕ) (x address width p : ℕ)
     → moved ≡ with_session e e.session at → value_at moved address width p ≡ Some x

@@ -1,9 +1,9 @@
--- Values that are added one place after another.
-use Rattle.std.proofs.Common.{◌≡◌, ℕ, suc, ◌+◌, ◌-◌, ◌≤◌, List, [], ◌∷◌, ◌++◌, map, Option, Some, ap, sym, ◌∙◌, arith}
+-- Values and pages that are added one place after another.
+use Rattle.std.proofs.Common.{◌≡◌, ℕ, suc, ◌+◌, ◌-◌, ◌≤◌, List, [], ◌∷◌, ◌++◌, map, Option, Some, None, option_map, option_and_then, refl, ap, sym, ◌∙◌, arith}
 use Rattle.std.specs.List.{range_with_len}
 use Rattle.std.proofs.lemmas.List.FromFn.{map-range_with_len_more}
 use Rattle.w4_defs.specs.AllThere.{all_some, joined}
-use Rattle.w4_defs.proofs.AllThereLaws.{joined_assoc, values_in_parts}
+use Rattle.w4_defs.proofs.AllThereLaws.{joined_assoc, values_in_parts, values_more}
 
 -- the values at the places after A, up to P
 abbrev after : (ℕ → Option ℕ) → ℕ → ℕ → List (Option ℕ)
@@ -36,3 +36,38 @@ first_and_more f g none one new x a b le same empty pushed value added =
     ∙ ap (λ xs. joined (Some xs) (all_some (after f a b))) (sym (pushed ∙ ap (λ xs. xs ++ x ∷ []) empty))
     ∙ ap (λ h. joined (Some one) (all_some (after h a b))) (sym same)
     ∙ added
+
+-- the page of one place more
+pub one_more_page : (f : ℕ → Option (List ℕ)) (so_far new : List (List ℕ)) (page : List ℕ) (a p : ℕ) → a ≤ p
+    → all_some (map f (range_with_len a (p + 1 - a))) ≡ Some so_far
+    → new ≡ so_far ++ page ∷ [] → f (p + 1) ≡ Some page
+    → all_some (map f (range_with_len a (p + 1 + 1 - a))) ≡ Some new
+one_more_page f so_far new page a p le is pushed read =
+    let count : p + 1 + 1 - a ≡ p + 1 - a + 1 = omega (arith, le) in
+    ap (λ n. all_some (map f (range_with_len a n))) count
+    ∙ ap all_some (map-range_with_len_more f a (p + 1 - a) (p + 1) (omega (arith, le)))
+    ∙ values_more (map f (range_with_len a (p + 1 - a))) so_far (f (p + 1)) page is read
+    ∙ ap Some (sym pushed)
+
+-- ---- a value in each page
+
+mapped_first : {A B : Type 0} (g : A → B) (x : Option A) (rest : Option (List A)) →
+    option_and_then (λ value. option_map (λ values. value ∷ values) (option_map (map g) rest))
+    (option_map g x)
+    ≡ option_map (map g) (option_and_then (λ value. option_map (λ values. value ∷ values) rest) x)
+mapped_first g None rest = refl
+mapped_first g (Some x) None = refl
+mapped_first g (Some x) (Some rest) = refl
+
+mapped_all : {A B : Type 0} (g : A → B) (f : ℕ → Option A) (places : List ℕ)
+    → all_some (map (λ p. option_map g (f p)) places) ≡ option_map (map g) (all_some (map f places))
+mapped_all g f [] = refl
+mapped_all {A} {B} g f (p ∷ places) =
+    ap (λ (rest : Option (List B)). option_and_then (λ value. option_map (λ values. value ∷ values) rest)
+    (option_map g (f p))) (mapped_all g f places)
+    ∙ mapped_first g (f p) (all_some (map f places))
+
+pub value_of_each : (g : List ℕ → ℕ) (f : ℕ → Option (List ℕ)) (places : List ℕ) (pages : List (List ℕ))
+    → all_some (map f places) ≡ Some pages
+    → all_some (map (λ p. option_map g (f p)) places) ≡ Some (map g pages)
+value_of_each g f places pages are = mapped_all g f places ∙ ap (option_map (map g)) are

@@ -4,12 +4,14 @@
 #![tactic(auto)]
 
 pub mod laws;
+pub mod place_pages;
 pub mod refusal;
 pub mod search;
 pub mod searching;
 mod values;
 pub mod watching;
 
+pub use place_pages::PlacePages;
 pub use refusal::RamRefusal;
 pub use search::Search;
 pub use w4_defs::inspect::Test;

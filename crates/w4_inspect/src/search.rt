@@ -66,7 +66,7 @@ impl Search {
 }
 
 /// A page with these bytes.
-fn copy_of(alloc: Global, bytes: &PageBytes) -> Result<Page, OutOfMemory>
+pub(crate) fn copy_of(alloc: Global, bytes: &PageBytes) -> Result<Page, OutOfMemory>
     ensures { IfOk result (λ page. page ≡ bytes.now) }
 {
     let mut page = Page::new(alloc)?;

@@ -15,20 +15,20 @@ use crate::refusal::RamRefusal;
 use crate::values::value_at;
 use std::alloc::Global;
 use std::sync::ledger::Ledger;
-use w4_defs::{OutOfMemory, Steps};
+use w4_defs::{OutOfMemory, PageBytes, Steps};
 use w4_devices::FrameRecord;
 use w4_editor::Editor;
 use w4_editor::places::last_place;
 use w4_map::State;
 
 /// How many bytes the page has.
-const PAGE_LEN: usize = 65_536;
+pub(crate) const PAGE_LEN: usize = 65_536;
 
 /// The bytes of a value.
 #[derive(Clone, Copy)]
-struct Watched {
-    address: u32,
-    width: u32,
+pub(crate) struct Watched {
+    pub(crate) address: u32,
+    pub(crate) width: u32,
 }
 
 /// The values of `width` bytes, 1, 2 or 4, from `address` on, at each place from `a` to `b`, where `a` is at
@@ -162,5 +162,13 @@ fn value_in(state: &State, what: Watched) -> u32
     requires { IsInPage what.address what.width }
     ensures { result ≡ number_at state.now.page what.address what.width }
 {
-    value_at(state.page.bytes(), what.address, what.width)
+    value_of(state.page.bytes(), what)
+}
+
+/// The value in a page.
+pub(crate) fn value_of(page: &PageBytes, what: Watched) -> u32
+    requires { IsInPage what.address what.width }
+    ensures { result ≡ number_at page.now what.address what.width }
+{
+    value_at(page, what.address, what.width)
 }

@@ -283,24 +283,25 @@ kept_session None after new is = cc
 kept_session (Some refusal) after new is = absurd cc
 
 -- the session in which an entry is kept
-put_session : (p : ℕ) (old new : Editing) → (put : IsPut p old new)
+put_session : (p copied : ℕ) (old new : Editing) → (put : IsPut p copied old new)
     → new.session ≡ with_list old.session
     (with_kept kept_entries (linked_entry p put.state) old.session.current.kept)
-put_session p old new put =
+put_session p copied old new put =
     kept_session (keep_refusal kept_entries p old.session.current) _ new.session put.kept
 
-pub keeps_place : (old mid : Netplay) (p before after : ℕ) (new : Editing) → IsRolled old mid
-    → IsKeptAt p before after mid.editor new
+pub keeps_place : (old mid : Netplay) (p before after copied : ℕ) (new : Editing) → IsRolled old mid
+    → IsKeptAt p before after copied mid.editor new
     → KeepsPlace p before after old (netplay_view mid.pads mid.frames new)
-keeps_place old mid p before after new rolled is =
+keeps_place old mid p before after copied new rolled is =
     let shown = shows_place old mid rolled is.shown p before after is.is_shown in
     let now = is.shown.session.current.kept in record {
       shown = netplay_view mid.pads mid.frames is.shown;
       is_shown = shown;
+      copied = copied;
       put = is.put;
       pads = rolled.netplay.pads;
       frames = rolled.netplay.frames;
-      kept = ap (λ (s : Session Entry). places_of s.current.kept) (put_session p is.shown new is.put)
+      kept = ap (λ (s : Session Entry). places_of s.current.kept) (put_session p copied is.shown new is.put)
           ∙ kept_in (linked_entry p is.put.state) now
           ∙ ap (with_kept places_alone p) shown.netplay.kept;
     }

@@ -65,7 +65,8 @@ pub record ShowsPlace (p before after : ℕ) (old new : Netplay) : Type 0 where
 pub record KeepsPlace (p before after : ℕ) (old new : Netplay) : Type 0 where
   pub shown : Netplay
   pub is_shown : ShowsPlace p before after old shown
-  pub put : IsPut p shown.editor new.editor
+  pub copied : ℕ
+  pub put : IsPut p copied shown.editor new.editor
   pub pads : new.pads ≡ old.pads
   pub frames : new.frames ≡ old.frames
   pub kept : places_kept new ≡ with_kept places_alone p (places_kept old)

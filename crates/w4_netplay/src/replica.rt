@@ -183,7 +183,7 @@ impl Replica {
         }
         self.roll_back(alloc)?;
         match self.editor.keep(alloc, p, steps) {
-            Ok(()) => Ok(()),
+            Ok(_copied) => Ok(()),
             Err(refusal) => Err(NetRefusal::from(only_memory(refusal))),
         }
     }

@@ -1,6 +1,6 @@
 -- How the whole ended is so after the report of its status, too.
-use Rattle.std.proofs.Common.{◌≡◌, ◌⊎◌, ℕ, inl, inr, List, [], ◌∷◌, ◌++◌, take, Result, Ok, Err, refl, sym, subst, ◌∙◌}
-use Rattle.w4_defs.specs.World.{Event, InputLost, Files, World, Rises, AppendsFront, Does, FailsToSave, LeavesReporting, not_saved}
+use Rattle.std.proofs.Common.{◌≡◌, ◌⊎◌, ◌+◌, ℕ, inl, inr, List, [], ◌∷◌, ◌++◌, take, Result, Ok, Err, refl, sym, subst, ◌∙◌}
+use Rattle.w4_defs.specs.World.{Event, InputLost, Files, World, Rises, RisesBy, AppendsFront, Does, FailsToSave, OutFails, SavesOrFails, LeavesReporting, failed_saves, not_saved}
 use Rattle.w4_defs.specs.declared.status.Finish.{Finish}
 use Rattle.w4_defs.specs.declared.status.Finish.TheVariants as finish
 use Rattle.w4_defs.specs.declared.status.Refusal.{Refusal}
@@ -27,17 +27,41 @@ module _ (old mid new : World) (leaves : LeavesReporting mid new) where
   fails_reported done saved (inl does) = inl (does_reported (done ++ not_saved saved) does)
   fails_reported done saved (inr does) = inr (does_reported (done ++ saved ++ not_saved saved) does)
 
+  out_fails_reported : (done : List Event) → OutFails old mid done → OutFails old new done
+  out_fails_reported done out =
+      subst (λ n. RisesBy (failed_saves done + 1) old.write_faults n) (sym leaves.writes) out
+
+  saves_reported : (done saved : List Event) → SavesOrFails old mid done saved → SavesOrFails old new done saved
+  saves_reported done saved (inl does) = inl (does_reported (done ++ saved) does)
+  saves_reported done saved (inr fails) = inr (fails_reported done saved fails)
+
+  reads_reported : Rises old.read_faults mid.read_faults → Rises old.read_faults new.read_faults
+  reads_reported rise = subst (λ n. Rises old.read_faults n) (sym leaves.reads) rise
+
   untouched_reported : LeavesOutputs old mid → LeavesOutputs old new
   untouched_reported h = (leaves.events ∙ h.0, leaves.files ∙ h.1)
 
   part_reported : (output : Output) → WritesPart old mid output → WritesPart old new output
-  part_reported output (inl (count, short, inl does)) =
-      inl (count, short, inl (does_reported (stopped_events output count) does))
-  part_reported output (inl (count, short, inr fails)) =
-      inl (count, short, inr (fails_reported (take count output.events) (output.rescued count) fails))
-  part_reported output (inr (inl (count, wants, fails))) = inr (inl (
+  part_reported output (inl (count, short, inl (does, out))) = inl (
+    count,
+    short,
+    inl (
+      does_reported (stopped_events output count) does,
+      out_fails_reported (stopped_events output count) out,
+    ),
+  )
+  part_reported output (inl (count, short, inr (fails, out))) = inl (
+    count,
+    short,
+    inr (
+      fails_reported (take count output.events) (output.rescued count) fails,
+      out_fails_reported (take count output.events ++ not_saved (output.rescued count)) out,
+    ),
+  )
+  part_reported output (inr (inl (count, wants, rise, fails))) = inr (inl (
     count,
     wants,
+    reads_reported rise,
     fails_reported (take count output.events ++ InputLost ∷ []) (output.rescued count) fails,
   ))
   part_reported output (inr (inr fails)) = inr (inr (fails_reported output.events output.saved fails))
@@ -49,21 +73,14 @@ module _ (old mid new : World) (leaves : LeavesReporting mid new) where
   runs_out_reported : (output : Output) (count : ℕ) → RunsOutAfter old mid output count
       → RunsOutAfter old new output count
   runs_out_reported output count (inl does) = inl (does_reported (take count output.events) does)
-  runs_out_reported output count (inr (inl (before, near, inl does))) = inr (inl (
-    before,
-    near,
-    inl (does_reported (take count output.events ++ output.rescued before) does),
+  runs_out_reported output count (inr (inl (before, near, saves))) =
+      inr (inl (before, near, saves_reported (take count output.events) (output.rescued before) saves))
+  runs_out_reported output count (inr (inr (wants, inl does))) =
+      inr (inr (wants, inl (does_reported (take count output.events ++ InputLost ∷ []) does)))
+  runs_out_reported output count (inr (inr (wants, inr saves))) = inr (inr (
+    wants,
+    inr (saves_reported (take count output.events ++ InputLost ∷ []) (output.rescued count) saves),
   ))
-  runs_out_reported output count (inr (inl (before, near, inr fails))) = inr (inl (
-    before,
-    near,
-    inr (fails_reported (take count output.events) (output.rescued before) fails),
-  ))
-  runs_out_reported output count (inr (inr (wants, does))) =
-      inr (inr (wants, does_reported (take count output.events ++ InputLost ∷ []) does))
-
-  reads_reported : Rises old.read_faults mid.read_faults → Rises old.read_faults new.read_faults
-  reads_reported rise = subst (λ n. Rises old.read_faults n) (sym leaves.reads) rise
 
   refused_reported : (why : Manner) (step : Step) → EndsRefused old mid why step
       → EndsRefused old new why step

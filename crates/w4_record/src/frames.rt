@@ -80,7 +80,7 @@ fn first_frame(version: Version, bytes: &[u8]) -> Option<(Input, &[u8])>
     Some((input_of(frame, reset), rest))
 }
 
-/// Whether the bytes are so many frames.
+/// Whether the bytes are that many frames.
 pub fn are_frames(version: Version, count: u32, bytes: &[u8]) -> bool
     ensures { result ≡ is_some (frames_of (version_number version) count bytes.now) }
 {
@@ -94,7 +94,7 @@ pub fn are_frames(version: Version, count: u32, bytes: &[u8]) -> bool
     rest.is_empty()
 }
 
-/// The inputs of so many frames, which are all of the bytes.
+/// The inputs of that many frames, which are all of the bytes.
 pub fn frames_of(
     alloc: Global,
     version: Version,

@@ -70,7 +70,7 @@ impl Recording {
         }
     }
 
-    /// Puts other inputs in the place of those of the recording, and returns the latter. Takes no memory.
+    /// Replaces the inputs of the recording with others, and returns the old ones. Takes no memory.
     pub fn replace_frames(&mut self, frames: Vec<Input>) -> Vec<Input>
         requires { vec_len frames ≤ 36000 }
         ensures before { result.items ≡ self.old.frames }

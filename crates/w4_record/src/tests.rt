@@ -4,8 +4,8 @@ use crate::{Recording, RecordingRefusal, digest_of, read_recording, write_record
 use std::test::Fail;
 use w4_defs::Input;
 
-/// A budget of 256, a disk of one byte, and one frame: pad 1 is 2, the mouse stands at (-1, 2) with its
-/// left button down.
+/// A budget of 256, a disk of one byte, and one frame: pad 1 is 2, the mouse is at (-1, 2) with its left
+/// button down.
 const VERSION_1: &[u8] = b"W4RC\x010123456789abcdef0123456789abcdef\x00\x01\0\0\x01\0\x09\x01\0\0\0\
     \x02\0\0\0\xff\xff\x02\0\x01";
 

@@ -1,19 +1,26 @@
--- The requests of a query are fit for the calls that they ask for.
-use Rattle.std.proofs.Common.{◌≡◌, ℕ, Bool, true, false, List, [], ◌∷◌, length, All, Option, Some, None, Result, Ok, Err, refl, sym, subst, if◌then◌else◌, leb, cond, arith}
+-- The lines of a query are fit for the calls that they ask for.
+use Rattle.std.proofs.Common.{◌≡◌, ℕ, Bool, true, false, List, [], ◌∷◌, length, All, Option, Some, None, Result, Ok, Err, option_map, refl, sym, subst, if◌then◌else◌, leb, cond, arith}
 use Rattle.std.specs.Prelude.{⊤, IfSome}
+use Rattle.std.specs.Option.{option_or}
 use Rattle.std.specs.Str.{bytes_eq}
 use Rattle.std.proofs.lemmas.List.Elements.{All-nil, All-cons}
 use Rattle.w4_defs.specs.declared.inspect.Ask.{Ask}
 use Rattle.w4_defs.specs.declared.inspect.Ask.TheVariants as ask
+use Rattle.w4_defs.specs.declared.inspect.QueryLine.{QueryLine}
+use Rattle.w4_defs.specs.declared.inspect.QueryLine.TheVariants as line
 use Rattle.w4_defs.specs.declared.inspect.Test.{Test}
 use Rattle.w4_defs.specs.declared.inspect.Test.TheVariants.{Same, Changed, More, Less}
+use Rattle.w4_defs.specs.declared.order.Order.{Order}
 use Rattle.w4_defs.specs.declared.status.ScriptKind.{ScriptKind}
 use Rattle.w4_defs.specs.declared.status.ScriptKind.TheVariants.{TooLong}
 use Rattle.w4_defs.specs.Lines.{Line, lines_of}
 use Rattle.w4_defs.specs.OrderFile.{OrderReader, OrderRow, order_by, order_named, orders_in, file_of, with_order}
 use Rattle.w4_defs.specs.OrderWords.{no_word}
-use Rattle.w4_defs.specs.RamQuery.{ask_of, is_words, query_rows, start_words, test_words, watch_words}
-use Rattle.w4_script.specs.Requests.{IsRequest}
+use Rattle.w4_defs.specs.RamQuery.{ask_of, is_words, keeping, query_line_of, query_rows, start_words, test_words, watch_words}
+use Rattle.w4_defs.specs.Reading.{◌>>=◌}
+use Rattle.w4_defs.specs.Script.{order_of}
+use Rattle.w4_defs.proofs.OptionLaws.{some_same}
+use Rattle.w4_script.specs.Requests.{IsQueryLine, IsRequest}
 
 -- ---- what holds of each order that a table's rows read holds of the orders of a file
 
@@ -115,12 +122,26 @@ rows_fit = (
   ),
 )
 
-pub query_fits : (bytes : List ℕ) (requests : List Ask) → file_of ask_of bytes ≡ Ok requests
-    → All IsRequest requests
-query_fits = file_read IsRequest ask_of (table_reads IsRequest query_rows rows_fit)
-
 pub request_fits : (name : List ℕ) (words : List (List ℕ)) (request : Option Ask)
     → request ≡ order_named query_rows name words → IfSome request IsRequest
 request_fits name words None e = tt
 request_fits name words (Some request) e =
     named_reads IsRequest query_rows rows_fit name words request (sym e)
+
+-- ---- the lines of a query
+
+keeping_fits : (o : Order) (found : QueryLine) → keeping o ≡ Some found → IsQueryLine found
+keeping_fits o found e = grind arith
+
+line_fits : (request : Option Ask) (o : Option Order) (found : QueryLine)
+    → ((ask : Ask) → request ≡ Some ask → IsRequest ask)
+    → option_or (option_map line.Ask request) (o >>= keeping) ≡ Some found → IsQueryLine found
+line_fits (Some ask) o found fits e =
+    subst IsQueryLine (some_same (line.Ask ask) found e) (fits ask refl)
+line_fits None (Some o) found fits e = keeping_fits o found e
+line_fits None None found fits e = absurd cc
+
+pub query_fits : (bytes : List ℕ) (lines : List QueryLine) → file_of query_line_of bytes ≡ Ok lines
+    → All IsQueryLine lines
+query_fits = file_read IsQueryLine query_line_of (λ words found e.
+    line_fits (ask_of words) (order_of words) found (table_reads IsRequest query_rows rows_fit words) e)

@@ -1,4 +1,4 @@
-//! The words of a frame: `K P1 P2 P3 P4 X Y B`, and `reset` where the frame has a reset.
+//! The words of a frame: `K P1 P2 P3 P4 X Y B`, and `reset` if the frame has a reset.
 
 ghost use Rattle.std.specs.Prelude.{◌≡◌, ℕ, option_map};
 ghost use Rattle.w4_defs.specs.Script.{frame_order, reset_word};

@@ -18,7 +18,7 @@ const MOST_NAMES: usize = 256;
 /// How many bytes a name has at most.
 const MOST_NAME_BYTES: usize = 255;
 
-/// The name that a line is, after so many others.
+/// The name that a line is, after that many others.
 fn name_after(count: usize, line: &[u8]) -> Option<&str>
     ensures { option_map (λ name. name.now) result ≡ name_after count line.now }
 {
@@ -33,7 +33,7 @@ fn name_after(count: usize, line: &[u8]) -> Option<&str>
 
 /// The names of a list, in order: at most 256 of at most 255 bytes of UTF-8, each in a line as it stands. One
 /// byte 13 at the end of a line is dropped, and empty lines are skipped. A list of more than 65,536 bytes is
-/// too long, and else the first line that isn't such a name, or is the 257th, is bad.
+/// too long; otherwise the first line that isn't such a name, or is the 257th, is bad.
 #[tactic(auto, unfolding(w4_defs::specs::NameLists::names_of))]
 pub fn read_names(alloc: Global, bytes: &[u8]) -> Result<Vec<String>, ScriptRefusal>
     ensures names { IfOk result (λ names. names_of bytes.now ≡ Ok (map string_bytes names.items)) }

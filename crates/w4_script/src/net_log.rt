@@ -71,8 +71,8 @@ impl LineOrder for NetOrder {
 }
 
 /// The orders of a log, one in each line that isn't skipped: `pad PLAYER FRAME BYTE`, `next`, `keep P`,
-/// `show P` or `state P`. Errors: TooLong where there are more than 1,048,576 bytes; BadLine with the number
-/// of the first bad line, counted from 1, skipped lines too; OutOfMemory.
+/// `show P` or `state P`. Errors: TooLong if there are more than 1,048,576 bytes; BadLine with the number of
+/// the first bad line, counted from 1, skipped lines too; OutOfMemory.
 #[tactic(auto, unfolding(w4_defs::specs::NetLog::net_log_of))]
 pub fn read_log(alloc: Global, bytes: &[u8]) -> Result<Vec<NetOrder>, ScriptRefusal>
     ensures orders { IfOk result (λ orders. net_log_of bytes.now ≡ Ok orders.items) }

@@ -3,18 +3,20 @@
 ghost use Rattle.std.specs.Prelude.{◌≡◌, IfErr, IfOk, IfSome, Ok};
 ghost use Rattle.std.specs.List.{All};
 ghost use Rattle.w4_defs.specs.OrderFile.{order_named};
-ghost use Rattle.w4_defs.specs.RamQuery.{ask_of, decimal_width, is_words, query_of, query_rows, start_words, test_words, watch_words};
+ghost use Rattle.w4_defs.specs.RamQuery.{ask_of, decimal_width, is_words, keeping, query_line_of, query_of, query_rows, start_words, test_words, watch_words};
 ghost use Rattle.w4_script.specs.Left.{words_left};
 ghost use Rattle.w4_script.specs.Refuses.{Refuses};
-ghost use Rattle.w4_script.specs.Requests.{IsRequest};
+ghost use Rattle.w4_script.specs.Requests.{IsQueryLine, IsRequest};
 
 use crate::number::number_of;
+use crate::order::order_of;
 use crate::order_file::{LineOrder, read_orders};
 use crate::order_words::{no_word, one_number};
 use crate::refusal::ScriptRefusal;
 use crate::words::Words;
 use std::alloc::Global;
-use w4_defs::inspect::{Ask, Test};
+use w4_defs::Order;
+use w4_defs::inspect::{Ask, QueryLine, Test};
 
 /// A width: 1, 2 or 4.
 fn width_of(word: &[u8]) -> Option<u32>
@@ -129,23 +131,45 @@ pub fn ask_of(mut words: Words<'_>) -> Option<Ask>
     ask_named(name, words)
 }
 
-impl LineOrder for Ask {
-    ghost use Rattle.w4_defs.specs.RamQuery.{ask_of};
-
-    ghost order_of = { ask_of };
-
-    fn of_words(words: Words<'_>) -> Option<Ask> {
-        ask_of(words)
+/// The line that an order of a script is, where it keeps places.
+fn keeping(order: Order) -> Option<QueryLine>
+    ensures { result ≡ keeping order }
+{
+    match order {
+        Order::Keep { p } => Some(QueryLine::Keep { p }),
+        Order::KeepEvery { every } => Some(QueryLine::KeepEvery { every }),
+        _ => None,
     }
 }
 
-/// The requests of a query, one in each line that isn't skipped. Lines are as in a script, and say
+/// The line of a query that these words are: a request, or an order of a script that keeps places.
+fn query_line_of(words: Words<'_>) -> Option<QueryLine>
+    ensures { result ≡ query_line_of (words_left words.entry) }
+{
+    if let Some(ask) = ask_of(words) {
+        return Some(QueryLine::Ask { ask });
+    }
+    keeping(order_of(words)?)
+}
+
+impl LineOrder for QueryLine {
+    ghost use Rattle.w4_defs.specs.RamQuery.{query_line_of};
+
+    ghost order_of = { query_line_of };
+
+    fn of_words(words: Words<'_>) -> Option<QueryLine> {
+        query_line_of(words)
+    }
+}
+
+/// The lines of a query, those that aren't skipped. Lines are as in a script, and say
 /// `watch ADDRESS WIDTH A B`, A at most B, `start WIDTH P`, `is P VALUE`, `same P`, `changed P`, `more P`,
-/// `less P` or `list`, WIDTH being 1, 2 or 4. Errors as for a script: TooLong, BadLine, OutOfMemory.
+/// `less P` or `list`, WIDTH being 1, 2 or 4, or, as in a script, `keep P` or `keep-every E`. Errors as for a
+/// script: TooLong, BadLine, OutOfMemory.
 #[tactic(auto, unfolding(w4_defs::specs::RamQuery::query_of))]
-pub fn read_query(alloc: Global, bytes: &[u8]) -> Result<Vec<Ask>, ScriptRefusal>
-    ensures requests { IfOk result (λ requests. query_of bytes.now ≡ Ok requests.items) }
-    ensures fit { IfOk result (λ requests. All IsRequest requests.items) }
+pub fn read_query(alloc: Global, bytes: &[u8]) -> Result<Vec<QueryLine>, ScriptRefusal>
+    ensures lines { IfOk result (λ lines. query_of bytes.now ≡ Ok lines.items) }
+    ensures fit { IfOk result (λ lines. All IsQueryLine lines.items) }
     ensures refused { IfErr result (λ refusal. Refuses refusal (query_of bytes.now)) }
 {
     read_orders(alloc, bytes)

@@ -1,5 +1,5 @@
 //! What no clause says: that the clauses mean the rule on lines, words, numbers and orders, and that each
-//! call that takes memory gives its answer where there is ample memory.
+//! call that takes memory gives its answer if there is ample memory.
 
 use crate::{
     Asked, Line, Order, ScriptRefusal, number_of, read_live_line, read_log, read_names, read_query,
@@ -7,7 +7,7 @@ use crate::{
 };
 use std::test::Fail;
 use std::vec::Vec;
-use w4_defs::inspect::{Ask, Test};
+use w4_defs::inspect::{Ask, QueryLine, Test};
 use w4_defs::netplay::{NetOrder, Packet};
 use w4_defs::{Input, LiveOrder};
 
@@ -153,29 +153,39 @@ fn a_log_is_read(rt: HostRuntime) -> Result<(), Fail> {
     Ok(())
 }
 
+/// The line of a request.
+fn request(ask: Ask) -> QueryLine {
+    QueryLine::Ask { ask }
+}
+
 #[test]
 fn a_query_is_read(rt: HostRuntime) -> Result<(), Fail> {
-    let query = b"watch 160 1 0 2\n# the byte that rose\nstart 1 1\nmore 2\nis 2 9\r\nlist";
-    let requests = read_query(rt.alloc(), query)?;
+    let query =
+        b"keep-every 60\nwatch 160 1 0 2\n# the byte that rose\nstart 1 1\nmore 2\nis 2 9\r\nkeep 7\nlist";
+    let lines = read_query(rt.alloc(), query)?;
     let (more, is) = (Test::More, Test::Is { value: 9 });
     assert!(rt;
-        requests.as_slice()
+        lines.as_slice()
             == [
-                Ask::Watch {
+                QueryLine::KeepEvery { every: 60 },
+                request(Ask::Watch {
                     address: 160,
                     width: 1,
                     a: 0,
                     b: 2
-                },
-                Ask::Start { width: 1, p: 1 },
-                Ask::Narrow { p: 2, test: more },
-                Ask::Narrow { p: 2, test: is },
-                Ask::List,
+                }),
+                request(Ask::Start { width: 1, p: 1 }),
+                request(Ask::Narrow { p: 2, test: more }),
+                request(Ask::Narrow { p: 2, test: is }),
+                QueryLine::Keep { p: 7 },
+                request(Ask::List),
             ]
             .as_slice()
     );
     let bad = read_query(rt.alloc(), b"list\nstart 3 1\n").err();
     assert_eq!(rt; bad, Some(ScriptRefusal::BadLine(2)));
+    let other_order = read_query(rt.alloc(), b"keep 1\ndrop 1\n").err();
+    assert_eq!(rt; other_order, Some(ScriptRefusal::BadLine(2)));
     Ok(())
 }
 

@@ -189,8 +189,8 @@ pub(crate) fn distance(a: i32, b: i32) -> u64
     (i64::from(b) - i64::from(a)).unsigned_abs()
 }
 
-/// Where an axis from `a` to `b` stands after so many steps, by its own distance and the other axis's, and by
-/// how far the axis of the lesser distance has moved.
+/// Where an axis from `a` to `b` stands after that many steps, by its own distance and the other axis's, and
+/// by how far the axis of the lesser distance has moved.
 fn axis_at(a: i32, b: i32, own: u64, other: u64, step: u64, lesser: u64) -> i64
     requires own { own < 4294967296 }
     requires step { step ≤ max own other }
@@ -212,7 +212,7 @@ fn toward(a: i32, b: i32, far: u64) -> i64
     }
 }
 
-/// How far an axis has moved after so many steps.
+/// How far an axis has moved after that many steps.
 fn moved(own: u64, other: u64, step: u64, lesser: u64) -> u64
     requires own { own < 4294967296 }
     requires step { step ≤ max own other }

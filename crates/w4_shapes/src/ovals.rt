@@ -235,7 +235,7 @@ fn first_outward(cells: Cells, columns: Columns, limit: u64, from: usize) -> usi
     columns.left
 }
 
-/// The first cell of the left half that is within, where those before `from` aren't; else the middle.
+/// The first cell of the left half that is within, where those before `from` aren't; otherwise the middle.
 fn first_inward(cells: Cells, columns: Columns, limit: u64, from: usize) -> usize
     requires on_screen { OnScreen cells columns }
     requires low { columns.left ≤ from }

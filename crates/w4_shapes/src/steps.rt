@@ -42,8 +42,7 @@ fn axis_steps(a: i32, b: i32, own: u64, other: u64) -> (u64, u64)
     }
 }
 
-/// After so many moves from `a` toward `b` an axis comes to the screen; below 0 where it begins on it or
-/// beyond it.
+/// How many moves from `a` toward `b` bring an axis to the screen; below 0 if it begins on it or beyond it.
 fn first_move(a: i32, b: i32) -> i64
     ensures low { negsuc 4294967296 ≤ℤ result }
     ensures high { result ≤ℤ pos 4294967296 }

@@ -43,7 +43,7 @@ pub fn silence_as_recorded(channels: &mut Channels, sounds: &[Option<Sound>; 4])
     silence_if_recorded(channels, 3, sounds[3]);
 }
 
-/// Silences a channel that its record has silent; else it is unchanged.
+/// Silences a channel that its record has silent; otherwise it is unchanged.
 fn silence_if_recorded(channels: &mut Channels, channel: u8, sound: Option<Sound>)
     requires { channel < 4 }
     ensures channels { channels.new ≡

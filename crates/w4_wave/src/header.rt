@@ -10,7 +10,7 @@ const PLACE_LEN: u32 = 2940;
 const FORMAT: [u8; 32] =
     *b"WAVEfmt \x10\0\0\0\x01\0\x02\0\x44\xac\0\0\x10\xb1\x02\0\x04\0\x10\0data";
 
-/// The header of a file with the samples of so many places, which come after it.
+/// The header of a file with the samples of that many places, which come after it.
 pub fn wav_header(places: u32) -> [u8; 44]
     requires { places ≤ 36001 }
     ensures { result ≡ wav_header places }

@@ -1,4 +1,4 @@
-//! Whether a float stands anywhere in a module.
+//! Whether a float occurs anywhere in a module.
 
 ghost use Rattle.std.specs.List.{list_any};
 ghost use Rattle.std.specs.Prelude.{◌<◌, ◌≡◌, Some, length, option_map, slice_get};

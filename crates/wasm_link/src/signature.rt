@@ -38,7 +38,7 @@ fn are_i32(kinds: &[ValType], count: usize) -> bool
     kinds.len() == count && !any(&IsOther, kinds)
 }
 
-/// Whether the signature has so many parameters and results, all of them i32.
+/// Whether the signature has that many parameters and results, all of them i32.
 pub fn has_numbers(signature: &FuncType, numbers: Numbers) -> bool
     ensures { result ≡ same_signature signature.now
         (record { params = replicate numbers.params I32; results = replicate numbers.results I32 }) }

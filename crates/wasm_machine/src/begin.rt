@@ -50,7 +50,7 @@ pub(crate) fn begin_loop(start: usize, labels: &mut LabelStack, slots: &ValueSta
     });
 }
 
-/// Where an if at this position goes on, whose else stands at `other`; None where it goes on after its end.
+/// Where an if at this position goes on, whose else is at `other`; None where it goes on after its end.
 #[inline(always)]
 pub(crate) fn choose_list(condition: u64, position: usize, other: Option<usize>) -> Option<usize>
     requires position { position < 4294967296 }

@@ -90,7 +90,7 @@ pub(crate) fn land(
     }
 }
 
-/// A branch to the label that lies so many outside the innermost.
+/// A branch to the label that lies this far outside the innermost.
 #[inline(always)]
 pub(crate) fn branch(
     label: usize,

@@ -73,8 +73,7 @@ pub(crate) fn call<H: Host>(
     }
 }
 
-/// `call`: calls the function with this index. The instruction stands at `position`, and its own unit is
-/// taken.
+/// `call`: calls the function with this index. The instruction is at `position`, and its own unit is taken.
 pub(crate) fn call_direct<H: Host>(
     cart: &Cart,
     func: u32,
@@ -122,7 +121,7 @@ fn type_number(callee: &Call) -> u32
 }
 
 /// `call_indirect`: calls the function that stands in the table at the index on the stack, where its type is
-/// the one with this index. The instruction stands at `position`, and its own unit is taken.
+/// the one with this index. The instruction is at `position`, and its own unit is taken.
 pub(crate) fn call_indirect<H: Host>(
     cart: &Cart,
     type_index: u32,

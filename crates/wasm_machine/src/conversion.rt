@@ -49,7 +49,7 @@ pub(crate) fn widen_signed(base: usize, slots: &mut ValueStack, page: &Page) -> 
     None
 }
 
-/// Within 32 bits, from so many bytes.
+/// Within 32 bits, from that many bytes.
 #[inline(always)]
 pub(crate) fn sign_32(
     bytes: usize,
@@ -68,7 +68,7 @@ pub(crate) fn sign_32(
     None
 }
 
-/// Within 64 bits, from so many bytes.
+/// Within 64 bits, from that many bytes.
 #[inline(always)]
 pub(crate) fn sign_64(
     bytes: usize,

@@ -23,7 +23,7 @@ pub(crate) fn is_allowed(reserve: usize, activation: &Activation) -> bool
     activation.depth < MOST_ACTIVE && reserve <= MOST_RESERVE - activation.reserve
 }
 
-/// A function with so many parameters and further locals begins: its arguments are its first locals where
+/// A function with that many parameters and further locals begins: its arguments are its first locals where
 /// they lie. The caller goes on at `back`.
 #[inline(always)]
 pub(crate) fn enter(

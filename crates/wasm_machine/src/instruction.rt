@@ -1,4 +1,4 @@
-//! Executes what stands at a position: an instruction, or the end of a list.
+//! Executes what is at a position: an instruction, or the end of a list.
 
 ghost use Rattle.std.specs.Prelude.{◌≡◌, ◌+◌, ◌<◌, Some, length, slice_get};
 ghost use Rattle.wasm_machine.specs.Progress.{Progress};
@@ -24,7 +24,7 @@ use wasm_page::Page;
 use wasm_tree::Host;
 use wasm_valid::Cart;
 
-/// Runs what stands at a position. `rest` is what is left of the budget once an instruction has taken its own
+/// Runs what is at a position. `rest` is what is left of the budget once an instruction has taken its own
 /// unit; an end and an else take none.
 ///
 /// All marks stand in one table, since a jump finds the row: a test before it, or a table that goes on to

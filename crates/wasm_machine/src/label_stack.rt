@@ -71,7 +71,7 @@ impl LabelStack {
         self.cells.take_last();
     }
 
-    /// Drops so many labels, the innermost first. The pops become one subtraction in machine code.
+    /// Drops that many labels, the innermost first. The pops become one subtraction in machine code.
     #[inline(always)]
     pub(crate) fn drop_labels(&mut self, count: usize)
         requires { count ≤ length self.old }

@@ -19,8 +19,8 @@ use wasm_page::Page;
 use wasm_tree::Host;
 use wasm_valid::Cart;
 
-/// Does what stands at a position. One unit of the budget is taken before an instruction; an end and an else
-/// take none.
+/// Runs what is at a position. One unit of the budget is taken before an instruction; an end and an else take
+/// none.
 #[inline(always)]
 fn step<H: Host>(
     cart: &Cart,

@@ -138,7 +138,7 @@ impl ValueStack {
         }
     }
 
-    /// Puts so many zeros on top.
+    /// Puts that many zeros on top.
     pub(crate) fn push_zeros(&mut self, count: usize)
         requires { length self.old + count ≤ 1048576 }
         ensures { self.new ≡ replicate count 0 ++ self.old }

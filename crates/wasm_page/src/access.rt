@@ -12,7 +12,7 @@ pub fn length_of(page: &PageBytes)
     ensures { length page.now ≡ 65536 }
 {}
 
-/// The address as an index, where so many bytes from there on lie in the page.
+/// The address as an index, if that many bytes from there on lie in the page.
 pub fn index_in_page(address: u64, count: usize) -> Option<usize>
     requires { IsCount count }
     ensures { SomeIff result (address + count ≤ 65536) address }

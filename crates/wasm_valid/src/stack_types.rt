@@ -100,7 +100,7 @@ fn fills() -> StackType<'static>
     }
 }
 
-/// Whether an alignment, by its exponent, is at most so many bytes.
+/// Whether an alignment, by its exponent, is at most that many bytes.
 fn is_aligned(align: u32, bytes: u32) -> bool
     ensures { result ≡ nat_le (2 ^ align) bytes }
 {

@@ -20,7 +20,7 @@ fn check_front<H: House>(
     Ok(())
 }
 
-/// A file is written, read up to a number of bytes, and written anew.
+/// A file is written, read up to a number of bytes, and written again.
 fn check_files<H: House>(rt: &(impl Abort + AllocGlobal), house: &mut H) -> Result<(), Fail> {
     let bytes = [7u8; 10_000];
     house.write_file(rt.alloc(), "kept", &bytes)?;

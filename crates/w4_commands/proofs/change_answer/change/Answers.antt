@@ -2,7 +2,7 @@ use Rattle.std.proofs.Common.{None}
 use Rattle.w4_defs.specs.KeptList.{kept_entries, nowhere}
 use Rattle.w4_defs.specs.Session.{places_alone, set_input, insert_input, delete_input, undo, redo, drop_kept}
 use Rattle.w4_editor.specs.PlaceSession.{place_session}
-use Rattle.w4_commands.proofs.ChangeAnswerLaws.{changed_by, changed_exactly, changed_by_keep, recording_kept, recording_unchanged}
+use Rattle.w4_commands.proofs.ChangeAnswerLaws.{changed_by, changed_exactly, recording_unchanged}
 use Rattle.w4_editor.proofs.PlaceLaws.{no_input}
 use Rattle.w4_commands.proofs.change_answer.change.Goals as goal
 
@@ -50,15 +50,11 @@ returns-in-Redo-clause-changed g c =
     c.redo.ensures.ok c.redo.ensures.others c.redo.ensures.refused c.redo.ensures.unchanged)
 
 pub returns-in-Keep-clause-changed : goal.returns-in-Keep-clause-changed
-returns-in-Keep-clause-changed g c =
-    let old = c.args.editor.now in
-    rw c.in-Keep.is
-    (changed_by_keep c.keep.result c.places_decide.ensures c.in-Keep.p c.args.steps.now c.keep.new.steps old
-    c.keep.new.self c.keep.ensures.ok c.keep.ensures.refused c.keep.ensures.unchanged)
+returns-in-Keep-clause-changed g c = rw c.in-Keep.is c.keep_place.ensures.changed
 
 pub returns-in-KeepEvery-clause-changed : goal.returns-in-KeepEvery-clause-changed
 returns-in-KeepEvery-clause-changed g c =
-    rw c.in-KeepEvery.is c.keep_every.ensures.changed
+    rw c.in-KeepEvery.is c.keep_multiples.ensures.changed
 
 pub returns-in-DropKept-clause-changed : goal.returns-in-DropKept-clause-changed
 returns-in-DropKept-clause-changed g c =
@@ -93,7 +89,3 @@ returns-in-Redo-clause-recording g c =
 pub returns-in-DropKept-clause-recording : goal.returns-in-DropKept-clause-recording
 returns-in-DropKept-clause-recording g c =
     recording_unchanged c.drop_kept.result c.args.editor.now c.drop_kept.new.self c.drop_kept.ensures.unchanged
-
-pub returns-in-Keep-clause-recording : goal.returns-in-Keep-clause-recording
-returns-in-Keep-clause-recording g c =
-    recording_kept c.keep.result c.args.editor.now c.keep.new.self c.keep.ensures.err

@@ -1,10 +1,9 @@
 use Rattle.std.proofs.Common.{List, None, ap, refl, sym, ◌∙◌}
 use Rattle.std.proofs.lemmas.Result.{err_from_is_err_and}
-use Rattle.w4_defs.specs.declared.inspect.Ask.{Ask}
+use Rattle.w4_defs.specs.declared.inspect.QueryLine.{QueryLine}
 use Rattle.w4_editor.specs.Editing.{Editing}
 use Rattle.w4_commands.proofs.OutLaws.{out_none}
-use Rattle.w4_commands.specs.RamAnswers.{editor_pages}
-use Rattle.w4_defs.specs.QueryAnswers.{ram_answers}
+use Rattle.w4_commands.specs.RamAnswers.{query_answers}
 use Rattle.w4_defs.specs.ToolOutputs.{ram_text}
 use Rattle.w4_commands.specs.Views.{ram_loaded_view}
 use Rattle.w4_commands.specs.Causes.{Written}
@@ -17,12 +16,10 @@ returns-clause-out g c =
     let old = g.H.House.world c.args.house.now in
     let new = g.H.House.world c.answer_lines.new.house in
     there_as (λ text. Written old new c.answer_lines.result text)
-    (ram_answers (editor_pages editor) None c.as_slice.result.now).out
+    (query_answers editor None c.as_slice.result.now).out
     (ram_text c.args.cart (ram_loaded_view c.args.loaded))
-    (sym (ap (λ (e : Editing). (ram_answers (editor_pages e) None c.args.loaded.lines.items).out)
-    c.in_ok-editor.ensures)
-    ∙ ap (λ (lines : List Ask). (ram_answers (editor_pages editor) None lines).out)
-    (sym c.as_slice.ensures.value))
+    (sym (ap (λ (e : Editing). (query_answers e None c.args.loaded.lines.items).out) c.in_ok-editor.ensures)
+    ∙ ap (λ (lines : List QueryLine). (query_answers editor None lines).out) (sym c.as_slice.ensures.value))
     c.answer_lines.ensures.out
 
 pub returns-in_err-editor-clause-out : goal.returns-in_err-editor-clause-out

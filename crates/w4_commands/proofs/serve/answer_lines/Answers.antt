@@ -21,7 +21,7 @@ returns-in_err-take_line-clause-answers g c =
     let new = g.H.House.world c.take_line.new.house in
     rw (p.1, p.2) (λ o meant out sits.
     let so_far = c.loop.invariant.0 o meant out sits in
-    lines_lost old now new o so_far.0 so_far.1 (manner_of c.in_err-take_line.field-0.0)
+    lines_lost old now new o so_far.0 so_far.1 c.in_err-take_line.ensures.rest (manner_of c.in_err-take_line.field-0.0)
     (current_recording c.loop.desk.editor) so_far.2.recording c.loop.invariant.1.reads
     c.in_err-take_line.ensures.lost)
 
@@ -41,7 +41,7 @@ returns-in-None-clause-answers g c =
     λ o meant out sits.
     let so_far = c.loop.invariant.0 o meant out sits in (
       so_far.0,
-      lines_ended old now new o so_far.0 so_far.1 ended,
+      lines_ended old now new o so_far.0 so_far.1 c.in_ok-take_line.ensures.rest ended,
       so_far.2.recording,
     )
 
@@ -65,13 +65,11 @@ returns-in_err-answer_live_line-in-Some-clause-answers g c =
     let taken = rw c.in-Some.is at c.in_ok-take_line.ensures.taken in
     rw (p.1, p.2) (λ o meant out sits.
     let so_far = c.loop.invariant.0 o meant out sits in
-    let first = c.loop.invariant.1 in
-    let later = serving_then old now mid first (taking_serves now mid c.in_ok-take_line.ensures.rest) in
-    line_stopped old now mid new o so_far.0 line so_far.1
+    line_stopped old now mid new o so_far.0 line so_far.1 c.in_ok-take_line.ensures.rest
     (subst (λ (bytes : List ℕ). Does now mid (Took bytes ∷ [])) (sym c.as_slice-bytes.ensures.value)
     taken)
     (manner_of c.in_err-answer_live_line-in-Some.field-0.0) (current_recording c.answer_live_line.new.desk.editor)
-    later.writes (c.in_err-answer_live_line-in-Some.ensures.answers o so_far.0 meant (out ∙ sym c.as_str-name.ensures.value) so_far.2))
+    (c.in_err-answer_live_line-in-Some.ensures.answers o so_far.0 meant (out ∙ sym c.as_str-name.ensures.value) so_far.2))
 
 pub returns-in_err-answer_live_line-in-Some-clause-rest :
     goal.returns-in_err-answer_live_line-in-Some-clause-rest
@@ -94,7 +92,7 @@ loop-preserved g c =
     let taken = rw c.in-Some.is at c.in_ok-take_line.ensures.taken in (
       (λ o meant out sits.
           let so_far = c.loop.invariant.0 o meant out sits in
-          serves_line old now mid new o so_far.0 line so_far.1
+          serves_line old now mid new o so_far.0 line so_far.1 c.in_ok-take_line.ensures.rest
           (subst (λ (bytes : List ℕ). Does now mid (Took bytes ∷ [])) (sym c.as_slice-bytes.ensures.value)
           taken) c.answer_live_line.new.desk.editor c.answer_live_line.new.search
           (c.in_ok-answer_live_line-in-Some.ensures.answers o so_far.0 meant (out ∙ sym c.as_str-name.ensures.value) so_far.2)),

@@ -1,5 +1,5 @@
 use Rattle.w4_defs.specs.NetLog.{net-order-cases, bad-net-order-cases}
-use Rattle.w4_defs.specs.RamQuery.{ask-cases, bad-ask-cases}
+use Rattle.w4_defs.specs.RamQuery.{ask-cases, bad-ask-cases, keeping-cases}
 use Rattle.w4_defs.proofs.tool_laws.order_cases.Goals as goal
 
 pub returns-clause-log : goal.returns-clause-log
@@ -13,3 +13,6 @@ returns-clause-query c = ask-cases
 
 pub returns-clause-bad_query : goal.returns-clause-bad_query
 returns-clause-bad_query c = bad-ask-cases
+
+pub returns-clause-keeping : goal.returns-clause-keeping
+returns-clause-keeping c = keeping-cases

@@ -1,9 +1,10 @@
-use Rattle.std.proofs.Common.{◌+◌, ◌-◌, List, ℕ, length, sym, ap, ◌∙◌, arith}
+use Rattle.std.proofs.Common.{◌+◌, ◌-◌, ◌++◌, List, ℕ, length, sym, ap, ◌∙◌, arith, subst}
 use Rattle.std.proofs.lemmas.Result.{err_from_is_err_and}
 use Rattle.w4_defs.specs.Session.{Session, all_kept, with_list}
 use Rattle.w4_editor.specs.PlaceSession.{all_to_keep, place_session, with_multiple}
+use Rattle.w4_editor.specs.Showing.{AreKeptInTurn}
 use Rattle.w4_editor.proofs.KeepEveryLaws.{multiples_from, multiple_kept, all_are_kept, room_for_multiple}
-use Rattle.w4_editor.proofs.PlaceLaws.{rest_then, same_recording_kept}
+use Rattle.w4_editor.proofs.PlaceLaws.{kept_then, rest_then, same_recording_kept}
 use Rattle.w4_editor.proofs.keep_every.keep_all.Goals as goal
 
 pub keep_wanted-requires-clause-place : goal.keep_wanted-requires-clause-place
@@ -27,7 +28,11 @@ loop-place-preserved g c =
     let p = c.loop-place.place in
     let next : List ℕ = with_multiple c.args.every p now.current.kept in
     let kept = c.in_ok-keep_wanted.ensures.kept in
-    let same = ap (λ (s : Session ℕ). s.current.kept) kept in (
+    let same = ap (λ (s : Session ℕ). s.current.kept) kept in
+    let so_far = c.loop-place.invariant.3 in
+    let more = c.in_ok-keep_wanted.ensures.copied in
+    let few = c.loop-place.invariant.4 in
+    let small = c.from.ensures in (
       ap (λ (xs : List ℕ). all_kept (multiples_from c.args.every (p + 1) (end - (p + 1))) xs) same
           ∙ multiple_kept c.args.every p end now.current.kept (all_to_keep c.args.every first)
           (omega (arith, c.loop-place-test.true, c.last_place-last.ensures.last)) c.loop-place.invariant.0,
@@ -36,6 +41,14 @@ loop-place-preserved g c =
           ∙ ap (λ (xs : List ℕ). with_list first xs) (sym same),
       rest_then c.args.editor.now c.loop-place.editor c.keep_wanted.new.editor c.loop-place.invariant.2
           c.in_ok-keep_wanted.ensures.rest,
+      (
+        so_far.0 ++ more.0,
+        kept_then so_far.0 more.0 c.args.steps.now c.loop-place.steps c.keep_wanted.new.steps c.loop-place.copied
+            c.from.result c.args.editor.now c.loop-place.editor c.keep_wanted.new.editor so_far.1
+            (subst (λ (n : ℕ). AreKeptInTurn more.0 c.loop-place.steps c.keep_wanted.new.steps n
+            c.loop-place.editor c.keep_wanted.new.editor) (sym c.from.ensures) more.1),
+      ),
+      omega (arith, few, small),
     )
 
 pub returns-clause-kept : goal.returns-clause-kept

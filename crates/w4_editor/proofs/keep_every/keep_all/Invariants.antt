@@ -1,6 +1,7 @@
-use Rattle.std.proofs.Common.{◌≡◌, ◌+◌, ◌-◌, length}
+use Rattle.std.proofs.Common.{◌≡◌, ℕ, ◌+◌, ◌-◌, ◌*◌, ◌≤◌, List, length}
 use Rattle.w4_defs.specs.Session.{all_kept, with_list}
 use Rattle.w4_editor.specs.PlaceSession.{KeepsRest, all_to_keep, place_session}
+use Rattle.w4_editor.specs.Showing.{AreKeptInTurn}
 use Rattle.w4_editor.proofs.KeepEveryLaws.{multiples_from}
 use Rattle.w4_editor.proofs.keep_every.keep_all.Given as goal
 
@@ -13,3 +14,5 @@ invariant-loop-place g l =
     ≡ all_to_keep l.every first)
     × (now ≡ with_list first now.current.kept)
     × KeepsRest l.fn.editor l.editor
+    × ((places : List ℕ) × AreKeptInTurn places l.fn.steps l.steps l.copied l.fn.editor l.editor)
+    × (l.copied ≤ 4294967295 * l.place)

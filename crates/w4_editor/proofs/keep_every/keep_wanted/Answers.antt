@@ -1,7 +1,7 @@
-use Rattle.std.proofs.Common.{Bool, cond, sym, ap, ◌∙◌}
+use Rattle.std.proofs.Common.{[], Bool, cond, refl, sym, ap, ◌∙◌}
 use Rattle.w4_defs.specs.Session.{keep_refusal, places_alone, with_kept, with_list}
 use Rattle.w4_editor.specs.PlaceSession.{place_session}
-use Rattle.w4_editor.proofs.PlaceLaws.{accepted_is, kept_made, kept_rest, same_recording}
+use Rattle.w4_editor.proofs.PlaceLaws.{accepted_is, kept_made, kept_rest, one_kept, same_recording}
 use Rattle.w4_editor.proofs.keep_every.keep_wanted.Goals as goal
 
 pub returns-then-not-is_wanted-clause-kept : goal.returns-then-not-is_wanted-clause-kept
@@ -17,14 +17,22 @@ returns-in-Ok-clause-kept g c =
     let p = c.args.place in
     accepted_is (keep_refusal places_alone p s.current)
     (with_list s (with_kept places_alone p s.current.kept)) (place_session c.keep.new.self)
-    (kept_made c.places_decide.ensures p c.args.steps.now c.keep.new.steps c.args.editor.now c.keep.new.self
-    c.in-Ok.ensures.ok)
+    (kept_made c.places_decide.ensures p c.args.steps.now c.keep.new.steps c.in-Ok.copied c.args.editor.now
+    c.keep.new.self c.in-Ok.ensures.ok)
     ∙ ap (λ (b : Bool). with_list s (cond b (with_kept places_alone p s.current.kept) s.current.kept))
     (sym c.if-not-is_wanted.false ∙ c.is_wanted.ensures)
 
 pub returns-in-Ok-clause-rest : goal.returns-in-Ok-clause-rest
 returns-in-Ok-clause-rest g c =
-    kept_rest c.args.place c.args.steps.now c.keep.new.steps c.args.editor.now c.keep.new.self
+    kept_rest c.args.place c.args.steps.now c.keep.new.steps c.in-Ok.copied c.args.editor.now c.keep.new.self
+    c.in-Ok.ensures.ok
+
+pub returns-then-not-is_wanted-clause-copied : goal.returns-then-not-is_wanted-clause-copied
+returns-then-not-is_wanted-clause-copied g c = ([], (refl, refl, refl))
+
+pub returns-in-Ok-clause-copied : goal.returns-in-Ok-clause-copied
+returns-in-Ok-clause-copied g c =
+    one_kept c.args.place c.args.steps.now c.keep.new.steps c.in-Ok.copied c.args.editor.now c.keep.new.self
     c.in-Ok.ensures.ok
 
 pub returns-in-Err-clause-recording : goal.returns-in-Err-clause-recording

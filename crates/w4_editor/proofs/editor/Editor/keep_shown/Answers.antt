@@ -15,7 +15,7 @@ invariant_of-self-2 c =
     c.keep.ensures.globals in
     stays _ _ _ _ _ _ _ c.self.invariant inside.player c.keep.new.kept.items (Some c.args.p) refl
     (subst (IsConsistent setup inside.recording.disk inside.recording.frames)
-    (sym c.in_ok-keep.ensures.ok) put)
+    (sym c.in_ok-copied.ensures.ok) put)
     (place_shown setup inside.recording.disk inside.recording c.keep.new.kept.items
     inside.older.items inside.newer.items inside.player.state c.args.p
     (within_here _ _ _ _ _ _ _ c.self.invariant c.args.p can.at)
@@ -27,9 +27,10 @@ returns-clause-ok c =
     let can = subst (CanKeep c.args.p) (sym c.self.view_is) c.requires in
     let after : Option ℕ → Editing =
     view inside.player inside.recording c.keep.new.kept.items inside.older inside.newer in
-    subst (λ (old : Editing). IsPut c.args.p old (after (Some c.args.p))) c.self.view_is
-    (subst (λ (at : Option ℕ). IsPut c.args.p (view inside.player inside.recording inside.kept.items
+    let copied = c.in_ok-copied.copied in
+    subst (λ (old : Editing). IsPut c.args.p copied old (after (Some c.args.p))) c.self.view_is
+    (subst (λ (at : Option ℕ). IsPut c.args.p copied (view inside.player inside.recording inside.kept.items
     inside.older inside.newer inside.at) (after at)) can.at
     (is_put inside.player inside.recording inside.kept.items inside.older inside.newer inside.at
     inside.reset_frame c.self.invariant c.args.p can.at can.fresh can.room c.keep.new.kept.items
-    c.in_ok-keep.ensures.ok))
+    c.in_ok-copied.ensures.ok copied c.in_ok-copied.ensures.copied))

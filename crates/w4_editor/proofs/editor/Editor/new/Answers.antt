@@ -27,5 +27,5 @@ invariant_of-result-3 c =
     (ap (λ (p : Player). reset (setup_of p) r.disk) c.reset.ensures.same
     ∙ ap (reset (setup_of c.in_ok-player.player)) (sym c.as_slice.ensures.value) ∙ c.reset.ensures.reset)
     (c.in_ok-push.ensures.items ∙ ap (λ (kept : List Entry). kept ++ entry ∷ []) c.in_ok-kept.ensures.items
-    ∙ ap (λ (x : Entry). x ∷ []) (c.new-2.ensures ∙ ap first_entry c.in_ok-capture.ensures.state))
+    ∙ ap (λ (x : Entry). x ∷ []) (c.new-2.ensures ∙ ap first_entry c.in_ok-snap.ensures.state))
     c.in_ok-with_capacity.ensures c.in_ok-with_capacity-2.ensures)

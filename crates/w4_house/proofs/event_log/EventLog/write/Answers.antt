@@ -1,6 +1,6 @@
 use Rattle.std.proofs.Common.{List, [], ◌∷◌, ◌++◌, ap, sym, ◌∙◌}
-use Rattle.w4_defs.specs.World.{wrote}
-use Rattle.w4_house.specs.Entries.{logged, written_by}
+use Rattle.w4_defs.specs.World.{wrote, written_by}
+use Rattle.w4_house.specs.Entries.{logged}
 use Rattle.w4_house.specs.declared.log_entry.LogEntry.{LogEntry}
 use Rattle.w4_house.specs.declared.log_entry.LogEntry.TheVariants.{Output}
 use Rattle.w4_house.proofs.EntryLaws.{written_more}

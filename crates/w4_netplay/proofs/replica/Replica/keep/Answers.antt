@@ -32,7 +32,7 @@ returns-clause-ok g c =
     c.in_ok-roll_back.ensures.ok in
     elim c.match-keep.branch [
       | in-Ok w ↦ rw w.result-is (keeps_place c.args.self.now mid c.args.p c.args.steps.now c.keep.new.steps
-          c.keep.new.self rolled w.in-Ok.ensures.ok)
+          w.in-Ok._copied c.keep.new.self rolled w.in-Ok.ensures.ok)
       | in-Err w ↦ rw w.result-is tt
     ]
 

@@ -1,0 +1,115 @@
+//! Watches of a query, of which those over the same places, one after another, run these once.
+
+ghost use Rattle.std.specs.Prelude.{◌≤◌, OnOk};
+ghost use Rattle.std.specs.Option.{ForSome};
+ghost use Rattle.w4_defs.specs.PlaceTexts.{as_it_stands};
+ghost use Rattle.w4_defs.specs.QueryAnswers.{watch_text};
+ghost use Rattle.w4_defs.specs.World.{LeavesWriting};
+ghost use Rattle.w4_editor.specs.Editing.{Editing};
+ghost use Rattle.w4_inspect.specs.PlacePages.{AreOf};
+ghost use Rattle.w4_inspect.specs.Widths.{IsWidth};
+ghost use Rattle.w4_commands.specs.Causes.{Written};
+ghost use Rattle.w4_commands.specs.RamAnswers.{AreHeld, editor_pages};
+ghost use Rattle.w4_commands.specs.ScriptAnswers.{OnlyShows};
+
+use crate::ram_answers::{answer_watch, watched_line};
+use crate::shape::{Plain, Shape};
+use std::alloc::Global;
+use std::sync::ledger::Ledger;
+use w4_defs::{OutOfMemory, Refusal, Steps};
+use w4_editor::Editor;
+use w4_editor::places::last_place;
+use w4_house::House;
+use w4_inspect::{PlacePages, RamRefusal};
+
+/// At how many places pages are held at most: at 256 they take 16 MiB.
+const MOST_PLACES: usize = 256;
+
+/// Writes the values at an address. Where the next line watches the same places (`again`) their pages are
+/// held, and where they are held already no frame is run.
+pub fn answer_held<L: Ledger, H: House>(
+    alloc: Global,
+    house: &mut H,
+    editor: &mut Editor,
+    held: &mut Option<PlacePages>,
+    address: u32,
+    width: u32,
+    a: u32,
+    b: u32,
+    again: bool,
+    steps: &mut Steps<L>,
+) -> Result<(), Refusal>
+    requires width { IsWidth width }
+    requires order { a ≤ b }
+    requires held { AreHeld editor.old held.old }
+    ensures out { ForSome (watch_text as_it_stands (editor_pages editor.old) address width a b)
+        (λ text. Written (H.world house.old) (H.world house.new) result text) }
+    ensures shows { OnOk result (OnlyShows editor.old editor.new) }
+    ensures held { OnOk result (AreHeld editor.new held.new) }
+    ensures rest { LeavesWriting (H.world house.old) (H.world house.new) }
+{
+    hold_pages(alloc, editor, held, a as usize, b as usize, again, steps)?;
+    match held {
+        Some(pages) if pages.are_at(a as usize, b as usize) => {
+            answer_from_pages(alloc, house, pages, address, width)
+        }
+        _ => answer_watch::<Plain, L, H>(alloc, house, editor, address, width, a, b, steps),
+    }
+}
+
+/// Holds the pages at places `a` to `b` where they are wanted, unless they are held, aren't there or are too
+/// many.
+fn hold_pages<L: Ledger>(
+    alloc: Global,
+    editor: &mut Editor,
+    held: &mut Option<PlacePages>,
+    a: usize,
+    b: usize,
+    wanted: bool,
+    steps: &mut Steps<L>,
+) -> Result<(), OutOfMemory>
+    requires order { a ≤ b }
+    requires held { AreHeld editor.old held.old }
+    ensures shows { OnOk result (OnlyShows editor.old editor.new) }
+    ensures held { OnOk result (AreHeld editor.new held.new) }
+{
+    if !wanted || are_held(held, a, b) || b > last_place(editor) || b - a >= MOST_PLACES {
+        return Ok(());
+    }
+    *held = None;
+    let pages = PlacePages::read(alloc, editor, a, b, steps)?;
+    *held = Some(pages);
+    Ok(())
+}
+
+/// Whether the pages at places `a` to `b` are held.
+fn are_held(held: &Option<PlacePages>, a: usize, b: usize) -> bool {
+    match held {
+        Some(pages) => pages.are_at(a, b),
+        None => false,
+    }
+}
+
+/// Writes the values at an address, from the pages at the places that are watched.
+fn answer_from_pages<H: House>(
+    alloc: Global,
+    house: &mut H,
+    pages: &PlacePages,
+    address: u32,
+    width: u32,
+) -> Result<(), Refusal>
+    requires { IsWidth width }
+    ensures out { (e : Editing) → AreOf e pages.now → ForSome
+        (watch_text as_it_stands (editor_pages e) address width pages.now.first pages.now.last)
+        (λ text. Written (H.world house.old) (H.world house.new) result text) }
+    ensures rest { LeavesWriting (H.world house.old) (H.world house.new) }
+{
+    match pages.watch(alloc, address, width) {
+        Ok(values) => {
+            let line = watched_line(alloc, address, values.as_slice())?;
+            Plain::write(alloc, house, line.as_slice())
+        }
+        Err(RamRefusal::Outside) => Plain::write(alloc, house, b"refused outside\n"),
+        Err(_) => Err(Refusal::OutOfMemory),
+    }
+}
