@@ -11,7 +11,7 @@ STUDIO = pathlib.Path(__file__).resolve().parent
 TOP = STUDIO.parent
 FONT = TOP / "examples/first/font.bin"
 GARDEN = TOP / "examples/garden"
-PATIENCE = 20  # seconds until something that doesn't come is a failure
+PATIENCE = 100  # seconds until something that doesn't come is a failure; a busy machine may be very slow
 SYSTEM_PYTHON = "/usr/bin/python3"
 
 
@@ -47,6 +47,14 @@ def run_w4(*words):
     return subprocess.run([program(), *map(str, words)], stdout=subprocess.PIPE, check=True).stdout
 
 
+def wait_until(holds, complaint, patience=PATIENCE):
+    """Waits until a function's value is true."""
+    end = time.monotonic() + patience
+    while not holds():
+        assert time.monotonic() < end, f"not within {patience} seconds: {complaint}"
+        time.sleep(0.01)
+
+
 class Studio:
     """A studio that runs on a copy of a recording, or begins one where None is named."""
 
@@ -70,6 +78,10 @@ class Studio:
         self.process.terminate()
         return self.process.wait(PATIENCE)
 
+    def wait_for_file(self, wanted):
+        """Waits until the recording has these bytes."""
+        wait_until(lambda: self.recording.read_bytes() == wanted, "the file isn't what was to be saved")
+
     def __enter__(self):
         return self.start()
 
@@ -80,9 +92,10 @@ class Studio:
         self.room.cleanup()
 
 
-def open_chromium(width=1500, height=900):
-    """A Chromium without a window, in which sound needs no click."""
+def open_chromium(width=1500, height=900, tries=3):
+    """A Chromium without a window, in which sound needs no click. Where it starts slowly its driver gives up."""
     from selenium import webdriver
+    from selenium.common.exceptions import WebDriverException
     from selenium.webdriver.chrome.service import Service
     options = webdriver.ChromeOptions()
     options.binary_location = shutil.which("chromium")
@@ -90,7 +103,12 @@ def open_chromium(width=1500, height=900):
                      "--autoplay-policy=no-user-gesture-required"):
         options.add_argument(argument)
     options.set_capability("goog:loggingPrefs", {"browser": "ALL"})
-    return webdriver.Chrome(options=options, service=Service(shutil.which("chromedriver")))
+    try:
+        return webdriver.Chrome(options=options, service=Service(shutil.which("chromedriver")))
+    except WebDriverException:
+        if tries == 1:
+            raise
+        return open_chromium(width, height, tries - 1)
 
 
 class Page:
@@ -118,10 +136,7 @@ class Page:
 
     def wait(self, expression, patience=PATIENCE):
         """Waits until an expression of the page holds."""
-        end = time.monotonic() + patience
-        while not self.value(f"Boolean({expression})"):
-            assert time.monotonic() < end, f"not within {patience} seconds: {expression}"
-            time.sleep(0.01)
+        wait_until(lambda: self.value(f"Boolean({expression})"), expression, patience)
 
     def go_to(self, place):
         self.script("studio.selection.moveTo(arguments[0], false)", place)
@@ -131,6 +146,12 @@ class Page:
         """The picture of the place shown, after all that was edited."""
         self.answer("state 0")
         self.wait("studio.player.shown === studio.player.place && !studio.player.picture.isRunning")
+
+    def save(self):
+        """Saves by a key; what is asked behind that is answered when it is done."""
+        self.keys("control+s")
+        self.wait("!studio.session.isDirty")
+        self.answer("state 0")
 
     def image(self):
         """The screen's pixels as `w4 frames` writes them."""

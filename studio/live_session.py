@@ -97,6 +97,10 @@ class LiveSession:
                 self.process.terminate()
         line = (await self.errors).decode("utf-8", "replace").strip()
         status = await self.process.wait()
+        # An order that was written after the end breaks the pipe; why it ended is told by the line.
+        self.process.stdin.close()
+        with contextlib.suppress(OSError):
+            await self.process.stdin.wait_closed()
         self.ended = line or f"status {status}"
         if status == USAGE:
             self.ended = "this w4 doesn't know the command serve"

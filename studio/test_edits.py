@@ -1,6 +1,4 @@
 """Tests of the piano roll: inputs are edited by mouse and keys; pictures and the saved file follow."""
-import time
-
 from browser import Studio
 from recordings import AWAY, BUTTON, RIGHT, frame, garden_frames, image, recording
 
@@ -11,10 +9,8 @@ def changed(frames, at, new):
 
 def check_saved(studio, page, frames):
     """Saves, and compares the whole file."""
-    page.keys("control+s")
-    page.wait("!studio.session.isDirty")
-    page.answer("state 0")
-    assert studio.recording.read_bytes() == recording(frames)
+    page.save()
+    studio.wait_for_file(recording(frames))
 
 
 def test_opens_on_the_recording(studio, page):
@@ -170,22 +166,43 @@ def test_autofire_and_text(studio, page):
     check_saved(studio, page, text + fired[1:])
 
 
+def test_a_dialog_sets_at_once_or_not_at_all(studio, page):
+    """What it sets is there before the next key; what was left before isn't set with it."""
+    frames = garden_frames()
+    page.go_to(0)
+    page.keys("arrow_right", "shift+arrow_down", "f", "escape", "f", "tab", "tab", "tab", "enter")
+    steps = page.script("""
+        const press = (button) => {
+            studio.acts.byName.get("autofire").run();
+            document.querySelector(`#autofire-dialog button[value=${button}]`).click();
+            return [studio.session.done.length, document.querySelector("dialog[open]")];
+        };
+        return ["cancel", "set"].map(press)""")
+    assert steps == [[0, None], [1, None]]
+    check_saved(studio, page, [frame(RIGHT), frame(0)] + frames[2:])
+
+
 def test_a_second_is_recorded_live_over_the_rest(studio, page):
     frames = garden_frames()
     page.go_to(100)
+    page.script("""
+        const { recorder } = studio;
+        window.turns = [];
+        recorder.addEventListener("change", () => turns.push([recorder.place, performance.now()]))""")
     page.keys("r")
     page.wait("studio.recorder.isRecording")
-    start = time.monotonic()
-    turn_keys(page, "keydown", ["ArrowLeft", "KeyX"])
-    page.wait("studio.player.place >= 160")
-    turn_keys(page, "keyup", ["ArrowLeft", "KeyX"])
+    pressed = turn_keys(page, "keydown", ["ArrowLeft", "KeyX"])
+    page.wait(f"studio.player.place >= {pressed + 60}")
+    released = turn_keys(page, "keyup", ["ArrowLeft", "KeyX"])
     page.keys("escape")
     page.wait_for_picture()
-    end = page.value("studio.player.place")
-    assert end - 100 <= 66 * (time.monotonic() - start), "faster than 60 frames a second"
+    (first, start), (end, stop) = page.value("turns")
+    assert first == 100 and end == page.value("studio.player.place")
+    assert end - first <= 0.066 * (stop - start), "faster than 60 frames a second"
     saved = saved_frames(studio, page)
-    assert len(saved) == 240 and saved[:100] == frames[:100] and saved[end:] == frames[end:]
-    assert saved[100:end].count(frame(16 + BUTTON)) > 40
+    left = [frame(16 + BUTTON)] * (released - pressed)
+    played = [frame(0)] * (pressed - 100) + left + [frame(0)] * (end - released)
+    assert saved == frames[:100] + played + frames[end:]
     assert page.image() == image(saved, end)
     page.keys("control+z")
     check_saved(studio, page, frames)
@@ -243,30 +260,32 @@ def test_a_recording_is_begun_from_nothing(studio, page):
 def test_the_mouse_is_recorded(studio, page):
     frames = garden_frames()
     page.keys("o", "r")
-    page.script("""
+    moved = page.script("""
         const screen = document.getElementById("screen"), box = screen.getBoundingClientRect();
         const [clientX, clientY] = [box.left + 40.5 * box.width / 160, box.top + 120.5 * box.height / 160];
-        screen.dispatchEvent(new PointerEvent("pointermove", { clientX, clientY, buttons: 3 }))""")
-    page.wait("studio.player.place >= 10")
+        screen.dispatchEvent(new PointerEvent("pointermove", { clientX, clientY, buttons: 3 }));
+        return studio.player.place""")
+    page.wait(f"studio.player.place >= {moved + 10}")
     page.keys("escape")
     page.wait_for_picture()
     end = page.value("studio.player.place")
     saved = saved_frames(studio, page)
-    assert saved[end - 1] == frame(0, mouse=(40, 120, 3)) and saved[end:] == frames[end:]
+    assert saved[moved:end] == [frame(0, mouse=(40, 120, 3))] * (end - moved) and saved[end:] == frames[end:]
 
 
 def turn_keys(page, kind, codes):
-    """Presses keys of the keyboard, or lets them go."""
-    for code in codes:
-        page.script("const [kind, code] = arguments; window.dispatchEvent(new KeyboardEvent(kind, { code }))",
-                    kind, code)
+    """Presses keys of the keyboard, or lets them go, all at one place, which is returned."""
+    return page.script("""
+        const [kind, codes] = arguments;
+        for (const code of codes) window.dispatchEvent(new KeyboardEvent(kind, { code }));
+        return studio.player.place""", kind, codes)
 
 
 def saved_frames(studio, page):
-    """The inputs of the file, after a save."""
-    page.keys("control+s")
-    page.wait("!studio.session.isDirty")
-    page.answer("state 0")
-    data = studio.recording.read_bytes()
-    assert data[:5] == b"W4RC\2"
-    return [data[at:at + 10] for at in range(47, len(data), 10)]
+    """The inputs of the file, after a save: those that the page has."""
+    page.save()
+    frames = [frame(pads[0], reset, pads[1:], mouse) for pads, reset, mouse in page.value(
+        "studio.session.inputs.map(({ pads, reset, x, y, mouse }) => [pads, reset, [x, y, mouse]])")]
+    budget = page.value("studio.facts.budget")
+    studio.wait_for_file(recording(frames, budget=budget))
+    return frames

@@ -5,10 +5,9 @@ import io
 import re
 import shutil
 import struct
-import time
 
 import moving_png
-from browser import PATIENCE, TOP, Missing, Page, Studio
+from browser import TOP, Missing, Page, Studio, wait_until
 from recordings import CART, RIGHT, frame, garden_frames, image, of_frames, recording
 
 HOPS = 8472  # where the garden counts hops, in four bytes
@@ -16,13 +15,18 @@ PLACE_SOUND, IMAGE = 2_940, 76_815  # bytes of a place
 
 
 def test_plays_no_faster_than_a_second_in_a_second(studio, page):
+    """By the times of the display's pictures, since a page that comes late catches up."""
+    page.script("""
+        const { player } = studio, tick = player.tick.bind(player);
+        window.ticks = [];
+        player.tick = (now) => { tick(now); ticks.push([player.place, now]); }""")
     page.keys("space")
-    page.wait("studio.player.place >= 10")
-    first, start = page.value("[studio.player.place, performance.now()]")
     page.wait("studio.player.place >= 100")
-    last, end = page.value("[studio.player.place, performance.now()]")
+    page.keys("escape")  # which pauses, also where the end has come meanwhile
+    ticks = page.value("ticks")
+    first, start = ticks[0]
+    last, end = next(tick for tick in ticks if tick[0] >= 100)
     assert 1000 * (last - first) / (end - start) < 66
-    page.keys("space")
     page.wait_for_picture()
     assert page.image() == image(garden_frames(), page.value("studio.player.place"))
 
@@ -78,6 +82,8 @@ def test_a_far_place_is_approached_and_left(studio, page):
             const { connection } = studio.session, ask = connection.ask.bind(connection);
             window.asked = [];
             connection.ask = (line, options) => { window.asked.push(line); return ask(line, options); };
+            // An edit of the first frame leaves all behind it in doubt, which the keeper may have been at.
+            studio.session.change("", [{ kind: "set", at: 0, input: studio.session.inputs[0] }]);
             studio.selection.moveTo(2900, false);
             studio.selection.moveTo(3000, false);""")
         page.wait("studio.player.shown === 3000")
@@ -118,13 +124,24 @@ def test_an_idle_page_asks_nothing(studio, page):
     page.script("for (const pane of document.querySelectorAll('details')) pane.open = true;"
                 "studio.watches.add(arguments[0], 4, 'hops')", HOPS)
     page.wait("studio.session.kept.length === 5 && studio.session.trusted === 240")
-    time.sleep(1)
-    page.script("""
-        window.asked = [];
+    asked = page.driver.execute_async_script("""
+        const done = arguments[arguments.length - 1];
         const { connection } = studio.session, ask = connection.ask.bind(connection);
-        connection.ask = (line, options) => { window.asked.push(line); return ask(line, options); };""")
-    time.sleep(2)
-    assert page.value("window.asked") == []
+        let asked = [];
+        connection.ask = (line, options) => { asked.push(line); return ask(line, options); };
+        const rest = () => new Promise((resolve) => setTimeout(() => requestAnimationFrame(resolve), 100));
+        const isQuiet = async (rests) => {
+            asked = [];
+            for (let number = 0; number < rests; number += 1) await rest();
+            return !asked.length && !connection.waiting.length;
+        };
+        (async () => {
+            let isIdle = false;
+            while (!isIdle) isIdle = await isQuiet(10);
+            await isQuiet(20);
+            done(asked);
+        })()""")
+    assert asked == []
 
 
 def test_search_begins_with_bytes_outside_the_screen(studio, page):
@@ -172,13 +189,15 @@ def test_search_finds_the_hop_counter(studio, page):
                 "document.querySelector('#watch-table input').focus()")
     page.keys(*"hops", "enter")
     page.wait("studio.watches.list[0].name === 'hops'")
-    stored = studio.recording.with_name("game.w4rec.studio") / "watches.json"
-    end = time.monotonic() + PATIENCE
-    while "hops" not in stored.read_text() and time.monotonic() < end:
-        time.sleep(0.02)
+    wait_for_stored_watch(studio, "hops")
     page.open(studio.address)
     watch = "(({ address, width, name }) => [address, width, name])(studio.watches.list[0])"
     assert page.value(watch) == [HOPS, 4, "hops"]
+
+
+def wait_for_stored_watch(studio, name):
+    stored = studio.recording.with_name("game.w4rec.studio") / "watches.json"
+    wait_until(lambda: stored.exists() and name in stored.read_text(), f"the watch {name} is stored")
 
 
 def test_watches_show_the_value_of_the_place(studio, page):
@@ -186,6 +205,7 @@ def test_watches_show_the_value_of_the_place(studio, page):
     for place, hops in [(60, 0), (61, 1), (120, 1), (121, 2)]:
         page.go_to(place)
         page.wait(f"document.querySelector('#watch-table td.number').textContent === '{hops}'")
+    wait_for_stored_watch(studio, "hops")
     page.open(studio.address)  # watches are stored beside the recording
     page.go_to(121)
     page.wait("studio.watches.list[0].values.size >= 120")
@@ -240,10 +260,13 @@ def test_lanes_have_the_schedule(studio, page):
 
 
 def test_sound_is_heard_while_playing_and_cut_out_as_wav(studio, page):
+    page.script("""
+        const { player, sound } = studio;
+        player.addEventListener("place", () => {
+            if (player.place >= 30 && sound.start !== null) window.isHeard = true; })""")
     page.keys("m", "space")
-    page.wait("studio.player.place >= 30 && studio.sound.start !== null")
-    assert page.value("studio.sound.context.state") == "running"
-    page.keys("space")
+    page.wait("window.isHeard && studio.sound.context.state === 'running'")
+    page.keys("escape")
     data = page.driver.execute_async_script("""
         const done = arguments[arguments.length - 1];
         fetch("wave?from=61&to=80").then((answer) => answer.arrayBuffer())
@@ -441,14 +464,28 @@ def test_files_have_the_recording_s_name_and_stay_as_a_link(studio, page):
     for key, name in names.items():
         page.keys(key)
         page.wait(f"document.getElementById('made').download === '{name}'")
+    assert copy_after(page) == studio.recording.read_bytes() == recording(garden_frames())
+
+
+def test_a_copy_has_the_last_edit(studio, page):
+    """Also where the edit comes to the server later than a request would."""
+    page.go_to(60)
+    page.script("""
+        const { socket } = studio.session.connection, send = socket.send.bind(socket);
+        socket.send = (text) => setTimeout(() => send(text), 300)""")
+    frames = garden_frames()
+    assert copy_after(page, "1") == recording(frames[:60] + [frame(RIGHT)] + frames[61:])
+
+
+def copy_after(page, *keys):
+    """The bytes of a copy of the recording that is saved right after keys."""
     page.script("const make = URL.createObjectURL;"
-                "URL.createObjectURL = (blob) => { window.saved = blob; return make(blob); }")
-    page.keys("shift+s")
-    page.wait("document.getElementById('made').download === 'game.copy.w4rec' && window.saved")
-    data = page.driver.execute_async_script("""
+                "URL.createObjectURL = (blob) => { window.copied = blob; return make(blob); }")
+    page.keys(*keys, "shift+s")
+    page.wait("document.getElementById('made').download === 'game.copy.w4rec' && window.copied")
+    return bytes(page.driver.execute_async_script("""
         const done = arguments[arguments.length - 1];
-        saved.arrayBuffer().then((data) => done(Array.from(new Uint8Array(data))))""")
-    assert bytes(data) == studio.recording.read_bytes() == recording(garden_frames())
+        copied.arrayBuffer().then((data) => done(Array.from(new Uint8Array(data))))"""))
 
 
 def test_help_names_each_key_once(studio, page):
@@ -457,7 +494,7 @@ def test_help_names_each_key_once(studio, page):
     keys = page.value("[...document.querySelectorAll('#help-text kbd')].map((key) => key.textContent)")
     assert len(keys) == len(set(keys)) > 40
     page.keys("escape")
-    assert not page.value("document.getElementById('help').open")
+    page.wait("!document.getElementById('help').open")
 
 
 def test_light_and_dark(studio, page):
@@ -476,12 +513,12 @@ def test_only_the_rows_that_are_seen_are_drawn(studio, page):
         other_page.open(other.address)
         rows = other_page.driver.execute_async_script("""
             const done = arguments[arguments.length - 1], { roll } = studio;
+            const { painter } = roll;
             let rows = 0;
-            const paint = roll.painter.paintRow.bind(roll.painter);
-            roll.painter.paintRow = (...words) => { rows += 1; paint(...words); };
-            roll.scroller.scrollTop = 18 * 20000;
-            const next = requestAnimationFrame;
-            next(() => next(() => next(() => done(rows))));""")
+            const paintRow = painter.paintRow.bind(painter), paint = painter.paint.bind(painter);
+            painter.paintRow = (...words) => { rows += 1; paintRow(...words); };
+            painter.paint = (top) => { paint(top); if (top === 18 * 20000) done(rows); };
+            roll.scroller.scrollTop = 18 * 20000;""")
         assert 10 < rows < 200
         assert other_page.value("studio.roll.firstRow") == 20000
         page.driver.get("about:blank")

@@ -3,7 +3,6 @@ import http.client
 import os
 import signal
 import subprocess
-import time
 import urllib.parse
 
 from browser import PATIENCE, STUDIO, Page
@@ -17,17 +16,9 @@ def change_frame_60(page):
     page.answer("state 0")
 
 
-def wait_for_file(studio, wanted):
-    end = time.monotonic() + PATIENCE
-    while studio.recording.read_bytes() != wanted:
-        assert time.monotonic() < end, "the file isn't what was to be saved"
-        time.sleep(0.02)
-
-
 def test_a_reload_has_what_was_saved(studio, page):
     change_frame_60(page)
-    page.keys("control+s")
-    page.wait("!studio.session.isDirty")
+    page.save()
     page.open(studio.address)
     page.go_to(70)
     assert page.image() == image(EDITED, 70)
@@ -39,16 +30,21 @@ def do_not_save_after_a_while(page):
 
 
 def test_it_is_saved_a_while_after_an_edit(studio, page):
+    page.script("""
+        const { session } = studio, save = session.save.bind(session);
+        session.addEventListener("edited", () => { window.edited = [session.isDirty, performance.now()]; });
+        session.save = () => { window.savedAt = performance.now(); return save(); }""")
     change_frame_60(page)
-    assert page.value("studio.session.isDirty")
-    wait_for_file(studio, recording(EDITED))
+    studio.wait_for_file(recording(EDITED))
+    (is_dirty, edited_at), saved_at = page.value("[edited, savedAt]")
+    assert is_dirty and saved_at - edited_at > 1000
 
 
 def test_it_is_saved_when_the_page_is_lost(studio, page):
     do_not_save_after_a_while(page)
     change_frame_60(page)
     page.script("const { connection } = studio.session; connection.socket.close(); connection.ask('state 0')")
-    wait_for_file(studio, recording(EDITED))
+    studio.wait_for_file(recording(EDITED))
 
 
 def test_it_is_saved_at_a_pause(studio, page):
@@ -58,14 +54,14 @@ def test_it_is_saved_at_a_pause(studio, page):
     page.wait("studio.player.place > 5")
     page.keys("space")
     page.wait("!studio.session.isDirty")
-    wait_for_file(studio, recording(EDITED))
+    studio.wait_for_file(recording(EDITED))
 
 
 def test_it_is_saved_when_the_page_closes(studio, page):
     do_not_save_after_a_while(page)
     change_frame_60(page)
     page.driver.get("about:blank")
-    wait_for_file(studio, recording(EDITED))
+    studio.wait_for_file(recording(EDITED))
 
 
 def test_what_was_opened_is_kept_as_a_branch(studio, page):
@@ -78,7 +74,7 @@ def test_a_killed_server_loses_nothing(studio, page):
     change_frame_60(page)
     studio.process.kill()
     studio.process.wait()
-    wait_for_file(studio, recording(EDITED))
+    studio.wait_for_file(recording(EDITED))
     page.wait("!document.getElementById('fault').hidden")
     page.script("document.getElementById('fault-button').click()")
     assert page.value("document.getElementById('fault').hidden")
@@ -86,8 +82,8 @@ def test_a_killed_server_loses_nothing(studio, page):
 
 def test_an_ended_program_is_told_and_begun_anew(studio, page):
     change_frame_60(page)
-    page.keys("control+s")
-    page.wait("!studio.session.isDirty")
+    page.save()
+    studio.wait_for_file(recording(EDITED))
     words = ["pgrep", "-P", str(studio.process.pid)]
     [child] = subprocess.run(words, stdout=subprocess.PIPE, check=True).stdout.split()
     os.kill(int(child), signal.SIGKILL)

@@ -18,7 +18,8 @@ TYPES = {".html": "text/html; charset=utf-8", ".js": "text/javascript; charset=u
 REASONS = {200: "OK", 400: "Bad Request", 403: "Forbidden", 404: "Not Found", 409: "Conflict",
            413: "Content Too Large"}
 POLICY = "default-src 'self'; connect-src 'self' ws://%s; frame-ancestors 'none'"
-LEAVING = 0.5  # seconds that a page which is reloaded has for going
+LEAVING = 2  # seconds that a page which is reloaded has for going
+LOOK = 0.025  # seconds between looks whether it has gone
 
 
 class BadRequest(Exception):
@@ -181,8 +182,8 @@ class WebServer:
         """Whether the page that there is goes at once, as one does that is reloaded."""
         waited = 0
         while self.page and waited < LEAVING:
-            await asyncio.sleep(LEAVING / 20)
-            waited += LEAVING / 20
+            await asyncio.sleep(LOOK)
+            waited += LOOK
         return not self.page
 
     async def carry(self, page):

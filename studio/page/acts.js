@@ -216,10 +216,11 @@ export class Acts {
     this.ask("text-dialog", () => this.rowActs.setText(area.value));
   }
 
+  // The work is done when the form is submitted, so that the next key finds it done: that the dialog has
+  // closed is told in a later task. The handler takes the place of the last one, which a cancel left.
   ask(name, work) {
     const dialog = document.getElementById(name);
-    dialog.returnValue = "cancel";
-    dialog.addEventListener("close", () => { if (dialog.returnValue === "set") work(); }, { once: true });
+    dialog.querySelector("form").onsubmit = ({ submitter }) => { if (submitter.value === "set") work(); };
     dialog.showModal();
     if (document.activeElement.select && dialog.id !== "text-dialog") document.activeElement.select();
   }
@@ -253,6 +254,7 @@ export class Acts {
     this.closeFault();
     this.say(`making a ${FILES[kind]}`);
     try {
+      await this.session.settled();
       const response = await request(kind, query);
       const type = response.headers.get("Content-Type");
       const name = this.recordingName + ENDINGS[type];
@@ -279,6 +281,7 @@ export class Acts {
   async hear() {
     this.player.pause();
     try {
+      await this.session.settled();
       const response = await request("wave", this.stretch());
       await this.sound.hear(await response.arrayBuffer());
     } catch (refusal) {

@@ -10,6 +10,7 @@ export class Branches {
     this.form = document.getElementById("branch-form");
     this.body = document.querySelector("#branch-table tbody");
     this.compared = document.getElementById("compared");
+    this.listed = Promise.resolve();
     this.pane.addEventListener("toggle", () => this.act(() => this.refresh()));
     this.form.addEventListener("submit", (event) => {
       event.preventDefault();
@@ -27,12 +28,21 @@ export class Branches {
     }
   }
 
+  // Shows the branches, after what is done to them. One request goes after another, so that no list is shown
+  // over a newer one.
+  list(query, options) {
+    const ask = async () => this.show(await (await request("branches", query, options)).json());
+    this.listed = this.listed.catch(() => {}).then(ask);
+    return this.listed;
+  }
+
   async refresh() {
-    if (this.pane.open) this.show(await (await request("branches")).json());
+    if (this.pane.open) await this.list();
   }
 
   async make(name) {
-    this.show(await (await request("branches", { name }, { method: "POST" })).json());
+    await this.session.settled();
+    await this.list({ name }, { method: "POST" });
     this.form.reset();
     this.compared.textContent = "";
     this.say(`branch ${name} is made`);
@@ -71,7 +81,7 @@ export class Branches {
 
   async remove(name) {
     if (!window.confirm(`Remove branch ${name}? Its file goes too.`)) return;
-    this.show(await (await request("branches", { name }, { method: "DELETE" })).json());
+    await this.list({ name }, { method: "DELETE" });
     this.say(`branch ${name} is removed`);
   }
 
@@ -83,6 +93,7 @@ export class Branches {
 
   async compare(title, query, body = null) {
     this.compared.textContent = "comparing";
+    await this.session.settled();
     const lines = await (await request("compare", query, { method: "POST", body })).text();
     this.compared.replaceChildren(this.table(title, lines.trim().split("\n").map((line) => line.split(" "))));
   }

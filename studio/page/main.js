@@ -44,13 +44,18 @@ const TWICE = 200; // milliseconds; Chromium makes two events of one Ctrl+Shift+
 
 function listenToClipboard(rowActs) {
   let isOver = false;
-  let pasted = -TWICE;
+  let isHeld = false; // whether the key that went down last is
+  let pasted = null; // when it pasted
   const hasText = () => !document.getSelection().isCollapsed;
   const isElsewhere = (event) => event.target.matches("input, textarea") || hasText();
   document.addEventListener("keydown", (event) => {
     isOver = event.shiftKey;
-    pasted = -TWICE;
+    isHeld = true;
+    pasted = null;
   }, true);
+  const letGo = () => { isHeld = false; };
+  document.addEventListener("keyup", letGo, true);
+  window.addEventListener("blur", letGo);
   for (const name of ["copy", "cut"]) {
     document.addEventListener(name, (event) => {
       if (isElsewhere(event)) return;
@@ -62,7 +67,7 @@ function listenToClipboard(rowActs) {
   document.addEventListener("paste", (event) => {
     if (event.target.matches("input, textarea")) return;
     event.preventDefault();
-    if (event.timeStamp - pasted < TWICE) return;
+    if (pasted !== null && (isHeld || event.timeStamp - pasted < TWICE)) return;
     pasted = event.timeStamp;
     rowActs.paste(event.clipboardData.getData("text/plain"), isOver);
   });

@@ -201,6 +201,12 @@ export class Session extends EventTarget {
 
   // ---- saving
 
+  // Waits until all edits are made, by an empty order that is answered in turn: what is asked of the server by
+  // other connections could overtake them.
+  async settled() {
+    if (!this.connection.reason) await this.connection.ask("");
+  }
+
   async save() {
     this.isDirty = false;
     try {

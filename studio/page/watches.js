@@ -23,6 +23,7 @@ export class Watches {
     this.form = document.getElementById("watch-form");
     this.body = document.querySelector("#watch-table tbody");
     this.work = new Refresher(() => this.update(), 60);
+    this.storing = new Refresher(() => this.send()); // one after another, so that the last is what stays
     this.list = list.map((watch) => ({ ...watch, values: new Map() }));
     this.rows = [];
     this.listen();
@@ -56,8 +57,12 @@ export class Watches {
 
   store() {
     this.build();
+    this.storing.ask();
+  }
+
+  async send() {
     const body = JSON.stringify(this.list, ["address", "width", "name"]);
-    request("watches", {}, { method: "POST", body }).catch((refusal) => this.say(refusal.message));
+    await request("watches", {}, { method: "POST", body }).catch((refusal) => this.say(refusal.message));
   }
 
   forgetAbove(place) {

@@ -16,10 +16,10 @@ use crate::cells::{distance, height_on_screen, index_at, width_on_screen};
 use crate::reach::framebuffer_read;
 use crate::source::{FRAMEBUFFER, FRAMEBUFFER_END, few_bytes, many_bytes};
 use crate::strips::{Inks, inks_of, painted_by, part_of, put_strip};
-use crate::walks::{Walk, walk_of};
-use crate::windows::cell_bits;
+use crate::walks::{Walk, pixel_at, walk_of};
+use crate::windows::{Stretch, cell_bits};
 use w4_defs::{PageBytes, Sprite};
-use w4_pixels::{put_quad, screen_part};
+use w4_pixels::{Quad, put_quad, screen_part};
 
 /// Paints `w` by `h` cells of the sprite at `ptr`, from (`src_x`, `src_y`) of it on, with the first cell's
 /// corner at (x, y); nothing where a side is below 1. The sprite's rows are `stride` pixels apart. Flags: 1
@@ -104,37 +104,50 @@ fn blit_rows(page: &mut PageBytes, kept_from: usize, copy: &[u8], sprite: &Sprit
     let (left, right) = screen_part(x, width_on_screen(sprite));
     let (top, bottom) = screen_part(y, height_on_screen(sprite));
     for v in top..bottom {
-        blit_row(page, kept_from, copy, sprite, &inks, x, y, left, right, v);
+        let part = Part {
+            x,
+            y,
+            left,
+            right,
+            v,
+        };
+        blit_row(page, kept_from, copy, sprite, &inks, part);
     }
 }
 
-/// The cells that land in the columns from `left` up to `right` of row `v` of the screen.
+/// The columns of the screen from `left` up to `right` of row `v`, and where the first cell's corner is.
+#[derive(Clone, Copy)]
+struct Part {
+    x: i32,
+    y: i32,
+    left: usize,
+    right: usize,
+    v: usize,
+    ghost columns: { right ≤ 160 },
+    ghost row: { v < 160 },
+}
+
+/// The cells that land in a part of a row.
 fn blit_row(
     page: &mut PageBytes,
     kept_from: usize,
     copy: &[u8],
     sprite: &Sprite,
     inks: &Inks,
-    x: i32,
-    y: i32,
-    left: usize,
-    right: usize,
-    v: usize,
+    part: Part,
 )
-    requires columns { right ≤ 160 }
-    requires row { v < 160 }
-    requires inks { AreInks inks.now sprite.now.colors }
+    requires { AreInks inks.now sprite.now.colors }
     ensures { page.new ≡ paint page.old
-        (clipped (cells_painter (with_copied_bytes page.old kept_from copy.now) sprite.now x y) left right v
-        (v + 1)) }
+        (clipped (cells_painter (with_copied_bytes page.old kept_from copy.now) sprite.now part.x part.y)
+        part.left part.right part.v (part.v + 1)) }
 {
-    let walk = walk_of(sprite, distance(v, y));
+    let walk = walk_of(sprite, distance(part.v, part.y));
     let row = Row {
         walk,
-        x,
-        left,
-        right,
-        v,
+        x: part.x,
+        left: part.left,
+        right: part.right,
+        v: part.v,
     };
     put_row(page, kept_from, copy, sprite, inks, row);
 }
@@ -147,6 +160,10 @@ struct Row {
     left: usize,
     right: usize,
     v: usize,
+    ghost start: { walk.start ≤ 524288 },
+    ghost pace: { walk.pace < 4294967296 },
+    ghost columns: { right ≤ 160 },
+    ghost row: { v < 160 },
 }
 
 /// Where the cells read pixels that follow one another, sixteen are painted together.
@@ -158,11 +175,7 @@ fn put_row(
     inks: &Inks,
     row: Row,
 )
-    requires columns { row.right ≤ 160 }
-    requires row { row.v < 160 }
-    requires start { row.walk.start ≤ 524288 }
-    requires pace { row.walk.pace < 4294967296 }
-    requires inks { AreInks inks.now sprite.now.colors }
+    requires { AreInks inks.now sprite.now.colors }
     ensures { page.new ≡ paint page.old
         (clipped (walk_painter (with_copied_bytes page.old kept_from copy.now) sprite.now row.walk row.x)
         row.left row.right row.v (row.v + 1)) }
@@ -187,9 +200,6 @@ fn put_strips(
     row: Row,
 )
     requires some { row.left < row.right }
-    requires columns { row.right ≤ 160 }
-    requires row { row.v < 160 }
-    requires start { row.walk.start ≤ 524288 }
     requires pace { row.walk.pace ≡ 1 }
     requires from { row.x ≤ℤ pos row.left }
     requires to { (pos row.right -ℤ row.x) ≤ℤ pos row.walk.count }
@@ -200,57 +210,58 @@ fn put_strips(
 {
     let first = row.left / 4;
     for i in 0..(row.right + 15 - 4 * first) / 16 {
-        put_sixteen(page, kept_from, copy, sprite, inks, row, first + 4 * i);
+        let here = SixteenColumns {
+            row,
+            q: first + 4 * i,
+        };
+        put_sixteen(page, kept_from, copy, sprite, inks, here);
     }
 }
 
-/// Those of the cells that land in the sixteen columns from byte `q` of the row on.
+/// Those of a row's columns that are among the sixteen from byte `q` of it on. There are some.
+#[derive(Clone, Copy)]
+struct SixteenColumns {
+    row: Row,
+    q: usize,
+    ghost some: { row.left < row.right },
+    ghost left: { row.left < 4 * q + 4 },
+    ghost right: { 4 * q < row.right },
+}
+
+/// The cells that land in them.
 fn put_sixteen(
     page: &mut PageBytes,
     kept_from: usize,
     copy: &[u8],
     sprite: &Sprite,
     inks: &Inks,
-    row: Row,
-    q: usize,
+    here: SixteenColumns,
 )
-    requires here { 4 * q < row.right }
-    requires left { row.left < 4 * q + 4 }
-    requires some { row.left < row.right }
-    requires columns { row.right ≤ 160 }
-    requires row { row.v < 160 }
-    requires start { row.walk.start ≤ 524288 }
-    requires pace { row.walk.pace ≡ 1 }
-    requires from { row.x ≤ℤ pos row.left }
-    requires to { (pos row.right -ℤ row.x) ≤ℤ pos row.walk.count }
+    requires pace { here.row.walk.pace ≡ 1 }
+    requires from { here.row.x ≤ℤ pos here.row.left }
+    requires to { (pos here.row.right -ℤ here.row.x) ≤ℤ pos here.row.walk.count }
     requires inks { AreInks inks.now sprite.now.colors }
     ensures { page.new ≡ paint page.old
-        (clipped (walk_painter (with_copied_bytes page.old kept_from copy.now) sprite.now row.walk row.x)
-        (max row.left (4 * q)) (min row.right (4 * q + 16)) row.v (row.v + 1)) }
+        (clipped (walk_painter (with_copied_bytes page.old kept_from copy.now) sprite.now here.row.walk
+        here.row.x) (max here.row.left (4 * here.q)) (min here.row.right (4 * here.q + 16)) here.row.v
+        (here.row.v + 1)) }
 {
-    let left = row.left.max(4 * q);
-    let right = row.right.min(4 * q + 16);
-    let base = q.min(36);
+    let row = here.row;
+    let left = row.left.max(4 * here.q);
+    let right = row.right.min(4 * here.q + 16);
+    let base = here.q.min(36);
     let low = (left - 4 * base) as u32;
     let high = (right - 4 * base) as u32;
-    let bits = cell_bits(
-        page,
-        kept_from,
-        copy,
-        sprite,
-        row.walk,
-        distance(left, row.x),
-        low,
-    );
+    let stretch = Stretch {
+        walk: row.walk,
+        n: distance(left, row.x),
+    };
+    let bits = cell_bits(page, kept_from, copy, sprite, stretch, low);
     let strip = part_of(painted_by(sprite, inks, bits), low, high);
     put_strip(page, base, row.v, strip);
 }
 
 fn put_bytes(page: &mut PageBytes, kept_from: usize, copy: &[u8], sprite: &Sprite, row: Row)
-    requires columns { row.right ≤ 160 }
-    requires row { row.v < 160 }
-    requires start { row.walk.start ≤ 524288 }
-    requires pace { row.walk.pace < 4294967296 }
     ensures { page.new ≡ paint page.old
         (clipped (walk_painter (with_copied_bytes page.old kept_from copy.now) sprite.now row.walk row.x)
         row.left row.right row.v (row.v + 1)) }
@@ -271,10 +282,7 @@ fn put_byte(
     row: Row,
     q: usize,
 )
-    requires byte { q < 40 }
-    requires row { row.v < 160 }
-    requires start { row.walk.start ≤ 524288 }
-    requires pace { row.walk.pace < 4294967296 }
+    requires { q < 40 }
     ensures { page.new ≡ paint page.old
         (byte_painter (clipped (walk_painter (with_copied_bytes page.old kept_from copy.now) sprite.now
         row.walk row.x) row.left row.right row.v (row.v + 1)) q row.v) }
@@ -283,7 +291,13 @@ fn put_byte(
     let second = index_in(page, kept_from, copy, sprite, row, 4 * q + 1);
     let third = index_in(page, kept_from, copy, sprite, row, 4 * q + 2);
     let fourth = index_in(page, kept_from, copy, sprite, row, 4 * q + 3);
-    put_quad(page, q, row.v, first, second, third, fourth);
+    let quad = Quad {
+        first,
+        second,
+        third,
+        fourth,
+    };
+    put_quad(page, q, row.v, quad);
 }
 
 /// What is painted at column `u`: nothing if it isn't in the row's part.
@@ -295,15 +309,14 @@ fn index_in(
     row: Row,
     u: usize,
 ) -> Option<u8>
-    requires column { u < 160 }
-    requires start { row.walk.start ≤ 524288 }
-    requires pace { row.walk.pace < 4294967296 }
+    requires { u < 160 }
     ensures value { result ≡ clipped (walk_painter (with_copied_bytes page.now kept_from copy.now)
         sprite.now row.walk row.x) row.left row.right row.v (row.v + 1) u row.v }
     ensures bound { ForSome result (λ e. e < 4) }
 {
     if row.left <= u && u < row.right {
-        index_at(page, kept_from, copy, sprite, row.walk, row.x, u)
+        let pixel = pixel_at(row.walk, distance(u, row.x));
+        index_at(page, kept_from, copy, sprite, pixel)
     } else {
         None
     }

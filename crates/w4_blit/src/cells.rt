@@ -3,12 +3,11 @@
 ghost use Rattle.std.specs.Option.{ForSome};
 ghost use Rattle.std.specs.Prelude.{◌+◌, ◌-◌, ◌-ℤ◌, ◌*◌, ◌/◌, ◌%◌, ◌<◌, ◌==◌, ◌≡◌, ◌≤◌, ◌^◌, if◌then◌else◌, pos};
 ghost use Rattle.w4_blit.specs.FramebufferCopy.{with_copied_bytes};
-ghost use Rattle.w4_blit.specs.Walks.{walk_painter};
+ghost use Rattle.w4_blit.specs.Walks.{pixel_index};
 ghost use Rattle.w4_defs.specs.Blit.{has_flag, height_on_screen, source_column, source_row, source_value, width_on_screen};
 ghost use Rattle.w4_defs.specs.Shapes.{natural};
 
 use crate::source::{byte_at, offset};
-use crate::walks::{Walk, pixel_at};
 use w4_defs::{PageBytes, Sprite};
 use w4_pixels::entry_of;
 
@@ -20,25 +19,17 @@ pub(crate) const FLIP_Y: u32 = 4;
 
 pub(crate) const ROTATE: u32 = 8;
 
-/// What the cells that a row reads paint at column `u` of the screen, were they so many: pixel value v is
-/// painted in colour v + 1.
+/// What the sprite's pixel `pixel` paints: pixel value v is painted in colour v + 1.
 pub(crate) fn index_at(
     page: &PageBytes,
     kept_from: usize,
     copy: &[u8],
     sprite: &Sprite,
-    walk: Walk,
-    x: i32,
-    u: usize,
+    pixel: u64,
 ) -> Option<u8>
-    requires column { u < 160 }
-    requires start { walk.start ≤ 524288 }
-    requires pace { walk.pace < 4294967296 }
-    ensures value { result
-        ≡ walk_painter (with_copied_bytes page.now kept_from copy.now) sprite.now walk x u 0 }
+    ensures value { result ≡ pixel_index (with_copied_bytes page.now kept_from copy.now) sprite.now pixel }
     ensures bound { ForSome result (λ e. e < 4) }
 {
-    let pixel = pixel_at(walk, distance(u, x));
     entry_of(
         sprite.colors,
         source_value(page, kept_from, copy, sprite, pixel) + 1,

@@ -30,6 +30,19 @@ pub(crate) struct Glyph {
     pub y: i64,
 }
 
+/// A box of the screen: the columns from `left` up to `right`, of which there are some, of the rows from
+/// `top` up to `bottom`.
+#[derive(Clone, Copy)]
+struct Area {
+    left: usize,
+    right: usize,
+    top: usize,
+    bottom: usize,
+    ghost some: { left < right },
+    ghost columns: { right ≤ 160 },
+    ghost rows: { bottom ≤ 160 },
+}
+
 /// Paints the 8 by 8 cells of a code from 32 to 255; nothing for any other.
 pub(crate) fn put_glyph(page: &mut PageBytes, font: &Font, inks: &Inks, glyph: Glyph)
     requires column { glyph.x ≤ℤ pos 4294967296 }
@@ -53,61 +66,47 @@ fn glyph_rows(page: &mut PageBytes, font: &Font, inks: &Inks, glyph: Glyph)
     let (left, right) = (on_screen(glyph.x), on_screen(glyph.x + 8));
     let (top, bottom) = (on_screen(glyph.y), on_screen(glyph.y + 8));
     if left < right {
-        rows_on_screen(page, font, inks, glyph, left, right, top, bottom);
+        let area = Area {
+            left,
+            right,
+            top,
+            bottom,
+        };
+        rows_on_screen(page, font, inks, glyph, area);
     }
 }
 
-/// The cells in the columns from `left` up to `right` of the rows of the screen from `top` up to `bottom`.
-fn rows_on_screen(
-    page: &mut PageBytes,
-    font: &Font,
-    inks: &Inks,
-    glyph: Glyph,
-    left: usize,
-    right: usize,
-    top: usize,
-    bottom: usize,
-)
-    requires some { left < right }
-    requires columns { right ≤ 160 }
-    requires rows { bottom ≤ 160 }
-    requires from { glyph.x ≤ℤ pos left }
-    requires to { pos right ≤ℤ (glyph.x +ℤ pos 8) }
+/// The cells in an area of the screen.
+fn rows_on_screen(page: &mut PageBytes, font: &Font, inks: &Inks, glyph: Glyph, area: Area)
+    requires from { glyph.x ≤ℤ pos area.left }
+    requires to { pos area.right ≤ℤ (glyph.x +ℤ pos 8) }
     requires inks { AreInks inks.now glyph.colors }
     ensures { page.new ≡ paint page.old
-        (clipped (bits_painter font.now glyph.colors glyph.code glyph.x glyph.y) left right top bottom) }
+        (clipped (bits_painter font.now glyph.colors glyph.code glyph.x glyph.y) area.left area.right area.top
+        area.bottom) }
 {
-    for v in top..bottom {
-        glyph_row(page, font, inks, glyph, left, right, v);
+    for v in area.top..area.bottom {
+        glyph_row(page, font, inks, glyph, area, v);
     }
 }
 
-/// The cells in the columns from `left` up to `right` of row `v` of the screen.
-fn glyph_row(
-    page: &mut PageBytes,
-    font: &Font,
-    inks: &Inks,
-    glyph: Glyph,
-    left: usize,
-    right: usize,
-    v: usize,
-)
-    requires columns { right ≤ 160 }
+/// The cells in the columns of an area, of row `v` of the screen.
+fn glyph_row(page: &mut PageBytes, font: &Font, inks: &Inks, glyph: Glyph, area: Area, v: usize)
     requires row { v < 160 }
-    requires some { left < right }
-    requires from { glyph.x ≤ℤ pos left }
-    requires to { pos right ≤ℤ (glyph.x +ℤ pos 8) }
+    requires from { glyph.x ≤ℤ pos area.left }
+    requires to { pos area.right ≤ℤ (glyph.x +ℤ pos 8) }
     requires inks { AreInks inks.now glyph.colors }
     ensures { page.new ≡ paint page.old
-        (clipped (bits_painter font.now glyph.colors glyph.code glyph.x glyph.y) left right v (v + 1)) }
+        (clipped (bits_painter font.now glyph.colors glyph.code glyph.x glyph.y) area.left area.right v
+        (v + 1)) }
 {
     let first = 8 * u64::from(glyph.code.saturating_sub(FIRST_CODE));
     let row = Row {
         bits: font.byte(first + offset(v, glyph.y)),
         colors: glyph.colors,
         x: glyph.x,
-        left,
-        right,
+        left: area.left,
+        right: area.right,
         v,
     };
     put_row(page, inks, row);

@@ -22,126 +22,89 @@ struct Pen {
     y: i64,
 }
 
-/// Paints a text from (x, y) on. Code 10 goes to column `x`, 8 further down; every other code moves 8 to the
-/// right, and those from 32 to 255 paint 8 by 8 cells, a bit 0 of the font in colour 1, a bit 1 in colour 2.
-pub fn text(page: &mut PageBytes, font: &Font, colors: u16, source: TextSource, x: i32, y: i32)
-    ensures { page.new ≡ paint page.old (text_painter font.now colors (text_codes page.old source) x y) }
-{
-    let count = code_count(page, source);
-    if FRAMEBUFFER_END <= start_of(source) {
-        text_outside(page, font, colors, source, count, x, y);
-    } else {
-        text_inside(page, font, colors, source, count, x, y);
-    }
-}
-
-/// Paints a text that lies behind the framebuffer. Nothing of it is kept.
-fn text_outside(
-    page: &mut PageBytes,
-    font: &Font,
-    colors: u16,
-    source: TextSource,
-    count: usize,
-    x: i32,
-    y: i32,
-)
-    requires behind { 6560 ≤ source_start source }
-    requires count { count ≡ length (text_codes page.old source) }
-    requires few { count ≤ 65536 }
-    ensures { page.new ≡ paint page.old (text_painter font.now colors (text_codes page.old source) x y) }
-{
-    put_codes(
-        page,
-        FRAMEBUFFER,
-        &[],
-        font,
-        colors,
-        source,
-        count,
-        i64::from(x),
-        i64::from(y),
-    );
-}
-
-/// Paints a text that may lie in the framebuffer. What it reads of that is kept aside.
-fn text_inside(
-    page: &mut PageBytes,
-    font: &Font,
-    colors: u16,
-    source: TextSource,
-    count: usize,
-    x: i32,
-    y: i32,
-)
-    requires count { count ≡ length (text_codes page.old source) }
-    requires few { count ≤ 65536 }
-    ensures { page.new ≡ paint page.old (text_painter font.now colors (text_codes page.old source) x y) }
-{
-    let (first, len) = part_kept(source, count);
-    if len <= 256 {
-        let copy_bytes = few_bytes(page, first, len);
-        put_codes(
-            page,
-            first,
-            &copy_bytes[..len],
-            font,
-            colors,
-            source,
-            count,
-            i64::from(x),
-            i64::from(y),
-        );
-    } else {
-        let copy_bytes = many_bytes(page, first, len);
-        put_codes(
-            page,
-            first,
-            &copy_bytes[..len],
-            font,
-            colors,
-            source,
-            count,
-            i64::from(x),
-            i64::from(y),
-        );
-    }
-}
-
-/// Paints the `count` codes of a text, where the framebuffer's bytes are kept from `first` on.
-fn put_codes(
-    page: &mut PageBytes,
-    first: usize,
-    copy_bytes: &[u8],
-    font: &Font,
+/// A text of `count` codes, its colours, and where the first code's cells begin.
+#[derive(Clone, Copy)]
+struct PlacedText {
     colors: u16,
     source: TextSource,
     count: usize,
     x: i64,
     y: i64,
-)
-    requires count { count ≡ length (text_codes (with_copied_bytes page.old first copy_bytes.now) source) }
-    requires few { count ≤ 65536 }
-    requires column { x ≤ℤ pos 2147483648 }
-    requires row { y ≤ℤ pos 2147483648 }
-    ensures { page.new ≡ paint page.old
-        (text_painter font.now colors (text_codes (with_copied_bytes page.old first copy_bytes.now) source) x
-        y) }
+    ghost few: { count ≤ 65536 },
+    ghost column: { x ≤ℤ pos 2147483648 },
+    ghost row: { y ≤ℤ pos 2147483648 },
+}
+
+/// Paints a text from (x, y) on. Code 10 goes to column `x`, 8 further down; every other code moves 8 to the
+/// right, and those from 32 to 255 paint 8 by 8 cells, a bit 0 of the font in colour 1, a bit 1 in colour 2.
+pub fn text(page: &mut PageBytes, font: &Font, colors: u16, source: TextSource, x: i32, y: i32)
+    ensures { page.new ≡ paint page.old (text_painter font.now colors (text_codes page.old source) x y) }
 {
-    let inks = inks_of(colors);
-    let mut pen = Pen { x, y };
-    for k in 0..count {
+    let placed = PlacedText {
+        colors,
+        source,
+        count: code_count(page, source),
+        x: i64::from(x),
+        y: i64::from(y),
+    };
+    if FRAMEBUFFER_END <= start_of(source) {
+        text_outside(page, font, placed);
+    } else {
+        text_inside(page, font, placed);
+    }
+}
+
+/// Paints a text that lies behind the framebuffer. Nothing of it is kept.
+fn text_outside(page: &mut PageBytes, font: &Font, placed: PlacedText)
+    requires behind { 6560 ≤ source_start placed.source }
+    requires count { placed.count ≡ length (text_codes page.old placed.source) }
+    ensures { page.new ≡ paint page.old
+        (text_painter font.now placed.colors (text_codes page.old placed.source) placed.x placed.y) }
+{
+    put_codes(page, FRAMEBUFFER, &[], font, placed);
+}
+
+/// Paints a text that may lie in the framebuffer. What it reads of that is kept aside.
+fn text_inside(page: &mut PageBytes, font: &Font, placed: PlacedText)
+    requires { placed.count ≡ length (text_codes page.old placed.source) }
+    ensures { page.new ≡ paint page.old
+        (text_painter font.now placed.colors (text_codes page.old placed.source) placed.x placed.y) }
+{
+    let (first, len) = part_kept(placed.source, placed.count);
+    if len <= 256 {
+        let copy_bytes = few_bytes(page, first, len);
+        put_codes(page, first, &copy_bytes[..len], font, placed);
+    } else {
+        let copy_bytes = many_bytes(page, first, len);
+        put_codes(page, first, &copy_bytes[..len], font, placed);
+    }
+}
+
+/// Paints the codes of a text, where the framebuffer's bytes are kept from `first` on.
+fn put_codes(page: &mut PageBytes, first: usize, copy_bytes: &[u8], font: &Font, placed: PlacedText)
+    requires { placed.count
+        ≡ length (text_codes (with_copied_bytes page.old first copy_bytes.now) placed.source) }
+    ensures { page.new ≡ paint page.old (text_painter font.now placed.colors
+        (text_codes (with_copied_bytes page.old first copy_bytes.now) placed.source) placed.x placed.y) }
+{
+    let inks = inks_of(placed.colors);
+    let mut pen = Pen {
+        x: placed.x,
+        y: placed.y,
+    };
+    for k in 0..placed.count {
         if SCREEN_END <= pen.y {
             return;
         }
-        let code = code_at(page, first, copy_bytes, source, k);
+        let code = code_at(page, first, copy_bytes, placed.source, k);
         let glyph = Glyph {
-            colors,
+            colors: placed.colors,
             code,
             x: pen.x,
             y: pen.y,
         };
         put_glyph(page, font, &inks, glyph);
-        pen = moved(pen, code, x);
+        pen = moved(pen, code, placed.x);
     }
 }
 

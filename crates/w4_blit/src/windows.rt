@@ -16,29 +16,36 @@ use crate::strips::{Bits, moved};
 use crate::walks::Walk;
 use w4_defs::{PageBytes, Sprite};
 
-/// The values that the cells from number `n` of a row on read, as far as the row has cells, the first of them
-/// as digit `low`.
+/// The cells of a row from number `n` on, of which there are some. They read pixels that follow one another.
+#[derive(Clone, Copy)]
+pub(crate) struct Stretch {
+    pub walk: Walk,
+    pub n: u64,
+    ghost start: { walk.start ≤ 524288 },
+    ghost pace: { walk.pace ≡ 1 },
+    ghost some: { n < walk.count },
+}
+
+/// The values that the cells of a stretch read, as far as it has cells, the first of them as digit `low`.
 pub(crate) fn cell_bits(
     page: &PageBytes,
     kept_from: usize,
     copy: &[u8],
     sprite: &Sprite,
-    walk: Walk,
-    n: u64,
+    stretch: Stretch,
     low: u32,
 ) -> Bits
-    requires start { walk.start ≤ 524288 }
-    requires pace { walk.pace ≡ 1 }
-    requires cell { n < walk.count }
-    requires low { low < 16 }
-    ensures values { (d : ℕ) → low + d < 16 → n + d < walk.count → HasValue result (low + d)
-        (source_value (with_copied_bytes page.now kept_from copy.now) sprite.now (walked walk (n + d))) }
+    requires { low < 16 }
+    ensures values { (d : ℕ) → low + d < 16 → stretch.n + d < stretch.walk.count → HasValue result (low + d)
+        (source_value (with_copied_bytes page.now kept_from copy.now) sprite.now
+        (walked stretch.walk (stretch.n + d))) }
     ensures masks { AreMasks result }
 {
-    if walk.backward {
-        backward_bits(page, kept_from, copy, sprite, walk, n, low)
+    if stretch.walk.backward {
+        backward_bits(page, kept_from, copy, sprite, stretch, low)
     } else {
-        let bits = sixteen_from(page, kept_from, copy, sprite, walk.start + n);
+        let first = stretch.walk.start + stretch.n;
+        let bits = sixteen_from(page, kept_from, copy, sprite, first);
         moved_bits(bits, 0, low)
     }
 }
@@ -49,20 +56,18 @@ fn backward_bits(
     kept_from: usize,
     copy: &[u8],
     sprite: &Sprite,
-    walk: Walk,
-    n: u64,
+    stretch: Stretch,
     low: u32,
 ) -> Bits
-    requires start { walk.start ≤ 524288 }
-    requires pace { walk.pace ≡ 1 }
-    requires backward { walk.backward ≡ true }
-    requires cell { n < walk.count }
+    requires backward { stretch.walk.backward ≡ true }
     requires low { low < 16 }
-    ensures values { (d : ℕ) → low + d < 16 → n + d < walk.count → HasValue result (low + d)
-        (source_value (with_copied_bytes page.now kept_from copy.now) sprite.now (walked walk (n + d))) }
+    ensures values { (d : ℕ) → low + d < 16 → stretch.n + d < stretch.walk.count → HasValue result (low + d)
+        (source_value (with_copied_bytes page.now kept_from copy.now) sprite.now
+        (walked stretch.walk (stretch.n + d))) }
     ensures masks { AreMasks result }
 {
-    let last = u64::from(walk.count) - 1 - n;
+    let walk = stretch.walk;
+    let last = u64::from(walk.count) - 1 - stretch.n;
     let first = last.saturating_sub(15);
     let bits = sixteen_back(page, kept_from, copy, sprite, walk.start + first);
     moved_bits(bits, (15 - (last - first)) as u32, low)

@@ -8,11 +8,12 @@ ghost use Rattle.w4_cart.specs.declared.refusal.CartRefusal.TheVariants.{Kind as
 
 use crate::refusal::CartRefusal;
 use std::alloc::Global;
-use w4_defs::CartKind;
+use w4_defs::{CartKind, OutOfMemory};
 use w4_record::digest_of;
 use wasm_link::check_profile;
 use wasm_read::{ReadRefusal, read_module};
-use wasm_valid::{Cart, ValidRefusal, validate};
+use wasm_register::Cart;
+use wasm_valid::{Cart as ValidCart, ValidRefusal, validate};
 
 /// How many bytes a cart has at most: 64 KiB, as in WASM-4.
 pub const MOST_BYTES: usize = 65_536;
@@ -24,9 +25,9 @@ pub struct CartFile {
     pub digest: [u8; 32],
 }
 
-/// The cart that the bytes are. The causes of `CartKind` are looked at in their order.
-pub fn accept(alloc: Global, bytes: &[u8]) -> Result<Cart, CartRefusal>
-    ensures cart { IfOk result (λ cart. IsCart bytes.now cart) }
+/// The valid module that the bytes are. The causes of `CartKind` are looked at in their order.
+fn judge(alloc: Global, bytes: &[u8]) -> Result<ValidCart, CartRefusal>
+    ensures cart { IfOk result (λ valid. IsCart bytes.now valid) }
     ensures refused { (kind : CartKind) → result ≡ Err (OfKind kind) → IsRefused bytes.now kind }
 {
     if bytes.len() > MOST_BYTES {
@@ -41,9 +42,21 @@ pub fn accept(alloc: Global, bytes: &[u8]) -> Result<Cart, CartRefusal>
         return Err(CartRefusal::Kind(CartKind::Profile(refusal)));
     }
     match validate(alloc, code) {
-        Ok(cart) => Ok(cart),
+        Ok(valid) => Ok(valid),
         Err(ValidRefusal::Invalid(func)) => Err(CartRefusal::Kind(CartKind::Invalid(func))),
         Err(ValidRefusal::OutOfMemory) => Err(CartRefusal::OutOfMemory),
+    }
+}
+
+/// The cart that the bytes are, or the first cause of `CartKind` for which they are none.
+pub fn accept(alloc: Global, bytes: &[u8]) -> Result<Cart, CartRefusal>
+    ensures cart { IfOk result (λ cart. IsCart bytes.now cart) }
+    ensures refused { (kind : CartKind) → result ≡ Err (OfKind kind) → IsRefused bytes.now kind }
+{
+    let valid = judge(alloc, bytes)?;
+    match Cart::new(alloc, valid) {
+        Ok(cart) => Ok(cart),
+        Err(OutOfMemory) => Err(CartRefusal::OutOfMemory),
     }
 }
 

@@ -12,7 +12,7 @@ use Rattle.w4_defs.specs.Session.{Session, PlacesDecide, places_alone, session_o
 use Rattle.w4_defs.specs.State.{blank_state}
 use Rattle.w4_editor.specs.Editing.{Editing, IsErrorOrMemory, current_recording, with_session}
 use Rattle.w4_editor.specs.Settling.{linked_entry}
-use Rattle.w4_editor.specs.Showing.{IsKeptAt, IsCauseOrMemory, KeepsRecording}
+use Rattle.w4_editor.specs.Showing.{IsKeptAt, IsCauseOrMemory}
 use Rattle.w4_defs.specs.World.{World}
 use Rattle.w4_commands.specs.Causes.{AppendsOut}
 use Rattle.w4_defs.specs.PlaceTexts.{PieceForm}
@@ -25,7 +25,7 @@ use Rattle.w4_defs.specs.declared.status.Refusal.{Refusal}
 use Rattle.w4_defs.specs.declared.status.Refusal.TheVariants as run
 use Rattle.w4_commands.proofs.OwesLaws.{stops_untold, there_is}
 use Rattle.w4_commands.proofs.SessionLaws.{appends_nothing, leaves_kept}
-use Rattle.w4_editor.proofs.PlaceLaws.{EditResult, SessionOrRefusal, no_input, left_by_edit, kept_made, kept_rest, rest_at, same_recording}
+use Rattle.w4_editor.proofs.PlaceLaws.{EditResult, SessionOrRefusal, no_input, left_by_edit, kept_made, kept_rest, rest_at}
 
 -- ---- one order
 

@@ -1,8 +1,8 @@
 -- Two runs that are compared place by place, and the lines that tell of them.
 use Rattle.std.proofs.Common.{◌≡◌, ◌↔◌, ℕ, suc, ◌+◌, Bool, true, false, cond, inl, inr, zero, List, [], ◌∷◌, ◌++◌, length, map, take, Option, Some, None, option_map, Result, Ok, Err, Decides, refl, sym, ap, subst, ◌∙◌, append_assoc, arith}
 use Rattle.std.proofs.lemmas.List.{append-nil}
-use Rattle.std.specs.Prelude.{IsSome, IsTrue, not, min, if◌then◌else◌}
-use Rattle.std.specs.List.{position, position_from, range_with_len}
+use Rattle.std.specs.Prelude.{IsSome, IsTrue, not, min}
+use Rattle.std.specs.List.{position_from, range_with_len}
 use Rattle.std.specs.Option.{ForSome}
 use Rattle.std.proofs.lemmas.Iterator.Adapters.{position_from-zero}
 use Rattle.w4_defs.specs.AllThere.{all_some}

@@ -1,6 +1,6 @@
 -- Events that have happened, with the writes that failed among them or after them.
-use Rattle.std.proofs.Common.{◌≡◌, ◌≤◌, ◌+◌, ℕ, List, [], ◌∷◌, ◌++◌, refl, sym, ap, subst, ◌∙◌, arith}
-use Rattle.w4_defs.specs.World.{Event, Took, InputEnded, InputLost, Wrote, Saved, NotSaved, World, Rises, RisesBy, Appends, Does, OutFails, LeavesSaving, LeavesTaking, LeavesWriting, failed_saves, wrote}
+use Rattle.std.proofs.Common.{◌≡◌, ◌≤◌, ◌+◌, ℕ, List, [], ◌∷◌, ◌++◌, refl, sym, subst, arith}
+use Rattle.w4_defs.specs.World.{Event, Took, InputEnded, InputLost, Wrote, Saved, NotSaved, World, Rises, RisesBy, Appends, Does, OutFails, LeavesTaking, LeavesWriting, failed_saves, wrote}
 use Rattle.w4_house.proofs.WorldLaws.{does_then, does_wrote}
 use Rattle.w4_commands.specs.Serving.{DoesCounted, FailsToWrite}
 

@@ -1,5 +1,5 @@
 -- How the whole ended, put together from how its steps ended.
-use Rattle.std.proofs.Common.{◌≡◌, ◌⊎◌, ◌+◌, ℕ, inl, inr, List, [], ◌∷◌, ◌++◌, take, Option, Some, option_map, Result, Ok, Err, refl, sym, subst, ap, ◌∙◌}
+use Rattle.std.proofs.Common.{◌≡◌, ◌+◌, ℕ, inl, inr, List, [], ◌∷◌, ◌++◌, take, Option, Some, option_map, Result, Ok, Err, refl, sym, subst, ap, ◌∙◌}
 use Rattle.std.specs.Option.{ForSome}
 use Rattle.std.specs.Prelude.{IsSome}
 use Rattle.std.proofs.lemmas.List.{append-nil}
@@ -7,7 +7,6 @@ use Rattle.w4_defs.specs.Recording.{encoding}
 use Rattle.w4_defs.specs.World.{Event, InputLost, Saved, Files, World, Rises, RisesBy, Does, FailsToSave, OutFails, SavesOrFails, failed_saves, not_saved, LeavesReading, LeavesWriting, wrote}
 use Rattle.w4_house.proofs.WorldLaws.{reading_none, rises_later, take-wrote}
 use Rattle.w4_defs.specs.declared.status.Finish.{Finish}
-use Rattle.w4_defs.specs.declared.status.Finish.TheVariants.{Done}
 use Rattle.w4_defs.specs.declared.status.Refusal.{Refusal}
 use Rattle.w4_defs.specs.declared.status.Refusal.TheVariants as refusal
 use Rattle.w4_defs.specs.Endings.{Manner, ReadFailed, InputFailed, WriteFailed, MemoryRefused, Refused, manner_of}
@@ -16,11 +15,10 @@ use Rattle.w4_defs.specs.Live.{Talk}
 use Rattle.w4_defs.specs.Output.{CartFile, CartIn, Output, Loaded, all_events, edit_files, edit_answers, edited_recording, only_written, edit_result, edit_output, making, printing, written}
 use Rattle.w4_defs.specs.Outputs.{OutputsBy, OutputsOn, OverCart, OverFile, cart_word}
 use Rattle.w4_defs.specs.Causes.{Ends, EndsRefused, RunsOutAfter, WritesPart, stopped_events}
-use Rattle.w4_commands.specs.Causes.{Carried, DoesFront, EndsDone, finished, MakesOf, ResultsIn, Stops, StopsCarrying, StopsWriting, Written}
+use Rattle.w4_commands.specs.Causes.{Carried, EndsDone, finished, MakesOf, ResultsIn, Stops, StopsCarrying, StopsWriting, Written}
 use Rattle.w4_defs.proofs.ThereLaws.{value_there}
 use Rattle.w4_commands.proofs.CountedLaws.{failed-wrote}
 use Rattle.w4_commands.proofs.OutLaws.{does_later, front_does, written_does}
-use Rattle.w4_commands.proofs.StepLaws.{stops_making}
 
 -- ---- what was done after files were read
 

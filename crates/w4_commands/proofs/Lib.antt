@@ -6,6 +6,7 @@ pub mod OutLaws
 pub mod CountedLaws
 pub mod OwesLaws
 pub mod SessionLaws
+pub mod AnswerFramesLaws
 pub mod ChangeAnswerLaws
 pub mod UnitsAnswerLaws
 pub mod PlaceAnswerLaws

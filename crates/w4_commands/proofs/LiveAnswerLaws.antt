@@ -1,5 +1,5 @@
 -- The answer of one line of a live session, from its pieces and its end to the line's step.
-use Rattle.std.proofs.Common.{◌≡◌, ◌≢◌, ◌⊎◌, ◌≤◌, ℕ, zero, suc, inl, inr, true, false, List, [], ◌∷◌, ◌++◌, drop, take, take-append-drop, Option, Some, None, option_map, refl, sym, ap, subst, ◌∙◌, append_assoc, append-nil, arith}
+use Rattle.std.proofs.Common.{◌≡◌, ◌≢◌, ◌⊎◌, ◌≤◌, ℕ, zero, suc, inl, inr, true, false, List, [], ◌∷◌, ◌++◌, drop, take, take-append-drop, Option, Some, None, refl, sym, ap, subst, ◌∙◌, append_assoc, append-nil, arith}
 use Rattle.std.specs.Prelude.{Result, Ok, Err, OnOk, IsSome, ⊤}
 use Rattle.std.specs.Option.{ForSome}
 use Rattle.w4_defs.specs.declared.editing.EditRefusal.{EditRefusal}
@@ -22,12 +22,12 @@ use Rattle.w4_defs.specs.Reset.{Setup}
 use Rattle.w4_defs.specs.ScriptAnswers.{answer, answer_change}
 use Rattle.w4_defs.specs.Search.{Search}
 use Rattle.w4_defs.specs.Session.{Session}
-use Rattle.w4_defs.specs.World.{Event, Wrote, Saved, NotSaved, World, Does, LeavesSaving, LeavesWriting, wrote}
+use Rattle.w4_defs.specs.World.{Event, Saved, NotSaved, World, Does, LeavesSaving, LeavesWriting, wrote}
 use Rattle.w4_defs.proofs.LiveThereLaws.{live_answer_there}
 use Rattle.w4_house.proofs.WorldLaws.{does_then, does_wrote, wrote-append}
 use Rattle.w4_editor.specs.Editing.{Editing, current_recording, editing_setup}
 use Rattle.w4_editor.specs.PlaceSession.{KeepsRest, place_session}
-use Rattle.w4_commands.specs.Causes.{AppendsOut, AppendsOutFront, Replaces, StopsSaving, StopsWriting, Written}
+use Rattle.w4_commands.specs.Causes.{AppendsOut, StopsSaving, StopsWriting, Written}
 use Rattle.w4_commands.specs.LiveAnswers.{AnswersSave, Done, GivesPieces, LeavesLive, StopsDoing, asked_answer, asks_save}
 use Rattle.w4_commands.specs.OwnAnswers.{IsOwn}
 use Rattle.w4_commands.specs.RamAnswers.{GivesLineAnswer, ask_answer}

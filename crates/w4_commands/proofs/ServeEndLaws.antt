@@ -1,20 +1,18 @@
 -- How a live session ends, once its lines have ended or stopped and the recording left was saved or not.
-use Rattle.std.proofs.Common.{◌≡◌, ◌⊎◌, ◌+◌, ◌≤◌, ◌<◌, ℕ, inl, inr, List, [], ◌∷◌, ◌++◌, length, take, Option, Some, option_map, Result, Ok, Err, refl, sym, ap, subst, ◌∙◌, append_assoc, arith}
+use Rattle.std.proofs.Common.{◌≡◌, ◌⊎◌, ◌+◌, ◌≤◌, ◌<◌, ℕ, inl, inr, List, [], ◌∷◌, ◌++◌, length, take, Some, option_map, Result, Ok, Err, refl, sym, ap, subst, ◌∙◌, append_assoc, arith}
 use Rattle.std.proofs.Math.Seq.{take-append_seam, take-length}
 use Rattle.std.proofs.lemmas.List.{append-nil, length-append}
 use Rattle.std.specs.Prelude.{slice_get}
-use Rattle.std.specs.Option.{ForSome}
-use Rattle.w4_defs.specs.declared.status.Finish.TheVariants.{Done}
 use Rattle.w4_defs.specs.declared.status.Refusal.{Refusal}
 use Rattle.w4_defs.specs.declared.status.Refusal.TheVariants as refusal
 use Rattle.w4_defs.specs.Causes.{Ends, EndsRefused, IsShort, LosesInput, RunsOutAfter, WantsInput, WritesPart, stopped_events}
 use Rattle.w4_defs.specs.Endings.{Manner, ReadFailed, InputFailed, WriteFailed, MemoryRefused, Refused, manner_of}
-use Rattle.w4_defs.specs.Live.{LiveSession, Opened, SaveEnd, Talk, recording_left, saving, saving_after, serve_result, served, taken_lines}
+use Rattle.w4_defs.specs.Live.{LiveSession, Opened, SaveEnd, Talk, recording_left, saving, saving_after, serve_result, taken_lines}
 use Rattle.w4_defs.specs.Output.{Output, all_events}
 use Rattle.w4_defs.specs.Recording.{Recording, encoding}
 use Rattle.w4_defs.specs.World.{Event, Took, InputEnded, InputLost, Saved, NotSaved, Files, World, Rises, Does, FailsToSave, OutFails, LeavesSaving, not_saved}
 use Rattle.w4_commands.specs.Causes.{EndsDone, Replaces, StopsSaving}
-use Rattle.w4_commands.specs.Serving.{EndsStopped, HasServed, LeavesEither, ServedStep, stop_refusal, LinesStop, Serves, ServesPart, ServesThen, StepsTo}
+use Rattle.w4_commands.specs.Serving.{EndsStopped, HasServed, LeavesEither, ServedStep, stop_refusal, LinesStop, Serves, ServesPart, ServesThen}
 use Rattle.w4_house.proofs.WorldLaws.{does_then, rises_later, rises_on}
 use Rattle.w4_commands.proofs.CountedLaws.{out_fails_not_saved, out_fails_saved, out_rises}
 use Rattle.w4_commands.proofs.RunsOutLaws.{ran_out, ran_out_lost, ran_out_lost_saved, ran_out_saved}

@@ -1,5 +1,5 @@
 -- What a session over lines comes to once its files are read.
-use Rattle.std.proofs.Common.{◌≡◌, [], Option, Some, option_map, Result, Ok, Err, ap, ◌∙◌}
+use Rattle.std.proofs.Common.{◌≡◌, [], Some, option_map, Result, Ok, Err, ap, ◌∙◌}
 use Rattle.std.specs.Option.{ForSome}
 use Rattle.w4_defs.specs.declared.status.Refusal.{Refusal}
 use Rattle.w4_defs.specs.Causes.{Ends}

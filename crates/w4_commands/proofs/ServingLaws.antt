@@ -1,7 +1,6 @@
 -- Lines of a live session, one after another, and the output that they come to.
-use Rattle.std.proofs.Common.{◌≡◌, ℕ, List, [], ◌∷◌, ◌++◌, Option, Some, None, option_map, refl, sym, ap, subst, ◌∙◌, append_assoc}
+use Rattle.std.proofs.Common.{◌≡◌, ℕ, List, [], ◌∷◌, ◌++◌, Option, Some, None, option_map, refl, sym, ap, ◌∙◌, append_assoc}
 use Rattle.std.proofs.lemmas.List.{append-nil}
-use Rattle.w4_defs.specs.declared.live.LiveOrder.{LiveOrder}
 use Rattle.w4_defs.specs.declared.live.LiveOrder.TheVariants as live
 use Rattle.w4_defs.specs.AllThere.{joined}
 use Rattle.w4_defs.specs.Live.{Asked, AsksNothing, NoOrder, Asks, LiveSession, LiveStep, Opened, SaveEnd, Talk, asked_of, first_live_session, line_step, save_step, saving, saving_after, serve_result, served, session_after, session_events, taken_lines}

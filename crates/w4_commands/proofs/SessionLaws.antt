@@ -19,7 +19,7 @@ use Rattle.w4_editor.specs.PlaceSession.{KeepsRest, place_session}
 use Rattle.w4_defs.specs.Endings.{Manner, ReadFailed, InputFailed, WriteFailed, MemoryRefused, Refused, manner_of}
 use Rattle.w4_defs.specs.declared.status.Refusal.{Refusal}
 use Rattle.w4_commands.proofs.OwesLaws.{there_as, there_is}
-use Rattle.w4_editor.proofs.PlaceLaws.{rest_then, same_recording, same_session}
+use Rattle.w4_editor.proofs.PlaceLaws.{rest_then, same_session}
 
 -- ---- cart, font, digest, budget and disk
 

@@ -1,5 +1,5 @@
 -- The loop of a live session: one line after another, up to the end of the input or a stop.
-use Rattle.std.proofs.Common.{◌≡◌, ◌⊎◌, ◌≤◌, ℕ, inl, inr, Option, None, List, [], ◌∷◌, ◌++◌, refl, sym, subst, ◌∙◌, append_assoc, arith}
+use Rattle.std.proofs.Common.{◌≡◌, ◌≤◌, ℕ, inl, inr, Option, None, List, [], ◌∷◌, ◌++◌, refl, sym, subst, ◌∙◌, arith}
 use Rattle.std.proofs.lemmas.List.{append-nil}
 use Rattle.w4_defs.specs.Endings.{Manner, ReadFailed, InputFailed, WriteFailed, MemoryRefused, Refused}
 use Rattle.w4_defs.specs.Live.{LiveSession, Opened, first_live_session, recording_left}
@@ -9,7 +9,7 @@ use Rattle.w4_defs.specs.World.{Event, Took, InputEnded, InputLost, World, Does,
 use Rattle.w4_defs.specs.State.{State}
 use Rattle.w4_editor.specs.Editing.{Editing, new_editing}
 use Rattle.w4_house.proofs.WorldLaws.{does_nothing, does_then, rises_later}
-use Rattle.w4_commands.specs.Serving.{DoesCounted, FailsToWrite, LeavesServing, LineAnswered, LineStops, LinesStop, LosesLine, Serves, ServesPart, ServesThen, Sits}
+use Rattle.w4_commands.specs.Serving.{DoesCounted, FailsToWrite, LeavesServing, LineAnswered, LineStops, LinesStop, LosesLine, Serves, ServesThen, Sits}
 use Rattle.w4_commands.proofs.CountedLaws.{counted_nothing, counted_then, counted_took, fails_after}
 use Rattle.w4_commands.proofs.ServingLaws.{served_line, served_none}
 

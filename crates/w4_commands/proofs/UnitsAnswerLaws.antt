@@ -1,5 +1,5 @@
 -- Lines of units, as an editor tells them from one call to the next.
-use Rattle.std.proofs.Common.{◌≡◌, ◌<◌, ◌+◌, ℕ, Some, inl, inr, length, arith}
+use Rattle.std.proofs.Common.{◌≡◌, ◌<◌, ℕ, Some, inl, inr, length, arith}
 use Rattle.w4_defs.specs.PlaceTexts.{PieceForm}
 use Rattle.w4_defs.specs.Units.{units_at}
 use Rattle.w4_editor.specs.Editing.{Editing}

@@ -3,6 +3,7 @@ pub mod Comparing
 pub mod Reads
 pub mod OwnAnswers
 pub mod ScriptAnswers
+pub mod AnswerFrames
 pub mod NetAnswers
 pub mod RamAnswers
 pub mod Causes

@@ -1,9 +1,9 @@
 -- A live session as its loop sees it: what was done for the lines taken so far, and what is edited then.
-use Rattle.std.specs.Prelude.{◌≡◌, ◌⊎◌, ◌≤◌, ℕ, List, [], ◌∷◌, ◌++◌, take, Option, Some, option_map, Result, Ok, Err, ⊤}
+use Rattle.std.specs.Prelude.{◌≡◌, ◌⊎◌, ◌≤◌, ℕ, List, [], ◌∷◌, ◌++◌, Option, Some, option_map, Result, Ok, Err, ⊤}
 use Rattle.w4_defs.specs.declared.status.Refusal.{Refusal}
 use Rattle.w4_defs.specs.declared.status.Refusal.TheVariants as refusal
 use Rattle.w4_defs.specs.Endings.{Manner, ReadFailed, InputFailed, WriteFailed, MemoryRefused, Refused, manner_of}
-use Rattle.w4_defs.specs.Live.{LiveSession, LiveStep, Opened, SaveEnd, Talk, asked_of, first_live_session, line_step, recording_left, served, session_after, session_events, taken_lines}
+use Rattle.w4_defs.specs.Live.{LiveSession, Opened, SaveEnd, Talk, asked_of, first_live_session, line_step, recording_left, served, session_after, session_events, taken_lines}
 use Rattle.w4_defs.specs.Output.{Output, run_setup}
 use Rattle.w4_defs.specs.Recording.{Recording}
 use Rattle.w4_defs.specs.Search.{Search}

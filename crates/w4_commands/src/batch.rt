@@ -24,7 +24,7 @@ use w4_cart::CartFile;
 use w4_defs::batch::BatchRow;
 use w4_defs::{Halt, OutOfMemory, Refusal};
 use w4_house::House;
-use w4_segments::{Gate, batch};
+use w4_segments::{Gate, Resources, batch};
 
 /// The result of a recording that was run.
 #[derive(Clone, Copy)]
@@ -38,31 +38,27 @@ struct Outcome {
 /// `batch CART FONT LIST WORKERS`.
 #[tactic(auto, unfolding(w4_defs::specs::ToolOutputs::batch_output))]
 pub fn run_list<R: Threads + Sync, H: House, G: Gate + Sync>(
-    rt: &R,
-    alloc: Global,
+    resources: &Resources<'_, R, G>,
     house: &mut H,
     file: &CartFile,
     names: BatchNames<'_>,
-    gate: &G,
 ) -> Result<(), Refusal>
     requires meaning { RunsHaveMeaning file.now.cart }
     ensures ends { EndsDone (H.world house.old) (H.world house.new) result
         (MakesOf (λ files. batch_output (batch_view names.entry) (cart_view file.now) files)) }
     ensures err { LeavesErr (H.world house.old) (H.world house.new) }
 {
-    let loaded = load_batch(alloc, house, names)?;
-    write_batch(rt, alloc, house, file, &loaded, names.workers, gate)
+    let loaded = load_batch(resources.alloc, house, names)?;
+    write_batch(resources, house, file, &loaded, names.workers)
 }
 
 /// Runs the recordings, and writes the line of each.
 fn write_batch<R: Threads + Sync, H: House, G: Gate + Sync>(
-    rt: &R,
-    alloc: Global,
+    resources: &Resources<'_, R, G>,
     house: &mut H,
     file: &CartFile,
     loaded: &BatchLoaded,
     workers: Workers,
-    gate: &G,
 ) -> Result<(), Refusal>
     requires { length loaded.now.recordings.items ≡ length loaded.now.names.items }
     ensures out { ForSome (batch_text (cart_view file.now) (batch_loaded_view loaded.now))
@@ -72,17 +68,13 @@ fn write_batch<R: Threads + Sync, H: House, G: Gate + Sync>(
     let CartFile { cart, digest } = file;
     let items = loaded.recordings.as_slice();
     let worker_count = workers.count as usize;
-    let rows = batch(
-        rt,
-        alloc,
-        cart,
-        &loaded.font,
-        digest,
-        items,
-        worker_count,
-        gate,
-    )?;
-    write_rows(alloc, house, loaded.names.as_slice(), rows.as_slice())
+    let rows = batch(resources, cart, &loaded.font, digest, items, worker_count)?;
+    write_rows(
+        resources.alloc,
+        house,
+        loaded.names.as_slice(),
+        rows.as_slice(),
+    )
 }
 
 /// Writes the lines of all rows, in the order of the names.

@@ -1,20 +1,23 @@
 //! Orders that change inputs, history or kept places.
 
-ghost use Rattle.std.specs.Prelude.{◌≡◌, OnErr};
+ghost use Rattle.std.specs.Prelude.{◌≡◌, ◌≢◌, ℕ, IfErr, List, OnErr, OnOk};
+ghost use Rattle.w4_defs.specs.declared.editing.EditRefusal.TheVariants.{OutOfMemory as NoMemory};
 ghost use Rattle.w4_defs.specs.World.{LeavesWriting};
 ghost use Rattle.w4_defs.specs.ScriptAnswers.{answer_change};
 ghost use Rattle.w4_defs.specs.Session.{keep, keep_every, places_alone};
+ghost use Rattle.w4_commands.specs.AnswerFrames.{ChangesWithin};
 ghost use Rattle.w4_commands.specs.ScriptAnswers.{GivesAnswer, changed};
+ghost use Rattle.w4_editor.specs.Showing.{AreKeptInTurn, IsKeptAt};
 ghost use Rattle.w4_editor.specs.Editing.{current_recording};
 ghost use Rattle.w4_editor.specs.PlaceSession.{IsChanged, place_session};
 
+use crate::counted_editor::CountedEditor;
 use crate::refusal::refuse;
 use crate::shape::Shape;
 use std::alloc::Global;
 use std::sync::ledger::Ledger;
 use w4_defs::editing_laws::places_decide;
-use w4_defs::{EditRefusal, Order, Refusal, Steps};
-use w4_editor::Editor;
+use w4_defs::{EditRefusal, Order, Refusal};
 use w4_editor::keep_every::keep_every;
 use w4_house::House;
 
@@ -22,17 +25,18 @@ use w4_house::House;
 pub fn answer_change<S: Shape, L: Ledger, H: House>(
     alloc: Global,
     house: &mut H,
-    editor: &mut Editor,
+    counted: &mut CountedEditor<L>,
     order: &Order,
-    steps: &mut Steps<L>,
 ) -> Result<(), Refusal>
     ensures answered { GivesAnswer (H.world house.old) (H.world house.new) result
-        editor.old editor.new
-        (answer_change S.form (place_session editor.old)
-        (changed order.now (place_session editor.old))) }
+        counted.old.editor counted.new.editor
+        (answer_change S.form (place_session counted.old.editor)
+        (changed order.now (place_session counted.old.editor))) }
     ensures rest { LeavesWriting (H.world house.old) (H.world house.new) }
+    ensures frames_run { OnOk result (ChangesWithin order.now counted.old.steps counted.new.steps
+        counted.old.editor counted.new.editor) }
 {
-    match change(alloc, editor, order, steps) {
+    match change(alloc, counted, order) {
         Ok(()) => Ok(()),
         Err(refusal) => refuse::<S, H>(alloc, house, refusal),
     }
@@ -41,25 +45,27 @@ pub fn answer_change<S: Shape, L: Ledger, H: House>(
 /// Carries out an order on the session. One that only asks changes nothing.
 fn change<L: Ledger>(
     alloc: Global,
-    editor: &mut Editor,
+    counted: &mut CountedEditor<L>,
     order: &Order,
-    steps: &mut Steps<L>,
 ) -> Result<(), EditRefusal>
-    ensures changed { IsChanged result editor.old editor.new
-        (changed order.now (place_session editor.old)) }
+    ensures changed { IsChanged result counted.old.editor counted.new.editor
+        (changed order.now (place_session counted.old.editor)) }
     ensures recording { OnErr result
-        (current_recording editor.new ≡ current_recording editor.old) }
+        (current_recording counted.new.editor ≡ current_recording counted.old.editor) }
+    ensures frames_run { OnOk result (ChangesWithin order.now counted.old.steps counted.new.steps
+        counted.old.editor counted.new.editor) }
+    ensures idle { IfErr result (λ refusal. refusal ≢ NoMemory → counted.new.steps ≡ counted.old.steps) }
 {
     places_decide();
     match *order {
-        Order::Set { k, input } => editor.set(alloc, k as usize, input),
-        Order::Insert { k, input } => editor.insert(alloc, k as usize, input),
-        Order::Delete { k } => editor.delete(alloc, k as usize),
-        Order::Undo => editor.undo(alloc),
-        Order::Redo => editor.redo(alloc),
-        Order::Keep { p } => keep_place(alloc, editor, p as usize, steps),
-        Order::KeepEvery { every } => keep_multiples(alloc, editor, every, steps),
-        Order::DropKept { p } => editor.drop_kept(p as usize),
+        Order::Set { k, input } => counted.editor.set(alloc, k as usize, input),
+        Order::Insert { k, input } => counted.editor.insert(alloc, k as usize, input),
+        Order::Delete { k } => counted.editor.delete(alloc, k as usize),
+        Order::Undo => counted.editor.undo(alloc),
+        Order::Redo => counted.editor.redo(alloc),
+        Order::Keep { p } => keep_place(alloc, counted, p as usize),
+        Order::KeepEvery { every } => keep_multiples(alloc, counted, every),
+        Order::DropKept { p } => counted.editor.drop_kept(p as usize),
         _ => Ok(()),
     }
 }
@@ -67,17 +73,19 @@ fn change<L: Ledger>(
 /// Keeps a place.
 fn keep_place<L: Ledger>(
     alloc: Global,
-    editor: &mut Editor,
+    counted: &mut CountedEditor<L>,
     place: usize,
-    steps: &mut Steps<L>,
 ) -> Result<(), EditRefusal>
-    ensures changed { IsChanged result editor.old editor.new
-        (keep places_alone place (place_session editor.old)) }
+    ensures changed { IsChanged result counted.old.editor counted.new.editor
+        (keep places_alone place (place_session counted.old.editor)) }
     ensures recording { OnErr result
-        (current_recording editor.new ≡ current_recording editor.old) }
+        (current_recording counted.new.editor ≡ current_recording counted.old.editor) }
+    ensures frames_run { OnOk result ((copied : ℕ) × IsKeptAt place counted.old.steps counted.new.steps copied
+        counted.old.editor counted.new.editor) }
+    ensures idle { IfErr result (λ refusal. refusal ≢ NoMemory → counted.new.steps ≡ counted.old.steps) }
 {
     places_decide();
-    match editor.keep(alloc, place, steps) {
+    match counted.editor.keep(alloc, place, &mut counted.steps) {
         Ok(_copied) => Ok(()),
         Err(refusal) => Err(refusal),
     }
@@ -86,16 +94,19 @@ fn keep_place<L: Ledger>(
 /// Keeps each multiple of a number.
 fn keep_multiples<L: Ledger>(
     alloc: Global,
-    editor: &mut Editor,
+    counted: &mut CountedEditor<L>,
     every: u32,
-    steps: &mut Steps<L>,
 ) -> Result<(), EditRefusal>
-    ensures changed { IsChanged result editor.old editor.new
-        (keep_every every (place_session editor.old)) }
+    ensures changed { IsChanged result counted.old.editor counted.new.editor
+        (keep_every every (place_session counted.old.editor)) }
     ensures recording { OnErr result
-        (current_recording editor.new ≡ current_recording editor.old) }
+        (current_recording counted.new.editor ≡ current_recording counted.old.editor) }
+    ensures frames_run { OnOk result ((places : List ℕ) × (copied : ℕ)
+        × AreKeptInTurn places counted.old.steps counted.new.steps copied
+        counted.old.editor counted.new.editor) }
+    ensures idle { IfErr result (λ refusal. refusal ≢ NoMemory → counted.new.steps ≡ counted.old.steps) }
 {
-    match keep_every(alloc, editor, every, steps) {
+    match keep_every(alloc, &mut counted.editor, every, &mut counted.steps) {
         Ok(_copied) => Ok(()),
         Err(refusal) => Err(refusal),
     }

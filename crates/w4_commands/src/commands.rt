@@ -5,20 +5,20 @@ ghost use Rattle.std.specs.Option.{ForSome};
 ghost use Rattle.w4_defs.specs.Causes.{Ends, LeavesErr};
 ghost use Rattle.w4_defs.specs.Live.{Talk};
 ghost use Rattle.w4_defs.specs.Meaning.{RunsHaveMeaning};
-ghost use Rattle.w4_defs.specs.Output.{blank_output, checked, disk_output, edit_output, images_output, place_texts_from, texts_output, written};
+ghost use Rattle.w4_defs.specs.Output.{blank_output, checked, disk_output, images_output, place_texts_from, texts_output, written};
 ghost use Rattle.w4_defs.specs.Outputs.{OutputsBy, OutputsOn, OverCart};
 ghost use Rattle.w4_defs.specs.World.{LeavesWriting};
 ghost use Rattle.w4_commands.specs.Causes.{EndsDone, MakesOf, Written, finished};
-ghost use Rattle.w4_commands.specs.Views.{cart_view, command_view, edit_view, form_view, played_view, run_view};
+ghost use Rattle.w4_commands.specs.Views.{cart_view, command_view, form_view, played_view, run_view};
 
 use crate::batch::run_list;
 use crate::compare::run_compare;
-use crate::edit::carry_out;
-use crate::forms::{Command, EditNames, Form, RunNames, cart_name};
-use crate::load::{Played, frame_count, load_cart, load_edit, load_run, load_run_to};
+use crate::edit::run_edit;
+use crate::forms::{Command, Form, RunNames, cart_name};
+use crate::load::{Played, frame_count, load_cart, load_run, load_run_to};
 use crate::make::make_cart;
 use crate::net::run_net;
-use crate::place_text::write_places;
+use crate::place_text::{WantedTexts, write_places};
 use crate::places::Places;
 use crate::ram::run_ram;
 use crate::recordings::{run_blank, run_blank_disk, run_rebind, write_inputs};
@@ -34,24 +34,28 @@ use w4_cart::CartFile;
 use w4_console::laws::accepted_runs_have_meaning;
 use w4_defs::{Finish, PlaceText, Refusal};
 use w4_house::House;
-use w4_segments::Gate;
-use wasm_valid::Cart;
+use w4_segments::{Gate, Resources};
+use wasm_register::Cart;
 
-/// Carries out a form. Writes nothing to standard error.
+/// Carries out a form, over a cart that is judged first, if it names one. Writes nothing to standard error.
 pub fn run_form<R: Threads + Sync, H: House, G: Gate + Sync>(
-    rt: &R,
-    alloc: Global,
+    resources: &Resources<'_, R, G>,
     house: &mut H,
     form: Form<'_>,
-    gate: &G,
 ) -> Result<Finish, Refusal>
     ensures ends { Ends (H.world house.old) (H.world house.new) result (OutputsBy (form_view form.entry)) }
     ensures err { LeavesErr (H.world house.old) (H.world house.new) }
 {
+    let alloc = resources.alloc;
     match form {
         Form::Make(number) => finish(make_cart(alloc, house, number)),
         Form::Inputs(name) => finish(write_inputs(alloc, house, name)),
-        Form::OnCart(command) => over_cart(rt, alloc, house, command, gate),
+        Form::OnCart(command) => {
+            accepted_runs_have_meaning();
+            let name = cart_name(&command);
+            let file = load_cart(alloc, house, name)?;
+            run_on_cart(resources, house, file, command)
+        }
     }
 }
 
@@ -65,37 +69,19 @@ fn finish(end: Result<(), Refusal>) -> Result<Finish, Refusal>
     }
 }
 
-/// Judges the cart, and carries out the rest with it.
-fn over_cart<R: Threads + Sync, H: House, G: Gate + Sync>(
-    rt: &R,
-    alloc: Global,
-    house: &mut H,
-    command: Command<'_>,
-    gate: &G,
-) -> Result<Finish, Refusal>
-    ensures ends { Ends (H.world house.old) (H.world house.new) result (OutputsBy (command_view command.entry)) }
-    ensures err { LeavesErr (H.world house.old) (H.world house.new) }
-{
-    accepted_runs_have_meaning();
-    let name = cart_name(&command);
-    let file = load_cart(alloc, house, name)?;
-    run_on_cart(rt, alloc, house, file, command, gate)
-}
-
 /// Carries out a command with an accepted cart, whose runs have a meaning.
 fn run_on_cart<R: Threads + Sync, H: House, G: Gate + Sync>(
-    rt: &R,
-    alloc: Global,
+    resources: &Resources<'_, R, G>,
     house: &mut H,
     file: CartFile,
     command: Command<'_>,
-    gate: &G,
 ) -> Result<Finish, Refusal>
     requires meaning { RunsHaveMeaning file.cart }
     ensures ends { Ends (H.world house.old) (H.world house.new) result (λ files output. (talk : Talk)
         × OutputsOn (command_view command.entry) talk (cart_view file) files output) }
     ensures err { LeavesErr (H.world house.old) (H.world house.new) }
 {
+    let alloc = resources.alloc;
     match command {
         Command::Check(_) => finish(run_check(alloc, house)),
         Command::Blank(_, budget) => finish(run_blank(alloc, house, &file, budget)),
@@ -110,11 +96,11 @@ fn run_on_cart<R: Threads + Sync, H: House, G: Gate + Sync>(
         Command::Units(names) => finish(run_units(alloc, house, &file, names)),
         Command::Wave(names) => finish(run_wave(alloc, house, &file, names)),
         Command::Ram(names, query) => finish(run_ram(alloc, house, file, names, query)),
-        Command::Edit(names) => finish(run_edit(rt, alloc, house, file, names, gate)),
-        Command::Serve(names) => finish(run_serve(rt, alloc, house, file, names, gate)),
+        Command::Edit(names) => finish(run_edit(resources, house, file, names)),
+        Command::Serve(names) => finish(run_serve(resources, house, file, names)),
         Command::Compare(names) => run_compare(alloc, house, &file, names),
         Command::Net(names) => finish(run_net(alloc, house, file, names)),
-        Command::Batch(names) => finish(run_list(rt, alloc, house, &file, names, gate)),
+        Command::Batch(names) => finish(run_list(resources, house, &file, names)),
     }
 }
 
@@ -143,7 +129,12 @@ fn run_frames<H: House>(
 {
     let (from, to) = (places.from as usize, places.to as usize);
     let run = load_run_to(alloc, house, &file.digest, names, places.to)?;
-    write_run(alloc, house, &file.cart, &run, PlaceText::Image, from, to)
+    let wanted = WantedTexts {
+        text: PlaceText::Image,
+        from,
+        to,
+    };
+    write_run(alloc, house, &file.cart, &run, wanted)
 }
 
 /// `tones CART REC FONT` or `trace CART REC FONT`.
@@ -162,7 +153,12 @@ fn run_texts<H: House>(
 {
     let run = load_run(alloc, house, &file.digest, names)?;
     let n = frame_count(&run);
-    write_run(alloc, house, &file.cart, &run, wanted, 0, n)
+    let wanted = WantedTexts {
+        text: wanted,
+        from: 0,
+        to: n,
+    };
+    write_run(alloc, house, &file.cart, &run, wanted)
 }
 
 /// `disk CART REC FONT PLACE`.
@@ -179,43 +175,27 @@ fn run_disk<H: House>(
         (MakesOf (λ files. disk_output (run_view names.entry) place (cart_view file.now) files)) }
     ensures err { LeavesErr (H.world house.old) (H.world house.new) }
 {
-    let at = place as usize;
     let run = load_run_to(alloc, house, &file.digest, names, place)?;
-    write_run(alloc, house, &file.cart, &run, PlaceText::DiskBytes, at, at)
+    let wanted = WantedTexts {
+        text: PlaceText::DiskBytes,
+        from: place as usize,
+        to: place as usize,
+    };
+    write_run(alloc, house, &file.cart, &run, wanted)
 }
 
-/// `edit CART REC FONT SCRIPT OUT`.
-#[tactic(auto, unfolding(w4_defs::specs::Output::edit_output))]
-fn run_edit<R: Threads + Sync, H: House, G: Gate + Sync>(
-    rt: &R,
-    alloc: Global,
-    house: &mut H,
-    file: CartFile,
-    names: EditNames<'_>,
-    gate: &G,
-) -> Result<(), Refusal>
-    requires meaning { RunsHaveMeaning file.cart }
-    ensures ends { EndsDone (H.world house.old) (H.world house.new) result
-        (MakesOf (λ files. edit_output (edit_view names.entry) (cart_view file) files)) }
-    ensures err { LeavesErr (H.world house.old) (H.world house.new) }
-{
-    let loaded = load_edit(alloc, house, &file.digest, names)?;
-    carry_out(rt, alloc, house, file.cart, loaded, names.out, gate)
-}
-
-/// Writes the texts of the places `from` to `to` of a run, and nothing else.
+/// Writes texts of places of a run, and nothing else.
 fn write_run<H: House>(
     alloc: Global,
     house: &mut H,
     cart: &Cart,
     run: &Played,
-    wanted: PlaceText,
-    from: usize,
-    to: usize,
+    wanted: WantedTexts,
 ) -> Result<(), Refusal>
-    requires order { from ≤ to }
-    requires place { to ≤ length run.now.recording.frames }
-    ensures out { ForSome (place_texts_from wanted cart.now (played_view run.now) from (to + 1 - from))
+    requires order { wanted.from ≤ wanted.to }
+    requires place { wanted.to ≤ length run.now.recording.frames }
+    ensures out { ForSome (place_texts_from wanted.text cart.now (played_view run.now) wanted.from
+        (wanted.to + 1 - wanted.from))
         (λ text. Written (H.world house.old) (H.world house.new) result text) }
     ensures rest { LeavesWriting (H.world house.old) (H.world house.new) }
 {
@@ -228,5 +208,5 @@ fn write_run<H: House>(
         budget: recording.budget,
     };
     let inputs = recording.frames.as_slice();
-    write_places(alloc, house, &mut stage, &scene, inputs, wanted, from, to)
+    write_places(alloc, house, &mut stage, &scene, inputs, wanted)
 }

@@ -28,7 +28,7 @@ use w4_defs::{Finish, Input, OutOfMemory, Refusal};
 use w4_font::Font;
 use w4_house::House;
 use w4_record::Recording;
-use wasm_valid::Cart;
+use wasm_register::Cart;
 
 /// The recordings and the font of two runs.
 #[derive(Drop)]

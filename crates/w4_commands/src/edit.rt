@@ -1,27 +1,89 @@
 //! An edit: the answers to its orders, and then the file of the edited recording.
 
+ghost use Rattle.std.specs.Prelude.{◌≡◌, ◌<◌};
 ghost use Rattle.std.specs.Option.{ForSome};
 ghost use Rattle.w4_defs.specs.Recording.{encoding};
 ghost use Rattle.w4_defs.specs.World.{LeavesSaving};
 ghost use Rattle.w4_commands.specs.ScriptAnswers.{answers_by, recording_by};
-ghost use Rattle.w4_defs.specs.Output.{edit_answers, edited_recording};
+ghost use Rattle.w4_defs.specs.Meaning.{RunsHaveMeaning};
+ghost use Rattle.w4_defs.specs.Output.{edit_answers, edit_output, edited_recording};
 ghost use Rattle.w4_defs.specs.Causes.{LeavesErr};
-ghost use Rattle.w4_commands.specs.Causes.{Carried, Replaces};
-ghost use Rattle.w4_commands.specs.Views.{loaded_view};
+ghost use Rattle.w4_commands.specs.Causes.{Carried, EndsDone, MakesOf, Replaces};
+ghost use Rattle.w4_commands.specs.Views.{cart_view, edit_view, loaded_view};
 
 use crate::desk::{Desk, new_desk};
-use crate::load::{Loaded, Played};
-use crate::script_answers::answer_script;
+use crate::forms::EditNames;
+use crate::load::{Loaded, load_edit};
+use crate::script_answers::answer_all;
 use crate::writing::write_refusal;
 use std::alloc::Global;
 use std::marker::Brand;
-use std::sync::ledger::Blank;
+use std::sync::ledger::{Blank, Ledger};
 use std::thread::Threads;
+use w4_cart::CartFile;
 use w4_defs::{Order, Refusal};
 use w4_house::House;
 use w4_record::write_recording;
-use w4_segments::Gate;
-use wasm_valid::Cart;
+use w4_segments::{Gate, Resources};
+use wasm_register::Cart;
+
+/// `edit CART REC FONT SCRIPT OUT`.
+#[tactic(auto, unfolding(w4_defs::specs::Output::edit_output))]
+pub fn run_edit<R: Threads + Sync, H: House, G: Gate + Sync>(
+    resources: &Resources<'_, R, G>,
+    house: &mut H,
+    file: CartFile,
+    names: EditNames<'_>,
+) -> Result<(), Refusal>
+    requires meaning { RunsHaveMeaning file.cart }
+    ensures ends { EndsDone (H.world house.old) (H.world house.new) result
+        (MakesOf (λ files. edit_output (edit_view names.entry) (cart_view file) files)) }
+    ensures err { LeavesErr (H.world house.old) (H.world house.new) }
+{
+    let loaded = load_edit(resources.alloc, house, &file.digest, names)?;
+    carry_out::<Brand, R, H, G>(resources, house, file.cart, loaded, names, Blank::new(1))
+}
+
+/// Opens the recording, answers all orders, and saves the edited recording. The frames that are run have a
+/// count of their own.
+fn carry_out<L: Ledger, R: Threads + Sync, H: House, G: Gate + Sync>(
+    resources: &Resources<'_, R, G>,
+    house: &mut H,
+    cart: Cart,
+    loaded: Loaded,
+    names: EditNames<'_>,
+    blank: Blank,
+) -> Result<(), Refusal>
+    requires name { blank.name ≡ L.name }
+    requires parts { blank.parts ≡ L.parts }
+    requires some { 0 < L.parts }
+    ensures carried { ForSome (edit_answers cart (loaded_view loaded)).out
+        (λ out. Carried (H.world house.old) (H.world house.new) result out names.entry.out.now
+        (encoding 2 (edited_recording cart (loaded_view loaded)))) }
+    ensures err { LeavesErr (H.world house.old) (H.world house.new) }
+{
+    let Loaded { run, orders } = loaded;
+    let mut desk: Desk<L> = new_desk(resources.alloc, cart, run, blank)?;
+    answer_and_save(resources, house, &mut desk, orders.as_slice(), names.out)
+}
+
+/// Answers orders at a desk, and saves the edited recording once the last of them is answered.
+fn answer_and_save<L: Ledger, R: Threads + Sync, H: House, G: Gate + Sync>(
+    resources: &Resources<'_, R, G>,
+    house: &mut H,
+    desk: &mut Desk<L>,
+    orders: &[Order],
+    name: &str,
+) -> Result<(), Refusal>
+    ensures carried { ForSome (answers_by desk.old.counted.editor orders.now).out
+        (λ out. Carried (H.world house.old) (H.world house.new) result out name.now
+        (encoding 2 (recording_by desk.old.counted.editor orders.now))) }
+    ensures err { LeavesErr (H.world house.old) (H.world house.new) }
+{
+    answer_all(resources, house, desk, orders)?;
+    let bytes = write_recording(resources.alloc, desk.counted.editor.recording())?;
+    save(resources.alloc, house, name, bytes.as_slice())
+}
 
 /// Makes a file of exactly these bytes, replaced whole.
 pub fn save<H: House>(alloc: Global, house: &mut H, name: &str, bytes: &[u8]) -> Result<(), Refusal>
@@ -32,46 +94,4 @@ pub fn save<H: House>(alloc: Global, house: &mut H, name: &str, bytes: &[u8]) ->
         Ok(()) => Ok(()),
         Err(refusal) => Err(write_refusal(refusal)),
     }
-}
-
-/// Answers orders at a desk, and saves the edited recording once the last of them is answered.
-fn answer_and_save<R: Threads + Sync, H: House, G: Gate + Sync>(
-    rt: &R,
-    alloc: Global,
-    house: &mut H,
-    desk: &mut Desk,
-    orders: &[Order],
-    name: &str,
-    gate: &G,
-) -> Result<(), Refusal>
-    ensures carried { ForSome (answers_by desk.old.editor orders.now).out
-        (λ out. Carried (H.world house.old) (H.world house.new) result out name.now
-        (encoding 2 (recording_by desk.old.editor orders.now))) }
-    ensures err { LeavesErr (H.world house.old) (H.world house.new) }
-{
-    let blank = Blank::new(1);
-    answer_script::<Brand, R, H, G>(rt, alloc, house, desk, orders, gate, blank)?;
-    let bytes = write_recording(alloc, desk.editor.recording())?;
-    save(alloc, house, name, bytes.as_slice())
-}
-
-/// Opens the recording, answers all orders, and saves the edited recording.
-pub fn carry_out<R: Threads + Sync, H: House, G: Gate + Sync>(
-    rt: &R,
-    alloc: Global,
-    house: &mut H,
-    cart: Cart,
-    loaded: Loaded,
-    name: &str,
-    gate: &G,
-) -> Result<(), Refusal>
-    ensures carried { ForSome (edit_answers cart (loaded_view loaded)).out
-        (λ out. Carried (H.world house.old) (H.world house.new) result out name.now
-        (encoding 2 (edited_recording cart (loaded_view loaded)))) }
-    ensures err { LeavesErr (H.world house.old) (H.world house.new) }
-{
-    let Loaded { run, orders } = loaded;
-    let Played { recording, font } = run;
-    let mut desk = new_desk(alloc, cart, font, recording)?;
-    answer_and_save(rt, alloc, house, &mut desk, orders.as_slice(), name, gate)
 }

@@ -11,6 +11,7 @@ ghost use Rattle.w4_commands.specs.Causes.{Written};
 ghost use Rattle.w4_commands.specs.ScriptAnswers.{GivesAnswer, OnlyShows, images_in};
 ghost use Rattle.w4_editor.specs.PlaceSession.{place_session};
 ghost use Rattle.w4_segments.specs.FilmPieces.{IsFilming, images_left};
+ghost use Rattle.w4_segments.specs.Settling.{IsSettledWide};
 
 use crate::refusal::refuse;
 use crate::shape::Shape;
@@ -21,7 +22,7 @@ use w4_editor::Editor;
 use w4_editor::places::last_place;
 use w4_house::House;
 use w4_image::{IMAGE_LEN, Screen, screen_into};
-use w4_segments::{FilmPieces, FilmRefusal, Gate, settle_wide};
+use w4_segments::{FilmPieces, FilmRefusal, Gate, Resources, settle_wide};
 
 /// A number of workers, within the range that scripts have for it.
 fn worker_count(workers: u32) -> usize
@@ -34,14 +35,12 @@ fn worker_count(workers: u32) -> usize
 
 /// The answer of `film`: at most 600 images.
 pub fn answer_film<S: Shape, R: Threads + Sync, H: House, G: Gate + Sync>(
-    rt: &R,
-    alloc: Global,
+    resources: &Resources<'_, R, G>,
     house: &mut H,
     editor: &mut Editor,
     a: u32,
     b: u32,
     workers: u32,
-    gate: &G,
 ) -> Result<(), Refusal>
     ensures answered { GivesAnswer (H.world house.old) (H.world house.new) result
         editor.old editor.new
@@ -50,6 +49,7 @@ pub fn answer_film<S: Shape, R: Threads + Sync, H: House, G: Gate + Sync>(
         (place_session editor.old) a b)) }
     ensures rest { LeavesWriting (H.world house.old) (H.world house.new) }
 {
+    let (rt, alloc) = (resources.rt, resources.alloc);
     let (from, to) = (a as usize, b as usize);
     if to > last_place(editor) {
         return refuse::<S, H>(alloc, house, EditRefusal::NoFrame);
@@ -59,7 +59,7 @@ pub fn answer_film<S: Shape, R: Threads + Sync, H: House, G: Gate + Sync>(
         return Ok(());
     }
     match FilmPieces::begin(rt, alloc, editor, from, to, worker_count(workers)) {
-        Ok(mut film) => write_film::<S, R, H, G>(rt, alloc, house, &mut film, editor, gate),
+        Ok(mut film) => write_film::<S, R, H, G>(resources, house, &mut film, editor),
         Err(FilmRefusal::NoFrame) => refuse::<S, H>(alloc, house, EditRefusal::NoFrame),
         Err(FilmRefusal::FilmTooLong) => S::write(alloc, house, b"refused too long\n"),
         Err(FilmRefusal::OutOfMemory) => Err(Refusal::OutOfMemory),
@@ -69,21 +69,19 @@ pub fn answer_film<S: Shape, R: Threads + Sync, H: House, G: Gate + Sync>(
 /// Writes a film a piece at a time, so that only the pieces that its workers make at once are held, and only
 /// one image.
 fn write_film<S: Shape, R: Threads + Sync, H: House, G: Gate + Sync>(
-    rt: &R,
-    alloc: Global,
+    resources: &Resources<'_, R, G>,
     house: &mut H,
     film: &mut FilmPieces,
     editor: &Editor,
-    gate: &G,
 ) -> Result<(), Refusal>
     requires { IsFilming film.old editor.now }
     ensures out { ForSome (option_map (images_in S.form) (images_left film.old editor.now))
         (λ images. Written (H.world house.old) (H.world house.new) result images) }
     ensures rest { LeavesWriting (H.world house.old) (H.world house.new) }
 {
-    let mut image_bytes = Box::new(alloc, [0; IMAGE_LEN])?;
-    while film.next_piece(rt, editor, gate)? {
-        write_images::<S, H>(alloc, house, film.screens(), &mut image_bytes)?;
+    let mut image_bytes = Box::new(resources.alloc, [0; IMAGE_LEN])?;
+    while film.next_piece(resources.rt, editor, resources.gate)? {
+        write_images::<S, H>(resources.alloc, house, film.screens(), &mut image_bytes)?;
     }
     Ok(())
 }
@@ -108,14 +106,13 @@ fn write_images<S: Shape, H: House>(
 
 /// Brings all kept places up to date.
 pub fn settle_by_workers<R: Threads + Sync, G: Gate + Sync>(
-    rt: &R,
-    alloc: Global,
+    resources: &Resources<'_, R, G>,
     editor: &mut Editor,
     workers: u32,
-    gate: &G,
 ) -> Result<(), OutOfMemory>
     ensures shows { OnOk result (OnlyShows editor.old editor.new) }
     ensures recording { current_recording editor.new ≡ current_recording editor.old }
+    ensures settled { OnOk result (IsSettledWide editor.old editor.new) }
 {
-    settle_wide(rt, alloc, editor, worker_count(workers), gate)
+    settle_wide(resources, editor, worker_count(workers))
 }

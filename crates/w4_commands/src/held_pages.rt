@@ -12,12 +12,12 @@ ghost use Rattle.w4_commands.specs.Causes.{Written};
 ghost use Rattle.w4_commands.specs.RamAnswers.{AreHeld, editor_pages};
 ghost use Rattle.w4_commands.specs.ScriptAnswers.{OnlyShows};
 
-use crate::ram_answers::{answer_watch, watched_line};
+use crate::counted_editor::CountedEditor;
+use crate::ram_answers::{Watched, answer_watch, watched_line};
 use crate::shape::{Plain, Shape};
 use std::alloc::Global;
 use std::sync::ledger::Ledger;
-use w4_defs::{OutOfMemory, Refusal, Steps};
-use w4_editor::Editor;
+use w4_defs::{OutOfMemory, Refusal};
 use w4_editor::places::last_place;
 use w4_house::House;
 use w4_inspect::{PlacePages, RamRefusal};
@@ -30,30 +30,27 @@ const MOST_PLACES: usize = 256;
 pub fn answer_held<L: Ledger, H: House>(
     alloc: Global,
     house: &mut H,
-    editor: &mut Editor,
+    counted: &mut CountedEditor<L>,
     held: &mut Option<PlacePages>,
-    address: u32,
-    width: u32,
-    a: u32,
-    b: u32,
+    watched: Watched,
     again: bool,
-    steps: &mut Steps<L>,
 ) -> Result<(), Refusal>
-    requires width { IsWidth width }
-    requires order { a ≤ b }
-    requires held { AreHeld editor.old held.old }
-    ensures out { ForSome (watch_text as_it_stands (editor_pages editor.old) address width a b)
+    requires known { IsWidth watched.width }
+    requires held { AreHeld counted.old.editor held.old }
+    ensures out { ForSome (watch_text as_it_stands (editor_pages counted.old.editor) watched.address
+        watched.width watched.a watched.b)
         (λ text. Written (H.world house.old) (H.world house.new) result text) }
-    ensures shows { OnOk result (OnlyShows editor.old editor.new) }
-    ensures held { OnOk result (AreHeld editor.new held.new) }
+    ensures shows { OnOk result (OnlyShows counted.old.editor counted.new.editor) }
+    ensures held { OnOk result (AreHeld counted.new.editor held.new) }
     ensures rest { LeavesWriting (H.world house.old) (H.world house.new) }
 {
-    hold_pages(alloc, editor, held, a as usize, b as usize, again, steps)?;
+    let (a, b) = (watched.a as usize, watched.b as usize);
+    hold_pages(alloc, counted, held, a, b, again)?;
     match held {
-        Some(pages) if pages.are_at(a as usize, b as usize) => {
-            answer_from_pages(alloc, house, pages, address, width)
+        Some(pages) if pages.are_at(a, b) => {
+            answer_from_pages(alloc, house, pages, watched.address, watched.width)
         }
-        _ => answer_watch::<Plain, L, H>(alloc, house, editor, address, width, a, b, steps),
+        _ => answer_watch::<Plain, L, H>(alloc, house, counted, watched),
     }
 }
 
@@ -61,23 +58,22 @@ pub fn answer_held<L: Ledger, H: House>(
 /// many.
 fn hold_pages<L: Ledger>(
     alloc: Global,
-    editor: &mut Editor,
+    counted: &mut CountedEditor<L>,
     held: &mut Option<PlacePages>,
     a: usize,
     b: usize,
     wanted: bool,
-    steps: &mut Steps<L>,
 ) -> Result<(), OutOfMemory>
     requires order { a ≤ b }
-    requires held { AreHeld editor.old held.old }
-    ensures shows { OnOk result (OnlyShows editor.old editor.new) }
-    ensures held { OnOk result (AreHeld editor.new held.new) }
+    requires held { AreHeld counted.old.editor held.old }
+    ensures shows { OnOk result (OnlyShows counted.old.editor counted.new.editor) }
+    ensures held { OnOk result (AreHeld counted.new.editor held.new) }
 {
-    if !wanted || are_held(held, a, b) || b > last_place(editor) || b - a >= MOST_PLACES {
+    if !wanted || are_held(held, a, b) || b > last_place(&counted.editor) || b - a >= MOST_PLACES {
         return Ok(());
     }
     *held = None;
-    let pages = PlacePages::read(alloc, editor, a, b, steps)?;
+    let pages = PlacePages::read(alloc, &mut counted.editor, a, b, &mut counted.steps)?;
     *held = Some(pages);
     Ok(())
 }

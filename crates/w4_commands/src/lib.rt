@@ -8,6 +8,7 @@ pub mod budget;
 mod change_answer;
 pub mod commands;
 mod compare;
+mod counted_editor;
 mod desk;
 mod differences;
 mod edit;

@@ -21,36 +21,33 @@ use crate::writing::write_bytes;
 use std::alloc::Global;
 use std::sync::ledger::Ledger;
 use std::thread::Threads;
-use w4_defs::{LiveOrder, Refusal, Steps};
+use w4_defs::{LiveOrder, Refusal};
 use w4_house::House;
 use w4_inspect::Search;
 use w4_script::{Asked, read_live_line};
-use w4_segments::Gate;
+use w4_segments::{Gate, Resources};
 
 /// Answers a line: in pieces, and then the end.
 pub fn answer_live_line<L: Ledger, R: Threads + Sync, H: House, G: Gate + Sync>(
-    rt: &R,
-    alloc: Global,
+    resources: &Resources<'_, R, G>,
     house: &mut H,
-    desk: &mut Desk,
+    desk: &mut Desk<L>,
     search: &mut Option<Search>,
     line: &[u8],
     out: &str,
-    gate: &G,
-    steps: &mut Steps<L>,
 ) -> Result<(), Refusal>
     ensures answers { (o : Opened) (s : LiveSession) → RunsHaveMeaning o.cart → o.out ≡ out.now
-        → Sits o s desk.old.editor search.old
+        → Sits o s desk.old.counted.editor search.old
         → AnswersLine (H.world house.old) (H.world house.new) result o s line.now
-        desk.new.editor search.new }
+        desk.new.counted.editor search.new }
     ensures rest { LeavesServing (H.world house.old) (H.world house.new) }
 {
     let asked = read_live_line(line);
     if is_save(&asked) {
-        return answer_save(alloc, house, desk, out);
+        return answer_save(resources.alloc, house, desk, out);
     }
-    answer_pieces(rt, alloc, house, desk, search, &asked, gate, steps)?;
-    write_bytes(alloc, house, b"0\n")
+    answer_pieces(resources, house, desk, search, &asked)?;
+    write_bytes(resources.alloc, house, b"0\n")
 }
 
 /// Whether a line asks for OUT to be saved.
@@ -67,67 +64,62 @@ fn is_save(asked: &Asked) -> bool
 
 /// Writes the pieces of an answer.
 fn answer_pieces<L: Ledger, R: Threads + Sync, H: House, G: Gate + Sync>(
-    rt: &R,
-    alloc: Global,
+    resources: &Resources<'_, R, G>,
     house: &mut H,
-    desk: &mut Desk,
+    desk: &mut Desk<L>,
     search: &mut Option<Search>,
     asked: &Asked,
-    gate: &G,
-    steps: &mut Steps<L>,
 ) -> Result<(), Refusal>
     requires { IsAsked asked.now }
-    ensures gives { (o : Opened) (s : LiveSession) → Sits o s desk.old.editor search.old
+    ensures gives { (o : Opened) (s : LiveSession) → Sits o s desk.old.counted.editor search.old
         → GivesPieces (H.world house.old) (H.world house.new) result o s
-        (asked_answer o s (asked_view asked.now)) desk.new.editor search.new }
+        (asked_answer o s (asked_view asked.now)) desk.new.counted.editor search.new }
     ensures rest { LeavesWriting (H.world house.old) (H.world house.new) }
 {
     match *asked {
         Asked::Nothing => Ok(()),
-        Asked::NoOrder => Framed::write(alloc, house, b"refused no order\n"),
-        Asked::Order(order) => answer_order(rt, alloc, house, desk, search, &order, gate, steps),
+        Asked::NoOrder => Framed::write(resources.alloc, house, b"refused no order\n"),
+        Asked::Order(order) => answer_order(resources, house, desk, search, &order),
     }
 }
 
 /// Writes the pieces of an order's answer; `save` has none here.
 fn answer_order<L: Ledger, R: Threads + Sync, H: House, G: Gate + Sync>(
-    rt: &R,
-    alloc: Global,
+    resources: &Resources<'_, R, G>,
     house: &mut H,
-    desk: &mut Desk,
+    desk: &mut Desk<L>,
     search: &mut Option<Search>,
     order: &LiveOrder,
-    gate: &G,
-    steps: &mut Steps<L>,
 ) -> Result<(), Refusal>
     requires { IsLiveOrder order.now }
-    ensures gives { (o : Opened) (s : LiveSession) → Sits o s desk.old.editor search.old
+    ensures gives { (o : Opened) (s : LiveSession) → Sits o s desk.old.counted.editor search.old
         → GivesPieces (H.world house.old) (H.world house.new) result o s
         (live_answer framed (run_setup o.cart o.run) o.run.recording.disk s order.now)
-        desk.new.editor search.new }
+        desk.new.counted.editor search.new }
     ensures rest { LeavesWriting (H.world house.old) (H.world house.new) }
 {
+    let alloc = resources.alloc;
     match *order {
         LiveOrder::Script { order } => {
-            answer::<Framed, L, R, H, G>(rt, alloc, house, desk, &order, gate, steps)
+            answer::<Framed, L, R, H, G>(resources, house, desk, &order)
         }
         LiveOrder::Query { ask } => {
-            answer_line::<Framed, L, H>(alloc, house, &mut desk.editor, search, &ask, steps)
+            answer_line::<Framed, L, H>(alloc, house, &mut desk.counted, search, &ask)
         }
         LiveOrder::Save => Ok(()),
-        _ => answer_own::<Framed, L, H>(alloc, house, desk, order, steps),
+        _ => answer_own::<Framed, L, H>(alloc, house, desk, order),
     }
 }
 
 /// Saves the recording, and answers with how that ended.
-fn answer_save<H: House>(
+fn answer_save<L: Ledger, H: House>(
     alloc: Global,
     house: &mut H,
-    desk: &Desk,
+    desk: &Desk<L>,
     out: &str,
 ) -> Result<(), Refusal>
     ensures saves { (o : Opened) (s : LiveSession) → o.out ≡ out.now
-        → current_recording desk.now.editor ≡ recording_left o s
+        → current_recording desk.now.counted.editor ≡ recording_left o s
         → AnswersSave (H.world house.old) (H.world house.new) result o s }
     ensures rest { LeavesServing (H.world house.old) (H.world house.new) }
 {

@@ -25,7 +25,7 @@ use w4_font::Font;
 use w4_house::House;
 use w4_record::digest_of;
 use wasm_read::at_most_one;
-use wasm_valid::Cart;
+use wasm_register::Cart;
 use wasm_write::laws::made_modules_are_carts;
 use wasm_write::{Made, Maker};
 

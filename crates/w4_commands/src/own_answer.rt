@@ -11,10 +11,12 @@ ghost use Rattle.w4_defs.specs.State.{State};
 ghost use Rattle.w4_defs.specs.World.{LeavesWriting};
 ghost use Rattle.w4_editor.specs.Editing.{current_recording, editing_setup};
 ghost use Rattle.w4_editor.specs.PlaceSession.{place_session};
+ghost use Rattle.w4_commands.specs.AnswerFrames.{OwnWithin, RunsOn};
 ghost use Rattle.w4_commands.specs.Causes.{Written};
 ghost use Rattle.w4_commands.specs.OwnAnswers.{IsOwn};
 ghost use Rattle.w4_commands.specs.ScriptAnswers.{OnlyShows};
 
+use crate::counted_editor::CountedEditor;
 use crate::desk::Desk;
 use crate::inputs_text::add_input_lines;
 use crate::shape::Shape;
@@ -23,7 +25,7 @@ use crate::units_answer::answer_units;
 use std::alloc::Global;
 use std::sync::ledger::Ledger;
 use w4_defs::live::LiveOrder;
-use w4_defs::{OutOfMemory, Refusal, Steps, Val};
+use w4_defs::{OutOfMemory, Refusal, Val};
 use w4_editor::Editor;
 use w4_editor::places::last_place;
 use w4_house::House;
@@ -33,28 +35,32 @@ use w4_map::State;
 pub fn answer_own<S: Shape, L: Ledger, H: House>(
     alloc: Global,
     house: &mut H,
-    desk: &mut Desk,
+    desk: &mut Desk<L>,
     order: &LiveOrder,
-    steps: &mut Steps<L>,
 ) -> Result<(), Refusal>
-    ensures out { (s : LiveSession) → place_session desk.old.editor ≡ s.session → IsOwn order.now
-        → ForSome (live_answer S.form (editing_setup desk.old.editor) desk.old.editor.disk s order.now).out
+    ensures out { (s : LiveSession) → place_session desk.old.counted.editor ≡ s.session → IsOwn order.now
+        → ForSome (live_answer S.form (editing_setup desk.old.counted.editor) desk.old.counted.editor.disk s
+        order.now).out
         (λ out. Written (H.world house.old) (H.world house.new) result out) }
     ensures session { (s : LiveSession) → IsOwn order.now
-        → (live_answer S.form (editing_setup desk.old.editor) desk.old.editor.disk s order.now).session ≡ s }
-    ensures shows { OnOk result (IsOwn order.now → OnlyShows desk.old.editor desk.new.editor) }
-    ensures recording { current_recording desk.new.editor ≡ current_recording desk.old.editor }
+        → (live_answer S.form (editing_setup desk.old.counted.editor) desk.old.counted.editor.disk s
+        order.now).session ≡ s }
+    ensures shows { OnOk result (IsOwn order.now → OnlyShows desk.old.counted.editor desk.new.counted.editor) }
+    ensures recording { current_recording desk.new.counted.editor
+        ≡ current_recording desk.old.counted.editor }
     ensures rest { LeavesWriting (H.world house.old) (H.world house.new) }
+    ensures frames_run { OnOk result (OwnWithin order.now desk.old.counted.steps desk.new.counted.steps
+        desk.old.counted.editor desk.new.counted.editor) }
 {
     match order {
-        LiveOrder::PageAt { p } => {
-            answer_page::<S, L, H>(alloc, house, &mut desk.editor, *p, steps)
-        }
+        LiveOrder::PageAt { p } => answer_page::<S, L, H>(alloc, house, &mut desk.counted, *p),
         LiveOrder::GlobalsAt { p } => {
-            answer_globals::<S, L, H>(alloc, house, &mut desk.editor, *p, steps)
+            answer_globals::<S, L, H>(alloc, house, &mut desk.counted, *p)
         }
-        LiveOrder::Inputs { a, b } => answer_inputs::<S, H>(alloc, house, &desk.editor, *a, *b),
-        LiveOrder::Units { a, b } => answer_units::<S, L, H>(alloc, house, desk, *a, *b, steps),
+        LiveOrder::Inputs { a, b } => {
+            answer_inputs::<S, H>(alloc, house, &desk.counted.editor, *a, *b)
+        }
+        LiveOrder::Units { a, b } => answer_units::<S, L, H>(alloc, house, desk, *a, *b),
         LiveOrder::Script { .. } | LiveOrder::Query { .. } | LiveOrder::Save => Err(
             Refusal::OutOfMemory,
         ),
@@ -73,22 +79,24 @@ fn refuse_place<S: Shape, H: House>(alloc: Global, house: &mut H) -> Result<(), 
 fn answer_page<S: Shape, L: Ledger, H: House>(
     alloc: Global,
     house: &mut H,
-    editor: &mut Editor,
+    counted: &mut CountedEditor<L>,
     p: u32,
-    steps: &mut Steps<L>,
 ) -> Result<(), Refusal>
-    ensures out { ForSome (if_place S.form (place_session editor.old) p (option_map S.form
-        (run_page (editing_setup editor.old) editor.old.disk editor.old.session.current.inputs p)))
+    ensures out { ForSome (if_place S.form (place_session counted.old.editor) p (option_map S.form
+        (run_page (editing_setup counted.old.editor) counted.old.editor.disk
+        counted.old.editor.session.current.inputs p)))
         (λ out. Written (H.world house.old) (H.world house.new) result out) }
-    ensures shows { OnOk result (OnlyShows editor.old editor.new) }
-    ensures recording { current_recording editor.new ≡ current_recording editor.old }
+    ensures shows { OnOk result (OnlyShows counted.old.editor counted.new.editor) }
+    ensures recording { current_recording counted.new.editor ≡ current_recording counted.old.editor }
     ensures rest { LeavesWriting (H.world house.old) (H.world house.new) }
+    ensures frames_run { OnOk result (RunsOn p 0 counted.old.steps counted.new.steps
+        counted.old.editor counted.new.editor) }
 {
     let place = p as usize;
-    if place > last_place(editor) {
+    if place > last_place(&counted.editor) {
         return refuse_place::<S, H>(alloc, house);
     }
-    match editor.show(alloc, place, steps) {
+    match counted.editor.show(alloc, place, &mut counted.steps) {
         Ok(state) => write_page::<S, H>(alloc, house, state),
         Err(_) => Err(Refusal::OutOfMemory),
     }
@@ -110,23 +118,25 @@ fn write_page<S: Shape, H: House>(
 fn answer_globals<S: Shape, L: Ledger, H: House>(
     alloc: Global,
     house: &mut H,
-    editor: &mut Editor,
+    counted: &mut CountedEditor<L>,
     p: u32,
-    steps: &mut Steps<L>,
 ) -> Result<(), Refusal>
-    ensures out { ForSome (if_place S.form (place_session editor.old) p
+    ensures out { ForSome (if_place S.form (place_session counted.old.editor) p
         (option_map (λ (state : State). S.form (globals_text state.globals))
-        (run_state (editing_setup editor.old) editor.old.disk editor.old.session.current.inputs p)))
+        (run_state (editing_setup counted.old.editor) counted.old.editor.disk
+        counted.old.editor.session.current.inputs p)))
         (λ out. Written (H.world house.old) (H.world house.new) result out) }
-    ensures shows { OnOk result (OnlyShows editor.old editor.new) }
-    ensures recording { current_recording editor.new ≡ current_recording editor.old }
+    ensures shows { OnOk result (OnlyShows counted.old.editor counted.new.editor) }
+    ensures recording { current_recording counted.new.editor ≡ current_recording counted.old.editor }
     ensures rest { LeavesWriting (H.world house.old) (H.world house.new) }
+    ensures frames_run { OnOk result (RunsOn p 0 counted.old.steps counted.new.steps
+        counted.old.editor counted.new.editor) }
 {
     let place = p as usize;
-    if place > last_place(editor) {
+    if place > last_place(&counted.editor) {
         return refuse_place::<S, H>(alloc, house);
     }
-    match editor.show(alloc, place, steps) {
+    match counted.editor.show(alloc, place, &mut counted.steps) {
         Ok(state) => write_globals::<S, H>(alloc, house, state),
         Err(_) => Err(Refusal::OutOfMemory),
     }

@@ -16,6 +16,14 @@ use std::alloc::Global;
 use w4_defs::{Input, PlaceText, Refusal};
 use w4_house::House;
 
+/// The texts of one kind, of the places from one up to another.
+#[derive(Clone, Copy)]
+pub struct WantedTexts {
+    pub text: PlaceText,
+    pub from: usize,
+    pub to: usize,
+}
+
 /// Writes the text of the place where the stage stands.
 pub fn write_place<H: House>(
     alloc: Global,
@@ -47,33 +55,33 @@ pub fn write_place<H: House>(
     }
 }
 
-/// Writes the texts of the places `from` to `to`, so that memory doesn't grow with their number.
+/// Writes texts one after another, so that memory doesn't grow with their number.
 pub fn write_places<H: House>(
     alloc: Global,
     house: &mut H,
     stage: &mut Stage,
     scene: &Scene<'_>,
     inputs: &[Input],
-    wanted: PlaceText,
-    from: usize,
-    to: usize,
+    wanted: WantedTexts,
 ) -> Result<(), Refusal>
-    requires order { from ≤ to }
-    requires place { to ≤ length inputs.now }
+    requires order { wanted.from ≤ wanted.to }
+    requires place { wanted.to ≤ length inputs.now }
     requires disk { length scene.now.disk.now ≤ 1024 }
     requires budget { 1 ≤ scene.now.budget }
     requires globals { HasGlobals scene.now.cart.now stage.old.console }
     ensures out { ForSome (place_texts (λ place.
-        place_text as_it_stands wanted place
-        (run (scene_setup scene.now) scene.now.disk.now inputs.now place)) from (to + 1 - from))
+        place_text as_it_stands wanted.text place
+        (run (scene_setup scene.now) scene.now.disk.now inputs.now place))
+        wanted.from (wanted.to + 1 - wanted.from))
         (λ text. Written (H.world house.old) (H.world house.new) result text) }
     ensures rest { LeavesWriting (H.world house.old) (H.world house.new) }
 {
+    let WantedTexts { text, from, to } = wanted;
     run_to(stage, scene, inputs, from);
-    write_place(alloc, house, stage, wanted, from)?;
+    write_place(alloc, house, stage, text, from)?;
     for place in from..to {
         step(stage, scene, inputs, place);
-        write_place(alloc, house, stage, wanted, place + 1)?;
+        write_place(alloc, house, stage, text, place + 1)?;
     }
     Ok(())
 }

@@ -1,6 +1,6 @@
 //! `ram`: values and searches of memory, over the places of a recording.
 
-ghost use Rattle.std.specs.Prelude.{◌≡◌, ◌<◌, All, None, OnOk, length};
+ghost use Rattle.std.specs.Prelude.{◌≡◌, ◌<◌, All, OnOk, length};
 ghost use Rattle.std.specs.Option.{ForSome};
 ghost use Rattle.w4_defs.specs.Meaning.{RunsHaveMeaning};
 ghost use Rattle.w4_defs.specs.World.{LeavesWriting};
@@ -13,11 +13,12 @@ ghost use Rattle.w4_defs.specs.ToolOutputs.{ram_output, ram_text};
 ghost use Rattle.w4_commands.specs.Views.{cart_view, ram_loaded_view, run_view};
 
 use crate::change_answer::answer_change;
+use crate::counted_editor::CountedEditor;
 use crate::forms::RunNames;
 use crate::held_pages::answer_held;
 use crate::load::Played;
 use crate::load_tools::{RamLoaded, load_ram};
-use crate::ram_answers::answer_line;
+use crate::ram_answers::{Watched, answer_line};
 use crate::shape::Plain;
 use std::alloc::Global;
 use std::marker::Brand;
@@ -28,7 +29,15 @@ use w4_defs::{Order, Refusal, Steps};
 use w4_editor::Editor;
 use w4_house::House;
 use w4_inspect::{PlacePages, Search};
-use wasm_valid::Cart;
+use wasm_register::Cart;
+
+/// An editor with its count, the search that stands, and the pages that are held for the next line.
+#[derive(Drop)]
+struct QueryDesk<L: Ledger> {
+    counted: CountedEditor<L>,
+    search: Option<Search>,
+    held: Option<PlacePages>,
+}
 
 /// `ram CART REC FONT QUERY`.
 #[tactic(auto, unfolding(w4_defs::specs::ToolOutputs::ram_output))]
@@ -45,59 +54,55 @@ pub fn run_ram<H: House>(
     ensures err { LeavesErr (H.world house.old) (H.world house.new) }
 {
     let loaded = load_ram(alloc, house, &file.digest, names, query)?;
-    answer_query(alloc, house, file.cart, loaded)
+    answer_query::<Brand, H>(alloc, house, file.cart, loaded, Blank::new(1))
 }
 
-/// Opens the recording, and answers all lines of the query.
-fn answer_query<H: House>(
+/// Opens the recording, and answers all lines of the query. The frames that are run for them have a count of
+/// their own.
+fn answer_query<L: Ledger, H: House>(
     alloc: Global,
     house: &mut H,
     cart: Cart,
     loaded: RamLoaded,
+    blank: Blank,
 ) -> Result<(), Refusal>
-    requires { All IsQueryLine loaded.lines.items }
+    requires ranges { All IsQueryLine loaded.lines.items }
+    requires name { blank.name ≡ L.name }
+    requires parts { blank.parts ≡ L.parts }
+    requires some { 0 < L.parts }
     ensures out { ForSome (ram_text cart (ram_loaded_view loaded))
         (λ text. Written (H.world house.old) (H.world house.new) result text) }
     ensures rest { LeavesWriting (H.world house.old) (H.world house.new) }
 {
     let RamLoaded { run, lines } = loaded;
     let Played { recording, font } = run;
-    let mut editor = Editor::new(alloc, cart, font, recording)?;
-    answer_lines::<Brand, H>(alloc, house, &mut editor, lines.as_slice(), Blank::new(1))
+    let editor = Editor::new(alloc, cart, font, recording)?;
+    let steps: Steps<L> = Steps::new(blank);
+    let mut desk: QueryDesk<L> = QueryDesk {
+        counted: CountedEditor { editor, steps },
+        search: None,
+        held: None,
+    };
+    answer_lines(alloc, house, &mut desk, lines.as_slice())
 }
 
-/// Answers all lines. The frames that are run for them have a count of their own.
+/// Answers all lines.
 fn answer_lines<L: Ledger, H: House>(
     alloc: Global,
     house: &mut H,
-    editor: &mut Editor,
+    desk: &mut QueryDesk<L>,
     lines: &[QueryLine],
-    blank: Blank,
 ) -> Result<(), Refusal>
     requires ranges { All IsQueryLine lines.now }
-    requires name { blank.name ≡ L.name }
-    requires parts { blank.parts ≡ L.parts }
-    requires some { 0 < L.parts }
-    ensures out { ForSome (query_answers editor.old None lines.now).out
+    requires held { AreHeld desk.old.counted.editor desk.old.held }
+    ensures out { ForSome (query_answers desk.old.counted.editor desk.old.search lines.now).out
         (λ text. Written (H.world house.old) (H.world house.new) result text) }
     ensures rest { LeavesWriting (H.world house.old) (H.world house.new) }
 {
-    let mut steps: Steps<L> = Steps::new(blank);
-    let mut search = None;
-    let mut held = None;
     for i in 0..lines.len() {
         let line = lines[i];
         let again = watch_again(lines, i);
-        answer_query_line(
-            alloc,
-            house,
-            editor,
-            &mut search,
-            &mut held,
-            line,
-            again,
-            &mut steps,
-        )?;
+        answer_query_line(alloc, house, desk, line, again)?;
     }
     Ok(())
 }
@@ -129,31 +134,28 @@ fn places_of(line: &QueryLine) -> Option<(u32, u32)> {
 fn answer_query_line<L: Ledger, H: House>(
     alloc: Global,
     house: &mut H,
-    editor: &mut Editor,
-    search: &mut Option<Search>,
-    held: &mut Option<PlacePages>,
+    desk: &mut QueryDesk<L>,
     line: QueryLine,
     again: bool,
-    steps: &mut Steps<L>,
 ) -> Result<(), Refusal>
     requires fit { IsQueryLine line }
-    requires held { AreHeld editor.old held.old }
+    requires held { AreHeld desk.old.counted.editor desk.old.held }
     ensures told { GivesQueryAnswer (H.world house.old) (H.world house.new) result
-        editor.old editor.new search.new (query_answer editor.old search.old line) }
-    ensures held { OnOk result (AreHeld editor.new held.new) }
+        desk.old.counted.editor desk.new.counted.editor desk.new.search
+        (query_answer desk.old.counted.editor desk.old.search line) }
+    ensures held { OnOk result (AreHeld desk.new.counted.editor desk.new.held) }
     ensures rest { LeavesWriting (H.world house.old) (H.world house.new) }
 {
     match line {
-        QueryLine::Ask { ask } => {
-            answer_request(alloc, house, editor, search, held, ask, again, steps)
-        }
+        QueryLine::Ask { ask } => answer_request(alloc, house, desk, ask, again),
         QueryLine::Keep { p } => {
-            *held = None;
-            answer_change::<Plain, L, H>(alloc, house, editor, &Order::Keep { p }, steps)
+            desk.held = None;
+            answer_change::<Plain, L, H>(alloc, house, &mut desk.counted, &Order::Keep { p })
         }
         QueryLine::KeepEvery { every } => {
-            *held = None;
-            answer_change::<Plain, L, H>(alloc, house, editor, &Order::KeepEvery { every }, steps)
+            desk.held = None;
+            let order = Order::KeepEvery { every };
+            answer_change::<Plain, L, H>(alloc, house, &mut desk.counted, &order)
         }
     }
 }
@@ -162,18 +164,16 @@ fn answer_query_line<L: Ledger, H: House>(
 fn answer_request<L: Ledger, H: House>(
     alloc: Global,
     house: &mut H,
-    editor: &mut Editor,
-    search: &mut Option<Search>,
-    held: &mut Option<PlacePages>,
+    desk: &mut QueryDesk<L>,
     ask: Ask,
     again: bool,
-    steps: &mut Steps<L>,
 ) -> Result<(), Refusal>
     requires fit { IsRequest ask }
-    requires held { AreHeld editor.old held.old }
+    requires held { AreHeld desk.old.counted.editor desk.old.held }
     ensures told { GivesQueryAnswer (H.world house.old) (H.world house.new) result
-        editor.old editor.new search.new (query_answer editor.old search.old (Request ask)) }
-    ensures held { OnOk result (AreHeld editor.new held.new) }
+        desk.old.counted.editor desk.new.counted.editor desk.new.search
+        (query_answer desk.old.counted.editor desk.old.search (Request ask)) }
+    ensures held { OnOk result (AreHeld desk.new.counted.editor desk.new.held) }
     ensures rest { LeavesWriting (H.world house.old) (H.world house.new) }
 {
     match ask {
@@ -182,12 +182,25 @@ fn answer_request<L: Ledger, H: House>(
             width,
             a,
             b,
-        } => answer_held(
-            alloc, house, editor, held, address, width, a, b, again, steps,
-        ),
+        } => {
+            let watched = Watched {
+                address,
+                width,
+                a,
+                b,
+            };
+            answer_held(
+                alloc,
+                house,
+                &mut desk.counted,
+                &mut desk.held,
+                watched,
+                again,
+            )
+        }
         _ => {
-            *held = None;
-            answer_line::<Plain, L, H>(alloc, house, editor, search, &ask, steps)
+            desk.held = None;
+            answer_line::<Plain, L, H>(alloc, house, &mut desk.counted, &mut desk.search, &ask)
         }
     }
 }

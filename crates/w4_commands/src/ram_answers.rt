@@ -14,30 +14,39 @@ ghost use Rattle.w4_commands.specs.ScriptAnswers.{OnlyShows};
 ghost use Rattle.w4_commands.specs.RamAnswers.{GivesLineAnswer, ask_answer, editor_pages};
 ghost use Rattle.w4_defs.specs.QueryAnswers.{answer_narrow, answer_start, found_text, list_text, watch_text};
 
+use crate::counted_editor::CountedEditor;
 use crate::shape::Shape;
 use crate::text::{add_number, add_words};
 use itoa::Buffer;
 use std::alloc::Global;
 use std::sync::ledger::Ledger;
 use w4_defs::inspect::{Ask, Test};
-use w4_defs::{OutOfMemory, Refusal, Steps};
-use w4_editor::Editor;
+use w4_defs::{OutOfMemory, Refusal};
 use w4_house::House;
-use w4_inspect::{RamRefusal, Search, watch};
+use w4_inspect::{RamRefusal, Search, ValueBytes, watch};
+
+/// What is watched: the value of so many bytes at an address, at the places `a` to `b`.
+#[derive(Clone, Copy)]
+pub struct Watched {
+    pub address: u32,
+    pub width: u32,
+    pub a: u32,
+    pub b: u32,
+    ghost order: { a ≤ b },
+}
 
 /// Answers one request.
 pub fn answer_line<S: Shape, L: Ledger, H: House>(
     alloc: Global,
     house: &mut H,
-    editor: &mut Editor,
+    counted: &mut CountedEditor<L>,
     search: &mut Option<Search>,
     line: &Ask,
-    steps: &mut Steps<L>,
 ) -> Result<(), Refusal>
     requires { IsRequest line.now }
     ensures told { GivesLineAnswer (H.world house.old) (H.world house.new) result
-        editor.old editor.new search.new
-        (ask_answer S.form editor.old search.old line.now) }
+        counted.old.editor counted.new.editor search.new
+        (ask_answer S.form counted.old.editor search.old line.now) }
     ensures rest { LeavesWriting (H.world house.old) (H.world house.new) }
 {
     match *line {
@@ -46,13 +55,21 @@ pub fn answer_line<S: Shape, L: Ledger, H: House>(
             width,
             a,
             b,
-        } => answer_watch::<S, L, H>(alloc, house, editor, address, width, a, b, steps),
-        Ask::Start { width, p } => answer_start::<S, L, H>(
-            alloc, house, editor, search, width, p, steps,
-        ),
-        Ask::Narrow { p, test } => answer_narrow::<S, L, H>(
-            alloc, house, editor, search, p, test, steps,
-        ),
+        } => {
+            let watched = Watched {
+                address,
+                width,
+                a,
+                b,
+            };
+            answer_watch::<S, L, H>(alloc, house, counted, watched)
+        }
+        Ask::Start { width, p } => {
+            answer_start::<S, L, H>(alloc, house, counted, search, width, p)
+        }
+        Ask::Narrow { p, test } => {
+            answer_narrow::<S, L, H>(alloc, house, counted, search, p, test)
+        }
         Ask::List => answer_list::<S, H>(alloc, house, search),
     }
 }
@@ -61,22 +78,26 @@ pub fn answer_line<S: Shape, L: Ledger, H: House>(
 pub(crate) fn answer_watch<S: Shape, L: Ledger, H: House>(
     alloc: Global,
     house: &mut H,
-    editor: &mut Editor,
-    address: u32,
-    width: u32,
-    a: u32,
-    b: u32,
-    steps: &mut Steps<L>,
+    counted: &mut CountedEditor<L>,
+    watched: Watched,
 ) -> Result<(), Refusal>
-    requires width { IsWidth width }
-    requires order { a ≤ b }
-    ensures out { ForSome (watch_text S.form (editor_pages editor.old) address width a b)
+    requires known { IsWidth watched.width }
+    ensures out { ForSome (watch_text S.form (editor_pages counted.old.editor) watched.address watched.width
+        watched.a watched.b)
         (λ text. Written (H.world house.old) (H.world house.new) result text) }
-    ensures shows { OnOk result (OnlyShows editor.old editor.new) }
-    ensures recording { current_recording editor.new ≡ current_recording editor.old }
+    ensures shows { OnOk result (OnlyShows counted.old.editor counted.new.editor) }
+    ensures recording { current_recording counted.new.editor ≡ current_recording counted.old.editor }
     ensures rest { LeavesWriting (H.world house.old) (H.world house.new) }
 {
-    match watch(alloc, editor, address, width, a as usize, b as usize, steps) {
+    let Watched {
+        address,
+        width,
+        a,
+        b,
+    } = watched;
+    let CountedEditor { editor, steps } = counted;
+    let what = ValueBytes { address, width };
+    match watch(alloc, editor, what, a as usize, b as usize, steps) {
         Ok(values) => {
             let line = watched_line(alloc, address, values.as_slice())?;
             S::write(alloc, house, line.as_slice())
@@ -126,19 +147,24 @@ fn refuse_place<S: Shape, H: House>(
 fn answer_start<S: Shape, L: Ledger, H: House>(
     alloc: Global,
     house: &mut H,
-    editor: &mut Editor,
+    counted: &mut CountedEditor<L>,
     search: &mut Option<Search>,
     width: u32,
     p: u32,
-    steps: &mut Steps<L>,
 ) -> Result<(), Refusal>
     requires { IsWidth width }
     ensures told { GivesLineAnswer (H.world house.old) (H.world house.new) result
-        editor.old editor.new search.new
-        (answer_start S.form (editor_pages editor.old) search.old width p) }
+        counted.old.editor counted.new.editor search.new
+        (answer_start S.form (editor_pages counted.old.editor) search.old width p) }
     ensures rest { LeavesWriting (H.world house.old) (H.world house.new) }
 {
-    match Search::start(alloc, editor, width, p as usize, steps) {
+    match Search::start(
+        alloc,
+        &mut counted.editor,
+        width,
+        p as usize,
+        &mut counted.steps,
+    ) {
         Ok(begun) => {
             *search = Some(begun);
             Ok(())
@@ -151,20 +177,25 @@ fn answer_start<S: Shape, L: Ledger, H: House>(
 fn answer_narrow<S: Shape, L: Ledger, H: House>(
     alloc: Global,
     house: &mut H,
-    editor: &mut Editor,
+    counted: &mut CountedEditor<L>,
     search: &mut Option<Search>,
     p: u32,
     test: Test,
-    steps: &mut Steps<L>,
 ) -> Result<(), Refusal>
     ensures told { GivesLineAnswer (H.world house.old) (H.world house.new) result
-        editor.old editor.new search.new
-        (answer_narrow S.form (editor_pages editor.old) search.old p test) }
+        counted.old.editor counted.new.editor search.new
+        (answer_narrow S.form (editor_pages counted.old.editor) search.old p test) }
     ensures rest { LeavesWriting (H.world house.old) (H.world house.new) }
 {
     match search {
         None => S::write(alloc, house, b"refused no search\n"),
-        Some(standing) => match standing.narrow(alloc, editor, p as usize, test, steps) {
+        Some(standing) => match standing.narrow(
+            alloc,
+            &mut counted.editor,
+            p as usize,
+            test,
+            &mut counted.steps,
+        ) {
             Ok(()) => Ok(()),
             Err(refusal) => refuse_place::<S, H>(alloc, house, refusal),
         },

@@ -1,7 +1,7 @@
 //! What a run reads and doesn't change.
 
 use w4_font::Font;
-use wasm_valid::Cart;
+use wasm_register::Cart;
 
 /// What a run reads and doesn't change. The budget is at least 1, and the disk has at most 1,024 bytes.
 #[derive(Clone, Copy)]

@@ -1,9 +1,10 @@
 //! The orders of a script, one after another.
 
-ghost use Rattle.std.specs.Prelude.{◌≡◌, ◌<◌};
+ghost use Rattle.std.specs.Prelude.{OnOk};
 ghost use Rattle.w4_editor.specs.Editing.{editing_setup};
 ghost use Rattle.w4_defs.specs.World.{LeavesWriting};
 ghost use Rattle.w4_defs.specs.ScriptAnswers.{answers};
+ghost use Rattle.w4_commands.specs.AnswerFrames.{AnswersWithin};
 ghost use Rattle.w4_commands.specs.ScriptAnswers.{GivesAnswer, GivesAnswers, answer_by};
 ghost use Rattle.w4_editor.specs.PlaceSession.{place_session};
 
@@ -13,93 +14,65 @@ use crate::film_answer::{answer_film, settle_by_workers};
 use crate::range_answer::answer_range;
 use crate::shape::{Plain, Shape};
 use crate::state_answer::answer_state;
-use std::alloc::Global;
-use std::sync::ledger::{Blank, Ledger};
+use std::sync::ledger::Ledger;
 use std::thread::Threads;
-use w4_defs::{Order, PlaceText, Refusal, Steps};
+use w4_defs::{Order, PlaceText, Refusal};
 use w4_house::House;
-use w4_segments::Gate;
-
-/// Answers all orders of a script. The frames that are run for them are counted by a counter of their own.
-pub fn answer_script<L: Ledger, R: Threads + Sync, H: House, G: Gate + Sync>(
-    rt: &R,
-    alloc: Global,
-    house: &mut H,
-    desk: &mut Desk,
-    orders: &[Order],
-    gate: &G,
-    blank: Blank,
-) -> Result<(), Refusal>
-    requires name { blank.name ≡ L.name }
-    requires parts { blank.parts ≡ L.parts }
-    requires some { 0 < L.parts }
-    ensures answered { GivesAnswers (H.world house.old) (H.world house.new) result
-        desk.old.editor desk.new.editor
-        (answers (editing_setup desk.old.editor) desk.old.editor.disk
-        (place_session desk.old.editor) orders.now) }
-    ensures rest { LeavesWriting (H.world house.old) (H.world house.new) }
-{
-    let mut steps: Steps<L> = Steps::new(blank);
-    answer_all(rt, alloc, house, desk, orders, gate, &mut steps)
-}
+use w4_segments::{Gate, Resources};
 
 /// Answers all orders, one after another, up to the first write that fails.
-fn answer_all<L: Ledger, R: Threads + Sync, H: House, G: Gate + Sync>(
-    rt: &R,
-    alloc: Global,
+pub fn answer_all<L: Ledger, R: Threads + Sync, H: House, G: Gate + Sync>(
+    resources: &Resources<'_, R, G>,
     house: &mut H,
-    desk: &mut Desk,
+    desk: &mut Desk<L>,
     orders: &[Order],
-    gate: &G,
-    steps: &mut Steps<L>,
 ) -> Result<(), Refusal>
     ensures answered { GivesAnswers (H.world house.old) (H.world house.new) result
-        desk.old.editor desk.new.editor
-        (answers (editing_setup desk.old.editor) desk.old.editor.disk
-        (place_session desk.old.editor) orders.now) }
+        desk.old.counted.editor desk.new.counted.editor
+        (answers (editing_setup desk.old.counted.editor) desk.old.counted.editor.disk
+        (place_session desk.old.counted.editor) orders.now) }
     ensures rest { LeavesWriting (H.world house.old) (H.world house.new) }
 {
     for order in orders {
-        answer::<Plain, L, R, H, G>(rt, alloc, house, desk, order, gate, steps)?;
+        answer::<Plain, L, R, H, G>(resources, house, desk, order)?;
     }
     Ok(())
 }
 
-/// Answers one order.
+/// Answers one order. It runs the frames that showing the first place that is asked for needs, and at most one
+/// for each place; `settle` leaves all kept places up to date.
 pub(crate) fn answer<S: Shape, L: Ledger, R: Threads + Sync, H: House, G: Gate + Sync>(
-    rt: &R,
-    alloc: Global,
+    resources: &Resources<'_, R, G>,
     house: &mut H,
-    desk: &mut Desk,
+    desk: &mut Desk<L>,
     order: &Order,
-    gate: &G,
-    steps: &mut Steps<L>,
 ) -> Result<(), Refusal>
     ensures answered { GivesAnswer (H.world house.old) (H.world house.new) result
-        desk.old.editor desk.new.editor (answer_by S.form desk.old.editor order.now) }
+        desk.old.counted.editor desk.new.counted.editor (answer_by S.form desk.old.counted.editor order.now) }
     ensures rest { LeavesWriting (H.world house.old) (H.world house.new) }
+    ensures frames_run { OnOk result (AnswersWithin order.now desk.old.counted.steps desk.new.counted.steps
+        desk.old.counted.editor desk.new.counted.editor) }
 {
+    let alloc = resources.alloc;
     match *order {
-        Order::Show { p } => {
-            answer_range::<S, L, H>(alloc, house, desk, PlaceText::Image, p, p, steps)
-        }
+        Order::Show { p } => { answer_range::<S, L, H>(alloc, house, desk, PlaceText::Image, p, p) }
         Order::Film { a, b, workers } => {
-            answer_film::<S, R, H, G>(rt, alloc, house, &mut desk.editor, a, b, workers, gate)
+            answer_film::<S, R, H, G>(resources, house, &mut desk.counted.editor, a, b, workers)
         }
         Order::Settle { workers } => {
-            settle_by_workers(rt, alloc, &mut desk.editor, workers, gate)?;
+            settle_by_workers(resources, &mut desk.counted.editor, workers)?;
             Ok(())
         }
         Order::Tones { a, b } => {
-            answer_range::<S, L, H>(alloc, house, desk, PlaceText::Schedule, a, b, steps)
+            answer_range::<S, L, H>(alloc, house, desk, PlaceText::Schedule, a, b)
         }
         Order::Traces { a, b } => {
-            answer_range::<S, L, H>(alloc, house, desk, PlaceText::Traces, a, b, steps)
+            answer_range::<S, L, H>(alloc, house, desk, PlaceText::Traces, a, b)
         }
         Order::DiskAt { p } => {
-            answer_range::<S, L, H>(alloc, house, desk, PlaceText::DiskBytes, p, p, steps)
+            answer_range::<S, L, H>(alloc, house, desk, PlaceText::DiskBytes, p, p)
         }
-        Order::StateAt { p } => answer_state::<S, L, H>(alloc, house, &mut desk.editor, p, steps),
-        _ => answer_change::<S, L, H>(alloc, house, &mut desk.editor, order, steps),
+        Order::StateAt { p } => answer_state::<S, L, H>(alloc, house, &mut desk.counted, p),
+        _ => answer_change::<S, L, H>(alloc, house, &mut desk.counted, order),
     }
 }

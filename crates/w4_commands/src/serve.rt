@@ -1,7 +1,7 @@
 //! `serve`: a live session. Orders come one a line from standard input, and the answer of a line is written
 //! before the next one is asked for.
 
-ghost use Rattle.std.specs.Prelude.{◌≡◌, ◌<◌, ◌∷◌, [], IfErr, IfOk, None, option_map, string_bytes};
+ghost use Rattle.std.specs.Prelude.{◌≡◌, ◌<◌, ◌∷◌, [], IfErr, IfOk, None, option_map};
 ghost use Rattle.w4_defs.specs.Causes.{LeavesErr};
 ghost use Rattle.w4_defs.specs.Endings.{manner_of};
 ghost use Rattle.w4_defs.specs.Live.{Opened, Talk, first_live_session, serve_output};
@@ -32,81 +32,81 @@ use std::marker::Brand;
 use std::sync::ledger::{Blank, Ledger};
 use std::thread::Threads;
 use w4_cart::CartFile;
-use w4_defs::{Refusal, Steps};
+use w4_defs::Refusal;
 use w4_house::{House, HouseFault};
 use w4_record::write_recording;
-use w4_segments::Gate;
-use wasm_valid::Cart;
+use w4_segments::{Gate, Resources};
+use wasm_register::Cart;
 
 /// `serve CART REC FONT OUT`.
 #[tactic(auto, unfolding(w4_defs::specs::Live::serve_output))]
 pub fn run_serve<R: Threads + Sync, H: House, G: Gate + Sync>(
-    rt: &R,
-    alloc: Global,
+    resources: &Resources<'_, R, G>,
     house: &mut H,
     file: CartFile,
     names: ServeNames<'_>,
-    gate: &G,
 ) -> Result<(), Refusal>
     requires meaning { RunsHaveMeaning file.cart }
     ensures ends { EndsDone (H.world house.old) (H.world house.new) result (λ files output. (talk : Talk)
         × (serve_output (serve_view names.entry) talk (cart_view file) files ≡ Some output)) }
     ensures err { LeavesErr (H.world house.old) (H.world house.new) }
 {
-    let run = load_run(alloc, house, &file.digest, names.run)?;
-    serve_run(rt, alloc, house, file.cart, run, names.out, gate)
+    let run = load_run(resources.alloc, house, &file.digest, names.run)?;
+    serve_run::<Brand, R, H, G>(resources, house, file.cart, run, names, Blank::new(1))
 }
 
-/// A session on a recording that was read. However its lines end, the recording left goes to the file.
-fn serve_run<R: Threads + Sync, H: House, G: Gate + Sync>(
-    rt: &R,
-    alloc: Global,
+/// A session on a recording that was read. However its lines end, the recording left goes to the file. The
+/// frames that are run have a count of their own.
+fn serve_run<L: Ledger, R: Threads + Sync, H: House, G: Gate + Sync>(
+    resources: &Resources<'_, R, G>,
     house: &mut H,
     cart: Cart,
     run: Played,
-    out: &str,
-    gate: &G,
+    names: ServeNames<'_>,
+    blank: Blank,
 ) -> Result<(), Refusal>
     requires meaning { RunsHaveMeaning cart }
+    requires name { blank.name ≡ L.name }
+    requires parts { blank.parts ≡ L.parts }
+    requires some { 0 < L.parts }
     ensures ends { EndsDone (H.world house.old) (H.world house.new) result
-        (ServedStep (opened_view cart run out.now)) }
+        (ServedStep (opened_view cart run names.entry.out.now)) }
     ensures err { LeavesErr (H.world house.old) (H.world house.new) }
 {
-    let Played { recording, font } = run;
-    let mut desk = new_desk(alloc, cart, font, recording)?;
-    let name = String::from_str(alloc, out)?;
-    match answer_lines::<Brand, R, H, G>(rt, alloc, house, &mut desk, &name, gate, Blank::new(1)) {
-        Ok(()) => save_recording(alloc, house, &desk, out),
-        Err(why) => rescue(alloc, house, &desk, out, why),
+    let alloc = resources.alloc;
+    let mut desk: Desk<L> = new_desk(alloc, cart, run, blank)?;
+    match answer_lines(resources, house, &mut desk, names.out) {
+        Ok(()) => save_recording(alloc, house, &desk, names.out),
+        Err(why) => rescue(alloc, house, &desk, names.out, why),
     }
 }
 
 /// Replaces the file with the recording as it is, in version 2.
-pub fn save_recording<H: House>(
+pub fn save_recording<L: Ledger, H: House>(
     alloc: Global,
     house: &mut H,
-    desk: &Desk,
+    desk: &Desk<L>,
     out: &str,
 ) -> Result<(), Refusal>
     ensures saved { Replaces (H.world house.old) (H.world house.new) result out.now
-        (encoding 2 (current_recording desk.now.editor)) }
+        (encoding 2 (current_recording desk.now.counted.editor)) }
     ensures rest { LeavesSaving (H.world house.old) (H.world house.new) }
 {
-    let bytes = write_recording(alloc, desk.editor.recording())?;
+    let bytes = write_recording(alloc, desk.counted.editor.recording())?;
     save(alloc, house, out, bytes.as_slice())
 }
 
 /// Replaces the file with the edited recording after the session was stopped. Errors: always; why it was
 /// stopped, or why this failed.
-fn rescue<H: House>(
+fn rescue<L: Ledger, H: House>(
     alloc: Global,
     house: &mut H,
-    desk: &Desk,
+    desk: &Desk<L>,
     out: &str,
     why: Refusal,
 ) -> Result<(), Refusal>
     ensures rescued { EndsStopped (H.world house.old) (H.world house.new) result out.now
-        (encoding 2 (current_recording desk.now.editor)) why }
+        (encoding 2 (current_recording desk.now.counted.editor)) why }
     ensures rest { LeavesSaving (H.world house.old) (H.world house.new) }
 {
     let saved = save_recording(alloc, house, desk, out);
@@ -127,40 +127,24 @@ fn stopped(why: Refusal, saved: Result<(), Refusal>) -> Refusal
 /// Takes lines and answers them, one after another, to the end of the input. Errors: InputFault, WriteFault,
 /// OutOfMemory.
 fn answer_lines<L: Ledger, R: Threads + Sync, H: House, G: Gate + Sync>(
-    rt: &R,
-    alloc: Global,
+    resources: &Resources<'_, R, G>,
     house: &mut H,
-    desk: &mut Desk,
-    out: &String,
-    gate: &G,
-    blank: Blank,
+    desk: &mut Desk<L>,
+    out: &str,
 ) -> Result<(), Refusal>
-    requires name { blank.name ≡ L.name }
-    requires parts { blank.parts ≡ L.parts }
-    requires some { 0 < L.parts }
-    ensures answers { (o : Opened) → RunsHaveMeaning o.cart → o.out ≡ string_bytes out.now
-        → Sits o (first_live_session o) desk.old.editor None
-        → AnswersLines (H.world house.old) (H.world house.new) result o (current_recording desk.new.editor) }
+    ensures answers { (o : Opened) → RunsHaveMeaning o.cart → o.out ≡ out.now
+        → Sits o (first_live_session o) desk.old.counted.editor None
+        → AnswersLines (H.world house.old) (H.world house.new) result o
+        (current_recording desk.new.counted.editor) }
     ensures rest { LeavesServing (H.world house.old) (H.world house.new) }
 {
-    let mut steps: Steps<L> = Steps::new(blank);
     let mut search = None;
     for _ in 0..u64::MAX {
-        match take_line(alloc, house)? {
+        match take_line(resources.alloc, house)? {
             None => return Ok(()),
             Some(line) => {
-                let (bytes, name) = (line.as_slice(), out.as_str());
-                answer_live_line(
-                    rt,
-                    alloc,
-                    house,
-                    desk,
-                    &mut search,
-                    bytes,
-                    name,
-                    gate,
-                    &mut steps,
-                )?;
+                let bytes = line.as_slice();
+                answer_live_line(resources, house, desk, &mut search, bytes, out)?;
             }
         }
     }

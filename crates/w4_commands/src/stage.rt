@@ -23,7 +23,7 @@ use w4_devices::{FrameRecord, schedule_text, trace_text};
 use w4_image::{IMAGE_LEN, ppm_into};
 use w4_map::State;
 use w4_wave::{FRAME_LEN, Wave};
-use wasm_valid::Cart;
+use wasm_register::Cart;
 
 /// A console, what its last reset or frame left behind, and the image of its page.
 #[derive(Drop)]

@@ -14,9 +14,9 @@ use Rattle.w4_defs.specs.Units.{Taken, TookUnits, taken_by, taken_by_calls, then
 use Rattle.w4_console.specs.declared.taken.Stop.{Stop}
 use Rattle.w4_console.specs.ConsoleCalls.{gone_on, halt_after, IsCalled, IsCalledFirst, rest_after, TakesUnits, TakesUnitsFirst, units_on}
 use Rattle.w4_console.specs.TakenUnits.{taken_by_calls_of}
-use Rattle.wasm_machine.specs.declared.ending.Ending.{Ending}
-use Rattle.wasm_machine.specs.declared.ending.Ending.TheVariants as ending
-use Rattle.wasm_machine.specs.Ends.{EndsAs}
+use Rattle.wasm_laws.specs.declared.ending.Ending.{Ending}
+use Rattle.wasm_laws.specs.declared.ending.Ending.TheVariants as ending
+use Rattle.wasm_laws.specs.Ends.{EndsAs}
 
 abbrev pub board_store : List ℕ → List Val → Board → Store Board
 board_store page globals board = record { page = page; globals = globals; host = board }

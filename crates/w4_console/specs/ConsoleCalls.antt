@@ -5,16 +5,21 @@ use Rattle.w4_defs.specs.declared.console.Halt.TheVariants.{Running, Trapped, Sp
 use Rattle.w4_defs.specs.Board.{console, console_setup}
 use Rattle.w4_defs.specs.Evaluation.{run_entry}
 use Rattle.w4_defs.specs.Module.{WasmModule}
-use Rattle.w4_defs.specs.Reset.{call_all, store_of, then_on}
+use Rattle.w4_defs.specs.Reset.{Setup as Defined, call_all, store_of, then_on}
 use Rattle.w4_defs.specs.State.{State, Moment, LoggedState}
 use Rattle.w4_defs.specs.Units.{Taken, taken_by_calls, then_taken}
+use Rattle.w4_console.specs.declared.setup.Setup.{Setup}
 use Rattle.w4_console.specs.declared.taken.Stop.{Stop}
 use Rattle.w4_console.specs.declared.taken.Stop.TheVariants as stop
 use Rattle.w4_console.specs.TakenUnits.{taken_at_stop}
 use Rattle.w4_devices.specs.declared.frame_record.FrameRecord.{FrameRecord as Record}
 use Rattle.w4_devices.specs.Records.{record_of}
-use Rattle.wasm_machine.specs.declared.ending.Ending.{Ending}
-use Rattle.wasm_machine.specs.declared.ending.Ending.TheVariants as ending
+use Rattle.wasm_laws.specs.declared.ending.Ending.{Ending}
+use Rattle.wasm_laws.specs.declared.ending.Ending.TheVariants as ending
+
+-- what a run reads, as the definitions see it
+abbrev pub setup_of : Setup → Defined
+setup_of s = console_setup s.cart.now s.font.now s.budget
 
 -- the state and the logs so far
 abbrev pub so_far : State → Record → LoggedState

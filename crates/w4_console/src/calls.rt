@@ -10,6 +10,7 @@ ghost use Rattle.w4_console.specs.ConsoleCalls.{TakesUnits, TakesUnitsFirst};
 ghost use Rattle.w4_defs.specs.State.{HasGlobals};
 ghost use Rattle.w4_defs.specs.Module.{nothing_to_nothing};
 
+use crate::setup::Setup;
 use crate::taken::Stop;
 use std::mem;
 use w4_defs::Halt;
@@ -17,59 +18,57 @@ use w4_devices::{Disk, FrameRecord, ToneLog, TraceLog};
 use w4_font::Font;
 use w4_host::Board;
 use w4_map::State;
-use wasm_machine::{Ending, Machine};
-use wasm_valid::Cart;
+use wasm_laws::Ending;
+use wasm_register::Engine;
 
 /// Calls a function, if there is one. Returns the rest of the budget if it ends normally or there is none.
 /// Errors: it traps or is spent, and halt says so too. The record's logs go on.
 pub(crate) fn call_if_there(
-    machine: &mut Machine,
+    engine: &mut Engine,
     state: &mut State,
-    cart: &Cart,
-    font: &Font,
+    setup: &Setup<'_>,
     function: Option<u32>,
     budget: u32,
     frame_record: &mut FrameRecord,
 ) -> Result<u32, Stop>
-    requires signature { IfSome function (λ f. signature_of cart.now f ≡ Some nothing_to_nothing) }
-    requires globals { HasGlobals cart.now state.old }
+    requires signature { IfSome function (λ f. signature_of setup.now.cart.now f ≡ Some nothing_to_nothing) }
+    requires globals { HasGlobals setup.now.cart.now state.old }
     requires running { state.old.halt ≡ Running }
-    ensures called { IsCalledFirst cart.now font.now function (so_far state.old frame_record.old) budget
-        result (so_far state.new frame_record.new) }
-    ensures taken { TakesUnitsFirst cart.now font.now function (so_far state.old frame_record.old) budget
-        result (so_far state.new frame_record.new) }
-    ensures globals { HasGlobals cart.now state.new }
+    ensures called { IsCalledFirst setup.now.cart.now setup.now.font.now function
+        (so_far state.old frame_record.old) budget result (so_far state.new frame_record.new) }
+    ensures taken { TakesUnitsFirst setup.now.cart.now setup.now.font.now function
+        (so_far state.old frame_record.old) budget result (so_far state.new frame_record.new) }
+    ensures globals { HasGlobals setup.now.cart.now state.new }
     ensures running { OnOk result (state.new.halt ≡ Running) }
 {
     match function {
         None => Ok(budget),
-        Some(function) => call_function(machine, state, cart, font, function, budget, frame_record),
+        Some(function) => call_function(engine, state, setup, function, budget, frame_record),
     }
 }
 
 /// Calls a function. Returns the rest of the budget if it ends normally. Errors: it traps or is spent, and
 /// halt says so too.
 pub(crate) fn call_function(
-    machine: &mut Machine,
+    engine: &mut Engine,
     state: &mut State,
-    cart: &Cart,
-    font: &Font,
+    setup: &Setup<'_>,
     function: u32,
     budget: u32,
     frame_record: &mut FrameRecord,
 ) -> Result<u32, Stop>
-    requires signature { signature_of cart.now function ≡ Some nothing_to_nothing }
-    requires globals { HasGlobals cart.now state.old }
-    ensures called { IsCalled cart.now font.now function (so_far state.old frame_record.old) budget
-        result (so_far state.new frame_record.new) }
-    ensures taken { TakesUnits cart.now font.now function (so_far state.old frame_record.old) budget
-        result (so_far state.new frame_record.new) }
-    ensures globals { HasGlobals cart.now state.new }
+    requires signature { signature_of setup.now.cart.now function ≡ Some nothing_to_nothing }
+    requires globals { HasGlobals setup.now.cart.now state.old }
+    ensures called { IsCalled setup.now.cart.now setup.now.font.now function
+        (so_far state.old frame_record.old) budget result (so_far state.new frame_record.new) }
+    ensures taken { TakesUnits setup.now.cart.now setup.now.font.now function
+        (so_far state.old frame_record.old) budget result (so_far state.new frame_record.new) }
+    ensures globals { HasGlobals setup.now.cart.now state.new }
     ensures running { OnOk result (state.new.halt ≡ Running) }
 {
-    let mut board = board_of(font, state, frame_record);
-    let ending = machine.invoke(
-        cart,
+    let mut board = board_of(setup.font, state, frame_record);
+    let ending = engine.invoke(
+        setup.cart,
         function,
         &mut state.page,
         &mut state.globals,

@@ -11,6 +11,7 @@ ghost use Rattle.w4_console.specs.ConsoleCalls.{moment};
 ghost use Rattle.w4_console.specs.TakenUnits.{taken_of};
 
 use crate::frames::{begin_frame, record, update};
+use crate::setup::Setup;
 use crate::start::{first_globals, start_cart};
 use crate::taken::{FrameTaken, Taken};
 use std::alloc::Global;
@@ -20,13 +21,12 @@ use w4_defs::{Input, OutOfMemory, Steps};
 use w4_devices::{Disk, FrameRecord};
 use w4_font::Font;
 use w4_map::State;
-use wasm_machine::Machine;
-use wasm_valid::Cart;
+use wasm_register::{Cart, Engine};
 
 /// A console with all the memory that resets and frames need. A contract sees its state.
 #[derive(Drop)]
 pub struct Console {
-    machine: Machine,
+    engine: Engine,
     state: State,
 }
 
@@ -48,7 +48,7 @@ impl Console {
         ensures globals { IfOk result (λ console. HasGlobals cart.now console) }
     {
         Ok(Console {
-            machine: Machine::new(alloc)?,
+            engine: Engine::new(alloc)?,
             state: State::new(alloc, first_globals(cart))?,
         })
     }
@@ -73,9 +73,10 @@ impl Console {
             ≡ Some (taken_of result) }
         ensures globals { HasGlobals cart.now self.new }
     {
-        let (machine, state) = (&mut self.machine, &mut self.state);
+        let (engine, state) = (&mut self.engine, &mut self.state);
         state.disk = Disk::new(disk);
-        let taken = start_cart(machine, state, cart, font, budget, frame_record);
+        let setup = Setup { cart, font, budget };
+        let taken = start_cart(engine, state, &setup, frame_record);
         record(state, frame_record);
         taken
     }
@@ -105,9 +106,10 @@ impl Console {
         ensures ticks { steps.new ≡ steps.old + 1 }
     {
         steps.tick();
-        let (machine, state) = (&mut self.machine, &mut self.state);
-        let start = begin_frame(machine, state, cart, font, input, budget, frame_record);
-        let update = update(machine, state, cart, font, input, budget, frame_record);
+        let (engine, state) = (&mut self.engine, &mut self.state);
+        let setup = Setup { cart, font, budget };
+        let start = begin_frame(engine, state, &setup, input, frame_record);
+        let update = update(engine, state, &setup, input, frame_record);
         record(state, frame_record);
         FrameTaken { update, start }
     }

@@ -1,46 +1,43 @@
 //! What a frame does with the cart, and what a reset and a frame end with.
 
 ghost use Rattle.std.specs.Prelude.{◌≡◌, Some, option_map};
-ghost use Rattle.w4_defs.specs.Board.{console_setup};
 ghost use Rattle.w4_defs.specs.EntryPoints.{update_entry};
 ghost use Rattle.w4_defs.specs.Frame.{before_update, call_update, update};
 ghost use Rattle.w4_defs.specs.Reset.{recorded};
 ghost use Rattle.w4_defs.specs.Units.{reset_units, taken_by_update, taken_from};
-ghost use Rattle.w4_console.specs.ConsoleCalls.{moment, so_far};
+ghost use Rattle.w4_console.specs.ConsoleCalls.{moment, setup_of, so_far};
 ghost use Rattle.w4_console.specs.TakenUnits.{taken_of};
 ghost use Rattle.w4_defs.specs.State.{HasGlobals};
 
 use crate::calls::call_function;
 use crate::page::put_input_page;
+use crate::setup::Setup;
 use crate::start::start_cart;
 use crate::taken::{Taken, taken_by_calls};
 use w4_defs::{Halt, Input};
 use w4_devices::FrameRecord;
-use w4_font::Font;
 use w4_map::State;
-use wasm_machine::Machine;
-use wasm_valid::{Cart, Entry};
+use wasm_register::Engine;
+use wasm_valid::Entry;
 
 /// How a frame begins: with a start if its input has a reset, and otherwise with empty logs. What the start
 /// took.
 pub(crate) fn begin_frame(
-    machine: &mut Machine,
+    engine: &mut Engine,
     state: &mut State,
-    cart: &Cart,
-    font: &Font,
+    setup: &Setup<'_>,
     input: &Input,
-    budget: u32,
     frame_record: &mut FrameRecord,
 ) -> Option<Taken>
-    requires globals { HasGlobals cart.now state.old }
-    ensures begun { before_update (console_setup cart.now font.now budget) state.old input.now
+    requires globals { HasGlobals setup.now.cart.now state.old }
+    ensures begun { before_update (setup_of setup.now) state.old input.now
         ≡ Some (so_far state.new frame_record.new) }
-    ensures taken { reset_units (console_setup cart.now font.now budget) state.old input.now
+    ensures taken { reset_units (setup_of setup.now) state.old input.now
         ≡ Some (option_map taken_of result) }
-    ensures globals { HasGlobals cart.now state.new }
+    ensures globals { HasGlobals setup.now.cart.now state.new }
 {
     if input.reset {
-        Some(start_cart(machine, state, cart, font, budget, frame_record))
+        Some(start_cart(engine, state, setup, frame_record))
     } else {
         *frame_record = FrameRecord::new();
         None
@@ -49,26 +46,24 @@ pub(crate) fn begin_frame(
 
 /// While the cart runs: the input, and `update` with the whole budget. What the frame took.
 pub(crate) fn update(
-    machine: &mut Machine,
+    engine: &mut Engine,
     state: &mut State,
-    cart: &Cart,
-    font: &Font,
+    setup: &Setup<'_>,
     input: &Input,
-    budget: u32,
     frame_record: &mut FrameRecord,
 ) -> Taken
-    requires globals { HasGlobals cart.now state.old }
-    ensures update { update (console_setup cart.now font.now budget) input.now
+    requires globals { HasGlobals setup.now.cart.now state.old }
+    ensures update { update (setup_of setup.now) input.now
         (so_far state.old frame_record.old)
         ≡ Some (so_far state.new frame_record.new) }
-    ensures taken { taken_from (console_setup cart.now font.now budget) input.now
+    ensures taken { taken_from (setup_of setup.now) input.now
         (so_far state.old frame_record.old) state.old.halt
         ≡ Some (taken_of result) }
-    ensures globals { HasGlobals cart.now state.new }
+    ensures globals { HasGlobals setup.now.cart.now state.new }
 {
     if let Halt::Running = state.halt {
         put_input_page(state.page.bytes_mut(), input);
-        call_update(machine, state, cart, font, budget, frame_record)
+        call_update(engine, state, setup, frame_record)
     } else {
         Taken::Halted
     }
@@ -76,27 +71,25 @@ pub(crate) fn update(
 
 /// Calls `update` with the whole budget. What it took.
 fn call_update(
-    machine: &mut Machine,
+    engine: &mut Engine,
     state: &mut State,
-    cart: &Cart,
-    font: &Font,
-    budget: u32,
+    setup: &Setup<'_>,
     frame_record: &mut FrameRecord,
 ) -> Taken
-    requires globals { HasGlobals cart.now state.old }
-    ensures called { call_update (console_setup cart.now font.now budget) (update_entry cart.now)
+    requires globals { HasGlobals setup.now.cart.now state.old }
+    ensures called { call_update (setup_of setup.now) (update_entry setup.now.cart.now)
         (so_far state.old frame_record.old)
         ≡ Some (so_far state.new frame_record.new) }
-    ensures taken { taken_by_update (console_setup cart.now font.now budget)
-        (so_far state.old frame_record.old) (update_entry cart.now)
+    ensures taken { taken_by_update (setup_of setup.now)
+        (so_far state.old frame_record.old) (update_entry setup.now.cart.now)
         ≡ Some (taken_of result) }
-    ensures globals { HasGlobals cart.now state.new }
+    ensures globals { HasGlobals setup.now.cart.now state.new }
 {
-    let Some(function) = cart.entry(Entry::Update) else {
+    let Some(function) = setup.cart.entry(Entry::Update) else {
         unreachable!()
     };
-    let rest = call_function(machine, state, cart, font, function, budget, frame_record);
-    taken_by_calls(budget, rest)
+    let rest = call_function(engine, state, setup, function, setup.budget, frame_record);
+    taken_by_calls(setup.budget, rest)
 }
 
 /// Takes the record: the logs so far and the sounds at the first tick. Then the channels age.

@@ -8,6 +8,7 @@ pub mod console;
 mod frames;
 pub mod laws;
 mod page;
+mod setup;
 mod start;
 pub mod taken;
 pub mod units_text;

@@ -8,7 +8,7 @@ ghost use Rattle.w4_defs.specs.State.{zero_page};
 
 use w4_defs::{Input, PageBytes};
 use w4_map::{put_input, system_flags};
-use wasm_valid::Cart;
+use wasm_register::Cart;
 
 /// Blue, green, red and 0 of the four palette entries e0f8cf, 86c06c, 306850 and 071821.
 const PALETTE: [u8; 16] = [

@@ -1,49 +1,46 @@
 //! The start of a cart, before the record of its reset is taken.
 
 ghost use Rattle.std.specs.Prelude.{◌≡◌, Some};
-ghost use Rattle.w4_defs.specs.Board.{console_setup};
 ghost use Rattle.w4_defs.specs.declared.console.Halt.TheVariants.{Running};
 ghost use Rattle.w4_defs.specs.EntryPoints.{first_globals, start_functions};
 ghost use Rattle.w4_defs.specs.Lookup.{own_global_types};
 ghost use Rattle.w4_defs.specs.Reset.{call_all, fresh, start};
 ghost use Rattle.w4_defs.specs.RunLaws.{types_of};
 ghost use Rattle.w4_defs.specs.Units.{start_units, taken_by_calls};
-ghost use Rattle.w4_console.specs.ConsoleCalls.{so_far};
+ghost use Rattle.w4_console.specs.ConsoleCalls.{setup_of, so_far};
 ghost use Rattle.w4_console.specs.TakenUnits.{taken_by_calls_of, taken_of};
 ghost use Rattle.w4_defs.specs.State.{HasGlobals};
 
 use crate::calls::call_if_there;
 use crate::page::put_start_page;
+use crate::setup::Setup;
 use crate::taken::{Stop, Taken, taken_by_calls};
 use w4_defs::{Halt, Val};
 use w4_devices::FrameRecord;
-use w4_font::Font;
 use w4_map::State;
 use w4_tone::Channels;
-use wasm_machine::Machine;
-use wasm_valid::{Cart, Entry};
+use wasm_register::{Cart, Engine};
+use wasm_valid::Entry;
 
 /// Starts a cart with the state's own disk: everything else anew, then the functions that a reset calls.
 /// What they took.
 pub(crate) fn start_cart(
-    machine: &mut Machine,
+    engine: &mut Engine,
     state: &mut State,
-    cart: &Cart,
-    font: &Font,
-    budget: u32,
+    setup: &Setup<'_>,
     frame_record: &mut FrameRecord,
 ) -> Taken
-    requires globals { HasGlobals cart.now state.old }
-    ensures start { start (console_setup cart.now font.now budget) state.old.disk
+    requires globals { HasGlobals setup.now.cart.now state.old }
+    ensures start { start (setup_of setup.now) state.old.disk
         ≡ Some (so_far state.new frame_record.new) }
-    ensures taken { start_units (console_setup cart.now font.now budget) state.old.disk
+    ensures taken { start_units (setup_of setup.now) state.old.disk
         ≡ Some (taken_of result) }
-    ensures globals { HasGlobals cart.now state.new }
+    ensures globals { HasGlobals setup.now.cart.now state.new }
 {
-    put_fresh(state, cart);
+    put_fresh(state, setup.cart);
     *frame_record = FrameRecord::new();
-    let rest = call_all(machine, state, cart, font, budget, frame_record);
-    taken_by_calls(budget, rest)
+    let rest = call_all(engine, state, setup, frame_record);
+    taken_by_calls(setup.budget, rest)
 }
 
 /// The state before a reset's calls; the disk stays.
@@ -71,41 +68,32 @@ pub(crate) fn first_globals(cart: &Cart) -> &[Val]
 /// Calls the start function and the exports `_start`, `_initialize` and `start`, where present, under one
 /// budget, up to the first that traps or is spent. The rest of the budget.
 fn call_all(
-    machine: &mut Machine,
+    engine: &mut Engine,
     state: &mut State,
-    cart: &Cart,
-    font: &Font,
-    budget: u32,
+    setup: &Setup<'_>,
     frame_record: &mut FrameRecord,
 ) -> Result<u32, Stop>
-    requires globals { HasGlobals cart.now state.old }
+    requires globals { HasGlobals setup.now.cart.now state.old }
     requires running { state.old.halt ≡ Running }
-    ensures called { call_all (console_setup cart.now font.now budget) (start_functions cart.now)
-        (so_far state.old frame_record.old) budget ≡ Some (so_far state.new frame_record.new) }
-    ensures taken { taken_by_calls (console_setup cart.now font.now budget) (start_functions cart.now)
-        (so_far state.old frame_record.old) budget ≡ Some (taken_by_calls_of budget result) }
-    ensures globals { HasGlobals cart.now state.new }
+    ensures called { call_all (setup_of setup.now) (start_functions setup.now.cart.now)
+        (so_far state.old frame_record.old) setup.now.budget ≡ Some (so_far state.new frame_record.new) }
+    ensures taken { taken_by_calls (setup_of setup.now) (start_functions setup.now.cart.now)
+        (so_far state.old frame_record.old) setup.now.budget
+        ≡ Some (taken_by_calls_of setup.now.budget result) }
+    ensures globals { HasGlobals setup.now.cart.now state.new }
 {
     let rest = call_if_there(
-        machine,
+        engine,
         state,
-        cart,
-        font,
-        cart.start(),
-        budget,
+        setup,
+        setup.cart.start(),
+        setup.budget,
         frame_record,
     )?;
-    let crt_start = cart.entry(Entry::CrtStart);
-    let rest = call_if_there(machine, state, cart, font, crt_start, rest, frame_record)?;
-    let initialize = cart.entry(Entry::Initialize);
-    let rest = call_if_there(machine, state, cart, font, initialize, rest, frame_record)?;
-    call_if_there(
-        machine,
-        state,
-        cart,
-        font,
-        cart.entry(Entry::Start),
-        rest,
-        frame_record,
-    )
+    let crt_start = setup.cart.entry(Entry::CrtStart);
+    let rest = call_if_there(engine, state, setup, crt_start, rest, frame_record)?;
+    let initialize = setup.cart.entry(Entry::Initialize);
+    let rest = call_if_there(engine, state, setup, initialize, rest, frame_record)?;
+    let start = setup.cart.entry(Entry::Start);
+    call_if_there(engine, state, setup, start, rest, frame_record)
 }

@@ -22,6 +22,7 @@ use Rattle.w4_editor.specs.Settling.{AreLinked, copied_beside, linked_entry}
 use Rattle.w4_editor.specs.Editing.{Editing, IsEditor, IsShownAt, editing_setup, session_of}
 use Rattle.w4_editor.specs.Showing.{CanKeep, IsPut, IsShown, IsStepped}
 use Rattle.w4_editor.proofs.KeepLaws.{keep_consistent}
+use Rattle.w4_editor.proofs.SettleLaws.{sure_of_itself}
 use Rattle.w4_editor.proofs.ShowLaws.{up_to_last}
 use Rattle.w4_editor.proofs.PlayLaws.{types_as_many}
 
@@ -206,6 +207,30 @@ can_keep p ticks_before ticks_after old new shown owed =
       fresh = kept_same p was now long places.places ∙ free.0;
       room = omega (arith, long, room);
       linked = λ i le. shown.settled.linked i (subst (λ n. i ≤ n - 1) first le);
+    }
+
+-- a place that is shown, where the kept places up to it are linked, is shown again by doing nothing
+pub still_shown : (p ticks : ℕ) (e : Editing) → e.at ≡ Some p
+    → AreLinked (last_up_to p e.session.current.kept) e.session.current.kept → IsShown p ticks ticks e e
+still_shown p ticks e at linked =
+    let kept = e.session.current.kept in
+    let last = last_up_to p kept in record {
+      recording = record {
+        same = refl;
+        inputs = refl;
+        older = refl;
+        newer = refl;
+        places = record { many = refl; places = λ i. refl };
+      };
+      at = at;
+      settled = record {
+        same = record { many = refl; places = λ i. refl };
+        linked = linked;
+        states = λ i past. refl;
+        next = sure_of_itself kept last;
+        links = λ i past. refl;
+      };
+      frames_run = omega arith;
     }
 
 -- ---- states

@@ -37,6 +37,11 @@ and_false : (b c : Bool) → c ≡ false → (b && c) ≡ false
 and_false true c e = e
 and_false false c e = refl
 
+-- a segment whose entry keeps its state is sure where it is linked
+pub sure_of_itself : (kept : List Entry) (i : ℕ) → linked_at kept (i + 1) ≡ is_sure kept kept i
+sure_of_itself kept i = and_true (linked_at kept (i + 1)) (same_state (state_at kept i) (state_at kept i))
+    (same_is_true (state_at kept i) (state_at kept i) refl)
+
 both : (b c : Bool) → (b && c) ≡ true → (b ≡ true) × (c ≡ true)
 both true c e = (refl, e)
 both false c e = absurd cc

@@ -19,7 +19,7 @@ use w4_defs::{EditRefusal, OutOfMemory};
 use w4_devices::FrameRecord;
 use w4_font::Font;
 use w4_record::Recording;
-use wasm_valid::Cart;
+use wasm_register::Cart;
 
 /// How many drafts the undo history may hold, and the redo history.
 const HISTORY: usize = 32;

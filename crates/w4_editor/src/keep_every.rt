@@ -1,6 +1,7 @@
 //! Keeping each multiple of a number, once it is known that there is room for all of them.
 
-ghost use Rattle.std.specs.Prelude.{◌≡◌, ℕ, ◌%◌, ◌≤◌, ◌==◌, IfOk, List, OnErr, OnOk, length, nat_le};
+ghost use Rattle.std.specs.Prelude.{◌≡◌, ◌≢◌, ℕ, ◌%◌, ◌≤◌, ◌==◌, IfErr, IfOk, List, OnErr, OnOk, length, nat_le};
+ghost use Rattle.w4_defs.specs.declared.editing.EditRefusal.TheVariants.{OutOfMemory as NoMemory};
 ghost use Rattle.w4_defs.specs.Session.{is_kept, keep_every, places_alone, with_list};
 ghost use Rattle.w4_editor.specs.Editing.{current_recording};
 ghost use Rattle.w4_editor.specs.PlaceSession.{IsChanged, KeepsRest, all_to_keep, is_fresh_multiple, place_session, with_multiple};
@@ -15,7 +16,7 @@ use w4_defs::editing_laws::places_decide;
 use w4_defs::{EditRefusal, OutOfMemory, Steps};
 
 /// Keeps each multiple of a number that isn't kept, in rising order, and says how many chunks were copied in
-/// all. Errors: FullSnapshots, before any is kept, if more than 1,024 places would be; OutOfMemory.
+/// all. Errors: FullSnapshots, before any frame is run, if more than 1,024 places would be; OutOfMemory.
 pub fn keep_every<L: Ledger>(
     alloc: Global,
     editor: &mut Editor,
@@ -28,6 +29,7 @@ pub fn keep_every<L: Ledger>(
         × AreKeptInTurn places steps.old steps.new copied editor.old editor.new) }
     ensures recording { OnErr result
         (current_recording editor.new ≡ current_recording editor.old) }
+    ensures idle { IfErr result (λ refusal. refusal ≢ NoMemory → steps.new ≡ steps.old) }
 {
     if !has_room(editor, every) {
         return Err(EditRefusal::FullSnapshots);

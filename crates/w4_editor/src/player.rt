@@ -20,7 +20,7 @@ use w4_devices::FrameRecord;
 use w4_font::Font;
 use w4_map::State;
 use w4_snap::{Snap, capture};
-use wasm_valid::Cart;
+use wasm_register::Cart;
 
 /// Plays frames of a cart. A contract sees the cart, the font, the budget and the state.
 #[derive(Drop)]

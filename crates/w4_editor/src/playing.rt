@@ -29,7 +29,8 @@ use crate::editor::Editor;
 use crate::kept_list::entry_at;
 use crate::player::has_types;
 use crate::showing::{
-    keep, keep_refusal, link, move_on, replace, settle_all, show, shown_before_end,
+    are_linked_up_to, keep, keep_refusal, link, move_on, replace, settle_all, show,
+    shown_before_end,
 };
 use std::alloc::Global;
 use std::sync::ledger::Ledger;
@@ -44,7 +45,8 @@ impl Editor {
     ghost use Rattle.w4_editor.specs.Lending.{LendsShown, LendsStepped};
 
     /// The state at place `p`, which is shown then. Kept places up to it are brought up to date first, if
-    /// that is owed; each frame is one tick. Takes no memory if the kept places up to `p` are linked. Errors:
+    /// that is owed; each frame is one tick. Where it is shown already, and they are up to date, no frame is
+    /// run. Takes no memory if the kept places up to `p` are linked. Errors:
     /// NoFrame if there is no such place, and then nothing has changed; OutOfMemory, and then no place is
     /// shown, kept states and links may be newer, and recording, history and kept places are unchanged.
     pub fn show<L: Ledger>(
@@ -61,6 +63,9 @@ impl Editor {
         ensures linked { p ≤ length self.old.session.current.inputs
             → AreLinked (last_up_to p self.old.session.current.kept) self.old.session.current.kept
             → IsOk result }
+        ensures idle { self.old.at ≡ Some p
+            → AreLinked (last_up_to p self.old.session.current.kept) self.old.session.current.kept
+            → steps.new ≡ steps.old }
     {
         if p > self.recording.frames.len() {
             return Err(EditRefusal::NoFrame);
@@ -71,6 +76,41 @@ impl Editor {
 
     /// Goes to a place that is there. Errors: OutOfMemory, and then no place is shown.
     fn go_to<L: Ledger>(
+        &mut self,
+        alloc: Global,
+        p: usize,
+        steps: &mut Steps<L>,
+    ) -> Result<(), OutOfMemory>
+        requires { p ≤ length self.old.session.current.inputs }
+        ensures ok { OnOk result (IsShown p steps.old steps.new self.old self.new) }
+        ensures err { OnErr result (KeepsRecording self.old self.new) }
+        ensures at { OnErr result (self.new.at ≡ None) }
+        ensures linked { AreLinked (last_up_to p self.old.session.current.kept) self.old.session.current.kept
+            → IsOk result }
+        ensures idle { self.old.at ≡ Some p
+            → AreLinked (last_up_to p self.old.session.current.kept) self.old.session.current.kept
+            → steps.new ≡ steps.old }
+    {
+        if self.stands_at(p) {
+            return Ok(());
+        }
+        self.play_to(alloc, p, steps)
+    }
+
+    /// Whether place `p` is shown and the kept places up to it are linked: nothing is left to do for it.
+    fn stands_at(&self, p: usize) -> bool
+        ensures { IsTrue result ↔ ((self.now.at ≡ Some p)
+            × AreLinked (last_up_to p self.now.session.current.kept) self.now.session.current.kept) }
+    {
+        match self.at {
+            Some(at) if at == p => are_linked_up_to(self.kept.as_slice(), p),
+            _ => false,
+        }
+    }
+
+    /// Goes to a place that is there, from the last kept place up to it. Errors: OutOfMemory, and then no
+    /// place is shown.
+    fn play_to<L: Ledger>(
         &mut self,
         alloc: Global,
         p: usize,

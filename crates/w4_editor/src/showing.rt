@@ -1,6 +1,7 @@
 //! What is done to a recording's kept list and to the player: showing, moving on, settling and keeping.
 
-ghost use Rattle.std.specs.Prelude.{◌≡◌, ℕ, ◌+◌, ◌-◌, ◌<◌, ◌≤◌, true, IfNone, IfOk, IfSome, IsOk, OnErr, OnOk};
+ghost use Rattle.std.specs.Prelude.{◌≡◌, ℕ, ◌+◌, ◌-◌, ◌<◌, ◌≤◌, ◌↔◌, true, IfNone, IfOk, IfSome, IsOk, IsTrue};
+ghost use Rattle.std.specs.Prelude.{OnErr, OnOk};
 ghost use Rattle.std.specs.Prelude.{length, Some};
 ghost use Rattle.w4_console.specs.ConsoleCalls.{moment};
 ghost use Rattle.w4_defs.specs.KeptList.{IsSettled, SamePlaces, kept_entries, last_up_to, linked_at};
@@ -108,6 +109,21 @@ fn show_place<L: Ledger>(
     settle(alloc, player, inputs, kept, last, steps)?;
     run_from_entry(player, inputs, kept, last, p, steps);
     Ok(())
+}
+
+/// Whether the entries up to place `p` are linked; the first always is.
+pub(crate) fn are_linked_up_to(kept: &[Kept], p: usize) -> bool
+    requires some { 0 < length kept.now }
+    requires first { linked_at kept.now 0 ≡ true }
+    ensures { IsTrue result ↔ AreLinked (last_up_to p kept.now) kept.now }
+{
+    let last = last_up_to(kept, p);
+    for i in 0..last {
+        if !entry_at(kept, i + 1).linked() {
+            return false;
+        }
+    }
+    true
 }
 
 /// The last entry up to place `p`.

@@ -15,4 +15,4 @@ pub use place_pages::PlacePages;
 pub use refusal::RamRefusal;
 pub use search::Search;
 pub use w4_defs::inspect::Test;
-pub use watching::watch;
+pub use watching::{ValueBytes, watch};

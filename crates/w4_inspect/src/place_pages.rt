@@ -14,7 +14,7 @@ ghost use Rattle.w4_inspect.specs.Widths.{IsInPage, IsWidth};
 
 use crate::refusal::RamRefusal;
 use crate::search::copy_of;
-use crate::watching::{PAGE_LEN, Watched, value_of};
+use crate::watching::{PAGE_LEN, ValueBytes, value_of};
 use std::alloc::Global;
 use std::marker::Model;
 use std::sync::ledger::Ledger;
@@ -89,14 +89,14 @@ impl PlacePages {
         if address as usize + width as usize > PAGE_LEN {
             return Err(RamRefusal::Outside);
         }
-        let what = Watched { address, width };
+        let what = ValueBytes { address, width };
         let values = values_in(alloc, self.pages.as_slice(), what)?;
         Ok(values)
     }
 }
 
 /// The value in each page.
-fn values_in(alloc: Global, pages: &[Page], what: Watched) -> Result<Vec<u32>, OutOfMemory>
+fn values_in(alloc: Global, pages: &[Page], what: ValueBytes) -> Result<Vec<u32>, OutOfMemory>
     requires { IsInPage what.address what.width }
     ensures { IfOk result (λ values.
         values.items ≡ map (λ page. number_at page what.address what.width) pages.now) }

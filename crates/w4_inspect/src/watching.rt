@@ -24,41 +24,40 @@ use w4_map::State;
 /// How many bytes the page has.
 pub(crate) const PAGE_LEN: usize = 65_536;
 
-/// The bytes of a value.
+/// The bytes of a value: `width` of them, from `address` on.
 #[derive(Clone, Copy)]
-pub(crate) struct Watched {
-    pub(crate) address: u32,
-    pub(crate) width: u32,
+pub struct ValueBytes {
+    pub address: u32,
+    pub width: u32,
 }
 
-/// The values of `width` bytes, 1, 2 or 4, from `address` on, at each place from `a` to `b`, where `a` is at
-/// most `b`: numbers whose lowest byte is first. Place `b` is shown then. Each frame that is run is one tick.
+/// The values of 1, 2 or 4 bytes at each place from `a` to `b`, where `a` is at most `b`: numbers whose lowest
+/// byte is first. Place `b` is shown then. Each frame that is run is one tick.
 /// Errors: NoFrame if there is no place `b`; Outside if the bytes pass the end of the page; OutOfMemory.
 pub fn watch<L: Ledger>(
     alloc: Global,
     editor: &mut Editor,
-    address: u32,
-    width: u32,
+    what: ValueBytes,
     a: usize,
     b: usize,
     steps: &mut Steps<L>,
 ) -> Result<Vec<u32>, RamRefusal>
-    requires width { IsWidth width }
+    requires width { IsWidth what.width }
     requires order { a ≤ b }
-    ensures values { IfOk result (λ values. watched editor.old address width a b ≡ Some values.items) }
+    ensures values { IfOk result (λ values.
+        watched editor.old what.address what.width a b ≡ Some values.items) }
     ensures shown { OnOk result (IsWatched a b steps.old steps.new editor.old editor.new) }
-    ensures accepted { OnOk result (watch_refusal editor.old address width b ≡ None) }
-    ensures refused { IfErr result (IsRefusal (watch_refusal editor.old address width b)) }
+    ensures accepted { OnOk result (watch_refusal editor.old what.address what.width b ≡ None) }
+    ensures refused { IfErr result (IsRefusal (watch_refusal editor.old what.address what.width b)) }
     ensures err { OnErr result (KeepsRecording editor.old editor.new) }
     ensures unchanged { IfErr result (λ refusal. refusal ≢ NoMemory → editor.new ≡ editor.old) }
 {
     if b > last_place(editor) {
         return Err(RamRefusal::NoFrame);
     }
-    if address as usize + width as usize > PAGE_LEN {
+    if what.address as usize + what.width as usize > PAGE_LEN {
         return Err(RamRefusal::Outside);
     }
-    let what = Watched { address, width };
     let values = values(alloc, editor, what, a, b, steps)?;
     Ok(values)
 }
@@ -67,7 +66,7 @@ pub fn watch<L: Ledger>(
 fn values<L: Ledger>(
     alloc: Global,
     editor: &mut Editor,
-    what: Watched,
+    what: ValueBytes,
     a: usize,
     b: usize,
     steps: &mut Steps<L>,
@@ -91,7 +90,7 @@ fn values<L: Ledger>(
 /// Adds the values at the places after `a`, which is shown, up to `b`.
 fn add_values<L: Ledger>(
     editor: &mut Editor,
-    what: Watched,
+    what: ValueBytes,
     a: usize,
     b: usize,
     values: &mut Vec<u32>,
@@ -120,7 +119,7 @@ fn add_values<L: Ledger>(
 fn shown_value<L: Ledger>(
     alloc: Global,
     editor: &mut Editor,
-    what: Watched,
+    what: ValueBytes,
     p: usize,
     steps: &mut Steps<L>,
 ) -> Result<u32, OutOfMemory>
@@ -140,7 +139,7 @@ fn shown_value<L: Ledger>(
 fn next_value<L: Ledger>(
     editor: &mut Editor,
     frame_record: &mut FrameRecord,
-    what: Watched,
+    what: ValueBytes,
     p: usize,
     steps: &mut Steps<L>,
 ) -> u32
@@ -158,7 +157,7 @@ fn next_value<L: Ledger>(
 }
 
 /// The value in a state.
-fn value_in(state: &State, what: Watched) -> u32
+fn value_in(state: &State, what: ValueBytes) -> u32
     requires { IsInPage what.address what.width }
     ensures { result ≡ number_at state.now.page what.address what.width }
 {
@@ -166,7 +165,7 @@ fn value_in(state: &State, what: Watched) -> u32
 }
 
 /// The value in a page.
-pub(crate) fn value_of(page: &PageBytes, what: Watched) -> u32
+pub(crate) fn value_of(page: &PageBytes, what: ValueBytes) -> u32
     requires { IsInPage what.address what.width }
     ensures { result ≡ number_at page.now what.address what.width }
 {

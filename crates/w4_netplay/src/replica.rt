@@ -30,7 +30,7 @@ use w4_editor::{Editor, MOST_KEPT};
 use w4_font::Font;
 use w4_map::State;
 use w4_record::{MOST_FRAMES, Recording};
-use wasm_valid::Cart;
+use wasm_register::Cart;
 
 /// One player's side of a session. A contract sees what is known of the pads, how many frames have passed,
 /// and the editor.

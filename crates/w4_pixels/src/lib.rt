@@ -11,6 +11,6 @@ pub mod screen;
 
 pub use colour::entry_of;
 pub use dots::{column, pixel, point, put_pixel};
-pub use quads::put_quad;
+pub use quads::{Quad, put_quad};
 pub use runs::{clear, fill, span};
 pub use screen::{on_screen, screen_part};

@@ -29,6 +29,22 @@ pub fn span(page: &mut PageBytes, x0: i64, x1: i64, y: i64, index: u8)
     }
 }
 
+/// Columns of the screen: the first, and the end, which is left out.
+#[derive(Clone, Copy)]
+struct Columns {
+    first: usize,
+    end: usize,
+    ghost within: { end ≤ 160 },
+}
+
+/// Rows of the screen: the first, and the end, which is left out.
+#[derive(Clone, Copy)]
+struct Rows {
+    top: usize,
+    bottom: usize,
+    ghost within: { bottom ≤ 160 },
+}
+
 /// Paints the columns from `first` up to `end` of the screen's rows from `top` up to `bottom`.
 pub fn fill(page: &mut PageBytes, first: usize, end: usize, top: usize, bottom: usize, index: u8)
     requires columns { end ≤ 160 }
@@ -37,75 +53,59 @@ pub fn fill(page: &mut PageBytes, first: usize, end: usize, top: usize, bottom: 
     ensures { page.new ≡ paint page.old (clipped (λ a b. Some index) first end top bottom) }
 {
     if first < end {
+        let columns = Columns { first, end };
+        let rows = Rows { top, bottom };
         let (left, right) = (first / 4, (end - 1) / 4);
         if left == right {
             let mask = span_mask(first % 4, end - 4 * left);
-            fill_narrow(page, first, end, mask, top, bottom, index);
+            fill_narrow(page, columns, rows, mask, index);
         } else {
-            fill_wide(page, first, end, top, bottom, index);
+            fill_wide(page, columns, rows, index);
         }
     }
 }
 
 /// Paints rows of a box whose columns share a byte.
-fn fill_narrow(
-    page: &mut PageBytes,
-    first: usize,
-    end: usize,
-    mask: u8,
-    top: usize,
-    bottom: usize,
-    index: u8,
-)
-    requires some { first < end }
-    requires columns { end ≤ 160 }
-    requires narrow { first / 4 ≡ (end - 1) / 4 }
-    requires mask { Chooses (first % 4) (end - 4 * (first / 4)) mask }
-    requires rows { bottom ≤ 160 }
+fn fill_narrow(page: &mut PageBytes, columns: Columns, rows: Rows, mask: u8, index: u8)
+    requires some { columns.first < columns.end }
+    requires narrow { columns.first / 4 ≡ (columns.end - 1) / 4 }
+    requires mask { Chooses (columns.first % 4) (columns.end - 4 * (columns.first / 4)) mask }
     requires index { index < 4 }
-    ensures { page.new ≡ paint page.old (clipped (λ a b. Some index) first end top bottom) }
+    ensures { page.new ≡ paint page.old
+        (clipped (λ a b. Some index) columns.first columns.end rows.top rows.bottom) }
 {
-    for row in top..bottom {
-        put_masked(page, first / 4, row, mask, index);
+    for row in rows.top..rows.bottom {
+        put_masked(page, columns.first / 4, row, mask, index);
     }
 }
 
 /// Paints rows of a box whose first and last columns are in different bytes.
-fn fill_wide(page: &mut PageBytes, first: usize, end: usize, top: usize, bottom: usize, index: u8)
-    requires columns { end ≤ 160 }
-    requires wide { first / 4 < (end - 1) / 4 }
-    requires rows { bottom ≤ 160 }
+fn fill_wide(page: &mut PageBytes, columns: Columns, rows: Rows, index: u8)
+    requires wide { columns.first / 4 < (columns.end - 1) / 4 }
     requires index { index < 4 }
-    ensures { page.new ≡ paint page.old (clipped (λ a b. Some index) first end top bottom) }
+    ensures { page.new ≡ paint page.old
+        (clipped (λ a b. Some index) columns.first columns.end rows.top rows.bottom) }
 {
-    let left = span_mask(first % 4, 4);
-    let right = span_mask(0, end - 4 * ((end - 1) / 4));
-    for row in top..bottom {
-        put_row(page, first, end, left, right, row, index);
+    let left = span_mask(columns.first % 4, 4);
+    let right = span_mask(0, columns.end - 4 * ((columns.end - 1) / 4));
+    for row in rows.top..rows.bottom {
+        put_row(page, columns, left, right, row, index);
     }
 }
 
-/// Paints a row's columns from `first` up to `end` by the masks of their first and last bytes.
-fn put_row(
-    page: &mut PageBytes,
-    first: usize,
-    end: usize,
-    left: u8,
-    right: u8,
-    row: usize,
-    index: u8,
-)
-    requires columns { end ≤ 160 }
-    requires wide { first / 4 < (end - 1) / 4 }
-    requires left { Chooses (first % 4) 4 left }
-    requires right { Chooses 0 (end - 4 * ((end - 1) / 4)) right }
+/// Paints a row's columns by the masks of their first and last bytes.
+fn put_row(page: &mut PageBytes, columns: Columns, left: u8, right: u8, row: usize, index: u8)
+    requires wide { columns.first / 4 < (columns.end - 1) / 4 }
+    requires left { Chooses (columns.first % 4) 4 left }
+    requires right { Chooses 0 (columns.end - 4 * ((columns.end - 1) / 4)) right }
     requires row { row < 160 }
     requires index { index < 4 }
-    ensures { page.new ≡ paint page.old (clipped (λ a b. Some index) first end row (row + 1)) }
+    ensures { page.new ≡ paint page.old
+        (clipped (λ a b. Some index) columns.first columns.end row (row + 1)) }
 {
-    let last = (end - 1) / 4;
-    put_masked(page, first / 4, row, left, index);
-    put_whole(page, first / 4 + 1, last, row, index);
+    let last = (columns.end - 1) / 4;
+    put_masked(page, columns.first / 4, row, left, index);
+    put_whole(page, columns.first / 4 + 1, last, row, index);
     put_masked(page, last, row, right, index);
 }
 

@@ -17,7 +17,7 @@ use w4_commands::{Finish, Refusal, Status, form_of_words, run_form};
 use w4_console::laws::accepted_runs_have_meaning;
 use w4_defs::output_laws::complete_is_done;
 use w4_house::{House, WriteRefusal};
-use w4_segments::{Gate, OpenGate};
+use w4_segments::{Gate, OpenGate, Resources};
 use wasm_read::at_most_one;
 use wasm_write::laws::made_modules_are_carts;
 
@@ -68,7 +68,7 @@ fn obey<R: Threads + Sync, H: House, G: Gate + Sync>(
     ensures err { LeavesErr (H.world house.old) (H.world house.new) }
 {
     match form_of_words(words) {
-        Some(form) => status_of(run_form(rt, alloc, house, form, gate)),
+        Some(form) => status_of(run_form(&Resources { rt, alloc, gate }, house, form)),
         None => Status::Usage,
     }
 }

@@ -3,15 +3,17 @@ use Rattle.std.proofs.Common.{◌≡◌, ℕ, ◌+◌, ◌-◌, ◌<◌, ◌≤�
 use Rattle.std.specs.List.{All, slice_get}
 use Rattle.std.proofs.lemmas.Option.{slice_get_cases}
 use Rattle.w4_defs.specs.AllThere.{joined}
+use Rattle.w4_defs.specs.Film.{run_images}
 use Rattle.w4_defs.specs.KeptList.{place_at}
 use Rattle.w4_editor.specs.Editing.{Editing, editing_setup}
 use Rattle.w4_editor.specs.Showing.{KeepsRecording}
 use Rattle.w4_segments.specs.declared.worker.Worker.{Worker}
 use Rattle.w4_segments.specs.FilmPieces.{CanGoOn, images_between, images_by}
+use Rattle.w4_segments.specs.Filming.{film_images}
 use Rattle.w4_segments.specs.Pieces.{AreOfRunBelow, ArePieces, piece_begin}
 use Rattle.w4_segments.specs.Rounds.{entries_of}
 use Rattle.w4_segments.specs.Working.{EachDid, HasCartTypes, HasFilmed, worker_images}
-use Rattle.w4_segments.proofs.PieceLaws.{cut_inside, cut_rises, cut_to_end, pieces_filmed, span_both, span_none, types_filmed}
+use Rattle.w4_segments.proofs.PieceLaws.{cut_inside, cut_rises, cut_there, cut_to_end, pieces_filmed, span_both, span_none, types_filmed}
 
 module _ (e : Editing) (worker_list : List Worker) (first end first_entry next filmed : ℕ)
     (is : CanGoOn worker_list first end first_entry next filmed e) where
@@ -149,3 +151,18 @@ keeps_cart old new keeps = ap (λ (e : Editing). e.cart) keeps.same
 pub keeps_count : (old new : Editing) → KeepsRecording old new
     → length new.session.current.inputs ≡ length old.session.current.inputs
 keeps_count old new keeps = ap (λ inputs. length inputs) keeps.inputs
+
+-- the piece of the last entry up to the film's first place begins there, so all its images are left
+pub images_begun : (old now : Editing) (first a b : ℕ) → KeepsRecording old now
+    → first < length (entries_of old) → place_at (entries_of old) first ≤ a → a ≤ b
+    → images_between now (piece_begin (entries_of now) a (b + 1) first) (b + 1) ≡ film_images old a b
+images_begun old now first a b keeps there low order =
+    let many = keeps.places.many in
+    let place = keeps.places.places first in
+    let cut = cut_there (entries_of now) a (b + 1) first (omega (arith, there, many)) in
+    let begins : piece_begin (entries_of now) a (b + 1) first ≡ a = omega (arith, cut, place, low, order) in
+    ap (λ from. images_between now from (b + 1)) begins
+    ∙ ap
+    (λ (e : Editing). run_images (editing_setup e) e.disk now.session.current.inputs a (b + 1 - a))
+    keeps.same
+    ∙ ap (λ inputs. run_images (editing_setup old) old.disk inputs a (b + 1 - a)) keeps.inputs

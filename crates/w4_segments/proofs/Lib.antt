@@ -1,5 +1,6 @@
 pub mod BatchLaws
 pub mod WorkerLaws
 pub mod RoundLaws
+pub mod SettlingLaws
 pub mod PieceLaws
 pub mod FilmPieceLaws

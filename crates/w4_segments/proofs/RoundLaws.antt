@@ -13,6 +13,7 @@ use Rattle.w4_defs.specs.State.{State, HasGlobals}
 use Rattle.w4_editor.specs.Editing.{Editing, editing_setup, with_session}
 use Rattle.w4_defs.specs.Run.{fold}
 use Rattle.w4_editor.specs.Settling.{AreLinked, IsComputed}
+use Rattle.w4_editor.specs.Showing.{KeepsRecording}
 use Rattle.w4_editor.proofs.SettleLaws.{relinked_computed, replaced_computed}
 use Rattle.w4_segments.specs.declared.worker.Task.{Task}
 use Rattle.w4_segments.specs.declared.worker.Worker.{Worker}
@@ -209,22 +210,23 @@ shown_keeps_same e = record {
   at = refl;
 }
 
+pub recording_kept_both : (a b c : Editing) → KeepsRecording a b → KeepsRecording b c → KeepsRecording a c
+recording_kept_both a b c x y = record {
+  same = y.same ∙ ap (λ (e : Editing). with_session e c.session c.at) x.same;
+  inputs = y.inputs ∙ x.inputs;
+  older = y.older ∙ x.older;
+  newer = y.newer ∙ x.newer;
+  places = record {
+    many = y.places.many ∙ x.places.many;
+    places = λ i. y.places.places i ∙ x.places.places i;
+  };
+}
+
 pub keeps_both : (a b c : Editing) → KeepsShown a b → KeepsShown b c → KeepsShown a c
-keeps_both a b c one two =
-    let x = one.recording in
-    let y = two.recording in record {
-      recording = record {
-        same = y.same ∙ ap (λ (e : Editing). with_session e c.session c.at) x.same;
-        inputs = y.inputs ∙ x.inputs;
-        older = y.older ∙ x.older;
-        newer = y.newer ∙ x.newer;
-        places = record {
-          many = y.places.many ∙ x.places.many;
-          places = λ i. y.places.places i ∙ x.places.places i;
-        };
-      };
-      at = two.at ∙ one.at;
-    }
+keeps_both a b c one two = record {
+  recording = recording_kept_both a b c one.recording two.recording;
+  at = two.at ∙ one.at;
+}
 
 some_is : (a b : ℕ) → Some a ≡ Some b → a ≡ b
 some_is a b e = ap (λ o. unwrap_or o a) e

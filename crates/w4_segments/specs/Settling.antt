@@ -2,7 +2,12 @@
 use Rattle.std.specs.Prelude.{◌≡◌, ◌-◌, ◌⊎◌, length, None}
 use Rattle.w4_defs.specs.KeptList.{IsSession, IsSettled}
 use Rattle.w4_editor.specs.Editing.{Editing, editing_setup}
+use Rattle.w4_editor.specs.Settling.{AreLinked}
 use Rattle.w4_editor.specs.Showing.{KeepsRecording, AreOfRun}
+
+-- all entries are linked
+abbrev pub AreAllLinked : Editing → Type 0
+AreAllLinked e = AreLinked (length e.session.current.kept - 1) e.session.current.kept
 
 -- all entries are linked and have the states of a run from reset, and no place is shown
 pub record IsSettledWide (old new : Editing) : Type 0 where

@@ -9,6 +9,7 @@ ghost use Rattle.w4_segments.specs.Batching.{AreDealtOut, AreOfWorkers, AreRows,
 
 use crate::gate::Gate;
 use crate::playing::play;
+use crate::resources::Resources;
 use std::alloc::Global;
 use std::thread;
 use std::thread::Threads;
@@ -20,19 +21,26 @@ use w4_font::Font;
 use w4_image::{IMAGE_LEN, ppm_into};
 use w4_map::State;
 use w4_record::{Recording, RecordingRefusal, digest_of, read_recording};
-use wasm_valid::Cart;
+use wasm_register::Cart;
+
+/// The cart with its digest, the font, and the bytes of the recordings.
+#[derive(Clone, Copy)]
+struct BatchFiles<'a> {
+    cart: &'a Cart,
+    digest: &'a [u8; 32],
+    font: &'a Font,
+    items: &'a [Vec<u8>],
+}
 
 /// The row of each item, in the items' order, by 1 to 16 workers. An item that is run passes the gate with
 /// its number before its reset. Errors: OutOfMemory.
 pub fn batch<R: Threads + Sync, G: Gate + Sync>(
-    rt: &R,
-    alloc: Global,
+    resources: &Resources<'_, R, G>,
     cart: &Cart,
     font: &Font,
     digest: &[u8; 32],
     items: &[Vec<u8>],
     workers: usize,
-    gate: &G,
 ) -> Result<Vec<BatchRow>, OutOfMemory>
     requires some { 1 ≤ workers }
     requires few { workers ≤ 16 }
@@ -40,31 +48,34 @@ pub fn batch<R: Threads + Sync, G: Gate + Sync>(
         ≡ file_rows sha256 cart.now font.now digest.now (map bytes_of items.now)) }
 {
     let worker_count = items.len().min(workers);
-    let dealt = all_rows(rt, alloc, cart, font, digest, items, worker_count, gate)?;
-    in_order(alloc, dealt.as_slice(), items.len())
+    let files = BatchFiles {
+        cart,
+        digest,
+        font,
+        items,
+    };
+    let dealt = all_rows(resources, &files, worker_count)?;
+    in_order(resources.alloc, dealt.as_slice(), items.len())
 }
 
 /// What that many workers make of their items, side by side.
 fn all_rows<R: Threads + Sync, G: Gate + Sync>(
-    rt: &R,
-    alloc: Global,
-    cart: &Cart,
-    font: &Font,
-    digest: &[u8; 32],
-    items: &[Vec<u8>],
+    resources: &Resources<'_, R, G>,
+    files: &BatchFiles<'_>,
     worker_count: usize,
-    gate: &G,
 ) -> Result<Vec<Result<Vec<BatchRow>, OutOfMemory>>, OutOfMemory>
     requires { worker_count ≤ 16 }
     ensures many { IfOk result (λ dealt. length dealt.items ≡ worker_count) }
-    ensures rows { IfOk result (λ dealt. AreOfWorkers (item_row cart.now font.now digest.now items.now)
-        (length items.now) worker_count dealt.items) }
+    ensures rows { IfOk result (λ dealt. AreOfWorkers
+        (item_row files.now.cart.now files.now.font.now files.now.digest.now files.now.items.now)
+        (length files.now.items.now) worker_count dealt.items) }
 {
+    let (alloc, gate) = (resources.alloc, resources.gate);
     let rows = thread::map_indices(
-        rt,
+        resources.rt,
         alloc,
         worker_count,
-        &|first| { rows_of(alloc, gate, cart, font, digest, items, first, worker_count) },
+        &|first| rows_of(alloc, gate, files, first, worker_count),
     )?;
     Ok(rows)
 }
@@ -80,27 +91,26 @@ struct BatchWorker {
 fn rows_of<G: Gate>(
     alloc: Global,
     gate: &G,
-    cart: &Cart,
-    font: &Font,
-    digest: &[u8; 32],
-    items: &[Vec<u8>],
+    files: &BatchFiles<'_>,
     first: usize,
     stride: usize,
 ) -> Result<Vec<BatchRow>, OutOfMemory>
     requires some { 0 < stride }
     requires few { first + stride ≤ 32 }
-    ensures { IfOk result (λ rows. AreRows (item_row cart.now font.now digest.now items.now)
-        (length items.now) first stride rows.items) }
+    ensures { IfOk result (λ rows. AreRows
+        (item_row files.now.cart.now files.now.font.now files.now.digest.now files.now.items.now)
+        (length files.now.items.now) first stride rows.items) }
 {
     let mut worker = BatchWorker {
-        console: Console::new(alloc, cart)?,
+        console: Console::new(alloc, files.cart)?,
         image_bytes: Box::new(alloc, [0; IMAGE_LEN])?,
     };
+    let items = files.items;
     let mut rows = Vec::new(alloc);
     let mut at = first;
     while at < items.len() {
         let bytes = items[at].as_slice();
-        let row = row(alloc, gate, cart, font, digest, at, bytes, &mut worker)?;
+        let row = row(alloc, gate, files, at, bytes, &mut worker)?;
         rows.push(row)?;
         at += stride;
     }
@@ -111,27 +121,26 @@ fn rows_of<G: Gate>(
 fn row<G: Gate>(
     alloc: Global,
     gate: &G,
-    cart: &Cart,
-    font: &Font,
-    digest: &[u8; 32],
+    files: &BatchFiles<'_>,
     number: usize,
     bytes: &[u8],
     worker: &mut BatchWorker,
 ) -> Result<BatchRow, OutOfMemory>
-    requires types { HasGlobals cart.now worker.old.console }
-    ensures row { IfOk result (λ row. file_row sha256 cart.now font.now digest.now bytes.now ≡ Some row) }
-    ensures types { HasGlobals cart.now worker.new.console }
+    requires types { HasGlobals files.now.cart.now worker.old.console }
+    ensures row { IfOk result (λ row. file_row sha256 files.now.cart.now files.now.font.now
+        files.now.digest.now bytes.now ≡ Some row) }
+    ensures types { HasGlobals files.now.cart.now worker.new.console }
 {
     let recording = match read_recording(alloc, bytes) {
         Ok(recording) => recording,
         Err(RecordingRefusal::BadRecording) => return Ok(BatchRow::Bad),
         Err(RecordingRefusal::OutOfMemory) => return Err(OutOfMemory),
     };
-    if recording.digest != *digest {
+    if recording.digest != *files.digest {
         return Ok(BatchRow::WrongCart);
     }
     gate.pass(number);
-    Ok(run_recording(cart, font, &recording, worker))
+    Ok(run_recording(files.cart, files.font, &recording, worker))
 }
 
 /// Runs a recording from its reset to its last place.

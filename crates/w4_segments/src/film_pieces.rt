@@ -13,6 +13,7 @@ ghost use Rattle.w4_defs.specs.declared.film_refusal.FilmRefusal.TheVariants.{Ou
 
 use crate::gate::{Gate, OpenGate};
 use crate::pieces::film_all;
+use crate::resources::Resources;
 use crate::rounds::{is_consistent, settle_rounds, unlinked};
 use crate::worker::{Task, Worker, new_workers};
 use std::alloc::Global;
@@ -70,7 +71,12 @@ impl FilmPieces {
         if let Some(refusal) = film_refusal(editor, a, b) {
             return Err(refusal);
         }
-        let film = begin_there::<R, Brand>(rt, alloc, editor, a, b, workers, Blank::new(1))?;
+        let resources = Resources {
+            rt,
+            alloc,
+            gate: &OpenGate,
+        };
+        let film = begin_there::<R, Brand>(&resources, editor, a, b, workers, Blank::new(1))?;
         Ok(film)
     }
 
@@ -167,8 +173,7 @@ fn film_refusal(editor: &Editor, a: usize, b: usize) -> Option<FilmRefusal>
 
 /// Begins the film of places that are there. Its rounds have a counter of their own.
 fn begin_there<R: Threads + Sync, L: Ledger>(
-    rt: &R,
-    alloc: Global,
+    resources: &Resources<'_, R, OpenGate>,
     editor: &mut Editor,
     a: usize,
     b: usize,
@@ -189,14 +194,12 @@ fn begin_there<R: Threads + Sync, L: Ledger>(
     is_consistent(editor);
     let (first, last) = (last_up_to(editor, a), last_up_to(editor, b));
     let worker_count = (last + 1 - first).max(unlinked(editor, last)).min(workers);
-    let mut worker_list = new_workers(alloc, editor.cart(), worker_count)?;
+    let mut worker_list = new_workers(resources.alloc, editor.cart(), worker_count)?;
     let mut rounds = Steps::<L>::new(blank);
     settle_rounds(
-        rt,
-        alloc,
+        resources,
         editor,
         last,
-        &OpenGate,
         worker_list.as_mut_slice(),
         &mut rounds,
     )?;

@@ -9,7 +9,7 @@ ghost use Rattle.w4_defs.specs.declared.film_refusal.FilmRefusal.TheVariants.{Ou
 
 use crate::film_pieces::FilmPieces;
 use crate::gate::Gate;
-use std::alloc::Global;
+use crate::resources::Resources;
 use std::thread::Threads;
 use w4_defs::{FilmRefusal, OutOfMemory};
 use w4_editor::Editor;
@@ -19,13 +19,11 @@ use w4_image::{IMAGE_LEN, Screen, screen_into};
 /// `FilmPieces` in one list. Errors, in this order: NoFrame if there is no place `b`; FilmTooLong if there
 /// would be more than 600 images; OutOfMemory, and then kept states and links may be newer.
 pub fn film<R: Threads + Sync, G: Gate + Sync>(
-    rt: &R,
-    alloc: Global,
+    resources: &Resources<'_, R, G>,
     editor: &mut Editor,
     a: usize,
     b: usize,
     workers: usize,
-    gate: &G,
 ) -> Result<Vec<u8>, FilmRefusal>
     requires order { a ≤ b }
     requires some { 1 ≤ workers }
@@ -36,25 +34,23 @@ pub fn film<R: Threads + Sync, G: Gate + Sync>(
     ensures unchanged { IfErr result (λ refusal. refusal ≢ NoMemory → editor.new ≡ editor.old) }
     ensures keeps { KeepsShown editor.old editor.new }
 {
-    let mut film = FilmPieces::begin(rt, alloc, editor, a, b, workers)?;
-    let images = gathered(rt, alloc, &mut film, editor, gate)?;
+    let mut film = FilmPieces::begin(resources.rt, resources.alloc, editor, a, b, workers)?;
+    let images = gathered(resources, &mut film, editor)?;
     Ok(images)
 }
 
 /// All that is left of a film.
 fn gathered<R: Threads + Sync, G: Gate + Sync>(
-    rt: &R,
-    alloc: Global,
+    resources: &Resources<'_, R, G>,
     film: &mut FilmPieces,
     editor: &Editor,
-    gate: &G,
 ) -> Result<Vec<u8>, OutOfMemory>
     requires { IsFilming film.old editor.now }
     ensures { IfOk result (λ all. images_left film.old editor.now ≡ Some all.items) }
 {
-    let mut image_bytes = Box::new(alloc, [0; IMAGE_LEN])?;
-    let mut all = Vec::new(alloc);
-    while film.next_piece(rt, editor, gate)? {
+    let mut image_bytes = Box::new(resources.alloc, [0; IMAGE_LEN])?;
+    let mut all = Vec::new(resources.alloc);
+    while film.next_piece(resources.rt, editor, resources.gate)? {
         append_images(film.screens(), &mut image_bytes, &mut all)?;
     }
     Ok(all)

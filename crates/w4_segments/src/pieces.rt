@@ -18,7 +18,7 @@ use w4_console::Console;
 use w4_font::Font;
 use w4_image::{Screen, screen_of};
 use w4_record::Recording;
-use wasm_valid::Cart;
+use wasm_register::Cart;
 
 /// All workers film their pieces, side by side, each into its own buffer.
 pub(crate) fn film_all<R: Threads + Sync, G: Gate + Sync>(

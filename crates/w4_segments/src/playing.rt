@@ -12,7 +12,7 @@ use w4_defs::{Input, Steps};
 use w4_devices::FrameRecord;
 use w4_font::Font;
 use w4_record::Recording;
-use wasm_valid::Cart;
+use wasm_register::Cart;
 
 /// Plays the inputs of a recording between two places, one after another.
 pub(crate) fn play(

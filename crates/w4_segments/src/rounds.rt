@@ -16,6 +16,7 @@ ghost use Rattle.w4_segments.specs.Working.{CanPlay, EachDid, HasPlayed, HasCart
 
 use crate::gate::Gate;
 use crate::playing::play;
+use crate::resources::Resources;
 use crate::worker::{Task, Worker};
 use std::alloc::Global;
 use std::sync::ledger::Ledger;
@@ -26,16 +27,14 @@ use w4_editor::Editor;
 use w4_font::Font;
 use w4_map::State;
 use w4_record::Recording;
-use wasm_valid::Cart;
+use wasm_register::Cart;
 
 /// Links all entries up to `last`, in at most `last` rounds, each of which is one step: each one lengthens
 /// the linked front of the list.
 pub(crate) fn settle_rounds<R: Threads + Sync, G: Gate + Sync, L: Ledger>(
-    rt: &R,
-    alloc: Global,
+    resources: &Resources<'_, R, G>,
     editor: &mut Editor,
     last: usize,
-    gate: &G,
     worker_list: &mut [Worker],
     rounds: &mut Steps<L>,
 ) -> Result<(), OutOfMemory>
@@ -50,7 +49,7 @@ pub(crate) fn settle_rounds<R: Threads + Sync, G: Gate + Sync, L: Ledger>(
 {
     is_consistent(editor);
     for _ in 0..last {
-        if !settle_round(rt, alloc, editor, last, gate, worker_list, rounds)? {
+        if !settle_round(resources, editor, last, worker_list, rounds)? {
             return Ok(());
         }
     }
@@ -59,11 +58,9 @@ pub(crate) fn settle_rounds<R: Threads + Sync, G: Gate + Sync, L: Ledger>(
 
 /// One round, which is one step; whether there was anything to do.
 fn settle_round<R: Threads + Sync, G: Gate + Sync, L: Ledger>(
-    rt: &R,
-    alloc: Global,
+    resources: &Resources<'_, R, G>,
     editor: &mut Editor,
     last: usize,
-    gate: &G,
     worker_list: &mut [Worker],
     rounds: &mut Steps<L>,
 ) -> Result<bool, OutOfMemory>
@@ -86,14 +83,14 @@ fn settle_round<R: Threads + Sync, G: Gate + Sync, L: Ledger>(
         return Ok(false);
     }
     play_all(
-        rt,
-        gate,
+        resources.rt,
+        resources.gate,
         editor.cart(),
         editor.font(),
         editor.recording(),
         worker_list,
     );
-    take_all(alloc, editor, last, worker_list)?;
+    take_all(resources.alloc, editor, last, worker_list)?;
     Ok(true)
 }
 
@@ -167,6 +164,7 @@ pub(crate) fn is_consistent(editor: &Editor)
 pub(crate) fn unlinked(editor: &Editor, last: usize) -> usize
     requires { last < length editor.now.session.current.kept }
     ensures none { result ≡ 0 → AreLinked last editor.now.session.current.kept }
+    ensures all { AreLinked last editor.now.session.current.kept → result ≡ 0 }
     ensures few { result ≤ last }
 {
     is_consistent(editor);

@@ -1,13 +1,14 @@
 //! Settling by many workers.
 
-ghost use Rattle.std.specs.Prelude.{◌≡◌, ◌-◌, ◌<◌, ◌≤◌, ◌⊎◌, None, OnErr, OnOk, length};
+ghost use Rattle.std.specs.Prelude.{◌≡◌, ◌-◌, ◌<◌, ◌≤◌, ◌⊎◌, IsOk, None, OnErr, OnOk, length};
 ghost use Rattle.w4_defs.specs.FramesRun.{RunsAtMost};
 ghost use Rattle.w4_editor.specs.Settling.{AreLinked};
 ghost use Rattle.w4_editor.specs.Showing.{KeepsRecording};
 ghost use Rattle.w4_segments.specs.Filming.{KeepsShown};
-ghost use Rattle.w4_segments.specs.Settling.{IsPartlySettled, IsSettledWide};
+ghost use Rattle.w4_segments.specs.Settling.{AreAllLinked, IsPartlySettled, IsSettledWide};
 
 use crate::gate::Gate;
+use crate::resources::Resources;
 use crate::rounds::{is_consistent, settle_rounds, unlinked};
 use crate::worker::new_workers;
 use std::alloc::Global;
@@ -18,30 +19,28 @@ use w4_defs::{OutOfMemory, Steps};
 use w4_editor::Editor;
 
 /// Brings all kept places up to date, as `Editor::settle` does, by 1 to 16 workers; a piece of a round is one
-/// segment that isn't linked. No place is shown then. Errors: OutOfMemory, and then kept states and links may
-/// be newer, and the place that was shown still is, or none is.
+/// segment that isn't linked. No place is shown then. Takes no memory where they are linked. Errors:
+/// OutOfMemory, and then kept states and links may be newer, and the place that was shown still is, or none
+/// is.
 pub fn settle_wide<R: Threads + Sync, G: Gate + Sync>(
-    rt: &R,
-    alloc: Global,
+    resources: &Resources<'_, R, G>,
     editor: &mut Editor,
     workers: usize,
-    gate: &G,
 ) -> Result<(), OutOfMemory>
     requires some { 1 ≤ workers }
     requires few { workers ≤ 16 }
     ensures ok { OnOk result (IsSettledWide editor.old editor.new) }
     ensures err { OnErr result (IsPartlySettled editor.old editor.new) }
+    ensures linked { AreAllLinked editor.old → IsOk result }
 {
-    settle_alone::<R, G, Brand>(rt, alloc, editor, workers, gate, Blank::new(1))
+    settle_alone::<R, G, Brand>(resources, editor, workers, Blank::new(1))
 }
 
 /// The same work under a counter of its own.
 fn settle_alone<R: Threads + Sync, G: Gate + Sync, L: Ledger>(
-    rt: &R,
-    alloc: Global,
+    resources: &Resources<'_, R, G>,
     editor: &mut Editor,
     workers: usize,
-    gate: &G,
     blank: Blank,
 ) -> Result<(), OutOfMemory>
     requires some { 1 ≤ workers }
@@ -51,33 +50,28 @@ fn settle_alone<R: Threads + Sync, G: Gate + Sync, L: Ledger>(
     requires shares { 0 < L.parts }
     ensures ok { OnOk result (IsSettledWide editor.old editor.new) }
     ensures err { OnErr result (IsPartlySettled editor.old editor.new) }
+    ensures linked { AreAllLinked editor.old → IsOk result }
 {
-    settle_wide_counted(
-        rt,
-        alloc,
-        editor,
-        workers,
-        gate,
-        &mut Steps::<L>::new(blank),
-    )
+    settle_wide_counted(resources, editor, workers, &mut Steps::<L>::new(blank))
 }
 
-/// The same work as `settle_wide`, where each round is one step: there are fewer rounds than kept places.
+/// The same work as `settle_wide`, where each round is one step: there are fewer rounds than kept places, and
+/// none where these are linked.
 pub fn settle_wide_counted<R: Threads + Sync, G: Gate + Sync, L: Ledger>(
-    rt: &R,
-    alloc: Global,
+    resources: &Resources<'_, R, G>,
     editor: &mut Editor,
     workers: usize,
-    gate: &G,
     rounds: &mut Steps<L>,
 ) -> Result<(), OutOfMemory>
     requires some { 1 ≤ workers }
     requires few { workers ≤ 16 }
     ensures ok { OnOk result (IsSettledWide editor.old editor.new) }
     ensures err { OnErr result (IsPartlySettled editor.old editor.new) }
+    ensures linked { AreAllLinked editor.old → IsOk result }
     ensures rounds { RunsAtMost rounds.old rounds.new (length editor.old.session.current.kept - 1) }
+    ensures idle { AreAllLinked editor.old → rounds.new ≡ rounds.old }
 {
-    let settled = settle_by_rounds(rt, alloc, editor, workers, gate, rounds);
+    let settled = settle_by_rounds(resources, editor, workers, rounds);
     // What an editor keeps true is known by this call, which costs nothing.
     let _shown = editor.at();
     settled
@@ -85,11 +79,9 @@ pub fn settle_wide_counted<R: Threads + Sync, G: Gate + Sync, L: Ledger>(
 
 /// Links all entries, and then settles.
 fn settle_by_rounds<R: Threads + Sync, G: Gate + Sync, L: Ledger>(
-    rt: &R,
-    alloc: Global,
+    resources: &Resources<'_, R, G>,
     editor: &mut Editor,
     workers: usize,
-    gate: &G,
     rounds: &mut Steps<L>,
 ) -> Result<(), OutOfMemory>
     requires some { 1 ≤ workers }
@@ -97,42 +89,36 @@ fn settle_by_rounds<R: Threads + Sync, G: Gate + Sync, L: Ledger>(
     ensures ok { OnOk result (IsSettledWide editor.old editor.new) }
     ensures err { OnErr result (KeepsRecording editor.old editor.new) }
     ensures at { OnErr result ((editor.new.at ≡ editor.old.at) ⊎ (editor.new.at ≡ None)) }
+    ensures linked { AreAllLinked editor.old → IsOk result }
     ensures rounds { RunsAtMost rounds.old rounds.new (length editor.old.session.current.kept - 1) }
+    ensures idle { AreAllLinked editor.old → rounds.new ≡ rounds.old }
 {
-    link_all(rt, alloc, editor, workers, gate, rounds)?;
-    settle::<Brand>(alloc, editor, Blank::new(1))
+    link_all(resources, editor, workers, rounds)?;
+    settle::<Brand>(resources.alloc, editor, Blank::new(1))
 }
 
 /// Links all entries. Takes no memory and no round if they are linked.
 fn link_all<R: Threads + Sync, G: Gate + Sync, L: Ledger>(
-    rt: &R,
-    alloc: Global,
+    resources: &Resources<'_, R, G>,
     editor: &mut Editor,
     workers: usize,
-    gate: &G,
     rounds: &mut Steps<L>,
 ) -> Result<(), OutOfMemory>
     requires some { 1 ≤ workers }
     ensures linked { OnOk result (AreLinked (length editor.old.session.current.kept - 1)
         editor.new.session.current.kept) }
     ensures keeps { KeepsShown editor.old editor.new }
+    ensures all_linked { AreAllLinked editor.old → IsOk result }
     ensures rounds { RunsAtMost rounds.old rounds.new (length editor.old.session.current.kept - 1) }
+    ensures idle { AreAllLinked editor.old → rounds.new ≡ rounds.old }
 {
     let last = last_entry(editor);
     let owed = unlinked(editor, last);
     if owed == 0 {
         return Ok(());
     }
-    let mut worker_list = new_workers(alloc, editor.cart(), owed.min(workers))?;
-    settle_rounds(
-        rt,
-        alloc,
-        editor,
-        last,
-        gate,
-        worker_list.as_mut_slice(),
-        rounds,
-    )
+    let mut worker_list = new_workers(resources.alloc, editor.cart(), owed.min(workers))?;
+    settle_rounds(resources, editor, last, worker_list.as_mut_slice(), rounds)
 }
 
 /// The last entry; entry 0 is always there.
@@ -152,6 +138,7 @@ fn settle<L: Ledger>(alloc: Global, editor: &mut Editor, blank: Blank) -> Result
     ensures ok { OnOk result (IsSettledWide editor.old editor.new) }
     ensures err { OnErr result (KeepsRecording editor.old editor.new) }
     ensures at { OnErr result (editor.new.at ≡ None) }
+    ensures linked { AreAllLinked editor.old → IsOk result }
 {
     match editor.settle(alloc, &mut Steps::<L>::new(blank)) {
         Ok(()) => Ok(()),

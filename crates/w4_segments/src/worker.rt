@@ -7,7 +7,7 @@ use std::alloc::Global;
 use w4_console::Console;
 use w4_defs::OutOfMemory;
 use w4_image::Screen;
-use wasm_valid::Cart;
+use wasm_register::Cart;
 
 /// A stretch of a recording. The piece `number` goes from `place`, where the console stands with the state of
 /// entry `entry`, to `end`; in a film it has the places from `first` up to `end`.

@@ -10,6 +10,16 @@ use crate::steps::line_steps;
 use w4_defs::PageBytes;
 use w4_pixels::{entry_of, put_pixel};
 
+/// The ends of a line, the upper one first.
+#[derive(Clone, Copy)]
+struct Ends {
+    x1: i32,
+    y1: i32,
+    x2: i32,
+    y2: i32,
+    ghost down: { y1 ≤ℤ y2 },
+}
+
 /// Paints the line from (x1, y1) to (x2, y2) in colour 1. It starts at the end with the smaller y, at a
 /// tie at the first.
 pub fn line(page: &mut PageBytes, colors: u16, x1: i32, y1: i32, x2: i32, y2: i32)
@@ -41,38 +51,30 @@ fn put_line(page: &mut PageBytes, x1: i32, y1: i32, x2: i32, y2: i32, index: u8)
 {
     let (first, end) = line_steps(x1, y1, x2, y2);
     if first < end {
-        put_steps(page, x1, y1, x2, y2, first, end, index);
+        let ends = Ends { x1, y1, x2, y2 };
+        put_steps(page, ends, first, end, index);
     }
 }
 
 /// Paints the points of a line after the steps from `first` up to `end`, which are all on the screen.
-fn put_steps(
-    page: &mut PageBytes,
-    x1: i32,
-    y1: i32,
-    x2: i32,
-    y2: i32,
-    first: u64,
-    end: u64,
-    index: u8,
-)
+fn put_steps(page: &mut PageBytes, ends: Ends, first: u64, end: u64, index: u8)
     requires small { index < 4 }
-    requires down { y1 ≤ℤ y2 }
     requires some { first < end }
-    requires end { end ≤ max (apart x1 x2) (apart y1 y2) + 1 }
+    requires end { end ≤ max (apart ends.x1 ends.x2) (apart ends.y1 ends.y2) + 1 }
     requires on { (t : ℕ) → first ≤ t → t < end
-        → OnAxis (toward x1 x2 (moved (apart x1 x2) (apart y1 y2) t))
-        × OnAxis (toward y1 y2 (moved (apart y1 y2) (apart x1 x2) t)) }
+        → OnAxis (toward ends.x1 ends.x2 (moved (apart ends.x1 ends.x2) (apart ends.y1 ends.y2) t))
+        × OnAxis (toward ends.y1 ends.y2 (moved (apart ends.y1 ends.y2) (apart ends.x1 ends.x2) t)) }
     ensures { page.new ≡ paint page.old (steps_painter
-        (λ t. toward x1 x2 (moved (apart x1 x2) (apart y1 y2) t))
-        (λ t. toward y1 y2 (moved (apart y1 y2) (apart x1 x2) t)) first end (Some index)) }
+        (λ t. toward ends.x1 ends.x2 (moved (apart ends.x1 ends.x2) (apart ends.y1 ends.y2) t))
+        (λ t. toward ends.y1 ends.y2 (moved (apart ends.y1 ends.y2) (apart ends.x1 ends.x2) t))
+        first end (Some index)) }
 {
-    let (wide, high) = (distance(x1, x2), distance(y1, y2));
+    let (wide, high) = (distance(ends.x1, ends.x2), distance(ends.y1, ends.y2));
     let (less, most) = (wide.min(high), wide.max(high).max(1));
-    let course = course_of(x1, x2, wide, high);
+    let course = course_of(ends.x1, ends.x2, wide, high);
     let mut slope = slope_at(first, less, most);
-    let x = axis_at(x1, x2, wide, high, first, slope.moved);
-    let y = axis_at(y1, y2, high, wide, first, slope.moved);
+    let x = axis_at(ends.x1, ends.x2, wide, high, first, slope.moved);
+    let y = axis_at(ends.y1, ends.y2, high, wide, first, slope.moved);
     let mut number = number_of(x, y);
     for step in first..end {
         put_pixel(page, number, index);

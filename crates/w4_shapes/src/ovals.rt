@@ -41,6 +41,14 @@ struct Extent {
     end: usize,
 }
 
+/// The cells within of a row, and of those above and below it.
+#[derive(Clone, Copy)]
+struct ThreeRows {
+    above: Extent,
+    here: Extent,
+    below: Extent,
+}
+
 /// Fills the oval of `w` by `h` cells from (x, y) on in colour 1, then paints its edge cells in colour 2;
 /// nothing where a side is below 1.
 pub fn oval(page: &mut PageBytes, colors: u16, x: i32, y: i32, w: i32, h: i32)
@@ -102,34 +110,27 @@ fn put_rows(page: &mut PageBytes, cells: Cells, columns: Columns, top: usize, bo
     let mut here = row_extent(cells, columns, top + 1, above);
     for v in top..bottom {
         let below = row_extent(cells, columns, v + 2, here);
-        put_row(page, cells, columns, v, above, here, below);
+        let rows = ThreeRows { above, here, below };
+        put_row(page, cells, columns, v, rows);
         above = here;
         here = below;
     }
 }
 
 /// Paints row `v` of the screen, by the cells within in its own row and in those above and below it.
-fn put_row(
-    page: &mut PageBytes,
-    cells: Cells,
-    columns: Columns,
-    v: usize,
-    above: Extent,
-    here: Extent,
-    below: Extent,
-)
+fn put_row(page: &mut PageBytes, cells: Cells, columns: Columns, v: usize, rows: ThreeRows)
     requires on_screen { OnScreen cells columns }
     requires first_cell { cells.y ≤ℤ pos v }
     requires last_cell { pos (v + 1) ≤ℤ (cells.y +ℤ pos cells.h) }
     requires row { v < 160 }
-    requires around { Around columns here }
-    requires above { Spans cells columns v above }
-    requires here { Spans cells columns (v + 1) here }
-    requires below { Spans cells columns (v + 2) below }
+    requires around { Around columns rows.here }
+    requires above { Spans cells columns v rows.above }
+    requires here { Spans cells columns (v + 1) rows.here }
+    requires below { Spans cells columns (v + 2) rows.below }
     ensures { page.new ≡ paint page.old (clipped (painter_of cells) columns.left columns.right v (v + 1)) }
 {
-    let whole = on_screen(columns, here);
-    let inner = inner_part(whole, above, here, below);
+    let whole = on_screen(columns, rows.here);
+    let inner = inner_part(whole, rows);
     let edge = index_of(cells.colors, true);
     put_span(page, whole.first, inner.first, v, edge);
     put_span(
@@ -156,16 +157,23 @@ fn on_screen(columns: Columns, here: Extent) -> Extent
 }
 
 /// Those of the columns of `whole` whose four neighbours are within.
-fn inner_part(whole: Extent, above: Extent, here: Extent, below: Extent) -> Extent
-    requires { here.first ≤ 162 }
+fn inner_part(whole: Extent, rows: ThreeRows) -> Extent
+    requires { rows.here.first ≤ 162 }
     ensures low { min whole.first whole.end ≤ result.first }
     ensures order { result.first ≤ result.end }
     ensures high { result.end ≤ whole.end }
     ensures same { (u : ℕ) → whole.first ≤ u + 1 → u + 1 < whole.end
-        → has result (u + 1) ≡ is_inner above here below u }
+        → has result (u + 1) ≡ is_inner rows.above rows.here rows.below u }
 {
-    let first = (here.first + 1).max(above.first).max(below.first);
-    let end = here.end.saturating_sub(1).min(above.end).min(below.end);
+    let first = (rows.here.first + 1)
+        .max(rows.above.first)
+        .max(rows.below.first);
+    let end = rows
+        .here
+        .end
+        .saturating_sub(1)
+        .min(rows.above.end)
+        .min(rows.below.end);
     let first = first.max(whole.first).min(whole.end);
     Extent {
         first,

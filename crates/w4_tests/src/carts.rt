@@ -5,7 +5,7 @@ use std::test::Fail;
 use w4_cart::accept;
 use w4_defs::Input;
 use w4_font::Font;
-use wasm_valid::Cart;
+use wasm_register::Cart;
 
 /// It imports the memory, and its `update` does nothing.
 pub const IDLE: [u8; 53] = [

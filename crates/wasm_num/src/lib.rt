@@ -6,6 +6,7 @@
 pub mod bits32;
 pub mod bits64;
 mod division;
+mod extend;
 pub mod laws;
 mod sign;
 #[cfg(test)]
@@ -13,3 +14,4 @@ mod tests;
 
 pub use bits32::{binary32, compare32, unary32};
 pub use bits64::{binary64, compare64, unary64};
+pub use extend::{extend_32, extend_64};

@@ -13,6 +13,7 @@ mod TypedInstructions
 mod TypedSteps
 mod TypedImports
 mod TypedModules
+mod CalledLaws
 pub mod NeverStuck
 mod NoneLaws
 pub mod ProfileFacts

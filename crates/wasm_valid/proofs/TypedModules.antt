@@ -39,7 +39,7 @@ own_found types (x ∷ fs) (f ∷ bs) zero index s as_many_bodies h t =
 own_found types (x ∷ fs) (f ∷ bs) (suc k) index s as_many_bodies h t =
     own_found types fs bs k index s (omega (arith, as_many_bodies)) h t
 
-body_typed : (m : WasmModule) (k index : ℕ) (s : Signature) (f : Function) → IsValid m
+pub body_typed : (m : WasmModule) (k index : ℕ) (s : Signature) (f : Function) → IsValid m
     → slice_get m.functions k ≡ Some index → slice_get m.types index ≡ Some s → slice_get m.bodies k ≡ Some f
     → HasType (body_context m s f) f.list [] s.results
 body_typed m k index s f valid h t g =

@@ -12,3 +12,4 @@ pub mod ControlStack
 pub mod StackTypes
 pub mod BodyMarks
 pub mod Untyped
+pub mod Called

@@ -1,6 +1,7 @@
 //! Laws of the definition of typing, which the pass over a body stands on.
 
 ghost use Rattle.wasm_valid.specs.AbstractStackLaw.{StackDecides, StackDecidesBodies, StackDecidesFrom};
+ghost use Rattle.wasm_valid.specs.Called.{CallsAreCounted, OwnBodiesAreTyped};
 ghost use Rattle.wasm_valid.specs.Instructions.{InstructionsAreCounted};
 ghost use Rattle.wasm_valid.specs.Pass.{PassDecidesBodies};
 
@@ -26,4 +27,11 @@ pub fn pass_decides_bodies()
 /// The marks of a flattening besides each `else` and each `end` are as many as the instructions of its tree.
 pub fn instructions_are_counted()
     ensures { InstructionsAreCounted }
+{}
+
+/// In a valid module the body of each own function that an index names leads from no operands to its results.
+/// And where a function index has a type, its call takes and gives as many values as the type says.
+pub fn called_functions_are_typed()
+    ensures bodies { OwnBodiesAreTyped }
+    ensures calls { CallsAreCounted }
 {}

@@ -35,7 +35,8 @@ pub use call::Call;
 pub use cart::Cart;
 pub use entry_point::Entry;
 pub use laws::{
-    instructions_are_counted, pass_decides_bodies, stack_decides, stack_decides_bodies,
+    called_functions_are_typed, instructions_are_counted, pass_decides_bodies, stack_decides,
+    stack_decides_bodies,
 };
 pub use refusal::ValidRefusal;
 pub use soundness::{hosted_runs_are_sound, runs_are_sound};

@@ -12,7 +12,7 @@ use w4_console::Console;
 use w4_defs::{Cause, Halt, Input, Steps};
 use w4_devices::FrameRecord;
 use w4_font::Font;
-use wasm_valid::Cart;
+use wasm_register::Cart;
 
 /// It stores four bytes at 65,533.
 const STORING: [u8; 62] = [

@@ -10,7 +10,7 @@ use std::sync::ledger::{Blank, Ledger};
 use std::test::Fail;
 use w4_defs::Steps;
 use w4_editor::Editor;
-use w4_inspect::{RamRefusal, Search, Test, watch};
+use w4_inspect::{RamRefusal, Search, Test, ValueBytes, watch};
 use w4_record::Recording;
 
 /// An editor of two frames whose first pads are 5 and 9.
@@ -33,9 +33,17 @@ fn watches<L: Ledger>(
     requires some { 0 < L.parts }
 {
     let steps = &mut Steps::<L>::new(blank);
-    let outside = watch(alloc, editor, 65_535, 2, 0, 2, steps).err();
-    let no_frame = watch(alloc, editor, 65_535, 2, 0, 3, steps).err();
-    let values = watch(alloc, editor, 160, 2, 0, 2, steps)?;
+    let past_the_end = ValueBytes {
+        address: 65_535,
+        width: 2,
+    };
+    let screen = ValueBytes {
+        address: 160,
+        width: 2,
+    };
+    let outside = watch(alloc, editor, past_the_end, 0, 2, steps).err();
+    let no_frame = watch(alloc, editor, past_the_end, 0, 3, steps).err();
+    let values = watch(alloc, editor, screen, 0, 2, steps)?;
     Ok((values, outside, no_frame))
 }
 

@@ -17,8 +17,8 @@ use w4_editor::Editor;
 use w4_font::Font;
 use w4_image::IMAGE_LEN;
 use w4_record::Recording;
-use w4_segments::{BatchRow, Gate, batch, film, settle_wide};
-use wasm_valid::Cart;
+use w4_segments::{BatchRow, Gate, Resources, batch, film, settle_wide};
+use wasm_register::Cart;
 
 /// A recording of one frame of zeros, on the cart whose digest is 32 bytes of 7.
 const ONE_FRAME: &[u8] = b"W4RC\x01\x07\x07\x07\x07\x07\x07\x07\x07\x07\x07\x07\x07\x07\x07\x07\x07\
@@ -59,7 +59,12 @@ fn check_film<R: Threads + Sync + Abort>(
     editor: &mut Editor,
 ) -> Result<(), Fail> {
     let gate = Holder::new();
-    let film = film(rt, alloc, editor, 0, 2, 2, &gate)?;
+    let resources = Resources {
+        rt,
+        alloc,
+        gate: &gate,
+    };
+    let film = film(&resources, editor, 0, 2, 2)?;
     assert_eq!(rt; film.len(), 3 * IMAGE_LEN);
     assert!(rt; gate.saw());
     Ok(())
@@ -85,7 +90,12 @@ fn check_settling<R: Threads + Sync + Abort>(
 ) -> Result<(), Fail> {
     two_unlinked(alloc, editor)?;
     let gate = Holder::new();
-    settle_wide(rt, alloc, editor, 2, &gate)?;
+    let resources = Resources {
+        rt,
+        alloc,
+        gate: &gate,
+    };
+    settle_wide(&resources, editor, 2)?;
     assert!(rt; gate.saw());
     Ok(())
 }
@@ -114,7 +124,12 @@ fn check_batch<R: Threads + Sync + Abort>(
     items: &[Vec<u8>],
 ) -> Result<(), Fail> {
     let gate = Holder::new();
-    let rows = batch(rt, alloc, cart, font, &[7; 32], items, 2, &gate)?;
+    let resources = Resources {
+        rt,
+        alloc,
+        gate: &gate,
+    };
+    let rows = batch(&resources, cart, font, &[7; 32], items, 2)?;
     let ran = BatchRow::Ran {
         frames: 1,
         halt: Halt::Running,

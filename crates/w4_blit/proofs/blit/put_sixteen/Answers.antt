@@ -15,8 +15,8 @@ use Rattle.w4_blit.proofs.blit.put_sixteen.Goals as goal
 
 pub returns : goal.returns
 returns c =
-    let row = c.args.row in
-    let q = c.args.q in
+    let row = c.args.here.row in
+    let q = c.args.here.q in
     let left = c.max-left.result in
     let right = c.min-right.result in
     let from_left : left ≡ max row.left (4 * q) = c.max-left.ensures in

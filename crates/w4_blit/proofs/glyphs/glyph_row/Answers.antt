@@ -22,4 +22,4 @@ returns c =
     ∙ ap (λ (n : ℕ). get_or font (8 * (g.code - 32) + n) 0) below in
     put ∙ paint_ext c.args.page.now _ _ c.told-page
     (λ a b ha hb. row_of_glyph font g.colors g.code c.byte.result (palette_index g.colors 1)
-    (palette_index g.colors 2) g.x g.y c.args.left c.args.right c.args.v a b bits refl refl)
+    (palette_index g.colors 2) g.x g.y c.args.area.left c.args.area.right c.args.v a b bits refl refl)

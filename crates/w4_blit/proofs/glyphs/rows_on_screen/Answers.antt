@@ -9,7 +9,7 @@ loop-v-init c =
     let a = c.args in
     let f = bits_painter a.font.now a.glyph.colors a.glyph.code a.glyph.x a.glyph.y in (
       paint_off a.page.now _ c.told-page c.fits-page
-          (λ u v hu hv. boxed_no_row f a.left a.right a.top a.top u v (omega arith)),
+          (λ u v hu hv. boxed_no_row f a.area.left a.area.right a.area.top a.area.top u v (omega arith)),
       omega arith,
     )
 
@@ -19,7 +19,7 @@ loop-v-preserved c =
     let f = bits_painter a.font.now a.glyph.colors a.glyph.code a.glyph.x a.glyph.y in (
       rw (c.glyph_row.ensures, c.loop-v.invariant.0)
           (paint_step a.page.now _ _ _ c.told-page
-          (λ u v hu hv. row_more f a.left a.right a.top c.loop-v.v u v c.loop-v.auto.v)),
+          (λ u v hu hv. row_more f a.area.left a.area.right a.area.top c.loop-v.v u v c.loop-v.auto.v)),
       omega arith,
     )
 
@@ -28,4 +28,5 @@ returns c =
     let a = c.args in
     let f = bits_painter a.font.now a.glyph.colors a.glyph.code a.glyph.x a.glyph.y in
     c.loop-v.invariant.0 ∙ paint_ext a.page.now _ _ c.told-page (λ u v hu hv.
-    boxed_down f a.left a.right a.top a.bottom c.loop-v.v u v c.loop-v-test.false c.loop-v.invariant.1)
+    boxed_down f a.area.left a.area.right a.area.top a.area.bottom c.loop-v.v u v
+    c.loop-v-test.false c.loop-v.invariant.1)

@@ -7,6 +7,6 @@ use Rattle.w4_blit.proofs.glyphs.rows_on_screen.Given as goal
 abbrev pub invariant-loop-v : goal.invariant-loop-v
 invariant-loop-v l =
     (l.page ≡ paint l.initial.page
-    (clipped (bits_painter l.font l.glyph.colors l.glyph.code l.glyph.x l.glyph.y) l.left l.right
-    l.top l.v))
-    × (l.v ≤ max l.top l.bottom)
+    (clipped (bits_painter l.font l.glyph.colors l.glyph.code l.glyph.x l.glyph.y) l.area.left l.area.right
+    l.area.top l.v))
+    × (l.v ≤ max l.area.top l.area.bottom)

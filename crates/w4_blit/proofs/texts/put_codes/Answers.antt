@@ -1,5 +1,5 @@
 use Rattle.std.proofs.Common.{◌≡◌, ◌+◌, ◌*◌, ◌<◌, pos, ◌+ℤ◌, List, [], ◌∷◌, length, drop, get_or, refl, sym, ◌∙◌, ap, ℕ, None, w64, to_z, of_z, arith}
-use Rattle.std.proofs.lemmas.Int.{ints, to_z-of_z}
+use Rattle.std.proofs.lemmas.Int.{ints}
 use Rattle.std.proofs.lemmas.List.{drop_more, drop_all}
 use Rattle.std.specs.Option.{option_or}
 use Rattle.w4_defs.specs.Framebuffer.{Painter, over, paint}
@@ -12,9 +12,12 @@ use Rattle.w4_blit.proofs.texts.put_codes.Goals as goal
 
 pub loop-k-init : goal.loop-k-init
 loop-k-init c =
+    let placed = c.args.placed in
+    let same_x : to_z w64 (of_z w64 placed.x) ≡ placed.x = omega (arith, ints) in
+    let same_y : to_z w64 (of_z w64 placed.y) ≡ placed.y = omega (arith, ints) in
     let nothing : Painter = λ u v. None in
     record {
-      rest = refl;
+      rest = simp (same_x, same_y);
       painted = (nothing, paint_off c.args.page.now nothing c.told-page c.fits-page (λ u v hu hv. refl));
       column = omega (arith, ints);
       row = omega (arith, ints);
@@ -22,23 +25,23 @@ loop-k-init c =
 
 pub returns-then-pen-ge-SCREEN_END : goal.returns-then-pen-ge-SCREEN_END
 returns-then-pen-ge-SCREEN_END c =
+    let placed = c.args.placed in
     let page = with_copied_bytes c.args.page.now c.args.first c.args.copy_bytes.now in
-    let codes = drop c.loop-k.k (text_codes page c.args.source) in
+    let codes = drop c.loop-k.k (text_codes page placed.source) in
     let pen = c.loop-k.pen in
-    let same_x : to_z w64 (of_z w64 c.args.x) ≡ c.args.x = to_z-of_z w64 c.args.x c.ranges.x in
-    let same_y : to_z w64 (of_z w64 c.args.y) ≡ c.args.y = to_z-of_z w64 c.args.y c.ranges.y in
-    let rest = simp (same_x, same_y) at c.loop-k.invariant.rest in
+    let rest = c.loop-k.invariant.rest in
     let f : Painter = c.loop-k.invariant.painted.0 in
     let painted : c.loop-k.page ≡ paint c.args.page.now f = c.loop-k.invariant.painted.1 in
-    let nothing : Painter = codes_painter c.args.font.now c.args.colors c.args.x codes pen.x pen.y in
+    let nothing : Painter = codes_painter c.args.font.now placed.colors placed.x codes pen.x pen.y in
     painted ∙ sym (paint_step c.args.page.now f nothing f c.told-page
     (λ u v hu hv. ap (λ o. option_or o (f u v))
-    (below_screen c.args.font.now c.args.colors c.args.x pen.x pen.y codes u v hv (omega (arith, ints)))))
+    (below_screen c.args.font.now placed.colors placed.x pen.x pen.y codes u v hv (omega (arith, ints)))))
     ∙ ap (λ (p : List ℕ). paint p nothing) (sym painted)
     ∙ rest
 
 pub code_at-code-requires : goal.code_at-code-requires
 code_at-code-requires c =
+    let placed = c.args.placed in
     let first = c.args.first in
     let copy_bytes = c.args.copy_bytes.now in
     let f : Painter = c.loop-k.invariant.painted.0 in
@@ -48,42 +51,45 @@ code_at-code-requires c =
     ap (λ (p : List ℕ). with_copied_bytes p first copy_bytes) painted
     ∙ with_copied_bytes-paint c.args.page.now first copy_bytes f in
     record {
-      there = rw same (omega (arith, c.requires.count));
-      small = omega (arith, c.requires.few);
+      there = rw same (omega (arith, c.requires));
+      small = omega (arith, placed.few);
     }
 
 pub loop-k-preserved : goal.loop-k-preserved
 loop-k-preserved c =
+    let placed = c.args.placed in
     let first = c.args.first in
     let copy_bytes = c.args.copy_bytes.now in
     let page = with_copied_bytes c.args.page.now first copy_bytes in
-    let codes = text_codes page c.args.source in
+    let codes = text_codes page placed.source in
     let font = c.args.font.now in
     let k = c.loop-k.k in
     let pen = c.loop-k.pen in
-    let left = to_z w64 (of_z w64 c.args.x) in
+    let left = placed.x in
+    let same_x : to_z w64 (of_z w64 left) ≡ left = omega (arith, ints) in
+    let moved_x = simp (same_x) at c.moved-pen.ensures.column in
     let f : Painter = c.loop-k.invariant.painted.0 in
     let painted : c.loop-k.page ≡ paint c.args.page.now f = c.loop-k.invariant.painted.1 in
     let same : with_copied_bytes c.loop-k.page first copy_bytes ≡ page =
     ap (λ (p : List ℕ). with_copied_bytes p first copy_bytes) painted
     ∙ with_copied_bytes-paint c.args.page.now first copy_bytes f in
-    let count : c.args.count ≡ length codes = c.requires.count in
+    let count : placed.count ≡ length codes = c.requires in
     let code : c.code_at-code.result ≡ get_or codes k 0 = c.code_at-code.ensures
-    ∙ ap (λ (p : List ℕ). get_or (text_codes p c.args.source) k 0) same in
+    ∙ ap (λ (p : List ℕ). get_or (text_codes p placed.source) k 0) same in
     let below : k < length codes = omega arith in
     let next : c.code_at-code.result ∷ drop (k + 1) codes ≡ drop k codes =
     ap (λ (n : ℕ). n ∷ drop (k + 1) codes) code ∙ sym (drop_more codes k 0 below) in
     let size : length c.loop-k.page ≡ 65536 = ap length painted ∙ length-paint c.args.page.now f
     ∙ c.told-page in
-    let glyph : Painter = glyph_painter font c.args.colors c.code_at-code.result pen.x pen.y in
+    let glyph : Painter = glyph_painter font placed.colors c.code_at-code.result pen.x pen.y in
     let column : to_z w64 (of_z w64 pen.x) ≡ pen.x = omega (arith, ints) in
     let row : to_z w64 (of_z w64 pen.y) ≡ pen.y = omega (arith, ints) in
     let put = simp (column, row) at c.put_glyph.ensures in
     record {
-      rest = rw (put, c.moved-pen.ensures.column, c.moved-pen.ensures.row)
-          (code_first c.loop-k.page font c.args.colors c.code_at-code.result left pen.x pen.y
+      rest = rw (put, moved_x, c.moved-pen.ensures.row)
+          (code_first c.loop-k.page font placed.colors c.code_at-code.result left pen.x pen.y
           (drop (k + 1) codes) size
-          ∙ ap (λ (cs : List ℕ). paint c.loop-k.page (codes_painter font c.args.colors left cs pen.x pen.y))
+          ∙ ap (λ (cs : List ℕ). paint c.loop-k.page (codes_painter font placed.colors left cs pen.x pen.y))
           next
           ∙ c.loop-k.invariant.rest);
       painted = (
@@ -91,7 +97,7 @@ loop-k-preserved c =
         put ∙ ap (λ (p : List ℕ). paint p glyph) painted
             ∙ paint-paint c.args.page.now f glyph c.told-page,
       );
-      column = rw c.moved-pen.ensures.column
+      column = rw moved_x
           (either_below c.code_at-code.result left (pen.x +ℤ pos 8) (2147483648 + 8 * (k + 1))
           (omega (arith, ints)) (omega (arith, ints)));
       row = rw c.moved-pen.ensures.row
@@ -101,19 +107,18 @@ loop-k-preserved c =
 
 pub returns : goal.returns
 returns c =
+    let placed = c.args.placed in
     let page = with_copied_bytes c.args.page.now c.args.first c.args.copy_bytes.now in
-    let codes = text_codes page c.args.source in
+    let codes = text_codes page placed.source in
     let none : drop c.loop-k.k codes ≡ [] =
-    drop_all c.loop-k.k codes (omega (arith, c.requires.count)) in
+    drop_all c.loop-k.k codes (omega (arith, c.requires)) in
     let pen = c.loop-k.pen in
-    let same_x : to_z w64 (of_z w64 c.args.x) ≡ c.args.x = to_z-of_z w64 c.args.x c.ranges.x in
-    let same_y : to_z w64 (of_z w64 c.args.y) ≡ c.args.y = to_z-of_z w64 c.args.y c.ranges.y in
-    let rest = simp (same_x, same_y) at c.loop-k.invariant.rest in
+    let rest = c.loop-k.invariant.rest in
     let f : Painter = c.loop-k.invariant.painted.0 in
     let painted : c.loop-k.page ≡ paint c.args.page.now f = c.loop-k.invariant.painted.1 in
-    let nothing : Painter = codes_painter c.args.font.now c.args.colors c.args.x [] pen.x pen.y in
+    let nothing : Painter = codes_painter c.args.font.now placed.colors placed.x [] pen.x pen.y in
     painted ∙ sym (paint_step c.args.page.now f nothing f c.told-page (λ u v hu hv. refl))
     ∙ ap (λ (p : List ℕ). paint p nothing) (sym painted)
     ∙ ap (λ (cs : List ℕ). paint c.loop-k.page
-    (codes_painter c.args.font.now c.args.colors c.args.x cs pen.x pen.y)) (sym none)
+    (codes_painter c.args.font.now placed.colors placed.x cs pen.x pen.y)) (sym none)
     ∙ rest

@@ -8,12 +8,13 @@ use Rattle.w4_blit.proofs.texts.put_codes.Given as goal
 abbrev pub invariant-loop-k : goal.invariant-loop-k
 invariant-loop-k l = record {
   rest : paint l.page
-      (codes_painter l.font l.colors l.x
-      (drop l.k (text_codes (with_copied_bytes l.initial.page l.first l.copy_bytes) l.source)) l.pen.x
+      (codes_painter l.font l.placed.colors l.placed.x
+      (drop l.k (text_codes (with_copied_bytes l.initial.page l.first l.copy_bytes) l.placed.source)) l.pen.x
       l.pen.y)
       ≡ paint l.initial.page
-      (codes_painter l.font l.colors l.x
-      (text_codes (with_copied_bytes l.initial.page l.first l.copy_bytes) l.source) l.x l.y);
+      (codes_painter l.font l.placed.colors l.placed.x
+      (text_codes (with_copied_bytes l.initial.page l.first l.copy_bytes) l.placed.source) l.placed.x
+      l.placed.y);
   painted : (f : Painter) × (l.page ≡ paint l.initial.page f);
   column : l.pen.x ≤ℤ pos (2147483648 + 8 * l.k);
   row : l.pen.y ≤ℤ pos (2147483648 + 8 * l.k);

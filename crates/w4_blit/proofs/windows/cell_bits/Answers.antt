@@ -6,16 +6,16 @@ use Rattle.w4_blit.specs.Walks.{walked}
 use Rattle.w4_blit.proofs.WindowLaws.{forward_walk}
 use Rattle.w4_blit.proofs.windows.cell_bits.Goals as goal
 
-pub returns-else-walk-clause-values : goal.returns-else-walk-clause-values
-returns-else-walk-clause-values c = λ d hl hn.
+pub returns-else-stretch-clause-values : goal.returns-else-stretch-clause-values
+returns-else-stretch-clause-values c = λ d hl hn.
     let page = with_copied_bytes c.args.page.now c.args.kept_from c.args.copy.now in
     let sprite = c.args.sprite.now in
-    let walk = c.args.walk in
-    let n = c.args.n in
+    let walk = c.args.stretch.walk in
+    let n = c.args.stretch.n in
     let bits = c.sixteen_from-bits.result in
     let sum : walk.start + n + d ≡ walk.start + (n + d) = omega arith in
     let cell : walk.start + n + d ≡ walked walk (n + d) =
-    sum ∙ sym (forward_walk walk (n + d) c.requires.pace c.if-walk.false) in
+    sum ∙ sym (forward_walk walk (n + d) c.args.stretch.pace c.if-stretch.false) in
     let there : 0 + d < 16 = omega arith in
     let same : d ≡ 0 + d = omega arith in
     let value = source_value page sprite (walk.start + n + d) in

@@ -1,14 +1,16 @@
-use Rattle.std.proofs.Common.{None}
+use Rattle.std.proofs.Common.{None, inr, refl}
 use Rattle.w4_defs.specs.KeptList.{kept_entries, nowhere}
 use Rattle.w4_defs.specs.Session.{places_alone, set_input, insert_input, delete_input, undo, redo, drop_kept}
 use Rattle.w4_editor.specs.PlaceSession.{place_session}
 use Rattle.w4_commands.proofs.ChangeAnswerLaws.{changed_by, changed_exactly, recording_unchanged}
 use Rattle.w4_editor.proofs.PlaceLaws.{no_input}
+use Rattle.w4_commands.proofs.AnswerFramesLaws.{idle_within}
+use Rattle.w4_commands.proofs.ScriptAnswerLaws.{on_ok_map}
 use Rattle.w4_commands.proofs.change_answer.change.Goals as goal
 
 pub returns-in-Set-clause-changed : goal.returns-in-Set-clause-changed
 returns-in-Set-clause-changed g c =
-    let old = c.args.editor.now in
+    let old = c.args.counted.now.editor in
     rw c.in-Set.is
     (changed_by c.set.result (set_input kept_entries c.in-Set.k c.in-Set.input old.session) (set_input
     places_alone c.in-Set.k c.in-Set.input (place_session old))
@@ -17,7 +19,7 @@ returns-in-Set-clause-changed g c =
 
 pub returns-in-Insert-clause-changed : goal.returns-in-Insert-clause-changed
 returns-in-Insert-clause-changed g c =
-    let old = c.args.editor.now in
+    let old = c.args.counted.now.editor in
     rw c.in-Insert.is
     (changed_by c.insert.result (insert_input kept_entries c.in-Insert.k c.in-Insert.input old.session)
     (insert_input places_alone c.in-Insert.k c.in-Insert.input (place_session old))
@@ -26,7 +28,7 @@ returns-in-Insert-clause-changed g c =
 
 pub returns-in-Delete-clause-changed : goal.returns-in-Delete-clause-changed
 returns-in-Delete-clause-changed g c =
-    let old = c.args.editor.now in
+    let old = c.args.counted.now.editor in
     rw c.in-Delete.is
     (changed_by c.delete.result (delete_input kept_entries c.in-Delete.k old.session) (delete_input
     places_alone c.in-Delete.k (place_session old))
@@ -35,7 +37,7 @@ returns-in-Delete-clause-changed g c =
 
 pub returns-in-Undo-clause-changed : goal.returns-in-Undo-clause-changed
 returns-in-Undo-clause-changed g c =
-    let old = c.args.editor.now in
+    let old = c.args.counted.now.editor in
     rw c.in-Undo.is
     (changed_exactly c.undo.result (undo old.session) (undo (place_session old))
     old c.undo.new.self None (c.places_decide.ensures old.session 0 no_input nowhere).3
@@ -43,7 +45,7 @@ returns-in-Undo-clause-changed g c =
 
 pub returns-in-Redo-clause-changed : goal.returns-in-Redo-clause-changed
 returns-in-Redo-clause-changed g c =
-    let old = c.args.editor.now in
+    let old = c.args.counted.now.editor in
     rw c.in-Redo.is
     (changed_exactly c.redo.result (redo old.session) (redo (place_session old))
     old c.redo.new.self None (c.places_decide.ensures old.session 0 no_input nowhere).4
@@ -58,7 +60,7 @@ returns-in-KeepEvery-clause-changed g c =
 
 pub returns-in-DropKept-clause-changed : goal.returns-in-DropKept-clause-changed
 returns-in-DropKept-clause-changed g c =
-    let old = c.args.editor.now in
+    let old = c.args.counted.now.editor in
     rw c.in-DropKept.is
     (changed_exactly c.drop_kept.result (drop_kept kept_entries c.in-DropKept.p old.session) (drop_kept
     places_alone c.in-DropKept.p (place_session old))
@@ -68,24 +70,39 @@ returns-in-DropKept-clause-changed g c =
 
 pub returns-in-Set-clause-recording : goal.returns-in-Set-clause-recording
 returns-in-Set-clause-recording g c =
-    recording_unchanged c.set.result c.args.editor.now c.set.new.self c.set.ensures.unchanged
+    recording_unchanged c.set.result c.args.counted.now.editor c.set.new.self c.set.ensures.unchanged
 
 pub returns-in-Insert-clause-recording : goal.returns-in-Insert-clause-recording
 returns-in-Insert-clause-recording g c =
-    recording_unchanged c.insert.result c.args.editor.now c.insert.new.self c.insert.ensures.unchanged
+    recording_unchanged c.insert.result c.args.counted.now.editor c.insert.new.self c.insert.ensures.unchanged
 
 pub returns-in-Delete-clause-recording : goal.returns-in-Delete-clause-recording
 returns-in-Delete-clause-recording g c =
-    recording_unchanged c.delete.result c.args.editor.now c.delete.new.self c.delete.ensures.unchanged
+    recording_unchanged c.delete.result c.args.counted.now.editor c.delete.new.self c.delete.ensures.unchanged
 
 pub returns-in-Undo-clause-recording : goal.returns-in-Undo-clause-recording
 returns-in-Undo-clause-recording g c =
-    recording_unchanged c.undo.result c.args.editor.now c.undo.new.self c.undo.ensures.unchanged
+    recording_unchanged c.undo.result c.args.counted.now.editor c.undo.new.self c.undo.ensures.unchanged
 
 pub returns-in-Redo-clause-recording : goal.returns-in-Redo-clause-recording
 returns-in-Redo-clause-recording g c =
-    recording_unchanged c.redo.result c.args.editor.now c.redo.new.self c.redo.ensures.unchanged
+    recording_unchanged c.redo.result c.args.counted.now.editor c.redo.new.self c.redo.ensures.unchanged
 
 pub returns-in-DropKept-clause-recording : goal.returns-in-DropKept-clause-recording
 returns-in-DropKept-clause-recording g c =
-    recording_unchanged c.drop_kept.result c.args.editor.now c.drop_kept.new.self c.drop_kept.ensures.unchanged
+    recording_unchanged c.drop_kept.result c.args.counted.now.editor c.drop_kept.new.self
+    c.drop_kept.ensures.unchanged
+
+pub returns-in-Keep-clause-frames_run : goal.returns-in-Keep-clause-frames_run
+returns-in-Keep-clause-frames_run g c =
+    rw c.in-Keep.is (on_ok_map c.keep_place.result (λ kept. inr kept) c.keep_place.ensures.frames_run)
+
+pub returns-in-KeepEvery-clause-frames_run : goal.returns-in-KeepEvery-clause-frames_run
+returns-in-KeepEvery-clause-frames_run g c =
+    rw c.in-KeepEvery.is
+    (on_ok_map c.keep_multiples.result (λ kept. inr kept) c.keep_multiples.ensures.frames_run)
+
+pub returns-in_default-clause-frames_run : goal.returns-in_default-clause-frames_run
+returns-in_default-clause-frames_run g c =
+    idle_within c.args.order.now c.args.counted.now.steps c.args.counted.now.steps c.args.counted.now.editor
+    c.args.counted.now.editor refl

@@ -1,5 +1,5 @@
 use Rattle.std.proofs.lemmas.Result.{err_from_is_err_and}
-use Rattle.std.proofs.Common.{◌+◌, ◌-◌, length}
+use Rattle.std.proofs.Common.{◌+◌, ◌-◌}
 use Rattle.w4_defs.specs.Output.{images_output, place_texts_from, run_files_to}
 use Rattle.w4_defs.specs.declared.place_text.PlaceText.TheVariants as wanted
 use Rattle.w4_defs.proofs.OutputsThereLaws.{place_texts_there}

@@ -1,6 +1,5 @@
 use Rattle.std.proofs.Common.{◌≡◌, Some}
 use Rattle.w4_defs.specs.declared.place_text.PlaceText.TheVariants as wanted
-use Rattle.w4_defs.specs.Live.{serve_output}
 use Rattle.w4_defs.specs.Output.{blank_output, checked, disk_output, edit_output, images_output, texts_output, written}
 use Rattle.w4_defs.specs.Outputs.{OverCart}
 use Rattle.w4_defs.specs.RecordingOutputs.{blank_disk_output, compare_output, rebind_output, units_output}

@@ -1,7 +1,5 @@
-use Rattle.std.proofs.Common.{Some, refl, ap, ◌∙◌}
 use Rattle.std.proofs.lemmas.Result.{err_from_is_err_and}
 use Rattle.w4_defs.specs.RecordingOutputs.{compare_files, compare_output, compared_runs}
-use Rattle.w4_defs.proofs.ComparedThereLaws.{compared_there}
 use Rattle.w4_commands.specs.Comparing.{two_view}
 use Rattle.w4_commands.specs.Views.{cart_view, compare_view}
 use Rattle.w4_commands.proofs.EndLaws.{ends_unmade}

@@ -1,4 +1,3 @@
-use Rattle.std.proofs.Common.{refl, ◌∷◌, []}
 use Rattle.std.specs.Prelude.{codes}
 use Rattle.w4_defs.specs.Comparison.{respect_line}
 use Rattle.w4_defs.specs.FrameTexts.{line_end, spaced}

@@ -13,14 +13,14 @@ use Rattle.w4_commands.proofs.edit.carry_out.Goals as goal
 
 pub returns-clause-carried : goal.returns-clause-carried
 returns-clause-carried g c =
-    let editor = c.in_ok-desk.desk.editor in
+    let editor = c.in_ok-desk.desk.counted.editor in
     let before = g.H.House.world c.args.house.now in
     let after = g.H.House.world c.answer_and_save.new.house in
     let result = c.answer_and_save.result in
     opened_carried before after result c.args.cart (loaded_view c.args.loaded) editor
-    (state_at editor.session.current.kept 0) c.args.name.now c.in_ok-desk.ensures
+    (state_at editor.session.current.kept 0) c.args.names.out.now c.in_ok-desk.ensures
     (subst (λ orders.
-    ForSome (answers_by editor orders).out (λ out. Carried before after result out c.args.name.now
+    ForSome (answers_by editor orders).out (λ out. Carried before after result out c.args.names.out.now
     (encoding 2 (recording_by editor orders))))
     c.as_slice.ensures.value c.answer_and_save.ensures.carried)
 

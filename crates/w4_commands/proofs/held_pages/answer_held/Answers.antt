@@ -12,10 +12,11 @@ use Rattle.w4_commands.proofs.held_pages.answer_held.Goals.{in_default-via-in-So
 
 pub returns-in_default-clause-out : goal.returns-in_default-clause-out
 returns-in_default-clause-out g c =
-    let old = c.args.editor.now in
-    let now = c.hold_pages.new.editor in
+    let old = c.args.counted.now.editor in
+    let now = c.hold_pages.new.counted.editor in
+    let asked = c.args.watched in
     let text : Pages → Option (List ℕ) =
-    λ pages. watch_text as_it_stands pages c.args.address c.args.width c.args.a c.args.b in
+    λ pages. watch_text as_it_stands pages asked.address asked.width asked.a asked.b in
     there_as (λ text. Written (g.H.House.world c.args.house.now) (g.H.House.world c.answer_watch.new.house)
     c.answer_watch.result text)
     (text (editor_pages now)) (text (editor_pages old))
@@ -23,7 +24,7 @@ returns-in_default-clause-out g c =
 
 pub returns-in_default-clause-held : goal.returns-in_default-clause-held
 returns-in_default-clause-held g c =
-    let now = c.hold_pages.new.editor in
+    let now = c.hold_pages.new.counted.editor in
     let are : AreHeld now c.in_default.held =
     elim c.in_default.branch [
       | in_default-via-in-Some+else-are_at w ↦ rw w.held-is
@@ -32,5 +33,5 @@ returns-in_default-clause-held g c =
       | in_default-via-in_default w ↦ rw w.held-is c.in_ok-hold_pages.ensures.held
     ] in
     on_ok_map c.answer_watch.result
-    (λ shows. held_on now c.answer_watch.new.editor c.in_default.held shows are)
+    (λ shows. held_on now c.answer_watch.new.counted.editor c.in_default.held shows are)
     c.answer_watch.ensures.shows

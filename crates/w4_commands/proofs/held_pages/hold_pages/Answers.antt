@@ -5,10 +5,10 @@ use Rattle.w4_commands.proofs.held_pages.hold_pages.Goals as goal
 
 pub returns-clause-shows : goal.returns-clause-shows
 returns-clause-shows g c =
-    only_shows c.args.editor.now c.read.new.editor c.in_ok-pages.ensures.shown.recording
+    only_shows c.args.counted.now.editor c.read.new.editor c.in_ok-pages.ensures.shown.recording
 
 pub returns-clause-held : goal.returns-clause-held
 returns-clause-held g c =
-    held_on c.args.editor.now c.read.new.editor (Some c.in_ok-pages.pages)
-    (only_shows c.args.editor.now c.read.new.editor c.in_ok-pages.ensures.shown.recording)
+    held_on c.args.counted.now.editor c.read.new.editor (Some c.in_ok-pages.pages)
+    (only_shows c.args.counted.now.editor c.read.new.editor c.in_ok-pages.ensures.shown.recording)
     c.in_ok-pages.ensures.pages

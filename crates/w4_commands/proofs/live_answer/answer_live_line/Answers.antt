@@ -7,7 +7,7 @@ use Rattle.w4_commands.proofs.live_answer.answer_live_line.Goals as goal
 pub returns-then-is_save-clause-answers : goal.returns-then-is_save-clause-answers
 returns-then-is_save-clause-answers g c = λ o s meant named sits.
     save_line c.answer_save.result (g.H.House.world c.args.house.now) (g.H.House.world c.answer_save.new.house)
-    o s c.args.line.now c.args.desk.now.editor c.args.search.now
+    o s c.args.line.now c.args.desk.now.counted.editor c.args.search.now
     (sym c.read_live_line-asked.ensures.asked
     ∙ asks_save_is (asked_view c.read_live_line-asked.result) (sym c.is_save.ensures ∙ c.if-is_save.true)) sits
     (c.answer_save.ensures.saves o s named sits.recording)
@@ -18,7 +18,8 @@ returns-clause-answers g c = λ o s meant named sits.
     pieces_line o s c.args.line.now (asked_view c.read_live_line-asked.result)
     c.read_live_line-asked.ensures.asked (sym c.is_save.ensures ∙ c.if-is_save.false) c.write_bytes.result
     (g.H.House.world c.args.house.now) (g.H.House.world c.answer_pieces.new.house)
-    (g.H.House.world c.write_bytes.new.house) c.answer_pieces.new.desk.editor c.answer_pieces.new.search meant
+    (g.H.House.world c.write_bytes.new.house) c.answer_pieces.new.desk.counted.editor
+    c.answer_pieces.new.search meant
     gives.0 gives.1 c.in_ok-answer_pieces.ensures.rest c.write_bytes.ensures.rest c.write_bytes.ensures.out
 
 pub returns-in_err-answer_pieces-clause-answers : goal.returns-in_err-answer_pieces-clause-answers
@@ -28,7 +29,7 @@ returns-in_err-answer_pieces-clause-answers g c = λ o s meant named sits.
     (pieces_stopped o s c.args.line.now (asked_view c.read_live_line-asked.result)
     c.read_live_line-asked.ensures.asked (sym c.is_save.ensures ∙ c.if-is_save.false)
     c.in_err-answer_pieces.field-0.0 (g.H.House.world c.args.house.now)
-    (g.H.House.world c.answer_pieces.new.house) c.answer_pieces.new.desk.editor meant
+    (g.H.House.world c.answer_pieces.new.house) c.answer_pieces.new.desk.counted.editor meant
     (c.in_err-answer_pieces.ensures.gives o s sits) c.in_err-answer_pieces.ensures.rest)
 
 pub returns-clause-rest : goal.returns-clause-rest

@@ -11,7 +11,8 @@ pub returns-in-Ok-clause-saves : goal.returns-in-Ok-clause-saves
 returns-in-Ok-clause-saves g c = λ o s named is.
     save_replaced c.write_bytes.result (g.H.House.world c.args.house.now)
     (g.H.House.world c.save_recording.new.house) (g.H.House.world c.write_bytes.new.house) o s c.args.out.now
-    (current_recording c.args.desk.now.editor) named is c.in-Ok.ensures.rest.later c.in-Ok.ensures.saved
+    (current_recording c.args.desk.now.counted.editor) named is c.in-Ok.ensures.rest.later
+    c.in-Ok.ensures.saved
     c.write_bytes.ensures.rest c.write_bytes.ensures.out
 
 pub returns-in-Ok-clause-rest : goal.returns-in-Ok-clause-rest
@@ -26,7 +27,7 @@ pub returns-in-WriteFault-clause-saves : goal.returns-in-WriteFault-clause-saves
 returns-in-WriteFault-clause-saves g c = λ o s named is.
     let before = g.H.House.world c.args.house.now in
     let mid = g.H.House.world c.save_recording.new.house in
-    let left = current_recording c.args.desk.now.editor in
+    let left = current_recording c.args.desk.now.counted.editor in
     save_refused c.refuse_save.result before mid (g.H.House.world c.refuse_save.new.house) o s c.args.out.now
     left named is
     (subst (λ (r : Refusal). StopsSaving before mid (manner_of r) c.args.out.now (encoding 2 left))
@@ -44,7 +45,7 @@ returns-in-WriteFault-clause-rest g c =
 pub returns-in_default-clause-saves : goal.returns-in_default-clause-saves
 returns-in_default-clause-saves g c = λ o s named is.
     save_stopped (g.H.House.world c.args.house.now) (g.H.House.world c.save_recording.new.house)
-    (manner_of c.in-Err.why) o s c.args.out.now (current_recording c.args.desk.now.editor)
+    (manner_of c.in-Err.why) o s c.args.out.now (current_recording c.args.desk.now.counted.editor)
     (other_manner c.in-Err.why c.in_default.not-WriteFault) c.in-Err.ensures.saved
 
 pub returns-in_default-clause-rest : goal.returns-in_default-clause-rest

@@ -10,7 +10,7 @@ use Rattle.w4_commands.proofs.own_answer.answer_own.Goals as goal
 
 pub returns-in-Units-clause-out : goal.returns-in-Units-clause-out
 returns-in-Units-clause-out g c =
-    let e = c.args.desk.now.editor in
+    let e = c.args.desk.now.counted.editor in
     let a = c.in-Units.a in
     let b = c.in-Units.b in
     let form = g.S.Shape.form in
@@ -18,3 +18,12 @@ returns-in-Units-clause-out g c =
     ForSome (if_place form x b (place_texts (units_at form (editing_setup e) e.disk x.current.inputs) a (b - a)))
     (λ text. Written (g.H.House.world c.args.house.now) (g.H.House.world c.answer_units.new.house)
     c.answer_units.result text)) same c.answer_units.ensures.out)
+
+pub returns-in-PageAt-clause-frames_run : goal.returns-in-PageAt-clause-frames_run
+returns-in-PageAt-clause-frames_run g c = rw c.in-PageAt.is c.answer_page.ensures.frames_run
+
+pub returns-in-GlobalsAt-clause-frames_run : goal.returns-in-GlobalsAt-clause-frames_run
+returns-in-GlobalsAt-clause-frames_run g c = rw c.in-GlobalsAt.is c.answer_globals.ensures.frames_run
+
+pub returns-in-Units-clause-frames_run : goal.returns-in-Units-clause-frames_run
+returns-in-Units-clause-frames_run g c = rw c.in-Units.is c.answer_units.ensures.frames_run

@@ -8,12 +8,14 @@ pub returns-in-Keep-clause-told : goal.returns-in-Keep-clause-told
 returns-in-Keep-clause-told g c =
     rw c.in-Keep.is
     (told_by_order c.answer_change.result (g.H.House.world c.args.house.now)
-    (g.H.House.world c.answer_change.new.house) c.args.editor.now c.answer_change.new.editor
-    c.args.search.now _ c.answer_change.ensures.answered)
+    (g.H.House.world c.answer_change.new.house) c.args.desk.now.counted.editor
+    c.answer_change.new.counted.editor
+    c.args.desk.now.search _ c.answer_change.ensures.answered)
 
 pub returns-in-KeepEvery-clause-told : goal.returns-in-KeepEvery-clause-told
 returns-in-KeepEvery-clause-told g c =
     rw c.in-KeepEvery.is
     (told_by_order c.answer_change-in-KeepEvery.result (g.H.House.world c.args.house.now)
-    (g.H.House.world c.answer_change-in-KeepEvery.new.house) c.args.editor.now
-    c.answer_change-in-KeepEvery.new.editor c.args.search.now _ c.answer_change-in-KeepEvery.ensures.answered)
+    (g.H.House.world c.answer_change-in-KeepEvery.new.house) c.args.desk.now.counted.editor
+    c.answer_change-in-KeepEvery.new.counted.editor c.args.desk.now.search _
+    c.answer_change-in-KeepEvery.ensures.answered)

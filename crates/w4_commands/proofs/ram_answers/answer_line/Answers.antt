@@ -11,19 +11,19 @@ use Rattle.w4_commands.proofs.ram_answers.answer_line.Goals as goal
 
 pub returns-in-Watch-clause-told : goal.returns-in-Watch-clause-told
 returns-in-Watch-clause-told g c =
-    let old = c.args.editor.now in
+    let old = c.args.counted.now.editor in
     let search = c.args.search.now in
     let text = watch_text g.S.Shape.form (editor_pages old) c.in-Watch.address c.in-Watch.width c.in-Watch.a
     c.in-Watch.b in
     rw c.in-Watch.is
     (line_answered_on c.answer_watch.result (g.H.House.world c.args.house.now)
-    (g.H.House.world c.answer_watch.new.house) old c.answer_watch.new.editor search text
+    (g.H.House.world c.answer_watch.new.house) old c.answer_watch.new.counted.editor search text
     (answer_text search text) refl c.answer_watch.ensures.out
     c.answer_watch.ensures.shows c.answer_watch.ensures.recording)
 
 pub returns-in-List-clause-told : goal.returns-in-List-clause-told
 returns-in-List-clause-told g c =
-    let old = c.args.editor.now in
+    let old = c.args.counted.now.editor in
     let search = c.args.search.now in
     let before = g.H.House.world c.args.house.now in
     let after = g.H.House.world c.answer_list.new.house in

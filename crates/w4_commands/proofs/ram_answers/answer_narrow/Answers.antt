@@ -12,7 +12,7 @@ use Rattle.w4_commands.proofs.ram_answers.answer_narrow.Goals as goal
 
 pub returns-in-None-clause-told : goal.returns-in-None-clause-told
 returns-in-None-clause-told g c =
-    let old = c.args.editor.now in
+    let old = c.args.counted.now.editor in
     let before = g.H.House.world c.args.house.now in
     let after = g.H.House.world c.write.new.house in
     line_answered_on c.write.result before after old old c.args.search.now (Some (g.S.Shape.form no_search))
@@ -24,7 +24,7 @@ returns-in-None-clause-told g c =
 
 pub returns-in-Ok-clause-told : goal.returns-in-Ok-clause-told
 returns-in-Ok-clause-told g c =
-    let old = c.args.editor.now in
+    let old = c.args.counted.now.editor in
     line_answered_alone (g.H.House.world c.args.house.now) old c.narrow.new.editor (Some c.narrow.new.self)
     (answer_narrow g.S.Shape.form (editor_pages old) c.args.search.now c.args.p c.args.test)
     (rw c.in-Some.is
@@ -34,7 +34,7 @@ returns-in-Ok-clause-told g c =
 
 pub returns-in-Err-clause-told : goal.returns-in-Err-clause-told
 returns-in-Err-clause-told g c =
-    let old = c.args.editor.now in
+    let old = c.args.counted.now.editor in
     refused_on_text c.refuse_place.result (g.H.House.world c.args.house.now)
     (g.H.House.world c.refuse_place.new.house) old c.narrow.new.editor (Some c.narrow.new.self) (g.S.Shape.form no_frame)
     (answer_narrow g.S.Shape.form (editor_pages old) c.args.search.now c.args.p c.args.test)

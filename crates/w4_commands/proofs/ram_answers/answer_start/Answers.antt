@@ -9,7 +9,7 @@ use Rattle.w4_commands.proofs.ram_answers.answer_start.Goals as goal
 
 pub returns-in-Ok-clause-told : goal.returns-in-Ok-clause-told
 returns-in-Ok-clause-told g c =
-    let old = c.args.editor.now in
+    let old = c.args.counted.now.editor in
     line_answered_alone (g.H.House.world c.args.house.now) old c.start.new.editor (Some c.in-Ok.begun)
     (answer_start g.S.Shape.form (editor_pages old) c.args.search.now c.args.width c.args.p)
     (start_there g.S.Shape.form old c.args.search.now c.args.width c.args.p c.in-Ok.begun c.in-Ok.ensures.accepted
@@ -18,7 +18,7 @@ returns-in-Ok-clause-told g c =
 
 pub returns-in-Err-clause-told : goal.returns-in-Err-clause-told
 returns-in-Err-clause-told g c =
-    let old = c.args.editor.now in
+    let old = c.args.counted.now.editor in
     refused_on_text c.refuse_place.result (g.H.House.world c.args.house.now)
     (g.H.House.world c.refuse_place.new.house) old c.start.new.editor c.args.search.now (g.S.Shape.form no_frame)
     (answer_start g.S.Shape.form (editor_pages old) c.args.search.now c.args.width c.args.p)

@@ -1,9 +1,11 @@
-use Rattle.std.proofs.Common.{◌+◌, ◌-◌, sym, ◌∙◌}
+use Rattle.std.proofs.Common.{◌+◌, ◌-◌, arith, sym, ◌∙◌}
 use Rattle.std.proofs.lemmas.Result.{err_from_is_err_and}
 use Rattle.w4_house.proofs.WorldLaws.{writing_then, writing_none}
 use Rattle.w4_commands.specs.Causes.{AppendsOut}
 use Rattle.w4_commands.specs.Causes.{StopsWriting}
+use Rattle.w4_commands.specs.AnswerFrames.{lead_of}
 use Rattle.w4_commands.specs.ScriptAnswers.{text_by}
+use Rattle.w4_commands.proofs.AnswerFramesLaws.{run_all, run_begins, run_on}
 use Rattle.w4_defs.specs.Endings.{manner_of}
 use Rattle.w4_defs.specs.PlaceTexts.{place_texts}
 use Rattle.w4_commands.proofs.OwesLaws.{there_as, there_begins}
@@ -13,18 +15,19 @@ use Rattle.w4_commands.proofs.range_answer.write_all.Goals as goal
 
 pub loop-place-init : goal.loop-place-init
 loop-place-init g c =
-    let first = c.args.desk.now.editor in
+    let first = c.args.desk.now.counted.editor in
     let begin = g.H.House.world c.args.house.now in (
       there_begins begin (place_texts (text_by g.S.Shape.form first c.args.wanted) c.args.a (c.args.b + 1 - c.args.a)),
       shows_none first,
       writing_none begin,
+      λ _. run_begins (lead_of c.args.wanted) c.args.a (c.args.b + 1) c.args.desk.now.counted.steps first,
     )
 
 pub loop-place-preserved : goal.loop-place-preserved
 loop-place-preserved g c =
-    let first = c.args.desk.now.editor in
-    let now = c.loop-place.desk.editor in
-    let next = c.write_one.new.desk.editor in
+    let first = c.args.desk.now.counted.editor in
+    let now = c.loop-place.desk.counted.editor in
+    let next = c.write_one.new.desk.counted.editor in
     let at = c.loop-place.place in
     let text = text_by g.S.Shape.form first c.args.wanted in
     let begin = g.H.House.world c.args.house.now in
@@ -38,11 +41,19 @@ loop-place-preserved g c =
           c.loop-place.invariant.0,
       shows_then first now next shows c.in_ok-write_one.ensures.shows,
       writing_then begin before after c.loop-place.invariant.2 c.in_ok-write_one.ensures.rest,
+      λ single. run_on (lead_of c.args.wanted) c.args.a (c.args.b + 1) at c.args.desk.now.counted.steps
+          c.loop-place.desk.counted.steps c.write_one.new.desk.counted.steps first now next
+          c.loop-place.auto.place c.loop-place-test.true (c.loop-place.invariant.3 single)
+          c.in_ok-write_one.ensures.made
+          (λ past. c.in_ok-write_one.ensures.steps (λ disk.
+          let alone = single disk in
+          let below = c.loop-place-test.true in
+          absurd (omega (arith, alone, past, below)))),
     )
 
 pub returns-clause-out : goal.returns-clause-out
 returns-clause-out g c =
-    let text = text_by g.S.Shape.form c.args.desk.now.editor c.args.wanted in
+    let text = text_by g.S.Shape.form c.args.desk.now.counted.editor c.args.wanted in
     texts-all (g.H.House.world c.args.house.now) (g.H.House.world c.loop-place.house) text
     (place_texts text c.args.a (c.args.b + 1 - c.args.a)) c.loop-place.place (c.args.b + 1)
     c.loop-place-test.false c.loop-place.invariant.0
@@ -50,8 +61,8 @@ returns-clause-out g c =
 pub returns-in_err-write_one-clause-out : goal.returns-in_err-write_one-clause-out
 returns-in_err-write_one-clause-out g c =
     let p = err_from_is_err_and c.from_residual.result c.from_residual.ensures.1 in
-    let first = c.args.desk.now.editor in
-    let now = c.loop-place.desk.editor in
+    let first = c.args.desk.now.counted.editor in
+    let now = c.loop-place.desk.counted.editor in
     let at = c.loop-place.place in
     let text = text_by g.S.Shape.form first c.args.wanted in
     let before = g.H.House.world c.loop-place.house in
@@ -66,9 +77,15 @@ returns-in_err-write_one-clause-out g c =
 
 pub returns-clause-recording : goal.returns-clause-recording
 returns-clause-recording g c =
-    shows_recording c.args.desk.now.editor c.loop-place.desk.editor c.loop-place.invariant.1
+    shows_recording c.args.desk.now.counted.editor c.loop-place.desk.counted.editor c.loop-place.invariant.1
 
 pub returns-in_err-write_one-clause-recording : goal.returns-in_err-write_one-clause-recording
 returns-in_err-write_one-clause-recording g c =
     c.in_err-write_one.ensures.recording
-    ∙ shows_recording c.args.desk.now.editor c.loop-place.desk.editor c.loop-place.invariant.1
+    ∙ shows_recording c.args.desk.now.counted.editor c.loop-place.desk.counted.editor c.loop-place.invariant.1
+
+pub returns-clause-frames_run : goal.returns-clause-frames_run
+returns-clause-frames_run g c single =
+    run_all (lead_of c.args.wanted) c.args.a (c.args.b + 1) c.loop-place.place c.args.desk.now.counted.steps
+    c.loop-place.desk.counted.steps c.args.desk.now.counted.editor c.loop-place.desk.counted.editor
+    (c.loop-place.invariant.3 single)

@@ -8,11 +8,12 @@ use Rattle.w4_commands.proofs.OwesLaws.{there_is}
 use Rattle.w4_commands.proofs.SessionLaws.{only_shows}
 use Rattle.w4_commands.proofs.PlaceAnswerLaws.{disk_of_state}
 use Rattle.w4_editor.proofs.PlaceLaws.{same_recording}
+use Rattle.w4_commands.proofs.AnswerFramesLaws.{made_by_show}
 use Rattle.w4_commands.proofs.range_answer.write_disk.Goals as goal
 
 pub returns-in-Ok-clause-out : goal.returns-in-Ok-clause-out
 returns-in-Ok-clause-out g c =
-    let old = c.args.editor.now in
+    let old = c.args.counted.now.editor in
     there_is
     (λ text.
     Written (g.H.House.world c.args.house.now) (g.H.House.world c.print_disk.new.house) c.print_disk.result
@@ -26,14 +27,22 @@ returns-in-Ok-clause-out g c =
 pub returns-in-Ok-clause-shows : goal.returns-in-Ok-clause-shows
 returns-in-Ok-clause-shows g c =
     let shown = rw c.in-Ok.is at c.show.follows.holds-at-none.0 in
-    on_ok c.print_disk.result (only_shows c.args.editor.now c.show.follows.lender-at-none shown.recording)
+    on_ok c.print_disk.result (only_shows c.args.counted.now.editor c.show.follows.lender-at-none
+    shown.recording)
 
 pub returns-in-Ok-clause-recording : goal.returns-in-Ok-clause-recording
 returns-in-Ok-clause-recording g c =
     let shown = rw c.in-Ok.is at c.show.follows.holds-at-none.0 in
-    same_recording c.args.editor.now c.show.follows.lender-at-none shown.recording
+    same_recording c.args.counted.now.editor c.show.follows.lender-at-none shown.recording
 
 pub returns-in-Err-clause-recording : goal.returns-in-Err-clause-recording
 returns-in-Err-clause-recording g c =
-    same_recording c.args.editor.now c.show.follows.lender-at-none
+    same_recording c.args.counted.now.editor c.show.follows.lender-at-none
     (rw c.in-Err.is at c.show.follows.holds-at-none.1)
+
+pub returns-in-Ok-clause-made : goal.returns-in-Ok-clause-made
+returns-in-Ok-clause-made g c =
+    let shown = rw c.in-Ok.is at c.show.follows.holds-at-none.0 in
+    on_ok c.print_disk.result
+    (made_by_show c.args.place c.args.counted.now.steps c.show.new.steps c.args.counted.now.editor
+    c.show.follows.lender-at-none shown)

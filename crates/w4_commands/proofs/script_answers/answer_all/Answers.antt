@@ -13,7 +13,7 @@ use Rattle.w4_commands.proofs.script_answers.answer_all.Goals as goal
 
 pub loop-order-init : goal.loop-order-init
 loop-order-init g c =
-    let first = c.args.desk.now.editor in
+    let first = c.args.desk.now.counted.editor in
     let begin = g.H.House.world c.args.house.now in (
       there_begins begin
           (answers (editing_setup first) first.disk (place_session first) c.args.orders.now).out,
@@ -24,9 +24,9 @@ loop-order-init g c =
 
 pub loop-order-preserved : goal.loop-order-preserved
 loop-order-preserved g c =
-    let first = c.args.desk.now.editor in
-    let now = c.loop-order.desk.editor in
-    let next = c.answer.new.desk.editor in
+    let first = c.args.desk.now.counted.editor in
+    let now = c.loop-order.desk.counted.editor in
+    let next = c.answer.new.desk.counted.editor in
     let setup = editing_setup first in
     let whole = answers setup first.disk (place_session first) c.args.orders.now in
     let begin = g.H.House.world c.args.house.now in
@@ -47,18 +47,18 @@ loop-order-preserved g c =
 
 pub returns-clause-answered : goal.returns-clause-answered
 returns-clause-answered g c =
-    let first = c.args.desk.now.editor in
+    let first = c.args.desk.now.counted.editor in
     let setup = editing_setup first in
     answers-done (g.H.House.world c.args.house.now) (g.H.House.world c.loop-order.house) first
-    c.loop-order.desk.editor setup first.disk c.args.orders.now c.loop-order.order-index
+    c.loop-order.desk.counted.editor setup first.disk c.args.orders.now c.loop-order.order-index
     (answers setup first.disk (place_session first) c.args.orders.now) c.loop-order-test.false
     c.loop-order.invariant.0 c.loop-order.invariant.1 c.loop-order.invariant.2
 
 pub returns-in_err-answer-clause-answered : goal.returns-in_err-answer-clause-answered
 returns-in_err-answer-clause-answered g c =
     let p = err_from_is_err_and c.from_residual.result c.from_residual.ensures.1 in
-    let first = c.args.desk.now.editor in
-    let now = c.loop-order.desk.editor in
+    let first = c.args.desk.now.counted.editor in
+    let now = c.loop-order.desk.counted.editor in
     let setup = editing_setup first in
     let before = g.H.House.world c.loop-order.house in
     let after = g.H.House.world c.answer.new.house in

@@ -1,4 +1,4 @@
-use Rattle.std.proofs.Common.{ℕ, List, [], ◌∷◌, inl, sym, subst, ◌∙◌}
+use Rattle.std.proofs.Common.{ℕ, List, [], ◌∷◌, inl, sym, subst}
 use Rattle.w4_defs.specs.World.{Took, Does}
 use Rattle.std.proofs.lemmas.Result.{err_from_is_err_and}
 use Rattle.w4_defs.specs.Endings.{manner_of}
@@ -22,7 +22,7 @@ returns-in_err-take_line-clause-answers g c =
     rw (p.1, p.2) (λ o meant out sits.
     let so_far = c.loop.invariant.0 o meant out sits in
     lines_lost old now new o so_far.0 so_far.1 c.in_err-take_line.ensures.rest (manner_of c.in_err-take_line.field-0.0)
-    (current_recording c.loop.desk.editor) so_far.2.recording c.loop.invariant.1.reads
+    (current_recording c.loop.desk.counted.editor) so_far.2.recording c.loop.invariant.1.reads
     c.in_err-take_line.ensures.lost)
 
 pub returns-in_err-take_line-clause-rest : goal.returns-in_err-take_line-clause-rest
@@ -68,8 +68,9 @@ returns-in_err-answer_live_line-in-Some-clause-answers g c =
     line_stopped old now mid new o so_far.0 line so_far.1 c.in_ok-take_line.ensures.rest
     (subst (λ (bytes : List ℕ). Does now mid (Took bytes ∷ [])) (sym c.as_slice-bytes.ensures.value)
     taken)
-    (manner_of c.in_err-answer_live_line-in-Some.field-0.0) (current_recording c.answer_live_line.new.desk.editor)
-    (c.in_err-answer_live_line-in-Some.ensures.answers o so_far.0 meant (out ∙ sym c.as_str-name.ensures.value) so_far.2))
+    (manner_of c.in_err-answer_live_line-in-Some.field-0.0) (current_recording
+    c.answer_live_line.new.desk.counted.editor)
+    (c.in_err-answer_live_line-in-Some.ensures.answers o so_far.0 meant out so_far.2))
 
 pub returns-in_err-answer_live_line-in-Some-clause-rest :
     goal.returns-in_err-answer_live_line-in-Some-clause-rest
@@ -94,8 +95,8 @@ loop-preserved g c =
           let so_far = c.loop.invariant.0 o meant out sits in
           serves_line old now mid new o so_far.0 line so_far.1 c.in_ok-take_line.ensures.rest
           (subst (λ (bytes : List ℕ). Does now mid (Took bytes ∷ [])) (sym c.as_slice-bytes.ensures.value)
-          taken) c.answer_live_line.new.desk.editor c.answer_live_line.new.search
-          (c.in_ok-answer_live_line-in-Some.ensures.answers o so_far.0 meant (out ∙ sym c.as_str-name.ensures.value) so_far.2)),
+          taken) c.answer_live_line.new.desk.counted.editor c.answer_live_line.new.search
+          (c.in_ok-answer_live_line-in-Some.ensures.answers o so_far.0 meant out so_far.2)),
       serving_then old mid new
           (serving_then old now mid c.loop.invariant.1 (taking_serves now mid c.in_ok-take_line.ensures.rest))
           c.in_ok-answer_live_line-in-Some.ensures.rest,

@@ -1,5 +1,5 @@
 use Rattle.std.proofs.lemmas.Result.{err_from_is_err_and}
-use Rattle.w4_commands.specs.Views.{cart_view, opened_view, played_view, serve_view}
+use Rattle.w4_commands.specs.Views.{cart_view, played_view, serve_view}
 use Rattle.w4_commands.proofs.ServeOutputLaws.{serve_made, serve_unread}
 use Rattle.w4_commands.proofs.serve.run_serve.Goals as goal
 

@@ -1,4 +1,4 @@
-use Rattle.std.proofs.Common.{ℕ, List, [], ◌∷◌, length, subst, ◌∙◌, append_assoc}
+use Rattle.std.proofs.Common.{ℕ, List, length, subst, ◌∙◌, append_assoc}
 use Rattle.std.specs.Prelude.{◌++◌, decimal}
 use Rattle.std.proofs.lemmas.Result.{err_from_is_err_and}
 use Rattle.w4_defs.specs.Endings.{manner_of}

@@ -16,7 +16,7 @@ use Rattle.w4_commands.proofs.state_answer.answer_state.Goals as goal
 
 pub returns-then-place-count-clause-answered : goal.returns-then-place-count-clause-answered
 returns-then-place-count-clause-answered g c =
-    let old = c.args.editor.now in
+    let old = c.args.counted.now.editor in
     let s = place_session old in
     let text = state_answer g.S.Shape.form (editing_setup old) old.disk s c.args.p in
     refused_place c.refuse.result (g.H.House.world c.args.house.now) (g.H.House.world c.refuse.new.house) old
@@ -26,8 +26,8 @@ returns-then-place-count-clause-answered g c =
 
 pub returns-clause-answered : goal.returns-clause-answered
 returns-clause-answered g c =
-    let old = c.args.editor.now in
-    let new = c.facts.new.editor in
+    let old = c.args.counted.now.editor in
+    let new = c.facts.new.counted.editor in
     let s = place_session old in
     let count = length s.current.inputs in
     let text = state_answer g.S.Shape.form (editing_setup old) old.disk s c.args.p in
@@ -54,3 +54,6 @@ returns-in_err-text-clause-answered g c =
     err_from_is_err_and c.from_residual-in_err-text.result c.from_residual-in_err-text.ensures.1 in
     let world = g.H.House.world c.args.house.now in
     rw (p.1, p.2) (λ out is. out_none world.events world.events out refl, c.in_ok-facts.ensures.recording)
+
+pub returns-clause-frames_run : goal.returns-clause-frames_run
+returns-clause-frames_run g c = on_ok c.write.result c.in_ok-facts.ensures.frames_run

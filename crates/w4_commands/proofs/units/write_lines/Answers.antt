@@ -1,6 +1,6 @@
 -- What was written so far and the lines of the frames that are left make the whole; the stage stands at the
 -- place that the last frame led to.
-use Rattle.std.proofs.Common.{◌≡◌, ℕ, ◌-◌, List, Option, option_map, length, refl, ap, sym, subst, arith}
+use Rattle.std.proofs.Common.{◌≡◌, ℕ, ◌-◌, List, Option, option_map, length, refl, ap, subst, arith}
 use Rattle.std.proofs.lemmas.Result.{err_from_is_err_and}
 use Rattle.w4_console.specs.TakenUnits.{frame_line, taken_of}
 use Rattle.w4_defs.specs.Endings.{manner_of}

@@ -11,7 +11,7 @@ returns-clause-out g c =
     let after = g.H.House.world c.write.new.house in
     let line = frame_line c.args.k c.in_ok-taken.taken in
     there_is (λ text. Written before after c.write.result text)
-    (units_by g.S.Shape.form c.args.desk.now.editor c.args.k) (g.S.Shape.form line)
+    (units_by g.S.Shape.form c.args.desk.now.counted.editor c.args.k) (g.S.Shape.form line)
     (c.in_ok-taken.ensures.taken g.S.Shape.form)
     (subst (λ (bytes : List ℕ). Written before after c.write.result (g.S.Shape.form bytes))
     (c.as_slice.ensures.value

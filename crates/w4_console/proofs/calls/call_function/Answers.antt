@@ -15,7 +15,7 @@ handed : (c : goal.After-rest_after) → c.deref_mut.result.now ≡ c.board_of-b
 handed c = c.deref_mut.ensures.value ∙ ap (λ (s : State). s.globals) c.state.view_is
 
 first_types : (c : goal.After-rest_after)
-    → types_of c.deref_mut.result.now ≡ own_global_types c.args.cart.now
+    → types_of c.deref_mut.result.now ≡ own_global_types c.args.setup.now.cart.now
 first_types c =
     ap types_of (handed c) ∙ ap (λ (st : Store Board). types_of st.globals) c.board_of-board.ensures
     ∙ c.requires.globals
@@ -25,13 +25,13 @@ types_kept : (c : goal.After-rest_after)
 types_kept c =
     with_items_is c.state.inside.globals c.invoke-ending.new.globals
     (values_as_long c.invoke-ending.new.globals c.deref_mut.result.now
-    (own_global_types c.args.cart.now) c.invoke-ending.ensures.globals
+    (own_global_types c.args.setup.now.cart.now) c.invoke-ending.ensures.globals
     (first_types c)
     ∙ c.deref_mut.ensures.len)
 
 pub returns-clause-called : goal.returns-clause-called
 returns-clause-called c =
-    called c.args.cart.now c.args.font.now c.args.function (so_far c.args.state.now c.args.frame_record.now)
+    called c.args.setup.now.cart.now c.args.setup.now.font.now c.args.function (so_far c.args.state.now c.args.frame_record.now)
     (so_far c.put_back.new.state c.put_back.new.frame_record) c.args.budget c.invoke-ending.result
     c.board_of-board.new.state c.state.inside.page c.invoke-ending.new.page c.deref_mut.result.now
     c.invoke-ending.new.globals (with_items c.state.inside.globals c.invoke-ending.new.globals).items
@@ -41,7 +41,7 @@ returns-clause-called c =
 
 pub returns-clause-taken : goal.returns-clause-taken
 returns-clause-taken c =
-    units_taken c.args.cart.now c.args.font.now c.args.function (so_far c.args.state.now c.args.frame_record.now)
+    units_taken c.args.setup.now.cart.now c.args.setup.now.font.now c.args.function (so_far c.args.state.now c.args.frame_record.now)
     (so_far c.put_back.new.state c.put_back.new.frame_record) c.args.budget c.invoke-ending.result
     c.board_of-board.new.state c.state.inside.page c.invoke-ending.new.page c.deref_mut.result.now
     c.invoke-ending.new.globals (with_items c.state.inside.globals c.invoke-ending.new.globals).items

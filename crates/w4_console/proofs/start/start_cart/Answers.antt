@@ -1,10 +1,9 @@
 use Rattle.std.proofs.Common.{◌≡◌, ap, Some, subst, sym, ◌∙◌}
-use Rattle.w4_defs.specs.Board.{console_setup}
 use Rattle.w4_defs.specs.EntryPoints.{start_functions}
 use Rattle.w4_defs.specs.Reset.{call_all, fresh, start}
 use Rattle.w4_defs.specs.State.{LoggedState}
 use Rattle.w4_defs.specs.Units.{start_units, taken_by_calls}
-use Rattle.w4_console.specs.ConsoleCalls.{so_far}
+use Rattle.w4_console.specs.ConsoleCalls.{setup_of, so_far}
 use Rattle.w4_console.proofs.FrameLaws.{frame_begins}
 use Rattle.w4_console.proofs.start.start_cart.Goals as goal
 
@@ -13,18 +12,18 @@ unfolding start
 returns-clause-start c =
     subst
     (λ (now : LoggedState).
-    call_all (console_setup c.args.cart.now c.args.font.now c.args.budget) (start_functions c.args.cart.now)
-    now c.args.budget
+    call_all (setup_of c.args.setup.now) (start_functions c.args.setup.now.cart.now)
+    now c.args.setup.now.budget
     ≡ Some (so_far c.call_all-rest.new.state c.call_all-rest.new.frame_record))
-    (frame_begins c.put_fresh.new.state (fresh c.args.cart.now c.args.state.now.disk) c.new.result
+    (frame_begins c.put_fresh.new.state (fresh c.args.setup.now.cart.now c.args.state.now.disk) c.new.result
     c.put_fresh.ensures.state c.new.ensures)
     c.call_all-rest.ensures.called
 
 pub returns-clause-taken : goal.returns-clause-taken
 unfolding start_units
 returns-clause-taken c =
-    let setup = console_setup c.args.cart.now c.args.font.now c.args.budget in
-    ap (λ (now : LoggedState). taken_by_calls setup (start_functions c.args.cart.now) now c.args.budget)
-    (sym (frame_begins c.put_fresh.new.state (fresh c.args.cart.now c.args.state.now.disk) c.new.result
+    let setup = setup_of c.args.setup.now in
+    ap (λ (now : LoggedState). taken_by_calls setup (start_functions c.args.setup.now.cart.now) now c.args.setup.now.budget)
+    (sym (frame_begins c.put_fresh.new.state (fresh c.args.setup.now.cart.now c.args.state.now.disk) c.new.result
     c.put_fresh.ensures.state c.new.ensures))
     ∙ c.call_all-rest.ensures.taken ∙ ap Some (sym c.taken_by_calls.ensures)

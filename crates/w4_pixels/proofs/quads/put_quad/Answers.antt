@@ -8,8 +8,10 @@ use Rattle.w4_pixels.proofs.quads.put_quad.Goals as goal
 pub returns : goal.returns
 returns c =
     let a = c.args in
-    set_paint a.page.now (quad_painter a.q a.row a.first a.second a.third a.fourth) a.row a.q c.joined.result
-    c.told-page
+    let quad = a.quad in
+    set_paint a.page.now (quad_painter a.q a.row quad.first quad.second quad.third quad.fourth)
+    a.row a.q c.joined.result c.told-page
     (omega arith) (omega arith) (omega arith) c.fits-page
-    (λ k hk. quad_digit a.page.now a.q a.row k _ a.first a.second a.third a.fourth hk (c.joined.ensures k hk))
+    (λ k hk. quad_digit a.page.now a.q a.row k _ quad.first quad.second quad.third quad.fourth hk
+    (c.joined.ensures k hk))
     (λ u v hu hv away. grind (arith, nat_tests))

@@ -8,27 +8,33 @@ use Rattle.w4_pixels.proofs.runs.fill_narrow.Goals as goal
 pub loop-row-init : goal.loop-row-init
 loop-row-init c =
     let f : Painter = λ a b. Some c.args.index in
+    let columns = c.args.columns in
+    let rows = c.args.rows in
     record {
       painted = paint_off c.args.page.now _ c.told-page c.fits-page
-          (λ a b ha hb. boxed_no_row f c.args.first c.args.end c.args.top c.args.top a b (omega arith));
+          (λ a b ha hb. boxed_no_row f columns.first columns.end rows.top rows.top a b (omega arith));
       within = omega arith;
     }
 
 pub loop-row-preserved : goal.loop-row-preserved
 loop-row-preserved c =
     let f : Painter = λ a b. Some c.args.index in
+    let columns = c.args.columns in
+    let rows = c.args.rows in
     record {
       painted = rw (c.put_masked.ensures, c.loop-row.invariant.painted)
           (paint_step c.args.page.now _ _ _ c.told-page
-          (λ a b ha hb. rw (narrow_row c.args.first c.args.end c.loop-row.row c.args.mask c.args.index a b
+          (λ a b ha hb. rw (narrow_row columns.first columns.end c.loop-row.row c.args.mask c.args.index a b
           c.requires.some c.requires.narrow c.requires.mask)
-          (row_more f c.args.first c.args.end c.args.top c.loop-row.row a b c.loop-row.auto.row)));
+          (row_more f columns.first columns.end rows.top c.loop-row.row a b c.loop-row.auto.row)));
       within = omega arith;
     }
 
 pub returns : goal.returns
 returns c =
     let f : Painter = λ a b. Some c.args.index in
+    let columns = c.args.columns in
+    let rows = c.args.rows in
     c.loop-row.invariant.painted ∙ paint_ext c.args.page.now _ _ c.told-page
-    (λ a b ha hb. boxed_down f c.args.first c.args.end c.args.top c.args.bottom c.loop-row.row a b
+    (λ a b ha hb. boxed_down f columns.first columns.end rows.top rows.bottom c.loop-row.row a b
     c.loop-row-test.false c.loop-row.invariant.within)

@@ -5,6 +5,7 @@ use Rattle.w4_pixels.proofs.runs.fill_narrow.Given as goal
 
 abbrev pub invariant-loop-row : goal.invariant-loop-row
 invariant-loop-row l = record {
-  painted : l.page ≡ paint l.initial.page (clipped (λ a b. Some l.index) l.first l.end l.top l.row);
-  within : l.row ≤ max l.top l.bottom;
+  painted : l.page ≡ paint l.initial.page
+      (clipped (λ a b. Some l.index) l.columns.first l.columns.end l.fn.rows.top l.row);
+  within : l.row ≤ max l.fn.rows.top l.fn.rows.bottom;
 }

@@ -5,25 +5,26 @@ use Rattle.w4_segments.proofs.BatchLaws.{bad_row, wrong_row, right_row, bytes_di
 use Rattle.w4_segments.proofs.batching.row.Goals as goal
 
 pub returns-in-Err-BadRecording : goal.returns-in-Err-BadRecording
-returns-in-Err-BadRecording g c = record {
-  row = bad_row sha256 c.args.cart.now c.args.font.now c.args.digest.now c.args.bytes.now
+returns-in-Err-BadRecording g c = let files = c.args.files.now in record {
+  row = bad_row sha256 files.cart.now files.font.now files.digest.now c.args.bytes.now
       (c.in-Err-BadRecording.ensures.bad (ap Err c.in-Err-BadRecording.field-0-is));
   types = c.requires.types;
 }
 
 pub returns-then-ne : goal.returns-then-ne
-returns-then-ne g c = record {
-  row = wrong_row sha256 c.args.cart.now c.args.font.now c.args.digest.now c.args.bytes.now
+returns-then-ne g c = let files = c.args.files.now in record {
+  row = wrong_row sha256 files.cart.now files.font.now files.digest.now c.args.bytes.now
       c.in-Ok.recording c.in-Ok.ensures.read
-      (λ same. bytes_differ c.recording.inside.digest c.args.digest.now (sym c.if-ne.true ∙ c.ne.ensures)
+      (λ same. bytes_differ c.recording.inside.digest files.digest.now (sym c.if-ne.true ∙ c.ne.ensures)
       (ap (λ (r : Recording). r.digest) c.recording.view_is ∙ same));
   types = c.requires.types;
 }
 
 pub returns-clause-row : goal.returns-clause-row
 returns-clause-row g c =
-    right_row sha256 c.args.cart.now c.args.font.now c.args.digest.now c.args.bytes.now c.in-Ok.recording
+    let files = c.args.files.now in
+    right_row sha256 files.cart.now files.font.now files.digest.now c.args.bytes.now c.in-Ok.recording
     c.in-Ok.ensures.read
     (sym (ap (λ (r : Recording). r.digest) c.recording.view_is)
-    ∙ bytes_agree c.recording.inside.digest c.args.digest.now (sym c.if-ne.false ∙ c.ne.ensures))
+    ∙ bytes_agree c.recording.inside.digest files.digest.now (sym c.if-ne.false ∙ c.ne.ensures))
     ∙ c.run_recording.ensures.row

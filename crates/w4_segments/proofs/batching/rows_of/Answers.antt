@@ -9,11 +9,12 @@ use Rattle.w4_segments.proofs.batching.rows_of.Goals as goal
 pub loop-at-preserved : goal.loop-at-preserved
 loop-at-preserved g c =
     let args = c.args in
-    let row = file_row sha256 args.cart.now args.font.now args.digest.now in
-    let wanted = item_row args.cart.now args.font.now args.digest.now args.items.now in
+    let files = args.files.now in
+    let row = file_row sha256 files.cart.now files.font.now files.digest.now in
+    let wanted = item_row files.cart.now files.font.now files.digest.now files.items.now in
     let now = c.loop-at.rows.items in
     let here = c.loop-at.invariant.1 in
-    let bytes = item_bytes args.items.now c.loop-at.at c.index-items-at.result c.loop-at-test.true
+    let bytes = item_bytes files.items.now c.loop-at.at c.index-items-at.result c.loop-at-test.true
     c.index-items-at.is in
     rw (c.in_ok-push.ensures.items) (
       c.row.ensures.types,

@@ -6,7 +6,7 @@ use Rattle.w4_defs.specs.Module.{WasmModule}
 use Rattle.w4_segments.specs.declared.worker.Worker.{Worker}
 use Rattle.w4_segments.specs.FilmPieces.{CanGoOn}
 use Rattle.w4_segments.specs.Working.{HasCartTypes}
-use Rattle.w4_segments.proofs.FilmPieceLaws.{film_begun, keeps_cart, keeps_count}
+use Rattle.w4_segments.proofs.FilmPieceLaws.{film_begun, images_begun, keeps_cart, keeps_count}
 use Rattle.w4_segments.proofs.PieceLaws.{states_below}
 use Rattle.w4_segments.proofs.film_pieces.begin_there.Goals as goal
 
@@ -54,3 +54,11 @@ returns-clause-filming g c =
     (subst (λ (m : WasmModule). All (HasCartTypes m) worker_list) (sym cart)
     c.in_ok-settle_rounds.ensures.types)
     (omega (arith, inside, kept)))
+
+pub returns-clause-images : goal.returns-clause-images
+returns-clause-images g c =
+    images_begun c.args.editor.now c.settle_rounds.new.editor c.last_up_to-first.result c.args.a c.args.b
+    c.settle_rounds.ensures.keeps.recording
+    c.last_up_to-first.ensures.there
+    c.last_up_to-first.ensures.below
+    c.requires.order

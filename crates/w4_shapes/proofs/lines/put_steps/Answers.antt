@@ -1,7 +1,7 @@
 use Rattle.std.proofs.Common.{ℕ, ◌≡◌, ◌+◌, ◌-◌, ◌*◌, ◌/◌, ◌%◌, ◌<◌, min, max, Some, ap, subst, sym, arith, w32, w64, to_z, of_z, ◌∙◌}
 use Rattle.std.specs.Prelude.{ℤ}
 use Rattle.std.specs.Option.{option_or}
-use Rattle.std.proofs.lemmas.Int.{ints, to_z-of_z}
+use Rattle.std.proofs.lemmas.Int.{ints}
 use Rattle.w4_defs.specs.Framebuffer.{paint}
 use Rattle.w4_defs.specs.Shapes.{apart, toward, moved}
 use Rattle.w4_defs.proofs.PaintLaws.{paint_off, paint_step}
@@ -28,75 +28,90 @@ axis_at-y-requires-clause-lesser c = λ h.
 pub number_of-number-requires-clause-column : goal.number_of-number-requires-clause-column
 number_of-number-requires-clause-column c =
     let a = c.args in
-    let wide : c.distance-wide.result ≡ apart a.x1 a.x2 =
-    simp (to_z-of_z w32 a.x1 c.ranges.x1, to_z-of_z w32 a.x2 c.ranges.x2) at c.distance-wide.ensures.value in
-    let tall : c.distance-high.result ≡ apart a.y1 a.y2 =
-    simp (to_z-of_z w32 a.y1 c.ranges.y1, to_z-of_z w32 a.y2 c.ranges.y2) at c.distance-high.ensures.value in
-    let x : c.axis_at-x.result ≡ toward a.x1 a.x2
+    let ends = a.ends in
+    let x1_bits : to_z w32 (of_z w32 ends.x1) ≡ ends.x1 = omega (arith, ints) in
+    let x2_bits : to_z w32 (of_z w32 ends.x2) ≡ ends.x2 = omega (arith, ints) in
+    let y1_bits : to_z w32 (of_z w32 ends.y1) ≡ ends.y1 = omega (arith, ints) in
+    let y2_bits : to_z w32 (of_z w32 ends.y2) ≡ ends.y2 = omega (arith, ints) in
+    let wide : c.distance-wide.result ≡ apart ends.x1 ends.x2 =
+    simp (x1_bits, x2_bits) at c.distance-wide.ensures.value in
+    let tall : c.distance-high.result ≡ apart ends.y1 ends.y2 =
+    simp (y1_bits, y2_bits) at c.distance-high.ensures.value in
+    let x : c.axis_at-x.result ≡ toward ends.x1 ends.x2
     (moved c.distance-wide.result c.distance-high.result a.first) =
-    simp (to_z-of_z w32 a.x1 c.ranges.x1, to_z-of_z w32 a.x2 c.ranges.x2) at c.axis_at-x.ensures in
+    simp (x1_bits, x2_bits) at c.axis_at-x.ensures in
     let bits : to_z w64 (of_z w64 c.axis_at-x.result) ≡ c.axis_at-x.result = omega (arith, ints) in
-    let there : OnAxis (toward a.x1 a.x2 (moved c.distance-wide.result c.distance-high.result a.first)) =
+    let there : OnAxis (toward ends.x1 ends.x2
+    (moved c.distance-wide.result c.distance-high.result a.first)) =
     rw (wide, tall) (c.requires.on a.first (omega arith) c.requires.some).0 in
     subst (λ (z : ℤ). OnAxis z) (sym (bits ∙ x)) there
 
 pub number_of-number-requires-clause-row : goal.number_of-number-requires-clause-row
 number_of-number-requires-clause-row c =
     let a = c.args in
-    let wide : c.distance-wide.result ≡ apart a.x1 a.x2 =
-    simp (to_z-of_z w32 a.x1 c.ranges.x1, to_z-of_z w32 a.x2 c.ranges.x2) at c.distance-wide.ensures.value in
-    let tall : c.distance-high.result ≡ apart a.y1 a.y2 =
-    simp (to_z-of_z w32 a.y1 c.ranges.y1, to_z-of_z w32 a.y2 c.ranges.y2) at c.distance-high.ensures.value in
-    let y : c.axis_at-y.result ≡ toward a.y1 a.y2
+    let ends = a.ends in
+    let x1_bits : to_z w32 (of_z w32 ends.x1) ≡ ends.x1 = omega (arith, ints) in
+    let x2_bits : to_z w32 (of_z w32 ends.x2) ≡ ends.x2 = omega (arith, ints) in
+    let y1_bits : to_z w32 (of_z w32 ends.y1) ≡ ends.y1 = omega (arith, ints) in
+    let y2_bits : to_z w32 (of_z w32 ends.y2) ≡ ends.y2 = omega (arith, ints) in
+    let wide : c.distance-wide.result ≡ apart ends.x1 ends.x2 =
+    simp (x1_bits, x2_bits) at c.distance-wide.ensures.value in
+    let tall : c.distance-high.result ≡ apart ends.y1 ends.y2 =
+    simp (y1_bits, y2_bits) at c.distance-high.ensures.value in
+    let y : c.axis_at-y.result ≡ toward ends.y1 ends.y2
     (moved c.distance-high.result c.distance-wide.result a.first) =
-    simp (to_z-of_z w32 a.y1 c.ranges.y1, to_z-of_z w32 a.y2 c.ranges.y2) at c.axis_at-y.ensures in
+    simp (y1_bits, y2_bits) at c.axis_at-y.ensures in
     let bits : to_z w64 (of_z w64 c.axis_at-y.result) ≡ c.axis_at-y.result = omega (arith, ints) in
-    let there : OnAxis (toward a.y1 a.y2 (moved c.distance-high.result c.distance-wide.result a.first)) =
+    let there : OnAxis (toward ends.y1 ends.y2
+    (moved c.distance-high.result c.distance-wide.result a.first)) =
     rw (tall, wide) (c.requires.on a.first (omega arith) c.requires.some).1 in
     subst (λ (z : ℤ). OnAxis z) (sym (bits ∙ y)) there
 
 pub loop-step-init : goal.loop-step-init
 loop-step-init c =
     let a = c.args in
-    let wide : c.distance-wide.result ≡ apart a.x1 a.x2 =
-    simp (to_z-of_z w32 a.x1 c.ranges.x1, to_z-of_z w32 a.x2 c.ranges.x2) at c.distance-wide.ensures.value in
-    let tall : c.distance-high.result ≡ apart a.y1 a.y2 =
-    simp (to_z-of_z w32 a.y1 c.ranges.y1, to_z-of_z w32 a.y2 c.ranges.y2) at c.distance-high.ensures.value in
-    let x : c.axis_at-x.result ≡ toward a.x1 a.x2
+    let ends = a.ends in
+    let x1_bits : to_z w32 (of_z w32 ends.x1) ≡ ends.x1 = omega (arith, ints) in
+    let x2_bits : to_z w32 (of_z w32 ends.x2) ≡ ends.x2 = omega (arith, ints) in
+    let y1_bits : to_z w32 (of_z w32 ends.y1) ≡ ends.y1 = omega (arith, ints) in
+    let y2_bits : to_z w32 (of_z w32 ends.y2) ≡ ends.y2 = omega (arith, ints) in
+    let wide : c.distance-wide.result ≡ apart ends.x1 ends.x2 =
+    simp (x1_bits, x2_bits) at c.distance-wide.ensures.value in
+    let tall : c.distance-high.result ≡ apart ends.y1 ends.y2 =
+    simp (y1_bits, y2_bits) at c.distance-high.ensures.value in
+    let x : c.axis_at-x.result ≡ toward ends.x1 ends.x2
     (moved c.distance-wide.result c.distance-high.result a.first) =
-    simp (to_z-of_z w32 a.x1 c.ranges.x1, to_z-of_z w32 a.x2 c.ranges.x2) at c.axis_at-x.ensures in
-    let y : c.axis_at-y.result ≡ toward a.y1 a.y2
+    simp (x1_bits, x2_bits) at c.axis_at-x.ensures in
+    let y : c.axis_at-y.result ≡ toward ends.y1 ends.y2
     (moved c.distance-high.result c.distance-wide.result a.first) =
-    simp (to_z-of_z w32 a.y1 c.ranges.y1, to_z-of_z w32 a.y2 c.ranges.y2) at c.axis_at-y.ensures in
+    simp (y1_bits, y2_bits) at c.axis_at-y.ensures in
     let x_bits : to_z w64 (of_z w64 c.axis_at-x.result) ≡ c.axis_at-x.result = omega (arith, ints) in
     let y_bits : to_z w64 (of_z w64 c.axis_at-y.result) ≡ c.axis_at-y.result = omega (arith, ints) in
     let is_pixel : IsPixel (to_z w64 (of_z w64 c.axis_at-x.result)) (to_z w64 (of_z w64 c.axis_at-y.result))
     c.number_of-number.result = c.number_of-number.ensures in
-    let column : IsPixel (toward a.x1 a.x2 (moved c.distance-wide.result c.distance-high.result a.first))
+    let column : IsPixel
+    (toward ends.x1 ends.x2 (moved c.distance-wide.result c.distance-high.result a.first))
     (to_z w64 (of_z w64 c.axis_at-y.result)) c.number_of-number.result =
     subst (λ (z : ℤ). IsPixel z (to_z w64 (of_z w64 c.axis_at-y.result)) c.number_of-number.result)
     (x_bits ∙ x) is_pixel
     in
-    let both : IsPixel (toward a.x1 a.x2 (moved c.distance-wide.result c.distance-high.result a.first))
-    (toward a.y1 a.y2 (moved c.distance-high.result c.distance-wide.result a.first))
+    let both : IsPixel (toward ends.x1 ends.x2 (moved c.distance-wide.result c.distance-high.result a.first))
+    (toward ends.y1 ends.y2 (moved c.distance-high.result c.distance-wide.result a.first))
     c.number_of-number.result =
-    subst (λ (z : ℤ). IsPixel (toward a.x1 a.x2 (moved c.distance-wide.result c.distance-high.result a.first))
-    z
+    subst (λ (z : ℤ). IsPixel
+    (toward ends.x1 ends.x2 (moved c.distance-wide.result c.distance-high.result a.first)) z
     c.number_of-number.result) (y_bits ∙ y) column in
-    let here : IsPixel (toward a.x1 a.x2 (moved (apart a.x1 a.x2) (apart a.y1 a.y2) a.first))
-    (toward a.y1 a.y2 (moved (apart a.y1 a.y2) (apart a.x1 a.x2) a.first)) c.number_of-number.result =
+    let here : IsPixel
+    (toward ends.x1 ends.x2 (moved (apart ends.x1 ends.x2) (apart ends.y1 ends.y2) a.first))
+    (toward ends.y1 ends.y2 (moved (apart ends.y1 ends.y2) (apart ends.x1 ends.x2) a.first))
+    c.number_of-number.result =
     rw (sym wide, sym tall) both in
     record {
       painted = paint_off a.page.now _ c.told-page c.fits-page
           (λ u v hu hv. steps_none _ _ a.first u v (Some a.index));
       sum = c.slope_at-slope.ensures.sum;
       rest = c.slope_at-slope.ensures.rest;
-      pixel_is = λ h. (simp (
-        to_z-of_z w32 a.x1 c.ranges.x1,
-        to_z-of_z w32 a.x2 c.ranges.x2,
-        to_z-of_z w32 a.y1 c.ranges.y1,
-        to_z-of_z w32 a.y2 c.ranges.y2,
-      ) here);
+      pixel_is = λ h. here;
     }
 
 pub put_pixel-requires-clause-number : goal.put_pixel-requires-clause-number
@@ -108,10 +123,15 @@ next_number-number-requires-clause-number c = (c.loop-step.invariant.pixel_is c.
 pub next_slope-next-requires-clause-moved : goal.next_slope-next-requires-clause-moved
 next_slope-next-requires-clause-moved c =
     let a = c.args in
-    let wide : c.distance-wide.result ≡ apart a.x1 a.x2 =
-    simp (to_z-of_z w32 a.x1 c.ranges.x1, to_z-of_z w32 a.x2 c.ranges.x2) at c.distance-wide.ensures.value in
-    let tall : c.distance-high.result ≡ apart a.y1 a.y2 =
-    simp (to_z-of_z w32 a.y1 c.ranges.y1, to_z-of_z w32 a.y2 c.ranges.y2) at c.distance-high.ensures.value in
+    let ends = a.ends in
+    let x1_bits : to_z w32 (of_z w32 ends.x1) ≡ ends.x1 = omega (arith, ints) in
+    let x2_bits : to_z w32 (of_z w32 ends.x2) ≡ ends.x2 = omega (arith, ints) in
+    let y1_bits : to_z w32 (of_z w32 ends.y1) ≡ ends.y1 = omega (arith, ints) in
+    let y2_bits : to_z w32 (of_z w32 ends.y2) ≡ ends.y2 = omega (arith, ints) in
+    let wide : c.distance-wide.result ≡ apart ends.x1 ends.x2 =
+    simp (x1_bits, x2_bits) at c.distance-wide.ensures.value in
+    let tall : c.distance-high.result ≡ apart ends.y1 ends.y2 =
+    simp (y1_bits, y2_bits) at c.distance-high.ensures.value in
     let small = lesser_small c.loop-step.step c.min-less.result c.max-most.result c.loop-step.slope.moved
     c.loop-step.slope.rest (omega (arith, wide, tall, c.requires.end, c.max-most.ensures, c.max.ensures))
     c.loop-step.invariant.rest c.loop-step.invariant.sum in
@@ -120,29 +140,26 @@ next_slope-next-requires-clause-moved c =
 pub loop-step-preserved : goal.loop-step-preserved
 loop-step-preserved c =
     let a = c.args in
+    let ends = a.ends in
+    let x1_bits : to_z w32 (of_z w32 ends.x1) ≡ ends.x1 = omega (arith, ints) in
+    let x2_bits : to_z w32 (of_z w32 ends.x2) ≡ ends.x2 = omega (arith, ints) in
+    let y1_bits : to_z w32 (of_z w32 ends.y1) ≡ ends.y1 = omega (arith, ints) in
+    let y2_bits : to_z w32 (of_z w32 ends.y2) ≡ ends.y2 = omega (arith, ints) in
     let first = a.first in
     let step = c.loop-step.step in
-    let xs : ℕ → ℤ = λ t. toward a.x1 a.x2 (moved (apart a.x1 a.x2) (apart a.y1 a.y2) t) in
-    let ys : ℕ → ℤ = λ t. toward a.y1 a.y2 (moved (apart a.y1 a.y2) (apart a.x1 a.x2) t) in
-    let wide : c.distance-wide.result ≡ apart a.x1 a.x2 =
-    simp (to_z-of_z w32 a.x1 c.ranges.x1, to_z-of_z w32 a.x2 c.ranges.x2) at c.distance-wide.ensures.value in
-    let tall : c.distance-high.result ≡ apart a.y1 a.y2 =
-    simp (to_z-of_z w32 a.y1 c.ranges.y1, to_z-of_z w32 a.y2 c.ranges.y2) at c.distance-high.ensures.value in
-    let before : c.loop-step.page ≡ paint a.page.now (steps_painter xs ys first step (Some a.index)) = simp (
-      to_z-of_z w32 a.x1 c.ranges.x1,
-      to_z-of_z w32 a.x2 c.ranges.x2,
-      to_z-of_z w32 a.y1 c.ranges.y1,
-      to_z-of_z w32 a.y2 c.ranges.y2,
-    ) at c.loop-step.invariant.painted in
-    let here : IsPixel (xs step) (ys step) c.loop-step.number = simp (
-      to_z-of_z w32 a.x1 c.ranges.x1,
-      to_z-of_z w32 a.x2 c.ranges.x2,
-      to_z-of_z w32 a.y1 c.ranges.y1,
-      to_z-of_z w32 a.y2 c.ranges.y2,
-    ) at (c.loop-step.invariant.pixel_is c.loop-step-test.true) in
-    let less : c.min-less.result ≡ min (apart a.x1 a.x2) (apart a.y1 a.y2) =
+    let xs : ℕ → ℤ = λ t. toward ends.x1 ends.x2 (moved (apart ends.x1 ends.x2) (apart ends.y1 ends.y2) t) in
+    let ys : ℕ → ℤ = λ t. toward ends.y1 ends.y2 (moved (apart ends.y1 ends.y2) (apart ends.x1 ends.x2) t) in
+    let wide : c.distance-wide.result ≡ apart ends.x1 ends.x2 =
+    simp (x1_bits, x2_bits) at c.distance-wide.ensures.value in
+    let tall : c.distance-high.result ≡ apart ends.y1 ends.y2 =
+    simp (y1_bits, y2_bits) at c.distance-high.ensures.value in
+    let before : c.loop-step.page ≡ paint a.page.now (steps_painter xs ys first step (Some a.index)) =
+    c.loop-step.invariant.painted in
+    let here : IsPixel (xs step) (ys step) c.loop-step.number =
+    c.loop-step.invariant.pixel_is c.loop-step-test.true in
+    let less : c.min-less.result ≡ min (apart ends.x1 ends.x2) (apart ends.y1 ends.y2) =
     omega (arith, wide, tall, c.min-less.ensures) in
-    let most : c.max-most.result ≡ max (max (apart a.x1 a.x2) (apart a.y1 a.y2)) 1 =
+    let most : c.max-most.result ≡ max (max (apart ends.x1 ends.x2) (apart ends.y1 ends.y2)) 1 =
     omega (arith, wide, tall, c.max-most.ensures, c.max.ensures) in
     let sum : c.next_slope-next.result.moved * c.max-most.result + c.next_slope-next.result.rest
     ≡ (step + 1) * c.min-less.result + (c.max-most.result - 1) / 2 = omega (
@@ -161,8 +178,8 @@ loop-step-preserved c =
     (dot_point (c.loop-step.number % 160) (c.loop-step.number / 160) (xs step) (ys step) (Some a.index) u v
     here.1 here.2)
     ∙ steps_more xs ys first step u v (Some a.index) c.loop-step.auto.step) in
-    let own : ℕ = min (apart a.x1 a.x2) (apart a.y1 a.y2) in
-    let other : ℕ = max (apart a.x1 a.x2) (apart a.y1 a.y2) in
+    let own : ℕ = min (apart ends.x1 ends.x2) (apart ends.y1 ends.y2) in
+    let other : ℕ = max (apart ends.x1 ends.x2) (apart ends.y1 ends.y2) in
     let now : c.loop-step.slope.moved ≡ moved own other step =
     slope_moved c.loop-step.slope.moved c.loop-step.slope.rest step c.min-less.result c.max-most.result
     own other (omega arith) (omega arith) (omega arith) (omega arith)
@@ -180,46 +197,32 @@ loop-step-preserved c =
     omega (arith, ints) in
     let aside : to_z w64 (of_z w64 c.course_of-course.result.aside) ≡ c.course_of-course.result.aside =
     omega (arith, ints) in
-    next_pixel a.x1 a.x2 a.y1 a.y2 (apart a.x1 a.x2) (apart a.y1 a.y2) step c.loop-step.slope.moved
-    c.next_slope-next.result.moved c.loop-step.number c.next_number-number.result
-    c.course_of-course.result.straight c.course_of-course.result.aside c.requires.down now later
+    next_pixel ends.x1 ends.x2 ends.y1 ends.y2 (apart ends.x1 ends.x2) (apart ends.y1 ends.y2) step
+    c.loop-step.slope.moved c.next_slope-next.result.moved c.loop-step.number c.next_number-number.result
+    c.course_of-course.result.straight c.course_of-course.result.aside ends.down now later
     c.next_slope-next.ensures.one here on.0 on.1
-    (λ low. simp (to_z-of_z w32 a.x1 c.ranges.x1, to_z-of_z w32 a.x2 c.ranges.x2) at
+    (λ low. simp (x1_bits, x2_bits) at
     (c.course_of-course.ensures.flat (omega (arith, wide, tall))))
     (λ high. c.course_of-course.ensures.steep (omega (arith, wide, tall)))
-    (simp (to_z-of_z w32 a.x1 c.ranges.x1, to_z-of_z w32 a.x2 c.ranges.x2) at
+    (simp (x1_bits, x2_bits) at
     c.course_of-course.ensures.aside)
     (λ same at_least. c.next_number-number.ensures.straight same at_least)
     (λ more. c.next_number-number.ensures.aside more)) in
     record {
-      painted = simp (
-        to_z-of_z w32 a.x1 c.ranges.x1,
-        to_z-of_z w32 a.x2 c.ranges.x2,
-        to_z-of_z w32 a.y1 c.ranges.y1,
-        to_z-of_z w32 a.y2 c.ranges.y2,
-      ) painted;
+      painted = painted;
       sum = sum;
       rest = c.next_slope-next.ensures.rest;
-      pixel_is = λ h. (simp (
-        to_z-of_z w32 a.x1 c.ranges.x1,
-        to_z-of_z w32 a.x2 c.ranges.x2,
-        to_z-of_z w32 a.y1 c.ranges.y1,
-        to_z-of_z w32 a.y2 c.ranges.y2,
-      ) (pixel_is h));
+      pixel_is = pixel_is;
     }
 
 pub returns : goal.returns
 returns c =
     let a = c.args in
-    let xs : ℕ → ℤ = λ t. toward a.x1 a.x2 (moved (apart a.x1 a.x2) (apart a.y1 a.y2) t) in
-    let ys : ℕ → ℤ = λ t. toward a.y1 a.y2 (moved (apart a.y1 a.y2) (apart a.x1 a.x2) t) in
+    let ends = a.ends in
+    let xs : ℕ → ℤ = λ t. toward ends.x1 ends.x2 (moved (apart ends.x1 ends.x2) (apart ends.y1 ends.y2) t) in
+    let ys : ℕ → ℤ = λ t. toward ends.y1 ends.y2 (moved (apart ends.y1 ends.y2) (apart ends.x1 ends.x2) t) in
     let last : c.loop-step.step ≡ a.end = omega arith in
     let before : c.loop-step.page ≡ paint a.page.now
     (steps_painter xs ys a.first c.loop-step.step (Some a.index)) =
-    simp (
-      to_z-of_z w32 a.x1 c.ranges.x1,
-      to_z-of_z w32 a.x2 c.ranges.x2,
-      to_z-of_z w32 a.y1 c.ranges.y1,
-      to_z-of_z w32 a.y2 c.ranges.y2,
-    ) at c.loop-step.invariant.painted in
+    c.loop-step.invariant.painted in
     before ∙ ap (λ k. paint a.page.now (steps_painter xs ys a.first k (Some a.index))) last

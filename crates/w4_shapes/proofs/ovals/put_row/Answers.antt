@@ -6,8 +6,8 @@ returns c =
     let a = c.args in
     rw (c.put_span-3.ensures, c.put_span-2.ensures, c.put_span.ensures)
     (three_painted a.page.now _ _ _ _ c.told-page (λ u b hu hb.
-    row_pixel a.cells a.columns a.v a.above a.here a.below c.on_screen-whole.result c.inner_part-inner.result
-    u b
+    row_pixel a.cells a.columns a.v a.rows.above a.rows.here a.rows.below
+    c.on_screen-whole.result c.inner_part-inner.result u b
     c.requires.on_screen.first_cell c.requires.on_screen.last_cell c.requires.first_cell c.requires.last_cell
     c.requires.above c.requires.here c.requires.below c.on_screen-whole.ensures.first
     c.on_screen-whole.ensures.end

@@ -1,0 +1,29 @@
+use Rattle.std.proofs.Common.{option_map}
+use Rattle.std.proofs.lemmas.Result.{err_from_is_err_and}
+use Rattle.w4_defs.specs.Output.{edit_answers, edit_files, edit_output, edit_result}
+use Rattle.w4_defs.proofs.OutputsThereLaws.{edit_answers_there}
+use Rattle.w4_defs.proofs.ThereLaws.{value_there}
+use Rattle.w4_commands.specs.Views.{cart_view, edit_view, loaded_view}
+use Rattle.w4_commands.proofs.EndLaws.{ends_edit, ends_unmade}
+use Rattle.w4_commands.proofs.edit.run_edit.Goals as goal
+
+pub returns-in_err-loaded-clause-ends : goal.returns-in_err-loaded-clause-ends
+unfolding edit_output
+returns-in_err-loaded-clause-ends g c =
+    let p = err_from_is_err_and c.from_residual.result c.from_residual.ensures.1 in
+    let cart = c.args.file.cart in
+    rw (p.1, p.2)
+    (ends_unmade (g.H.House.world c.args.house.now) (g.H.House.world c.load_edit.new.house)
+    c.in_err-loaded.field-0.0 (λ files. edit_files c.args.file.digest (edit_view c.args.names) files)
+    (λ l. option_map (edit_result cart l c.args.names.out.now) (edit_answers cart l).out)
+    c.in_err-loaded.ensures.rest c.in_err-loaded.ensures.gives)
+
+pub returns-clause-ends : goal.returns-clause-ends
+returns-clause-ends g c =
+    let cart = c.args.file.cart in
+    let loaded = loaded_view c.in_ok-loaded.loaded in
+    let told = value_there (edit_answers cart loaded).out (edit_answers_there cart c.requires.meaning loaded) in
+    ends_edit (g.H.House.world c.args.house.now) (g.H.House.world c.load_edit.new.house)
+    (g.H.House.world c.carry_out.new.house) (edit_view c.args.names) (cart_view c.args.file) loaded
+    c.in_ok-loaded.ensures.rest c.in_ok-loaded.ensures.gives told.0 told.1 c.carry_out.result
+    (c.carry_out.ensures.carried told.0 told.1)
