@@ -1,5 +1,5 @@
 -- From the editor that an edit opens to the recording that it leaves.
-use Rattle.std.proofs.Common.{◌≡◌, ◌≤◌, ℕ, List, [], ◌∷◌, length, inl, inr, ap, ◌∙◌, refl, sym, subst, append_assoc}
+use Rattle.std.proofs.Common.{◌≡◌, ◌≤◌, ℕ, List, [], ◌∷◌, length, inl, inr, ap, ◌∙◌, sym, subst, append_assoc}
 use Rattle.std.proofs.Math.Seq.{take-length}
 use Rattle.std.proofs.lemmas.List.{append-nil}
 use Rattle.std.specs.Prelude.{Result, Ok, Err}
@@ -10,12 +10,10 @@ use Rattle.w4_defs.specs.Recording.{encoding}
 use Rattle.w4_defs.specs.Session.{Session}
 use Rattle.w4_defs.specs.State.{State}
 use Rattle.w4_editor.specs.Editing.{Editing, new_editing, current_recording}
-use Rattle.w4_defs.specs.World.{NotSaved, Saved, World, Rises, Does, FailsToSave, LeavesWriting, wrote}
-use Rattle.w4_commands.specs.Causes.{AppendsOut, Carried, Replaces, StopsCarrying, StopsSaving, StopsWriting, write_refusal}
-use Rattle.w4_house.specs.declared.calls.WriteRefusal.{WriteRefusal}
-use Rattle.w4_house.specs.declared.calls.WriteRefusal.TheVariants.{Failed, OutOfMemory}
+use Rattle.w4_defs.specs.World.{NotSaved, Saved, World, Does, LeavesWriting, wrote}
+use Rattle.w4_commands.specs.Causes.{AppendsOut, Carried, Replaces, StopsCarrying, StopsSaving, StopsWriting}
 use Rattle.w4_house.proofs.WorldLaws.{does_then, reading_none, rises_later}
-use Rattle.w4_commands.proofs.OutLaws.{front_does, out_whole, written_does}
+use Rattle.w4_commands.proofs.OutLaws.{front_does, written_does}
 use Rattle.w4_defs.specs.declared.status.Refusal.{Refusal}
 use Rattle.w4_commands.specs.ScriptAnswers.{IsAnswered, answers_by, recording_by}
 use Rattle.w4_defs.specs.Endings.{Manner, ReadFailed, InputFailed, WriteFailed, MemoryRefused, Refused, manner_of}
@@ -51,13 +49,6 @@ pub recording_left : (before mid : World) (old new : Editing) (orders : List Ord
 recording_left before mid old new orders answered =
     ap (λ (x : Editing). current_recording x) answered.rest
     ∙ ap (λ (s : Session ℕ). record (current_recording old) { frames = s.current.inputs }) answered.session
-
--- all answers are written, and memory ran out before the file was begun
-pub carries_answers : (before mid : World) (out name bytes : List ℕ) → AppendsOut before.events mid.events out
-    → LeavesWriting before mid → StopsCarrying before mid MemoryRefused out name bytes
-carries_answers before mid out name bytes written rest =
-    front_does before before mid out (reading_none before) rest
-    (out_whole before.events mid.events out written)
 
 -- then the file was replaced, or it wasn't
 module _ (before mid after : World) (out name bytes : List ℕ) (does : Does before mid (wrote out)) where
@@ -95,12 +86,3 @@ carried_saved result before mid after out name bytes wanted rest written e h =
     carried_replaced before mid after out name wanted
     (written_does before before mid out (reading_none before) rest written) result rest.later
     (subst (λ xs. Replaces mid after result name xs) e h)
-
--- replacing a file was refused
-pub save_refused : (old new : World) (why : WriteRefusal) (name bytes : List ℕ)
-    → (why ≡ Failed → Rises old.write_faults new.write_faults)
-    → (why ≡ Failed → FailsToSave old new [] (Saved name bytes ∷ []))
-    → (why ≡ OutOfMemory → Does old new [])
-    → StopsSaving old new (manner_of (write_refusal why)) name bytes
-save_refused old new Failed name bytes rise fails none = (rise refl, fails refl)
-save_refused old new OutOfMemory name bytes rise fails none = none refl

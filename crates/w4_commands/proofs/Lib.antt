@@ -12,6 +12,7 @@ pub mod UnitsAnswerLaws
 pub mod PlaceAnswerLaws
 pub mod ScriptAnswerLaws
 pub mod EditLaws
+pub mod SavingLaws
 pub mod SummaryLaws
 pub mod PlaceTextLaws
 pub mod EndLaws

@@ -1,14 +1,16 @@
 //! Orders that change inputs, history or kept places.
 
-ghost use Rattle.std.specs.Prelude.{◌≡◌, ◌≢◌, ℕ, IfErr, List, OnErr, OnOk};
+ghost use Rattle.std.specs.Prelude.{◌≡◌, ◌≢◌, ℕ, IfErr, List, OnErr, OnOk, Result};
+ghost use Rattle.w4_defs.specs.declared.editing.EditRefusal.{EditRefusal as DeclaredRefusal};
 ghost use Rattle.w4_defs.specs.declared.editing.EditRefusal.TheVariants.{OutOfMemory as NoMemory};
+ghost use Rattle.w4_defs.specs.declared.order.Order.{Order as DeclaredOrder};
 ghost use Rattle.w4_defs.specs.World.{LeavesWriting};
 ghost use Rattle.w4_defs.specs.ScriptAnswers.{answer_change};
-ghost use Rattle.w4_defs.specs.Session.{keep, keep_every, places_alone};
+ghost use Rattle.w4_defs.specs.Session.{Session, keep, keep_every, places_alone};
 ghost use Rattle.w4_commands.specs.AnswerFrames.{ChangesWithin};
 ghost use Rattle.w4_commands.specs.ScriptAnswers.{GivesAnswer, changed};
 ghost use Rattle.w4_editor.specs.Showing.{AreKeptInTurn, IsKeptAt};
-ghost use Rattle.w4_editor.specs.Editing.{current_recording};
+ghost use Rattle.w4_editor.specs.Editing.{Editing, current_recording};
 ghost use Rattle.w4_editor.specs.PlaceSession.{IsChanged, place_session};
 
 use crate::counted_editor::CountedEditor;
@@ -21,29 +23,8 @@ use w4_defs::{EditRefusal, Order, Refusal};
 use w4_editor::keep_every::keep_every;
 use w4_house::House;
 
-/// The answer of an order that changes the session: nothing, or the line that refuses it.
-pub fn answer_change<S: Shape, L: Ledger, H: House>(
-    alloc: Global,
-    house: &mut H,
-    counted: &mut CountedEditor<L>,
-    order: &Order,
-) -> Result<(), Refusal>
-    ensures answered { GivesAnswer (H.world house.old) (H.world house.new) result
-        counted.old.editor counted.new.editor
-        (answer_change S.form (place_session counted.old.editor)
-        (changed order.now (place_session counted.old.editor))) }
-    ensures rest { LeavesWriting (H.world house.old) (H.world house.new) }
-    ensures frames_run { OnOk result (ChangesWithin order.now counted.old.steps counted.new.steps
-        counted.old.editor counted.new.editor) }
-{
-    match change(alloc, counted, order) {
-        Ok(()) => Ok(()),
-        Err(refusal) => refuse::<S, H>(alloc, house, refusal),
-    }
-}
-
 /// Carries out an order on the session. One that only asks changes nothing.
-fn change<L: Ledger>(
+pub fn change<L: Ledger>(
     alloc: Global,
     counted: &mut CountedEditor<L>,
     order: &Order,
@@ -67,6 +48,29 @@ fn change<L: Ledger>(
         Order::KeepEvery { every } => keep_multiples(alloc, counted, every),
         Order::DropKept { p } => counted.editor.drop_kept(p as usize),
         _ => Ok(()),
+    }
+}
+
+/// What an order that changes the session is answered: nothing, or the line that refuses it.
+pub fn answer_changed<S: Shape, H: House>(
+    alloc: Global,
+    house: &mut H,
+    ended: Result<(), EditRefusal>,
+) -> Result<(), Refusal>
+    ensures answered { (e left : Editing) (wanted : Result (Session ℕ) DeclaredRefusal)
+        → IsChanged ended e left wanted
+        → OnErr ended (current_recording left ≡ current_recording e)
+        → GivesAnswer (H.world house.old) (H.world house.new) result e left
+        (answer_change S.form (place_session e) wanted) }
+    ensures rest { LeavesWriting (H.world house.old) (H.world house.new) }
+    ensures frames_run { (order : DeclaredOrder) (ticks_before ticks_after : ℕ) (e left : Editing)
+        → OnOk ended (ChangesWithin order ticks_before ticks_after e left)
+        → IfErr ended (λ refusal. refusal ≢ NoMemory → ticks_after ≡ ticks_before)
+        → OnOk result (ChangesWithin order ticks_before ticks_after e left) }
+{
+    match ended {
+        Ok(()) => Ok(()),
+        Err(refusal) => refuse::<S, H>(alloc, house, refusal),
     }
 }
 

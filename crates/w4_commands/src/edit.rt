@@ -3,27 +3,23 @@
 ghost use Rattle.std.specs.Prelude.{◌≡◌, ◌<◌};
 ghost use Rattle.std.specs.Option.{ForSome};
 ghost use Rattle.w4_defs.specs.Recording.{encoding};
-ghost use Rattle.w4_defs.specs.World.{LeavesSaving};
-ghost use Rattle.w4_commands.specs.ScriptAnswers.{answers_by, recording_by};
 ghost use Rattle.w4_defs.specs.Meaning.{RunsHaveMeaning};
 ghost use Rattle.w4_defs.specs.Output.{edit_answers, edit_output, edited_recording};
 ghost use Rattle.w4_defs.specs.Causes.{LeavesErr};
-ghost use Rattle.w4_commands.specs.Causes.{Carried, EndsDone, MakesOf, Replaces};
+ghost use Rattle.w4_commands.specs.Causes.{Carried, EndsDone, MakesOf};
 ghost use Rattle.w4_commands.specs.Views.{cart_view, edit_view, loaded_view};
 
 use crate::desk::{Desk, new_desk};
 use crate::forms::EditNames;
 use crate::load::{Loaded, load_edit};
+use crate::saving::save_recording;
 use crate::script_answers::answer_all;
-use crate::writing::write_refusal;
-use std::alloc::Global;
 use std::marker::Brand;
 use std::sync::ledger::{Blank, Ledger};
 use std::thread::Threads;
 use w4_cart::CartFile;
-use w4_defs::{Order, Refusal};
+use w4_defs::Refusal;
 use w4_house::House;
-use w4_record::write_recording;
 use w4_segments::{Gate, Resources};
 use wasm_register::Cart;
 
@@ -64,34 +60,6 @@ fn carry_out<L: Ledger, R: Threads + Sync, H: House, G: Gate + Sync>(
 {
     let Loaded { run, orders } = loaded;
     let mut desk: Desk<L> = new_desk(resources.alloc, cart, run, blank)?;
-    answer_and_save(resources, house, &mut desk, orders.as_slice(), names.out)
-}
-
-/// Answers orders at a desk, and saves the edited recording once the last of them is answered.
-fn answer_and_save<L: Ledger, R: Threads + Sync, H: House, G: Gate + Sync>(
-    resources: &Resources<'_, R, G>,
-    house: &mut H,
-    desk: &mut Desk<L>,
-    orders: &[Order],
-    name: &str,
-) -> Result<(), Refusal>
-    ensures carried { ForSome (answers_by desk.old.counted.editor orders.now).out
-        (λ out. Carried (H.world house.old) (H.world house.new) result out name.now
-        (encoding 2 (recording_by desk.old.counted.editor orders.now))) }
-    ensures err { LeavesErr (H.world house.old) (H.world house.new) }
-{
-    answer_all(resources, house, desk, orders)?;
-    let bytes = write_recording(resources.alloc, desk.counted.editor.recording())?;
-    save(resources.alloc, house, name, bytes.as_slice())
-}
-
-/// Makes a file of exactly these bytes, replaced whole.
-pub fn save<H: House>(alloc: Global, house: &mut H, name: &str, bytes: &[u8]) -> Result<(), Refusal>
-    ensures saved { Replaces (H.world house.old) (H.world house.new) result name.now bytes.now }
-    ensures rest { LeavesSaving (H.world house.old) (H.world house.new) }
-{
-    match house.write_file(alloc, name, bytes) {
-        Ok(()) => Ok(()),
-        Err(refusal) => Err(write_refusal(refusal)),
-    }
+    answer_all(resources, house, &mut desk, orders.as_slice())?;
+    save_recording(resources.alloc, house, &desk, names.out)
 }

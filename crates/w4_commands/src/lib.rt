@@ -31,6 +31,7 @@ mod ram_answers;
 mod range_answer;
 mod recordings;
 mod refusal;
+mod saving;
 mod scene;
 mod script_answers;
 mod serve;

@@ -1,12 +1,11 @@
 //! The answer of one line of a live session.
 
 ghost use Rattle.std.specs.Prelude.{◌≡◌, ◌++◌};
-ghost use Rattle.w4_defs.specs.Live.{LiveSession, Opened, answer_end, framed, live_answer, recording_left, refused_save};
+ghost use Rattle.w4_defs.specs.Live.{LiveSession, Opened, answer_end, recording_left, refused_save};
 ghost use Rattle.w4_defs.specs.Meaning.{RunsHaveMeaning};
-ghost use Rattle.w4_defs.specs.Output.{run_setup};
 ghost use Rattle.w4_defs.specs.World.{LeavesWriting};
 ghost use Rattle.w4_editor.specs.Editing.{current_recording};
-ghost use Rattle.w4_script.specs.LiveLines.{IsAsked, IsLiveOrder, asked_view};
+ghost use Rattle.w4_script.specs.LiveLines.{IsAsked, asked_view};
 ghost use Rattle.w4_commands.specs.Causes.{Written};
 ghost use Rattle.w4_commands.specs.LiveAnswers.{AnswersSave, GivesPieces, asked_answer, asks_save};
 ghost use Rattle.w4_commands.specs.Serving.{AnswersLine, LeavesServing, Sits};
@@ -14,8 +13,8 @@ ghost use Rattle.w4_commands.specs.Serving.{AnswersLine, LeavesServing, Sits};
 use crate::desk::Desk;
 use crate::own_answer::answer_own;
 use crate::ram_answers::answer_line;
+use crate::saving::save_recording;
 use crate::script_answers::answer;
-use crate::serve::save_recording;
 use crate::shape::{Framed, Shape};
 use crate::writing::write_bytes;
 use std::alloc::Global;
@@ -62,7 +61,7 @@ fn is_save(asked: &Asked) -> bool
     }
 }
 
-/// Writes the pieces of an answer.
+/// Writes the pieces of an answer; `save` has none here.
 fn answer_pieces<L: Ledger, R: Threads + Sync, H: House, G: Gate + Sync>(
     resources: &Resources<'_, R, G>,
     house: &mut H,
@@ -76,38 +75,20 @@ fn answer_pieces<L: Ledger, R: Threads + Sync, H: House, G: Gate + Sync>(
         (asked_answer o s (asked_view asked.now)) desk.new.counted.editor search.new }
     ensures rest { LeavesWriting (H.world house.old) (H.world house.new) }
 {
+    let alloc = resources.alloc;
     match *asked {
         Asked::Nothing => Ok(()),
-        Asked::NoOrder => Framed::write(resources.alloc, house, b"refused no order\n"),
-        Asked::Order(order) => answer_order(resources, house, desk, search, &order),
-    }
-}
-
-/// Writes the pieces of an order's answer; `save` has none here.
-fn answer_order<L: Ledger, R: Threads + Sync, H: House, G: Gate + Sync>(
-    resources: &Resources<'_, R, G>,
-    house: &mut H,
-    desk: &mut Desk<L>,
-    search: &mut Option<Search>,
-    order: &LiveOrder,
-) -> Result<(), Refusal>
-    requires { IsLiveOrder order.now }
-    ensures gives { (o : Opened) (s : LiveSession) → Sits o s desk.old.counted.editor search.old
-        → GivesPieces (H.world house.old) (H.world house.new) result o s
-        (live_answer framed (run_setup o.cart o.run) o.run.recording.disk s order.now)
-        desk.new.counted.editor search.new }
-    ensures rest { LeavesWriting (H.world house.old) (H.world house.new) }
-{
-    let alloc = resources.alloc;
-    match *order {
-        LiveOrder::Script { order } => {
-            answer::<Framed, L, R, H, G>(resources, house, desk, &order)
-        }
-        LiveOrder::Query { ask } => {
-            answer_line::<Framed, L, H>(alloc, house, &mut desk.counted, search, &ask)
-        }
-        LiveOrder::Save => Ok(()),
-        _ => answer_own::<Framed, L, H>(alloc, house, desk, order),
+        Asked::NoOrder => Framed::write(alloc, house, b"refused no order\n"),
+        Asked::Order(live) => match live {
+            LiveOrder::Script { order } => {
+                answer::<Framed, L, R, H, G>(resources, house, desk, &order)
+            }
+            LiveOrder::Query { ask } => {
+                answer_line::<Framed, L, H>(alloc, house, &mut desk.counted, search, &ask)
+            }
+            LiveOrder::Save => Ok(()),
+            _ => answer_own::<Framed, L, H>(alloc, house, desk, &live),
+        },
     }
 }
 

@@ -12,7 +12,7 @@ ghost use Rattle.w4_commands.specs.RamAnswers.{AreHeld, GivesQueryAnswer, query_
 ghost use Rattle.w4_defs.specs.ToolOutputs.{ram_output, ram_text};
 ghost use Rattle.w4_commands.specs.Views.{cart_view, ram_loaded_view, run_view};
 
-use crate::change_answer::answer_change;
+use crate::change_answer::{answer_changed, change};
 use crate::counted_editor::CountedEditor;
 use crate::forms::RunNames;
 use crate::held_pages::answer_held;
@@ -150,12 +150,14 @@ fn answer_query_line<L: Ledger, H: House>(
         QueryLine::Ask { ask } => answer_request(alloc, house, desk, ask, again),
         QueryLine::Keep { p } => {
             desk.held = None;
-            answer_change::<Plain, L, H>(alloc, house, &mut desk.counted, &Order::Keep { p })
+            let changed = change(alloc, &mut desk.counted, &Order::Keep { p });
+            answer_changed::<Plain, H>(alloc, house, changed)
         }
         QueryLine::KeepEvery { every } => {
             desk.held = None;
             let order = Order::KeepEvery { every };
-            answer_change::<Plain, L, H>(alloc, house, &mut desk.counted, &order)
+            let changed = change(alloc, &mut desk.counted, &order);
+            answer_changed::<Plain, H>(alloc, house, changed)
         }
     }
 }

@@ -8,7 +8,7 @@ ghost use Rattle.w4_commands.specs.AnswerFrames.{AnswersWithin};
 ghost use Rattle.w4_commands.specs.ScriptAnswers.{GivesAnswer, GivesAnswers, answer_by};
 ghost use Rattle.w4_editor.specs.PlaceSession.{place_session};
 
-use crate::change_answer::answer_change;
+use crate::change_answer::{answer_changed, change};
 use crate::desk::Desk;
 use crate::film_answer::{answer_film, settle_by_workers};
 use crate::range_answer::answer_range;
@@ -73,6 +73,9 @@ pub(crate) fn answer<S: Shape, L: Ledger, R: Threads + Sync, H: House, G: Gate +
             answer_range::<S, L, H>(alloc, house, desk, PlaceText::DiskBytes, p, p)
         }
         Order::StateAt { p } => answer_state::<S, L, H>(alloc, house, &mut desk.counted, p),
-        _ => answer_change::<S, L, H>(alloc, house, &mut desk.counted, order),
+        _ => {
+            let changed = change(alloc, &mut desk.counted, order);
+            answer_changed::<S, H>(alloc, house, changed)
+        }
     }
 }

@@ -23,10 +23,10 @@ ghost use Rattle.w4_commands.specs.Serving.{
 ghost use Rattle.w4_commands.specs.Views.{cart_view, opened_view, serve_view};
 
 use crate::desk::{Desk, new_desk};
-use crate::edit::save;
 use crate::forms::ServeNames;
 use crate::live_answer::answer_live_line;
 use crate::load::{Played, load_run};
+use crate::saving::save_recording;
 use std::alloc::Global;
 use std::marker::Brand;
 use std::sync::ledger::{Blank, Ledger};
@@ -34,7 +34,6 @@ use std::thread::Threads;
 use w4_cart::CartFile;
 use w4_defs::Refusal;
 use w4_house::{House, HouseFault};
-use w4_record::write_recording;
 use w4_segments::{Gate, Resources};
 use wasm_register::Cart;
 
@@ -79,21 +78,6 @@ fn serve_run<L: Ledger, R: Threads + Sync, H: House, G: Gate + Sync>(
         Ok(()) => save_recording(alloc, house, &desk, names.out),
         Err(why) => rescue(alloc, house, &desk, names.out, why),
     }
-}
-
-/// Replaces the file with the recording as it is, in version 2.
-pub fn save_recording<L: Ledger, H: House>(
-    alloc: Global,
-    house: &mut H,
-    desk: &Desk<L>,
-    out: &str,
-) -> Result<(), Refusal>
-    ensures saved { Replaces (H.world house.old) (H.world house.new) result out.now
-        (encoding 2 (current_recording desk.now.counted.editor)) }
-    ensures rest { LeavesSaving (H.world house.old) (H.world house.new) }
-{
-    let bytes = write_recording(alloc, desk.counted.editor.recording())?;
-    save(alloc, house, out, bytes.as_slice())
 }
 
 /// Replaces the file with the edited recording after the session was stopped. Errors: always; why it was

@@ -3,7 +3,7 @@ use Rattle.std.specs.Prelude.{ℕ}
 use Rattle.w4_defs.specs.Session.{Session}
 use Rattle.w4_editor.specs.Editing.{editing_setup}
 use Rattle.w4_defs.specs.Answers.{Answered}
-use Rattle.w4_commands.specs.ScriptAnswers.{GivesAnswer}
+use Rattle.w4_commands.specs.ScriptAnswers.{GivesAnswer, changed}
 use Rattle.w4_editor.specs.PlaceSession.{place_session}
 use Rattle.w4_commands.proofs.ChangeAnswerLaws.{change_answers}
 use Rattle.w4_defs.specs.declared.place_text.PlaceText.TheVariants.{Image, DiskBytes}
@@ -43,13 +43,15 @@ returns-in-StateAt-clause-answered g c = rw c.in-StateAt.is c.answer_state.ensur
 pub returns-in_default-clause-answered : goal.returns-in_default-clause-answered
 returns-in_default-clause-answered g c =
     let old = c.args.desk.now.counted.editor in
+    let new = c.change-changed.new.counted.editor in
+    let order = c.args.order.now in
     let other = c.in_default in
     subst (λ (a : Answered (Session ℕ)). GivesAnswer (g.H.House.world c.args.house.now)
-    (g.H.House.world c.answer_change.new.house) c.answer_change.result old c.answer_change.new.counted.editor
-    a)
-    (sym (change_answers g.S.Shape.form (editing_setup old) old.disk (place_session old) c.args.order.now other.not-Show
+    (g.H.House.world c.answer_changed.new.house) c.answer_changed.result old new a)
+    (sym (change_answers g.S.Shape.form (editing_setup old) old.disk (place_session old) order other.not-Show
     other.not-Film other.not-Tones other.not-Traces other.not-DiskAt other.not-StateAt))
-    c.answer_change.ensures.answered
+    (c.answer_changed.ensures.answered old new (changed order (place_session old))
+    c.change-changed.ensures.changed c.change-changed.ensures.recording)
 
 pub returns-in-Show-clause-frames_run : goal.returns-in-Show-clause-frames_run
 returns-in-Show-clause-frames_run g c =
@@ -87,9 +89,14 @@ returns-in-StateAt-clause-frames_run g c = rw c.in-StateAt.is c.answer_state.ens
 
 pub returns-in_default-clause-frames_run : goal.returns-in_default-clause-frames_run
 returns-in_default-clause-frames_run g c =
+    let old = c.args.desk.now.counted.editor in
+    let new = c.change-changed.new.counted.editor in
+    let before = c.args.desk.now.counted.steps in
+    let after = c.change-changed.new.counted.steps in
+    let order = c.args.order.now in
     let other = c.in_default in
-    on_ok_map c.answer_change.result
-    (change_answers_within c.args.order.now c.args.desk.now.counted.steps c.answer_change.new.counted.steps
-    c.args.desk.now.counted.editor c.answer_change.new.counted.editor other.not-Show other.not-Film
-    other.not-Settle other.not-Tones other.not-Traces other.not-DiskAt other.not-StateAt)
-    c.answer_change.ensures.frames_run
+    on_ok_map c.answer_changed.result
+    (change_answers_within order before after old new other.not-Show other.not-Film other.not-Settle
+    other.not-Tones other.not-Traces other.not-DiskAt other.not-StateAt)
+    (c.answer_changed.ensures.frames_run order before after old new c.change-changed.ensures.frames_run
+    c.change-changed.ensures.idle)

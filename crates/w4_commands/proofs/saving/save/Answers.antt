@@ -1,6 +1,6 @@
 use Rattle.std.proofs.Common.{Err, ap}
-use Rattle.w4_commands.proofs.EditLaws.{save_refused}
-use Rattle.w4_commands.proofs.edit.save.Goals as goal
+use Rattle.w4_commands.proofs.SavingLaws.{save_refused}
+use Rattle.w4_commands.proofs.saving.save.Goals as goal
 
 pub returns-in-Err-clause-saved : goal.returns-in-Err-clause-saved
 returns-in-Err-clause-saved g c =
