@@ -9,7 +9,7 @@ use Rattle.w4_defs.specs.declared.status.Refusal.TheVariants.{CartRefused}
 use Rattle.w4_defs.specs.Endings.{Manner, ReadFailed, InputFailed, WriteFailed, MemoryRefused, Refused}
 use Rattle.w4_defs.specs.Output.{CartFile, CartIn, reading}
 use Rattle.w4_defs.specs.Causes.{StepRefuses}
-use Rattle.w4_commands.specs.Causes.{ResultsIn, Stops}
+use Rattle.w4_answers.specs.Causes.{ResultsIn, Stops}
 use Rattle.w4_defs.specs.declared.refusal.CartKind.TheVariants.{TooLarge, Malformed, Profile, Invalid}
 use Rattle.w4_defs.specs.declared.refusal.ProfileRefusal.{ProfileRefusal}
 use Rattle.w4_defs.specs.Module.{WasmModule}

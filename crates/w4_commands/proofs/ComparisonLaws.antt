@@ -18,7 +18,7 @@ use Rattle.w4_defs.specs.World.{Event, Files, World, Does, LeavesReading, Leaves
 use Rattle.w4_defs.specs.declared.status.Finish.{Finish}
 use Rattle.w4_defs.specs.declared.status.Refusal.{Refusal}
 use Rattle.w4_defs.proofs.AllThereLaws.{values_more}
-use Rattle.w4_commands.specs.Causes.{MakesOf, StopsWriting}
+use Rattle.w4_answers.specs.Causes.{MakesOf, StopsWriting}
 use Rattle.w4_commands.specs.Comparing.{ComparedTo, WrittenTo, after_place, both_stages, differences_of, if_differs, listed, noted, scene_side}
 use Rattle.w4_commands.specs.Scenes.{IsAtPlace, stage_moment}
 use Rattle.w4_commands.specs.declared.scene.Scene.{Scene}
@@ -27,7 +27,7 @@ use Rattle.w4_defs.specs.State.{HasGlobals, Moment}
 use Rattle.w4_defs.specs.declared.console.Input.{Input}
 use Rattle.w4_commands.specs.declared.differences.Differences.{Differences}
 use Rattle.w4_commands.proofs.EndLaws.{only_out_fails}
-use Rattle.w4_commands.proofs.OutLaws.{front_does, written_does}
+use Rattle.w4_answers.proofs.OutLaws.{front_does, written_does}
 
 -- two tests of the same fact answer alike
 pub same_answer : {P : Type 0} (test answer : Bool) → Decides test P → (IsTrue answer ↔ P) → answer ≡ test

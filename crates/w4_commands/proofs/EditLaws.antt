@@ -11,11 +11,11 @@ use Rattle.w4_defs.specs.Session.{Session}
 use Rattle.w4_defs.specs.State.{State}
 use Rattle.w4_editor.specs.Editing.{Editing, new_editing, current_recording}
 use Rattle.w4_defs.specs.World.{NotSaved, Saved, World, Does, LeavesWriting, wrote}
-use Rattle.w4_commands.specs.Causes.{AppendsOut, Carried, Replaces, StopsCarrying, StopsSaving, StopsWriting}
+use Rattle.w4_answers.specs.Causes.{AppendsOut, Carried, Replaces, StopsCarrying, StopsSaving, StopsWriting}
 use Rattle.w4_house.proofs.WorldLaws.{does_then, reading_none, rises_later}
-use Rattle.w4_commands.proofs.OutLaws.{front_does, written_does}
+use Rattle.w4_answers.proofs.OutLaws.{front_does, written_does}
 use Rattle.w4_defs.specs.declared.status.Refusal.{Refusal}
-use Rattle.w4_commands.specs.ScriptAnswers.{IsAnswered, answers_by, recording_by}
+use Rattle.w4_answers.specs.ScriptAnswers.{IsAnswered, answers_by, recording_by}
 use Rattle.w4_defs.specs.Endings.{Manner, ReadFailed, InputFailed, WriteFailed, MemoryRefused, Refused, manner_of}
 use Rattle.w4_defs.specs.Output.{Loaded, edit_answers, edited_recording}
 

@@ -15,10 +15,10 @@ use Rattle.w4_defs.specs.Live.{Talk}
 use Rattle.w4_defs.specs.Output.{CartFile, CartIn, Output, Loaded, all_events, edit_files, edit_answers, edited_recording, only_written, edit_result, edit_output, making, printing, written}
 use Rattle.w4_defs.specs.Outputs.{OutputsBy, OutputsOn, OverCart, OverFile, cart_word}
 use Rattle.w4_defs.specs.Causes.{Ends, EndsRefused, RunsOutAfter, WritesPart, stopped_events}
-use Rattle.w4_commands.specs.Causes.{Carried, EndsDone, finished, MakesOf, ResultsIn, Stops, StopsCarrying, StopsWriting, Written}
+use Rattle.w4_answers.specs.Causes.{Carried, EndsDone, finished, MakesOf, ResultsIn, Stops, StopsCarrying, StopsWriting, Written}
 use Rattle.w4_defs.proofs.ThereLaws.{value_there}
-use Rattle.w4_commands.proofs.CountedLaws.{failed-wrote}
-use Rattle.w4_commands.proofs.OutLaws.{does_later, front_does, written_does}
+use Rattle.w4_answers.proofs.CountedLaws.{failed-wrote}
+use Rattle.w4_answers.proofs.OutLaws.{does_later, front_does, written_does}
 
 -- ---- what was done after files were read
 

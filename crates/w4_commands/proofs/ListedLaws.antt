@@ -9,7 +9,7 @@ use Rattle.w4_defs.specs.declared.status.Refusal.{Refusal}
 use Rattle.w4_defs.specs.Endings.{Manner, ReadFailed, InputFailed, WriteFailed, MemoryRefused, Refused}
 use Rattle.w4_defs.specs.Output.{◌>>=◌, reading}
 use Rattle.w4_defs.specs.ToolOutputs.{listed_files}
-use Rattle.w4_commands.specs.Causes.{ResultsIn, Stops}
+use Rattle.w4_answers.specs.Causes.{ResultsIn, Stops}
 
 -- what was read before, and what the files that are left come to
 abbrev pub after_files : List (List ℕ) → Result (List (List ℕ)) Refusal → Result (List (List ℕ)) Refusal

@@ -12,8 +12,8 @@ use Rattle.w4_defs.specs.Recording.{Recording}
 use Rattle.w4_defs.specs.InputsText.{disk_remark, input_lines, input_words, inputs_text}
 use Rattle.w4_defs.specs.declared.console.Input.{Input}
 use Rattle.w4_defs.specs.Output.{◌>>=◌, Output, only_written}
-use Rattle.w4_commands.specs.Causes.{AppendsOut, EndsDone, ResultsIn, Stops, StopsWriting, Written}
-use Rattle.w4_commands.proofs.OwesLaws.{Owes, owes_less, piece_stopped}
+use Rattle.w4_answers.specs.Causes.{AppendsOut, EndsDone, ResultsIn, Stops, StopsWriting, Written}
+use Rattle.w4_answers.proofs.OwesLaws.{Owes, owes_less, piece_stopped}
 use Rattle.w4_commands.proofs.EndLaws.{ends_text, ends_unread}
 
 -- what is written of a file

@@ -8,8 +8,8 @@ use Rattle.w4_defs.specs.Endings.{manner_of}
 use Rattle.w4_defs.specs.Live.{Opened, Talk, serve_output, served}
 use Rattle.w4_defs.specs.Output.{CartFile, Output, Played, making, run_files}
 use Rattle.w4_defs.specs.World.{Files, World, LeavesReading}
-use Rattle.w4_commands.specs.Causes.{EndsDone, ResultsIn, Stops, finished}
-use Rattle.w4_commands.specs.Serving.{ServedStep}
+use Rattle.w4_answers.specs.Causes.{EndsDone, ResultsIn, Stops, finished}
+use Rattle.w4_answers.specs.Serving.{ServedStep}
 use Rattle.w4_commands.proofs.EndLaws.{Step, ends_as, ends_later, ends_unread}
 
 abbrev pub opened_on : CartFile → ServeWords → Played → Opened

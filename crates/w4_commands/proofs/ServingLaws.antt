@@ -5,7 +5,7 @@ use Rattle.w4_defs.specs.declared.live.LiveOrder.TheVariants as live
 use Rattle.w4_defs.specs.AllThere.{joined}
 use Rattle.w4_defs.specs.Live.{Asked, AsksNothing, NoOrder, Asks, LiveSession, LiveStep, Opened, SaveEnd, Talk, asked_of, first_live_session, line_step, save_step, saving, saving_after, serve_result, served, session_after, session_events, taken_lines}
 use Rattle.w4_defs.specs.World.{Event, Took, InputEnded, InputLost, Wrote, Saved, NotSaved}
-use Rattle.w4_commands.specs.Serving.{HasServed, StepsTo}
+use Rattle.w4_answers.specs.Serving.{HasServed, StepsTo}
 
 -- ---- lists that may not be there
 

@@ -9,8 +9,8 @@ use Rattle.w4_defs.specs.World.{Event, Took, InputEnded, InputLost, World, Does,
 use Rattle.w4_defs.specs.State.{State}
 use Rattle.w4_editor.specs.Editing.{Editing, new_editing}
 use Rattle.w4_house.proofs.WorldLaws.{does_nothing, does_then, rises_later}
-use Rattle.w4_commands.specs.Serving.{DoesCounted, FailsToWrite, LeavesServing, LineAnswered, LineStops, LinesStop, LosesLine, Serves, ServesThen, Sits}
-use Rattle.w4_commands.proofs.CountedLaws.{counted_nothing, counted_then, counted_took, fails_after}
+use Rattle.w4_answers.specs.Serving.{DoesCounted, FailsToWrite, LeavesServing, LineAnswered, LineStops, LinesStop, LosesLine, Serves, ServesThen, Sits}
+use Rattle.w4_answers.proofs.CountedLaws.{counted_nothing, counted_then, counted_took, fails_after}
 use Rattle.w4_commands.proofs.ServingLaws.{served_line, served_none}
 
 -- ---- what is left

@@ -7,7 +7,7 @@ use Rattle.w4_defs.specs.declared.status.Refusal.{Refusal}
 use Rattle.w4_defs.specs.Endings.{Manner, ReadFailed, InputFailed, WriteFailed, MemoryRefused, Refused, manner_of}
 use Rattle.w4_defs.specs.Output.{◌>>=◌, Output, reading, judged, making}
 use Rattle.w4_commands.specs.Reads.{GivesRefusal, GivesValue}
-use Rattle.w4_commands.specs.Causes.{MakesOf, ResultsIn, Stops, StepGives}
+use Rattle.w4_answers.specs.Causes.{MakesOf, ResultsIn, Stops, StepGives}
 
 -- what stops a step stops what begins with it
 pub stops_first : {A B : Type 0} (old new : World) (why : Manner) (step : Files → Result A Refusal)

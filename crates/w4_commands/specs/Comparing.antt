@@ -9,7 +9,7 @@ use Rattle.w4_defs.specs.Comparison.{Both, Side, both_at, first_difference, has_
 use Rattle.w4_defs.specs.Endings.{manner_of}
 use Rattle.w4_defs.specs.RecordingOutputs.{TwoPlayed}
 use Rattle.w4_defs.specs.World.{World}
-use Rattle.w4_commands.specs.Causes.{AppendsOut, StopsWriting}
+use Rattle.w4_answers.specs.Causes.{AppendsOut, StopsWriting}
 use Rattle.w4_commands.specs.Scenes.{scene_setup, stage_moment}
 use Rattle.w4_commands.specs.declared.compare.TwoLoaded.{TwoLoaded}
 use Rattle.w4_commands.specs.declared.differences.Differences.{Differences}

@@ -11,8 +11,8 @@ ghost use Rattle.w4_commands.specs.Comparing.{after_place, both_stages, if_diffe
 ghost use Rattle.w4_commands.specs.Scenes.{stage_moment};
 
 use crate::stage::{Stage, disk, paint, painted, schedule, state, traces};
-use crate::text::{add_number, add_words};
 use std::alloc::Global;
+use w4_answers::text::{add_number, add_words};
 use w4_defs::editing_laws::states_are_compared;
 use w4_defs::{Finish, OutOfMemory};
 use w4_map::State;

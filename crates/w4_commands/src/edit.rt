@@ -6,17 +6,17 @@ ghost use Rattle.w4_defs.specs.Recording.{encoding};
 ghost use Rattle.w4_defs.specs.Meaning.{RunsHaveMeaning};
 ghost use Rattle.w4_defs.specs.Output.{edit_answers, edit_output, edited_recording};
 ghost use Rattle.w4_defs.specs.Causes.{LeavesErr};
-ghost use Rattle.w4_commands.specs.Causes.{Carried, EndsDone, MakesOf};
+ghost use Rattle.w4_answers.specs.Causes.{Carried, EndsDone, MakesOf};
 ghost use Rattle.w4_commands.specs.Views.{cart_view, edit_view, loaded_view};
 
-use crate::desk::{Desk, new_desk};
 use crate::forms::EditNames;
 use crate::load::{Loaded, load_edit};
-use crate::saving::save_recording;
-use crate::script_answers::answer_all;
 use std::marker::Brand;
 use std::sync::ledger::{Blank, Ledger};
 use std::thread::Threads;
+use w4_answers::desk::{Desk, new_desk};
+use w4_answers::saving::save_recording;
+use w4_answers::script_answers::answer_all;
 use w4_cart::CartFile;
 use w4_defs::Refusal;
 use w4_house::House;
@@ -59,7 +59,7 @@ fn carry_out<L: Ledger, R: Threads + Sync, H: House, G: Gate + Sync>(
     ensures err { LeavesErr (H.world house.old) (H.world house.new) }
 {
     let Loaded { run, orders } = loaded;
-    let mut desk: Desk<L> = new_desk(resources.alloc, cart, run, blank)?;
+    let mut desk: Desk<L> = new_desk(resources.alloc, cart, run.font, run.recording, blank)?;
     answer_all(resources, house, &mut desk, orders.as_slice())?;
     save_recording(resources.alloc, house, &desk, names.out)
 }

@@ -18,7 +18,7 @@ ghost use Rattle.w4_defs.specs.Output.{
   run_files_to,
 };
 ghost use Rattle.w4_commands.specs.Reads.{GivesValue};
-ghost use Rattle.w4_commands.specs.Causes.{ResultsIn, StepGives};
+ghost use Rattle.w4_answers.specs.Causes.{ResultsIn, StepGives};
 ghost use Rattle.w4_commands.specs.Views.{cart_view, edit_view, loaded_view, played_view, run_view};
 
 use crate::forms::{EditNames, RunNames};

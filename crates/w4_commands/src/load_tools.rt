@@ -3,7 +3,7 @@
 ghost use Rattle.std.specs.Prelude.{◌≡◌, All, IfOk, length, map, string_bytes};
 ghost use Rattle.w4_defs.specs.World.{LeavesReading};
 ghost use Rattle.w4_script.specs.Requests.{IsQueryLine};
-ghost use Rattle.w4_commands.specs.Causes.{ResultsIn, StepGives};
+ghost use Rattle.w4_answers.specs.Causes.{ResultsIn, StepGives};
 ghost use Rattle.w4_commands.specs.Reads.{GivesValue};
 ghost use Rattle.w4_defs.specs.ToolOutputs.{
   batch_files,

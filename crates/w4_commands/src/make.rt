@@ -8,15 +8,15 @@ ghost use Rattle.w4_defs.specs.Generator.{made_budget, made_inputs, made_module}
 ghost use Rattle.w4_defs.specs.MadeSummary.{summary_text};
 ghost use Rattle.w4_defs.specs.World.{LeavesWriting};
 ghost use Rattle.w4_defs.specs.Causes.{LeavesErr};
-ghost use Rattle.w4_commands.specs.Causes.{EndsDone, MakesOf, Written};
+ghost use Rattle.w4_answers.specs.Causes.{EndsDone, MakesOf, Written};
 ghost use Rattle.w4_defs.specs.Output.{made_text, make_output};
 ghost use Rattle.w4_defs.specs.EncodeModule.{module_bytes};
 
 use crate::scene::Scene;
 use crate::stage::{Stage, halt, lit, new_stage, paint, painted, run_to};
 use crate::summary::{Summary, summary_text};
-use crate::writing::write_bytes;
 use std::alloc::Global;
+use w4_answers::writing::write_bytes;
 use w4_cart::{CartRefusal, accept};
 use w4_console::laws::accepted_runs_have_meaning;
 use w4_defs::tool_laws::generator_laws;

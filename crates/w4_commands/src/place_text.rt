@@ -5,14 +5,14 @@ ghost use Rattle.std.specs.Option.{ForSome};
 ghost use Rattle.w4_defs.specs.Run.{run};
 ghost use Rattle.w4_defs.specs.World.{LeavesWriting};
 ghost use Rattle.w4_defs.specs.State.{HasGlobals};
-ghost use Rattle.w4_commands.specs.Causes.{Written};
+ghost use Rattle.w4_answers.specs.Causes.{Written};
 ghost use Rattle.w4_commands.specs.Scenes.{scene_setup, stage_moment};
 ghost use Rattle.w4_defs.specs.PlaceTexts.{as_it_stands, moment_text, place_text, place_texts};
 
 use crate::scene::Scene;
 use crate::stage::{Stage, disk, paint, painted, run_to, schedule, step, traces};
-use crate::writing::write_bytes;
 use std::alloc::Global;
+use w4_answers::writing::write_bytes;
 use w4_defs::{Input, PlaceText, Refusal};
 use w4_house::House;
 

@@ -16,15 +16,15 @@ ghost use Rattle.w4_defs.specs.RecordingOutputs.{
 ghost use Rattle.w4_defs.specs.InputsText.{disk_remark, input_lines, input_words, inputs_text};
 ghost use Rattle.w4_defs.specs.FrameTexts.{line_end, numbered};
 ghost use Rattle.w4_defs.specs.World.{LeavesReading, LeavesWriting};
-ghost use Rattle.w4_commands.specs.Causes.{EndsDone, MakesOf, ResultsIn, StepGives, Written};
+ghost use Rattle.w4_answers.specs.Causes.{EndsDone, MakesOf, ResultsIn, StepGives, Written};
 ghost use Rattle.w4_commands.specs.Reads.{GivesValue};
 ghost use Rattle.w4_commands.specs.Views.{cart_view};
 
 use crate::budget::Budget;
-use crate::inputs_text::{add_budget, add_disk, add_input_line};
 use crate::load::read_file;
-use crate::writing::write_bytes;
 use std::alloc::Global;
+use w4_answers::inputs_text::{add_budget, add_disk, add_input_line};
+use w4_answers::writing::write_bytes;
 use w4_cart::CartFile;
 use w4_defs::{Input, OutOfMemory, RecordingKind, Refusal};
 use w4_house::House;

@@ -10,8 +10,8 @@ ghost use Rattle.w4_defs.specs.Recording.{encoding};
 ghost use Rattle.w4_defs.specs.World.{Does, LeavesSaving, LeavesTaking};
 ghost use Rattle.w4_editor.specs.Editing.{current_recording};
 ghost use Rattle.w4_house.specs.Lines.{taken};
-ghost use Rattle.w4_commands.specs.Causes.{EndsDone, Replaces};
-ghost use Rattle.w4_commands.specs.Serving.{
+ghost use Rattle.w4_answers.specs.Causes.{EndsDone, Replaces};
+ghost use Rattle.w4_answers.specs.Serving.{
   AnswersLines,
   EndsStopped,
   LeavesServing,
@@ -22,15 +22,15 @@ ghost use Rattle.w4_commands.specs.Serving.{
 };
 ghost use Rattle.w4_commands.specs.Views.{cart_view, opened_view, serve_view};
 
-use crate::desk::{Desk, new_desk};
 use crate::forms::ServeNames;
-use crate::live_answer::answer_live_line;
 use crate::load::{Played, load_run};
-use crate::saving::save_recording;
 use std::alloc::Global;
 use std::marker::Brand;
 use std::sync::ledger::{Blank, Ledger};
 use std::thread::Threads;
+use w4_answers::desk::{Desk, new_desk};
+use w4_answers::live_answer::answer_live_line;
+use w4_answers::saving::save_recording;
 use w4_cart::CartFile;
 use w4_defs::Refusal;
 use w4_house::{House, HouseFault};
@@ -73,7 +73,7 @@ fn serve_run<L: Ledger, R: Threads + Sync, H: House, G: Gate + Sync>(
     ensures err { LeavesErr (H.world house.old) (H.world house.new) }
 {
     let alloc = resources.alloc;
-    let mut desk: Desk<L> = new_desk(alloc, cart, run, blank)?;
+    let mut desk: Desk<L> = new_desk(alloc, cart, run.font, run.recording, blank)?;
     match answer_lines(resources, house, &mut desk, names.out) {
         Ok(()) => save_recording(alloc, house, &desk, names.out),
         Err(why) => rescue(alloc, house, &desk, names.out, why),

@@ -12,8 +12,8 @@ ghost use Rattle.w4_defs.specs.StatusLines.{
   status_words,
 };
 
-use crate::text::{add_number, add_words};
 use std::alloc::Global;
+use w4_answers::text::{add_number, add_words};
 use w4_defs::{CartKind, OutOfMemory, ProfileRefusal, RecordingKind, ScriptKind, Status};
 
 /// Adds words and a number after a space.

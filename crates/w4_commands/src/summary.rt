@@ -1,14 +1,14 @@
 //! The five lines of a made cart.
 
-ghost use Rattle.std.specs.Prelude.{ℕ, List, ◌≡◌, ◌++◌, ◌∷◌, ◌<◌, [], IfOk, OnOk};
+ghost use Rattle.std.specs.Prelude.{ℕ, List, ◌≡◌, ◌++◌, ◌∷◌, [], IfOk, OnOk};
 ghost use Rattle.w4_defs.specs.Image.{image};
-ghost use Rattle.w4_defs.specs.FrameTexts.{hex_digit, numbered};
-ghost use Rattle.w4_defs.specs.MadeSummary.{hexadecimal, lit_pixels, summary_text};
+ghost use Rattle.w4_defs.specs.FrameTexts.{numbered};
+ghost use Rattle.w4_defs.specs.MadeSummary.{lit_pixels, summary_text};
 ghost use Rattle.w4_defs.specs.State.{State};
 
-use crate::state_line::add_halt;
-use crate::text::{add_number, add_words};
 use std::alloc::Global;
+use w4_answers::state_line::add_halt;
+use w4_answers::text::{add_hexadecimal, add_number, add_words};
 use w4_defs::{Halt, OutOfMemory, PageBytes};
 use w4_pixels::pixel;
 
@@ -43,29 +43,6 @@ fn add_line(text: &mut Vec<u8>, word: &[u8], number: u64) -> Result<(), OutOfMem
     add_words(text, word)?;
     add_number(text, number)?;
     add_words(text, b"\n")
-}
-
-/// The digit of a number below 16, in lower case.
-fn hex_digit(number: u8) -> u8
-    requires { number < 16 }
-    ensures { result ≡ hex_digit number }
-{
-    if number < 10 {
-        b'0' + number
-    } else {
-        b'a' - 10 + number
-    }
-}
-
-/// Adds bytes, each as two hexadecimal digits.
-pub fn add_hexadecimal(text: &mut Vec<u8>, bytes: &[u8]) -> Result<(), OutOfMemory>
-    ensures { OnOk result (text.new.items ≡ text.old.items ++ hexadecimal bytes.now) }
-{
-    for byte in bytes {
-        text.push(hex_digit(*byte / 16))?;
-        text.push(hex_digit(*byte % 16))?;
-    }
-    Ok(())
 }
 
 /// The five lines.

@@ -9,7 +9,7 @@ ghost use Rattle.w4_defs.specs.RecordingOutputs.{run_units, units_output};
 ghost use Rattle.w4_defs.specs.State.{HasGlobals};
 ghost use Rattle.w4_defs.specs.Units.{start_line, units_text};
 ghost use Rattle.w4_defs.specs.World.{LeavesWriting};
-ghost use Rattle.w4_commands.specs.Causes.{EndsDone, MakesOf, Written};
+ghost use Rattle.w4_answers.specs.Causes.{EndsDone, MakesOf, Written};
 ghost use Rattle.w4_commands.specs.Scenes.{scene_setup};
 ghost use Rattle.w4_commands.specs.Views.{cart_view, played_view, run_view};
 
@@ -17,8 +17,8 @@ use crate::forms::RunNames;
 use crate::load::{Played, load_run};
 use crate::scene::Scene;
 use crate::stage::{Stage, begin_run, new_stage, step_units};
-use crate::writing::write_bytes;
 use std::alloc::Global;
+use w4_answers::writing::write_bytes;
 use w4_cart::CartFile;
 use w4_console::{FrameTaken, Taken, start_line, units_line};
 use w4_defs::{Input, Refusal};

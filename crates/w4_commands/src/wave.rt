@@ -7,7 +7,7 @@ ghost use Rattle.w4_defs.specs.Sound.{after_frame, rendered, samples, wav_header
 ghost use Rattle.w4_defs.specs.State.{HasGlobals};
 ghost use Rattle.w4_defs.specs.World.{LeavesWriting};
 ghost use Rattle.w4_defs.specs.Causes.{LeavesErr};
-ghost use Rattle.w4_commands.specs.Causes.{EndsDone, MakesOf, Written};
+ghost use Rattle.w4_answers.specs.Causes.{EndsDone, MakesOf, Written};
 ghost use Rattle.w4_commands.specs.Scenes.{scene_records, stage_moment};
 ghost use Rattle.w4_defs.specs.ToolOutputs.{wave_output, wave_text};
 ghost use Rattle.w4_commands.specs.Views.{cart_view, played_view, run_view};
@@ -16,8 +16,8 @@ use crate::forms::RunNames;
 use crate::load::{Played, load_run};
 use crate::scene::Scene;
 use crate::stage::{Stage, new_stage, render, run_to, step};
-use crate::writing::write_bytes;
 use std::alloc::Global;
+use w4_answers::writing::write_bytes;
 use w4_cart::CartFile;
 use w4_defs::{Input, Refusal};
 use w4_house::House;

@@ -4,7 +4,7 @@ use Rattle.w4_defs.specs.Output.{blank_output, checked, disk_output, edit_output
 use Rattle.w4_defs.specs.Outputs.{OverCart}
 use Rattle.w4_defs.specs.RecordingOutputs.{blank_disk_output, compare_output, rebind_output, units_output}
 use Rattle.w4_defs.specs.ToolOutputs.{batch_output, net_output, ram_output, wave_output}
-use Rattle.w4_commands.specs.Causes.{MakesOf, ResultsIn}
+use Rattle.w4_answers.specs.Causes.{MakesOf, ResultsIn}
 use Rattle.w4_commands.specs.Views.{batch_view, cart_view, compare_view, edit_view, net_view, run_view}
 use Rattle.w4_commands.proofs.EndLaws.{any_talk, by_any}
 use Rattle.w4_commands.proofs.commands.run_on_cart.Goals as goal

@@ -5,11 +5,11 @@ use Rattle.w4_defs.specs.Endings.{manner_of}
 use Rattle.w4_defs.specs.KeptList.{state_at}
 use Rattle.w4_defs.specs.Recording.{Recording, encoding}
 use Rattle.w4_editor.specs.Editing.{current_recording}
-use Rattle.w4_commands.specs.Causes.{Carried}
-use Rattle.w4_commands.specs.ScriptAnswers.{answers_by, recording_by}
+use Rattle.w4_answers.specs.Causes.{Carried}
+use Rattle.w4_answers.specs.ScriptAnswers.{answers_by, recording_by}
 use Rattle.w4_commands.specs.Views.{loaded_view}
 use Rattle.w4_house.proofs.WorldLaws.{reading_none, writing_none}
-use Rattle.w4_commands.proofs.OutLaws.{front_does, out_none}
+use Rattle.w4_answers.proofs.OutLaws.{front_does, out_none}
 use Rattle.w4_commands.proofs.EditLaws.{carried_saved, carries_stopped, opened_carried, recording_left}
 use Rattle.w4_commands.proofs.edit.carry_out.Goals as goal
 

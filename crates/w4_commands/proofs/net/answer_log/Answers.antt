@@ -3,12 +3,12 @@ use Rattle.w4_defs.specs.declared.netplay.NetOrder.{NetOrder}
 use Rattle.w4_defs.specs.KeptList.{state_at}
 use Rattle.w4_editor.specs.Editing.{editing_setup}
 use Rattle.w4_defs.specs.LogAnswers.{net_answers}
-use Rattle.w4_commands.specs.NetAnswers.{net_session}
+use Rattle.w4_answers.specs.NetAnswers.{net_session}
 use Rattle.w4_defs.specs.ToolOutputs.{net_text}
 use Rattle.w4_commands.specs.Views.{net_loaded_view}
-use Rattle.w4_commands.specs.Causes.{Written}
-use Rattle.w4_commands.proofs.OwesLaws.{there_as}
-use Rattle.w4_commands.proofs.NetAnswerLaws.{netplay_begins, blank_as}
+use Rattle.w4_answers.specs.Causes.{Written}
+use Rattle.w4_answers.proofs.OwesLaws.{there_as}
+use Rattle.w4_answers.proofs.NetAnswerLaws.{netplay_begins, blank_as}
 use Rattle.w4_commands.proofs.net.answer_log.Goals as goal
 
 pub returns-clause-out : goal.returns-clause-out

@@ -7,10 +7,10 @@ use Rattle.w4_defs.specs.Answers.{Answered}
 use Rattle.w4_defs.specs.Endings.{manner_of}
 use Rattle.w4_defs.specs.Live.{LiveSession}
 use Rattle.w4_defs.specs.ToolOutputs.{line_answer, ram_answers}
-use Rattle.w4_commands.specs.RamAnswers.{query_answers, query_session}
-use Rattle.w4_commands.proofs.ScriptAnswerLaws.{answers-out-step, answers-stop, answers-end}
-use Rattle.w4_commands.proofs.OwesLaws.{there_begins, there_nothing}
-use Rattle.w4_commands.proofs.RamAnswerLaws.{past_query_line, query_answered_at_first, query_stopped_at_first}
+use Rattle.w4_answers.specs.RamAnswers.{query_answers, query_session}
+use Rattle.w4_answers.proofs.ScriptAnswerLaws.{answers-out-step, answers-stop, answers-end}
+use Rattle.w4_answers.proofs.OwesLaws.{there_begins, there_nothing}
+use Rattle.w4_answers.proofs.RamAnswerLaws.{past_query_line, query_answered_at_first, query_stopped_at_first}
 use Rattle.w4_commands.proofs.ram.answer_lines.Goals as goal
 
 pub loop-i-init : goal.loop-i-init

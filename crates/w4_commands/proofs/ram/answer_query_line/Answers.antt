@@ -1,7 +1,7 @@
 use Rattle.w4_defs.specs.declared.order.Order.TheVariants as order
 use Rattle.w4_editor.specs.PlaceSession.{place_session}
-use Rattle.w4_commands.specs.ScriptAnswers.{changed}
-use Rattle.w4_commands.proofs.RamAnswerLaws.{told_by_order}
+use Rattle.w4_answers.specs.ScriptAnswers.{changed}
+use Rattle.w4_answers.proofs.RamAnswerLaws.{told_by_order}
 use Rattle.w4_commands.proofs.ram.answer_query_line.Goals as goal
 
 pub returns-in-Ask-clause-told : goal.returns-in-Ask-clause-told

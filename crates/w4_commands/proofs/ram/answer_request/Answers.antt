@@ -1,4 +1,4 @@
-use Rattle.w4_commands.proofs.RamAnswerLaws.{told_by_request, told_by_watch}
+use Rattle.w4_answers.proofs.RamAnswerLaws.{told_by_request, told_by_watch}
 use Rattle.w4_commands.proofs.ram.answer_request.Goals as goal
 
 pub returns-in-Watch-clause-told : goal.returns-in-Watch-clause-told

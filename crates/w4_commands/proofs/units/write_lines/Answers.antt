@@ -7,10 +7,10 @@ use Rattle.w4_defs.specs.Endings.{manner_of}
 use Rattle.w4_defs.specs.PlaceTexts.{as_it_stands, place_texts}
 use Rattle.w4_defs.specs.Units.{start_line, start_units, units_at, units_text}
 use Rattle.w4_house.proofs.WorldLaws.{writing_then}
-use Rattle.w4_commands.specs.Causes.{AppendsOut, StopsWriting}
+use Rattle.w4_answers.specs.Causes.{AppendsOut, StopsWriting}
 use Rattle.w4_commands.specs.Scenes.{scene_setup}
-use Rattle.w4_commands.proofs.OwesLaws.{OwesThere, there_begins, there_is, there_less, there_stopped}
-use Rattle.w4_commands.proofs.PlaceTextLaws.{texts-more, texts-all, texts-stop}
+use Rattle.w4_answers.proofs.OwesLaws.{OwesThere, there_begins, there_is, there_less, there_stopped}
+use Rattle.w4_answers.proofs.PlaceTextLaws.{texts-more, texts-all, texts-stop}
 use Rattle.w4_commands.proofs.units.write_lines.Goals as goal
 
 pub loop-place-init : goal.loop-place-init

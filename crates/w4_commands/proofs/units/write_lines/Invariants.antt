@@ -3,7 +3,7 @@ use Rattle.w4_defs.specs.PlaceTexts.{as_it_stands, place_texts}
 use Rattle.w4_defs.specs.Units.{units_at, units_text}
 use Rattle.w4_defs.specs.World.{LeavesWriting}
 use Rattle.w4_commands.specs.Scenes.{IsAtPlace, scene_setup}
-use Rattle.w4_commands.proofs.OwesLaws.{OwesThere}
+use Rattle.w4_answers.proofs.OwesLaws.{OwesThere}
 use Rattle.w4_commands.proofs.units.write_lines.Given as goal
 
 -- what was written so far and the lines of the frames that are left make the whole

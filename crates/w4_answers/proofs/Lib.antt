@@ -1,0 +1,15 @@
+pub mod LiveAnswerLaws
+pub mod OutLaws
+pub mod CountedLaws
+pub mod OwesLaws
+pub mod SessionLaws
+pub mod AnswerFramesLaws
+pub mod ChangeAnswerLaws
+pub mod UnitsAnswerLaws
+pub mod PlaceAnswerLaws
+pub mod ScriptAnswerLaws
+pub mod SavingLaws
+pub mod PlaceTextLaws
+pub mod FilmAnswerLaws
+pub mod RamAnswerLaws
+pub mod NetAnswerLaws

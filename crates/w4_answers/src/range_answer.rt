@@ -1,0 +1,147 @@
+//! The answers of orders that ask for texts of a range of places.
+
+ghost use Rattle.std.specs.Prelude.{◌≡◌, ◌≢◌, ◌+◌, ◌-◌, ◌≤◌, OnOk, length};
+ghost use Rattle.std.specs.Option.{ForSome};
+ghost use Rattle.w4_defs.specs.World.{LeavesWriting};
+ghost use Rattle.w4_defs.specs.ScriptAnswers.{if_place, range_text};
+ghost use Rattle.w4_defs.specs.Answers.{answer_text};
+ghost use Rattle.w4_answers.specs.AnswerFrames.{IsMade, RunsOn, StepsOn, lead_of};
+ghost use Rattle.w4_answers.specs.Causes.{Written};
+ghost use Rattle.w4_answers.specs.ScriptAnswers.{GivesAnswer, OnlyShows, text_by};
+ghost use Rattle.w4_editor.specs.PlaceSession.{place_session};
+ghost use Rattle.w4_defs.specs.PlaceTexts.{place_texts};
+ghost use Rattle.w4_defs.specs.declared.place_text.PlaceText.TheVariants.{DiskBytes};
+ghost use Rattle.w4_editor.specs.Editing.{current_recording, editing_setup};
+
+use crate::counted_editor::CountedEditor;
+use crate::desk::{Desk, made_image, make_image, schedule, traces};
+use crate::refusal::refuse;
+use crate::shape::Shape;
+use std::alloc::Global;
+use std::sync::ledger::Ledger;
+use w4_defs::{EditRefusal, PlaceText, Refusal};
+use w4_editor::places::last_place;
+use w4_house::House;
+use w4_map::State;
+
+/// The answer of an order that asks for a text of each place from one to another. It runs the frames that
+/// showing the first needs, and at most one for each place; of the bytes of disks this is said of a single one.
+pub fn answer_range<S: Shape, L: Ledger, H: House>(
+    alloc: Global,
+    house: &mut H,
+    desk: &mut Desk<L>,
+    wanted: PlaceText,
+    a: u32,
+    b: u32,
+) -> Result<(), Refusal>
+    ensures answered { GivesAnswer (H.world house.old) (H.world house.new) result
+        desk.old.counted.editor desk.new.counted.editor
+        (answer_text (place_session desk.old.counted.editor) (if_place S.form
+        (place_session desk.old.counted.editor) b (range_text S.form (editing_setup desk.old.counted.editor)
+        desk.old.counted.editor.disk (place_session desk.old.counted.editor) wanted a b))) }
+    ensures rest { LeavesWriting (H.world house.old) (H.world house.new) }
+    ensures frames_run { OnOk result ((wanted ≡ DiskBytes → b ≤ a) → RunsOn (a - lead_of wanted) (b + 1 - a)
+        desk.old.counted.steps desk.new.counted.steps desk.old.counted.editor desk.new.counted.editor) }
+{
+    if b as usize > last_place(&desk.counted.editor) {
+        return refuse::<S, H>(alloc, house, EditRefusal::NoFrame);
+    }
+    write_all::<S, L, H>(alloc, house, desk, wanted, a, b)
+}
+
+/// Writes the texts of the places `a` to `b`, one after another, so that memory doesn't grow with them.
+fn write_all<S: Shape, L: Ledger, H: House>(
+    alloc: Global,
+    house: &mut H,
+    desk: &mut Desk<L>,
+    wanted: PlaceText,
+    a: u32,
+    b: u32,
+) -> Result<(), Refusal>
+    requires place { b ≤ length desk.old.counted.editor.session.current.inputs }
+    ensures out { ForSome (place_texts (text_by S.form desk.old.counted.editor wanted) a (b + 1 - a))
+        (λ text. Written (H.world house.old) (H.world house.new) result text) }
+    ensures shows { OnOk result (OnlyShows desk.old.counted.editor desk.new.counted.editor) }
+    ensures recording { current_recording desk.new.counted.editor
+        ≡ current_recording desk.old.counted.editor }
+    ensures rest { LeavesWriting (H.world house.old) (H.world house.new) }
+    ensures frames_run { OnOk result ((wanted ≡ DiskBytes → b ≤ a) → RunsOn (a - lead_of wanted) (b + 1 - a)
+        desk.old.counted.steps desk.new.counted.steps desk.old.counted.editor desk.new.counted.editor) }
+{
+    let end = b as usize + 1;
+    for place in a as usize..end {
+        write_one::<S, L, H>(alloc, house, desk, wanted, place)?;
+    }
+    Ok(())
+}
+
+/// Writes the text of a place.
+fn write_one<S: Shape, L: Ledger, H: House>(
+    alloc: Global,
+    house: &mut H,
+    desk: &mut Desk<L>,
+    wanted: PlaceText,
+    place: usize,
+) -> Result<(), Refusal>
+    requires place { place ≤ length desk.old.counted.editor.session.current.inputs }
+    ensures out { ForSome (text_by S.form desk.old.counted.editor wanted place)
+        (λ text. Written (H.world house.old) (H.world house.new) result text) }
+    ensures shows { OnOk result (OnlyShows desk.old.counted.editor desk.new.counted.editor) }
+    ensures recording { current_recording desk.new.counted.editor
+        ≡ current_recording desk.old.counted.editor }
+    ensures rest { LeavesWriting (H.world house.old) (H.world house.new) }
+    ensures made { OnOk result (IsMade (lead_of wanted) place desk.old.counted.steps desk.new.counted.steps
+        desk.old.counted.editor desk.new.counted.editor) }
+    ensures steps { OnOk result (wanted ≢ DiskBytes → StepsOn place
+        desk.old.counted.steps desk.new.counted.steps desk.old.counted.editor desk.new.counted.editor) }
+{
+    match wanted {
+        PlaceText::Image => {
+            make_image(alloc, desk, place)?;
+            S::write(alloc, house, made_image(desk))
+        }
+        PlaceText::Schedule => {
+            let text = schedule(alloc, desk, place)?;
+            S::write(alloc, house, text.as_slice())
+        }
+        PlaceText::Traces => {
+            let text = traces(alloc, desk, place)?;
+            S::write(alloc, house, text.as_slice())
+        }
+        PlaceText::DiskBytes => write_disk::<S, L, H>(alloc, house, &mut desk.counted, place),
+    }
+}
+
+/// Writes the bytes of the disk at a place.
+fn write_disk<S: Shape, L: Ledger, H: House>(
+    alloc: Global,
+    house: &mut H,
+    counted: &mut CountedEditor<L>,
+    place: usize,
+) -> Result<(), Refusal>
+    requires place { place ≤ length counted.old.editor.session.current.inputs }
+    ensures out { ForSome (text_by S.form counted.old.editor DiskBytes place)
+        (λ text. Written (H.world house.old) (H.world house.new) result text) }
+    ensures shows { OnOk result (OnlyShows counted.old.editor counted.new.editor) }
+    ensures recording { current_recording counted.new.editor ≡ current_recording counted.old.editor }
+    ensures rest { LeavesWriting (H.world house.old) (H.world house.new) }
+    ensures made { OnOk result (IsMade 0 place counted.old.steps counted.new.steps
+        counted.old.editor counted.new.editor) }
+{
+    match counted.editor.show(alloc, place, &mut counted.steps) {
+        Ok(state) => print_disk::<S, H>(alloc, house, state),
+        Err(_) => Err(Refusal::OutOfMemory),
+    }
+}
+
+/// Writes the bytes of a state's disk.
+fn print_disk<S: Shape, H: House>(
+    alloc: Global,
+    house: &mut H,
+    state: &State,
+) -> Result<(), Refusal>
+    ensures out { Written (H.world house.old) (H.world house.new) result (S.form state.now.disk) }
+    ensures rest { LeavesWriting (H.world house.old) (H.world house.new) }
+{
+    S::write(alloc, house, state.disk.bytes())
+}
