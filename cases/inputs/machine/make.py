@@ -128,6 +128,26 @@ def calls(entry):
                    stores, hexed("00 0b"), stores))
 
 
+BRANCHES = (
+    # which label of a br_table
+    *((32, choice(index), wanted) for index, wanted in [(0, 1), (1, 2), (2, 4), (9, 4), (0xffff_ffff, 4)]),
+    # an if with an else; one without
+    (32, hexed("41 01 04 7f 41 05 05 41 06 0b"), 5),
+    (32, hexed("41 00 04 7f 41 05 05 41 06 0b"), 6),
+    (32, hexed("41 00 21 00 41 01 04 40 41 07 21 00 0b 20 00"), 7),
+    (32, hexed("41 00 21 00 41 00 04 40 41 07 21 00 0b 20 00"), 0),
+    # a branch drops the 1 that lies below its value, and keeps the 7 that lies outside its block
+    (32, hexed("41 07 02 7f 41 01 41 02 0c 00 0b 6a"), 9),
+    # a loop of three turns
+    (32, hexed("41 00 21 00 03 40 20 00 41 01 6a 22 00 41 03 49 0d 00 0b 20 00"), 3))
+# Behind a branch: a loop, an if with an else, and a block in a loop.
+UNREACHED = (
+    (32, hexed("02 40 0c 00 03 40 0c 00 0b 0b 41 01"), 1),
+    (32, hexed("02 40 0c 00 41 00 04 40 41 01 1a 05 00 0b 0b 41 02"), 2),
+    (32, hexed("02 7f 41 03 0c 00 03 40 02 40 0c 01 0b 0b 0b"), 3))
+# A br_table whose labels take a value. A cart with one has register code that is made instruction by instruction.
+TABLE_WITH_A_VALUE = (32, hexed("41 05 02 7f 41 07 41 00 0e 01 00 00 0b 6a"), 12)
+
 # `update` wants 7 - 2 of a function that takes its second parameter from its first, and whose own local is 0.
 SUBTRACTS = (PREAMBLE + hexed("01 0a 02 60 00 00 60 02 7f 7f 01 7f") + MEMORY + hexed("03 03 02 00 01") + EXPORT
              + code(hexed("00 41 07 41 02 10 01 41 05 47 04 40 00 0b 0b"), hexed("01 01 7f 20 00 20 01 6b 20 02 6a 0b")))
@@ -203,18 +223,8 @@ CARTS = {
     # from the palette's place on into the framebuffer
     "copies-64-bytes": (moves(copy(160, 4, 64)), [5, 4]),
 
-    "branches": (checks(
-        # which label of a br_table
-        *((32, choice(index), wanted) for index, wanted in [(0, 1), (1, 2), (2, 4), (9, 4), (0xffff_ffff, 4)]),
-        # an if with an else; one without
-        (32, hexed("41 01 04 7f 41 05 05 41 06 0b"), 5),
-        (32, hexed("41 00 04 7f 41 05 05 41 06 0b"), 6),
-        (32, hexed("41 00 21 00 41 01 04 40 41 07 21 00 0b 20 00"), 7),
-        (32, hexed("41 00 21 00 41 00 04 40 41 07 21 00 0b 20 00"), 0),
-        # a branch drops the 1 that lies below its value, and keeps the 7 that lies outside its block
-        (32, hexed("41 07 02 7f 41 01 41 02 0c 00 0b 6a"), 9),
-        # a loop of three turns
-        (32, hexed("41 00 21 00 03 40 20 00 41 01 6a 22 00 41 03 49 0d 00 0b 20 00"), 3)), [AMPLE]),
+    "branches": (checks(*BRANCHES), [AMPLE]),
+    "branches-and-a-table-with-a-value": (checks(*BRANCHES, *UNREACHED, TABLE_WITH_A_VALUE), [AMPLE]),
     # three turns of a loop of seven instructions, which takes a unit itself, and three instructions more
     "three-turns": (with_body("01 01 7f 03 40 20 00 41 01 6a 22 00 41 03 49 0d 00 0b 41 00 20 00 3a 00 00 0b"), [25, 24]),
     # block, loop, return

@@ -10,22 +10,22 @@ use Rattle.w4_defs.specs.KeptList.{Entry, kept_entries}
 use Rattle.w4_defs.specs.Reset.{Setup}
 use Rattle.w4_defs.specs.Session.{Session, PlacesDecide, places_alone, session_of_places, result_of_places, keep, keep_refusal, unless, with_kept, with_list}
 use Rattle.w4_defs.specs.State.{blank_state}
-use Rattle.w4_editor.specs.Editing.{Editing, IsErrorOrMemory, current_recording, with_session}
-use Rattle.w4_editor.specs.Settling.{linked_entry}
-use Rattle.w4_editor.specs.Showing.{IsKeptAt, IsCauseOrMemory}
+use Rattle.w4_editor.specs.Editor.{Editing, current_recording, with_session, KeepsRest, IsChanged, place_session}
+use Rattle.w4_editor.specs.Edits.{IsErrorOrMemory}
+use Rattle.w4_editor.specs.Showing.{linked_entry}
+use Rattle.w4_editor.specs.Playing.{IsKeptAt, IsCauseOrMemory}
 use Rattle.w4_defs.specs.World.{World}
-use Rattle.w4_answers.specs.Causes.{AppendsOut}
+use Rattle.w4_answers.specs.Writing.{AppendsOut, Written, StopsWriting, WritesNothing}
 use Rattle.w4_defs.specs.PlaceTexts.{PieceForm}
 use Rattle.w4_defs.specs.ScriptAnswers.{answer, answer_change, refused_line, refusal_words}
-use Rattle.w4_answers.specs.Causes.{Written, StopsWriting, WritesNothing}
-use Rattle.w4_answers.specs.ScriptAnswers.{IsAnswered, GivesAnswer, LeavesRecording, changed}
-use Rattle.w4_editor.specs.PlaceSession.{KeepsRest, IsChanged, place_session}
+use Rattle.w4_answers.specs.ScriptAnswers.{IsAnswered, GivesAnswer, LeavesRecording}
+use Rattle.w4_answers.specs.ChangeAnswer.{changed}
 use Rattle.w4_defs.specs.Endings.{Manner, manner_of}
 use Rattle.w4_defs.specs.declared.status.Refusal.{Refusal}
 use Rattle.w4_defs.specs.declared.status.Refusal.TheVariants as run
-use Rattle.w4_answers.proofs.OwesLaws.{stops_untold, there_is}
-use Rattle.w4_answers.proofs.SessionLaws.{appends_nothing, leaves_kept}
-use Rattle.w4_editor.proofs.PlaceLaws.{EditResult, SessionOrRefusal, no_input, left_by_edit, kept_made, kept_rest, rest_at}
+use Rattle.w4_answers.proofs.WritingLaws.{stops_untold, there_is}
+use Rattle.w4_answers.proofs.DeskSessionLaws.{appends_nothing, leaves_kept}
+use Rattle.w4_editor.proofs.EditorPlaceLaws.{EditResult, SessionOrRefusal, no_input, left_by_edit, kept_made, kept_rest, rest_at}
 
 -- ---- one order
 

@@ -2,8 +2,8 @@
 use Rattle.std.proofs.Common.{◌≡◌, ℕ, suc, ◌+◌, ◌-◌, ◌/◌, ◌<◌, ◌≤◌, inl, inr, List, [], ◌∷◌, ◌++◌, drop, drop_at, flat_map, get_or, length, length-append, map, take_at, Option, Some, None, option_map, refl, sym, ap, ◌∙◌, append_assoc, arith}
 use Rattle.std.specs.List.{range_with_len}
 use Rattle.std.specs.Prelude.{◌≢◌, Result, Ok, Err, OnOk, OnErr}
-use Rattle.w4_editor.specs.Editing.{Editing, current_recording}
-use Rattle.w4_editor.proofs.PlaceLaws.{same_recording}
+use Rattle.w4_editor.specs.Editor.{Editing, current_recording}
+use Rattle.w4_editor.proofs.EditorPlaceLaws.{same_recording}
 use Rattle.w4_segments.specs.Settling.{IsSettledWide, IsPartlySettled}
 use Rattle.std.proofs.Math.Seq.{drop-cons}
 use Rattle.std.proofs.lemmas.Bool.{le-ltb, lt-ltb}
@@ -18,7 +18,7 @@ use Rattle.w4_defs.specs.AllThere.{all_joined, joined}
 use Rattle.w4_defs.specs.Run.{run}
 use Rattle.w4_defs.specs.State.{Moment}
 use Rattle.w4_defs.proofs.RegisterLaws.{length-image}
-use Rattle.w4_answers.specs.ScriptAnswers.{images_in, images_in_blocks}
+use Rattle.w4_answers.specs.FilmAnswer.{images_in, images_in_blocks}
 use Rattle.w4_defs.specs.Reset.{Setup}
 use Rattle.w4_defs.specs.ScriptAnswers.{film_or_refused, film_refusal_words, film_text, no_frame, range_text, refused_line}
 use Rattle.w4_defs.specs.Session.{Session}

@@ -1,12 +1,11 @@
 pub mod LiveAnswerLaws
-pub mod OutLaws
-pub mod CountedLaws
-pub mod OwesLaws
-pub mod SessionLaws
-pub mod AnswerFramesLaws
+pub mod WritingLaws
+pub mod LiveAnswerEventLaws
+pub mod DeskSessionLaws
+pub mod DeskLaws
 pub mod ChangeAnswerLaws
 pub mod UnitsAnswerLaws
-pub mod PlaceAnswerLaws
+pub mod RangeAnswerLaws
 pub mod ScriptAnswerLaws
 pub mod SavingLaws
 pub mod PlaceTextLaws

@@ -25,18 +25,18 @@ use Rattle.w4_defs.specs.Session.{Session}
 use Rattle.w4_defs.specs.World.{Event, Saved, NotSaved, World, Does, LeavesSaving, LeavesWriting, wrote}
 use Rattle.w4_defs.proofs.LiveThereLaws.{live_answer_there}
 use Rattle.w4_house.proofs.WorldLaws.{does_then, does_wrote, wrote-append}
-use Rattle.w4_editor.specs.Editing.{Editing, current_recording, editing_setup}
-use Rattle.w4_editor.specs.PlaceSession.{KeepsRest, place_session}
-use Rattle.w4_answers.specs.Causes.{AppendsOut, StopsSaving, StopsWriting, Written}
-use Rattle.w4_answers.specs.LiveAnswers.{AnswersSave, Done, GivesPieces, LeavesLive, StopsDoing, asked_answer, asks_save}
-use Rattle.w4_answers.specs.OwnAnswers.{IsOwn}
+use Rattle.w4_editor.specs.Editor.{Editing, current_recording, editing_setup, KeepsRest, place_session}
+use Rattle.w4_answers.specs.Writing.{AppendsOut, StopsWriting, Written}
+use Rattle.w4_answers.specs.Saving.{StopsSaving}
+use Rattle.w4_answers.specs.LiveAnswer.{AnswersSave, Done, GivesPieces, LeavesLive, StopsDoing, asked_answer, asks_save, AnswersLine, DoesCounted, IsFront, LeavesServing, LineStops, Sits, StepsTo}
+use Rattle.w4_answers.specs.OwnAnswer.{IsOwn}
 use Rattle.w4_answers.specs.RamAnswers.{GivesLineAnswer, ask_answer}
-use Rattle.w4_answers.specs.ScriptAnswers.{GivesAnswer, LeavesRecording, OnlyShows, answer_by}
-use Rattle.w4_answers.specs.Serving.{AnswersLine, DoesCounted, IsFront, LeavesServing, LineStops, Sits, StepsTo}
+use Rattle.w4_answers.specs.ScriptAnswers.{GivesAnswer, LeavesRecording, answer_by}
+use Rattle.w4_answers.specs.Desk.{OnlyShows}
 use Rattle.w4_defs.proofs.OptionLaws.{some_same}
-use Rattle.w4_answers.proofs.CountedLaws.{counted_saved, counted_then, counted_wrote, fails_after, fails_wrote}
-use Rattle.w4_answers.proofs.OwesLaws.{there_is}
-use Rattle.w4_answers.proofs.SessionLaws.{appends_nothing, same_disk, same_editing_setup}
+use Rattle.w4_answers.proofs.LiveAnswerEventLaws.{counted_saved, counted_then, counted_wrote, fails_after, fails_wrote}
+use Rattle.w4_answers.proofs.WritingLaws.{there_is}
+use Rattle.w4_answers.proofs.DeskSessionLaws.{appends_nothing, same_disk, same_editing_setup}
 
 -- ---- events that are done, and bytes after them
 

@@ -21,26 +21,23 @@ use Rattle.w4_defs.specs.Rollback.{Known, learned, nothing_known, net_input, net
 use Rattle.w4_defs.specs.Run.{run, run_state}
 use Rattle.w4_defs.specs.Session.{place_refusal, places_alone, with_kept}
 use Rattle.w4_defs.specs.State.{State}
-use Rattle.w4_editor.specs.Editing.{Editing, editing_setup, new_editing}
-use Rattle.w4_editor.specs.Showing.{IsCauseOrMemory}
+use Rattle.w4_editor.specs.Editor.{Editing, editing_setup, new_editing, KeepsRest}
+use Rattle.w4_editor.specs.Playing.{IsCauseOrMemory}
 use Rattle.w4_defs.specs.World.{World}
-use Rattle.w4_answers.specs.Causes.{AppendsOut}
+use Rattle.w4_answers.specs.Writing.{AppendsOut, Written, StopsWriting, WritesNothing}
 use Rattle.w4_defs.specs.declared.net_refusal.NetRefusal.{NetRefusal}
 use Rattle.w4_defs.specs.declared.net_refusal.NetRefusal.TheVariants as net
 use Rattle.w4_netplay.specs.Pads.{known_in}
-use Rattle.w4_netplay.specs.Refusals.{edit_refusal}
-use Rattle.w4_netplay.specs.Replicas.{IsNetRefusal, KeepsNetplay, KeepsPlace, Netplay, places_kept, known_of, predicted_draft, prediction}
+use Rattle.w4_netplay.specs.Replica.{edit_refusal, IsNetRefusal, KeepsNetplay, KeepsPlace, Netplay, places_kept, known_of, predicted_draft, prediction}
 use Rattle.w4_defs.specs.ScriptAnswers.{refused_line, refusal_words}
 use Rattle.w4_defs.specs.Answers.{Answered, answer_text, carried_out}
-use Rattle.w4_answers.specs.Causes.{Written, StopsWriting, WritesNothing}
-use Rattle.w4_editor.specs.PlaceSession.{KeepsRest}
 use Rattle.w4_defs.specs.Endings.{Manner, manner_of}
 use Rattle.w4_defs.specs.declared.status.Refusal.{Refusal}
 use Rattle.w4_defs.specs.LogAnswers.{NetSession, first_session, net_answer, answer_keep, answer_next, answer_packet, if_passed, net_words, predicted_image, predicted_state}
 use Rattle.w4_answers.specs.NetAnswers.{IsHeard, GivesHeard, net_session}
-use Rattle.w4_answers.proofs.OwesLaws.{stops_untold, there_is}
-use Rattle.w4_answers.proofs.SessionLaws.{appends_nothing, same_editing_setup}
-use Rattle.w4_editor.proofs.PlaceLaws.{rest_at, rest_none, rest_then}
+use Rattle.w4_answers.proofs.WritingLaws.{stops_untold, there_is}
+use Rattle.w4_answers.proofs.DeskSessionLaws.{appends_nothing, same_editing_setup}
+use Rattle.w4_editor.proofs.EditorPlaceLaws.{rest_at, rest_none, rest_then}
 use Rattle.w4_defs.specs.PlaceTexts.{as_it_stands}
 use Rattle.w4_defs.proofs.TextsOfStates.{image_of_state, line_of_state}
 

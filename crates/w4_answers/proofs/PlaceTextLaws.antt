@@ -3,11 +3,10 @@ use Rattle.std.proofs.Common.{◌≡◌, ℕ, zero, suc, ◌+◌, ◌-◌, ◌<�
 use Rattle.std.specs.Option.{ForSome}
 use Rattle.w4_defs.specs.AllThere.{joined}
 use Rattle.w4_defs.specs.World.{World}
-use Rattle.w4_answers.specs.Causes.{AppendsOut}
-use Rattle.w4_answers.specs.Causes.{StopsWriting}
+use Rattle.w4_answers.specs.Writing.{AppendsOut, StopsWriting}
 use Rattle.w4_defs.specs.Endings.{Manner}
 use Rattle.w4_defs.specs.PlaceTexts.{place_texts}
-use Rattle.w4_answers.proofs.OwesLaws.{OwesThere, there_less, there_nothing, there_stopped}
+use Rattle.w4_answers.proofs.WritingLaws.{OwesThere, there_less, there_nothing, there_stopped}
 
 texts-next : (text : ℕ → Option (List ℕ)) (at end : ℕ) → at < end
     → place_texts text at (end - at) ≡ joined (text at) (place_texts text (at + 1) (end - (at + 1)))

@@ -13,33 +13,32 @@ use Rattle.w4_defs.specs.declared.inspect.Test.{Test}
 use Rattle.w4_defs.specs.FrameTexts.{numbered}
 use Rattle.w4_defs.specs.PlaceTexts.{PieceForm, as_it_stands}
 use Rattle.w4_defs.specs.Search.{Search, begin, narrow}
-use Rattle.w4_editor.specs.Editing.{Editing, current_recording, editing_setup}
+use Rattle.w4_editor.specs.Editor.{Editing, current_recording, editing_setup, KeepsRest}
 use Rattle.w4_defs.specs.World.{World}
-use Rattle.w4_answers.specs.Causes.{AppendsOut}
+use Rattle.w4_answers.specs.Writing.{AppendsOut, Written, StopsWriting, WritesNothing}
 use Rattle.w4_defs.specs.AllThere.{all_some}
 use Rattle.w4_defs.specs.Live.{LiveSession, over_session}
 use Rattle.w4_defs.specs.Run.{run_page}
 use Rattle.w4_defs.specs.Session.{Session}
 use Rattle.w4_defs.specs.ToolOutputs.{line_answer}
-use Rattle.w4_inspect.specs.Pages.{page_at}
-use Rattle.w4_inspect.specs.PlacePages.{AreOf, ReadPages, outside_refusal}
-use Rattle.w4_inspect.specs.Refusals.{IsRefusal, no_frame_refusal, watch_refusal}
+use Rattle.w4_inspect.specs.PlacePages.{page_at, AreOf, ReadPages, outside_refusal}
+use Rattle.w4_inspect.specs.Refusal.{IsRefusal, no_frame_refusal, watch_refusal}
 use Rattle.w4_inspect.specs.Watching.{watched}
 use Rattle.w4_inspect.specs.declared.refusal.RamRefusal.{RamRefusal}
 use Rattle.w4_inspect.specs.declared.refusal.RamRefusal.TheVariants.{NoFrame, Outside, OutOfMemory as MemoryRefused}
 use Rattle.w4_defs.specs.ScriptAnswers.{no_frame}
 use Rattle.w4_defs.specs.Answers.{Answered, answer_text, carried_out}
-use Rattle.w4_answers.specs.Causes.{Written, StopsWriting, WritesNothing}
-use Rattle.w4_answers.specs.ScriptAnswers.{GivesAnswer, OnlyShows}
+use Rattle.w4_answers.specs.ScriptAnswers.{GivesAnswer}
+use Rattle.w4_answers.specs.Desk.{OnlyShows}
 use Rattle.w4_defs.specs.Endings.{Manner, manner_of}
 use Rattle.w4_defs.specs.declared.status.Refusal.{Refusal}
-use Rattle.w4_answers.specs.RamAnswers.{AreHeld, IsLineAnswered, GivesLineAnswer, IsQueryAnswered, GivesQueryAnswer, ask_answer, editor_pages, query_answer, query_session}
+use Rattle.w4_answers.specs.HeldPages.{AreHeld}
+use Rattle.w4_answers.specs.RamAnswers.{IsLineAnswered, GivesLineAnswer, IsQueryAnswered, GivesQueryAnswer, ask_answer, editor_pages, query_answer, query_session}
 use Rattle.w4_defs.specs.QueryAnswers.{answer_narrow, answer_start, outside, pages_of, searched, watch_text}
-use Rattle.w4_editor.specs.PlaceSession.{KeepsRest}
 use Rattle.w4_defs.proofs.OptionLaws.{some_same}
 use Rattle.w4_answers.proofs.ScriptAnswerLaws.{on_ok}
-use Rattle.w4_answers.proofs.OwesLaws.{stops_untold, there_is}
-use Rattle.w4_answers.proofs.SessionLaws.{appends_nothing, same_disk, same_inputs, same_editing_setup}
+use Rattle.w4_answers.proofs.WritingLaws.{stops_untold, there_is}
+use Rattle.w4_answers.proofs.DeskSessionLaws.{appends_nothing, same_disk, same_inputs, same_editing_setup}
 
 -- ---- places
 

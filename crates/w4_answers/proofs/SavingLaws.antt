@@ -4,7 +4,8 @@ use Rattle.w4_house.specs.declared.calls.WriteRefusal.{WriteRefusal}
 use Rattle.w4_house.specs.declared.calls.WriteRefusal.TheVariants.{Failed, OutOfMemory}
 use Rattle.w4_defs.specs.Endings.{manner_of}
 use Rattle.w4_defs.specs.World.{Saved, World, Rises, Does, FailsToSave}
-use Rattle.w4_answers.specs.Causes.{StopsSaving, write_refusal}
+use Rattle.w4_answers.specs.Saving.{StopsSaving}
+use Rattle.w4_answers.specs.Writing.{write_refusal}
 
 -- replacing a file was refused
 pub save_refused : (old new : World) (why : WriteRefusal) (name bytes : List ℕ)

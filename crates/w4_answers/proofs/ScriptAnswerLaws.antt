@@ -7,19 +7,17 @@ use Rattle.w4_defs.specs.declared.order.Order.{Order}
 use Rattle.w4_defs.specs.declared.order.Order.TheVariants.{Set}
 use Rattle.w4_defs.specs.Reset.{Setup}
 use Rattle.w4_defs.specs.Session.{Session}
-use Rattle.w4_editor.specs.Editing.{Editing, editing_setup}
+use Rattle.w4_editor.specs.Editor.{Editing, editing_setup, KeepsRest, place_session}
 use Rattle.w4_defs.specs.World.{World}
-use Rattle.w4_answers.specs.Causes.{AppendsOut}
+use Rattle.w4_answers.specs.Writing.{AppendsOut, StopsWriting}
 use Rattle.w4_defs.specs.ScriptAnswers.{answer, answers}
 use Rattle.w4_defs.specs.AllThere.{joined}
 use Rattle.w4_defs.specs.Answers.{Answered, carried_out, answers_by}
 use Rattle.w4_defs.specs.PlaceTexts.{as_it_stands}
-use Rattle.w4_answers.specs.Causes.{StopsWriting}
 use Rattle.w4_answers.specs.ScriptAnswers.{IsAnswered, answer_by}
-use Rattle.w4_editor.specs.PlaceSession.{KeepsRest, place_session}
 use Rattle.w4_defs.specs.Endings.{Manner}
-use Rattle.w4_answers.proofs.OwesLaws.{OwesThere, there_less, there_nothing, there_stopped}
-use Rattle.w4_answers.proofs.SessionLaws.{same_editing_setup, same_disk}
+use Rattle.w4_answers.proofs.WritingLaws.{OwesThere, there_less, there_nothing, there_stopped}
+use Rattle.w4_answers.proofs.DeskSessionLaws.{same_editing_setup, same_disk}
 
 -- what a list of orders gives past its end
 abbrev pub past_end : Order

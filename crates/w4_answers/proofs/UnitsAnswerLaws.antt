@@ -2,11 +2,11 @@
 use Rattle.std.proofs.Common.{◌≡◌, ◌<◌, ℕ, Some, inl, inr, length, arith}
 use Rattle.w4_defs.specs.PlaceTexts.{PieceForm}
 use Rattle.w4_defs.specs.Units.{units_at}
-use Rattle.w4_editor.specs.Editing.{Editing}
-use Rattle.w4_editor.specs.Showing.{IsAtEnd}
-use Rattle.w4_answers.specs.OwnAnswers.{units_by}
-use Rattle.w4_answers.specs.ScriptAnswers.{OnlyShows}
-use Rattle.w4_answers.proofs.SessionLaws.{same_disk, same_editing_setup, same_inputs, same_place}
+use Rattle.w4_editor.specs.Editor.{Editing}
+use Rattle.w4_editor.specs.Playing.{IsAtEnd}
+use Rattle.w4_answers.specs.UnitsAnswer.{units_by}
+use Rattle.w4_answers.specs.Desk.{OnlyShows}
+use Rattle.w4_answers.proofs.DeskSessionLaws.{same_disk, same_editing_setup, same_inputs, same_place}
 
 -- what is told of a frame is the same
 pub same_units : (form : PieceForm) (old new : Editing) (k : ℕ) → OnlyShows old new

@@ -1,9 +1,14 @@
 -- What the answers of orders, lines and requests say.
-pub mod OwnAnswers
+pub mod OwnAnswer
+pub mod UnitsAnswer
+pub mod Desk
 pub mod ScriptAnswers
-pub mod AnswerFrames
+pub mod FilmAnswer
+pub mod ChangeAnswer
+pub mod RangeAnswer
 pub mod NetAnswers
 pub mod RamAnswers
-pub mod Causes
-pub mod Serving
-pub mod LiveAnswers
+pub mod HeldPages
+pub mod Writing
+pub mod Saving
+pub mod LiveAnswer

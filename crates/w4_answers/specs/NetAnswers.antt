@@ -2,12 +2,11 @@
 use Rattle.std.specs.Prelude.{◌≡◌, Result, Ok, Err}
 use Rattle.std.specs.Option.{ForSome}
 use Rattle.w4_defs.specs.World.{World}
-use Rattle.w4_answers.specs.Causes.{AppendsOut}
-use Rattle.w4_netplay.specs.Replicas.{Netplay, known_of, places_kept}
+use Rattle.w4_answers.specs.Writing.{AppendsOut, StopsWriting}
+use Rattle.w4_netplay.specs.Replica.{Netplay, known_of, places_kept}
 use Rattle.w4_defs.specs.declared.status.Refusal.{Refusal}
 use Rattle.w4_defs.specs.Answers.{Answered}
-use Rattle.w4_answers.specs.Causes.{StopsWriting}
-use Rattle.w4_editor.specs.PlaceSession.{KeepsRest}
+use Rattle.w4_editor.specs.Editor.{KeepsRest}
 use Rattle.w4_defs.specs.Endings.{manner_of}
 use Rattle.w4_defs.specs.LogAnswers.{NetSession}
 

@@ -1,24 +1,20 @@
--- An editor as the answers of a query see it: the pages of its recording, the search that is left, and the
--- pages that are held for watches of the same places.
-use Rattle.std.specs.Prelude.{◌≡◌, List, IfSome, Option, Result, Ok, Err}
+-- An editor as the answers of a query see it: the pages of its recording, and the search that is left.
+use Rattle.std.specs.Prelude.{◌≡◌, List, Option, Result, Ok, Err}
 use Rattle.std.specs.Option.{ForSome}
 use Rattle.w4_defs.specs.Search.{Search}
 use Rattle.w4_defs.specs.declared.inspect.Ask.{Ask}
 use Rattle.w4_defs.specs.declared.inspect.QueryLine.{QueryLine}
 use Rattle.w4_defs.specs.PlaceTexts.{PieceForm}
-use Rattle.w4_editor.specs.Editing.{Editing, current_recording, editing_setup}
+use Rattle.w4_editor.specs.Editor.{Editing, current_recording, editing_setup, KeepsRest, place_session}
 use Rattle.w4_defs.specs.World.{World}
-use Rattle.w4_answers.specs.Causes.{AppendsOut}
+use Rattle.w4_answers.specs.Writing.{AppendsOut, StopsWriting}
 use Rattle.w4_defs.specs.declared.status.Refusal.{Refusal}
 use Rattle.w4_defs.specs.Answers.{Answered}
-use Rattle.w4_answers.specs.Causes.{StopsWriting}
-use Rattle.w4_answers.specs.ScriptAnswers.{OnlyShows}
+use Rattle.w4_answers.specs.Desk.{OnlyShows}
 use Rattle.w4_defs.specs.Endings.{manner_of}
 use Rattle.w4_defs.specs.Live.{LiveSession}
 use Rattle.w4_defs.specs.QueryAnswers.{Pages, pages_of, ram_answer}
 use Rattle.w4_defs.specs.ToolOutputs.{line_answer, ram_answers}
-use Rattle.w4_editor.specs.PlaceSession.{KeepsRest, place_session}
-use Rattle.w4_inspect.specs.PlacePages.{AreOf, ReadPages}
 
 abbrev pub editor_pages : Editing → Pages
 editor_pages e = pages_of (editing_setup e) e.disk e.session.current.inputs
@@ -69,7 +65,3 @@ abbrev pub GivesQueryAnswer : {X : Type 0} → World → World → Result X Refu
 GivesQueryAnswer before after (Ok x) old new left wanted = IsQueryAnswered before after old new left wanted
 GivesQueryAnswer before after (Err why) old new left wanted =
     ForSome wanted.out (λ out. StopsWriting before after (manner_of why) out)
-
--- the pages that are held, if any, are those of the editor's recording
-abbrev pub AreHeld : Editing → Option ReadPages → Type 0
-AreHeld e held = IfSome held (λ pages. AreOf e pages)

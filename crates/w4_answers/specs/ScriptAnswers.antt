@@ -1,35 +1,26 @@
 -- An editor as the answers of a script see it: its session of places, and what its runs have in common
 -- (project rule). Each order is answered from these alone.
-use Rattle.std.specs.Prelude.{◌≡◌, ℕ, zero, suc, ◌/◌, List, [], ◌++◌, drop, length, take, Option, Result, Ok, Err}
+use Rattle.std.specs.Prelude.{◌≡◌, ℕ, List, Result, Ok, Err, ◌+◌, ◌-◌}
 use Rattle.std.specs.Option.{ForSome}
-use Rattle.w4_defs.specs.declared.editing.EditRefusal.{EditRefusal}
 use Rattle.w4_defs.specs.declared.order.Order.{Order}
-use Rattle.w4_defs.specs.declared.order.Order.TheVariants as order
 use Rattle.w4_defs.specs.Recording.{Recording}
-use Rattle.w4_defs.specs.Session.{Session, places_alone, set_input, insert_input, delete_input, undo, redo, keep, keep_every, drop_kept}
+use Rattle.w4_defs.specs.Session.{Session}
 use Rattle.w4_defs.specs.PlaceTexts.{PieceForm}
-use Rattle.w4_editor.specs.Editing.{Editing, current_recording, editing_setup}
-use Rattle.w4_editor.specs.PlaceSession.{KeepsRest, place_session}
+use Rattle.w4_editor.specs.Editor.{Editing, current_recording, editing_setup, KeepsRest, place_session}
 use Rattle.w4_defs.specs.World.{World}
-use Rattle.w4_answers.specs.Causes.{AppendsOut}
-use Rattle.w4_defs.specs.declared.place_text.PlaceText.{PlaceText}
+use Rattle.w4_answers.specs.Writing.{AppendsOut, StopsWriting}
 use Rattle.w4_defs.specs.declared.status.Refusal.{Refusal}
-use Rattle.w4_defs.specs.ScriptAnswers.{answer, answers, one_text}
+use Rattle.w4_defs.specs.ScriptAnswers.{answer, answers}
 use Rattle.w4_defs.specs.Answers.{Answered}
-use Rattle.w4_answers.specs.Causes.{StopsWriting}
 use Rattle.w4_defs.specs.Endings.{Manner, WriteFailed, manner_of}
+use Rattle.w4_defs.specs.declared.order.Order.TheVariants as order
+use Rattle.w4_segments.specs.Settling.{IsSettledWide}
+use Rattle.w4_answers.specs.Desk.{RunsOn}
+use Rattle.w4_answers.specs.ChangeAnswer.{ChangesWithin}
 
--- inputs, history and kept places are unchanged: at most the place that is shown is another
-pub record OnlyShows (old new : Editing) : Type 0 where
-  pub session : place_session new ≡ place_session old
-  pub rest : KeepsRest old new
-
--- the answer of an order, and what is told of a place
+-- the answer of an order
 abbrev pub answer_by : PieceForm → Editing → Order → Answered (Session ℕ)
 answer_by form e order = answer form (editing_setup e) e.disk (place_session e) order
-
-abbrev pub text_by : PieceForm → Editing → PlaceText → ℕ → Option (List ℕ)
-text_by form e wanted p = one_text form (editing_setup e) e.disk (place_session e) wanted p
 
 -- the answers of a script's orders, one after another, and the recording that they leave
 abbrev pub answers_by : Editing → List Order → Answered (Session ℕ)
@@ -67,29 +58,18 @@ GivesAnswer before after (Err why) old new wanted =
     ForSome wanted.out (λ out. StopsWriting before after (manner_of why) out)
     × LeavesRecording (manner_of why) old new wanted.session
 
--- the bytes of images, one after another, each of them in a form
-abbrev pub images_in_blocks : PieceForm → ℕ → List ℕ → List ℕ
-images_in_blocks form zero bytes = []
-images_in_blocks form (suc count) bytes =
-    form (take 76815 bytes) ++ images_in_blocks form count (drop 76815 bytes)
-
-abbrev pub images_in : PieceForm → List ℕ → List ℕ
-images_in form bytes = images_in_blocks form (length bytes / 76815) bytes
-
--- what an order makes of a session, or why it is refused; an order that only tells makes nothing of it
-abbrev pub changed : Order → Session ℕ → Result (Session ℕ) EditRefusal
-changed (order.Set k input) s = set_input places_alone k input s
-changed (order.Insert k input) s = insert_input places_alone k input s
-changed (order.Delete k) s = delete_input places_alone k s
-changed order.Undo s = undo s
-changed order.Redo s = redo s
-changed (order.Keep p) s = keep places_alone p s
-changed (order.KeepEvery every) s = keep_every every s
-changed (order.DropKept p) s = drop_kept places_alone p s
-changed (order.Settle workers) s = Ok s
-changed (order.Show p) s = Ok s
-changed (order.Film a b workers) s = Ok s
-changed (order.Tones a b) s = Ok s
-changed (order.Traces a b) s = Ok s
-changed (order.DiskAt p) s = Ok s
-changed (order.StateAt p) s = Ok s
+-- an order is answered within so many frames. Films and settling are run by workers with counts of their own; a
+-- settling leaves all kept places up to date
+abbrev pub AnswersWithin : Order → (ticks_before ticks_after : ℕ) → (old new : Editing) → Type 0
+AnswersWithin (order.Show p) ticks_before ticks_after old new = RunsOn p 1 ticks_before ticks_after old new
+AnswersWithin (order.Tones a b) ticks_before ticks_after old new =
+    RunsOn (a - 1) (b + 1 - a) ticks_before ticks_after old new
+AnswersWithin (order.Traces a b) ticks_before ticks_after old new =
+    RunsOn (a - 1) (b + 1 - a) ticks_before ticks_after old new
+AnswersWithin (order.DiskAt p) ticks_before ticks_after old new = RunsOn p 1 ticks_before ticks_after old new
+AnswersWithin (order.StateAt p) ticks_before ticks_after old new = RunsOn p 0 ticks_before ticks_after old new
+AnswersWithin (order.Film a b workers) ticks_before ticks_after old new = ticks_after ≡ ticks_before
+AnswersWithin (order.Settle workers) ticks_before ticks_after old new =
+    (ticks_after ≡ ticks_before) × IsSettledWide old new
+AnswersWithin other ticks_before ticks_after old new =
+    ChangesWithin other ticks_before ticks_after old new

@@ -7,11 +7,10 @@ ghost use Rattle.w4_defs.specs.declared.order.Order.{Order as DeclaredOrder};
 ghost use Rattle.w4_defs.specs.World.{LeavesWriting};
 ghost use Rattle.w4_defs.specs.ScriptAnswers.{answer_change};
 ghost use Rattle.w4_defs.specs.Session.{Session, keep, keep_every, places_alone};
-ghost use Rattle.w4_answers.specs.AnswerFrames.{ChangesWithin};
-ghost use Rattle.w4_answers.specs.ScriptAnswers.{GivesAnswer, changed};
-ghost use Rattle.w4_editor.specs.Showing.{AreKeptInTurn, IsKeptAt};
-ghost use Rattle.w4_editor.specs.Editing.{Editing, current_recording};
-ghost use Rattle.w4_editor.specs.PlaceSession.{IsChanged, place_session};
+ghost use Rattle.w4_answers.specs.ChangeAnswer.{ChangesWithin, changed};
+ghost use Rattle.w4_answers.specs.ScriptAnswers.{GivesAnswer};
+ghost use Rattle.w4_editor.specs.Playing.{AreKeptInTurn, IsKeptAt};
+ghost use Rattle.w4_editor.specs.Editor.{Editing, current_recording, IsChanged, place_session};
 
 use crate::counted_editor::CountedEditor;
 use crate::refusal::refuse;

@@ -7,10 +7,9 @@ ghost use Rattle.w4_defs.specs.PlaceTexts.{as_it_stands};
 ghost use Rattle.w4_defs.specs.Run.{run, run_state};
 ghost use Rattle.w4_defs.specs.State.{Moment, State};
 ghost use Rattle.w4_devices.specs.Records.{record_of};
-ghost use Rattle.w4_editor.specs.Editing.{current_recording, editing_setup, new_editing};
-ghost use Rattle.w4_console.specs.TakenUnits.{TellsUnits};
-ghost use Rattle.w4_answers.specs.AnswerFrames.{IsMade, RunsOn, StepsOn};
-ghost use Rattle.w4_answers.specs.ScriptAnswers.{OnlyShows, text_by};
+ghost use Rattle.w4_editor.specs.Editor.{current_recording, editing_setup, new_editing};
+ghost use Rattle.w4_console.specs.Taken.{TellsUnits};
+ghost use Rattle.w4_answers.specs.Desk.{IsMade, RunsOn, StepsOn, OnlyShows, text_by};
 ghost use Rattle.w4_defs.specs.declared.place_text.PlaceText.TheVariants.{Image, Schedule, Traces};
 
 use crate::counted_editor::CountedEditor;

@@ -3,13 +3,14 @@
 ghost use Rattle.std.specs.Prelude.{◌≡◌, ◌≤◌, OnOk, flat_map, max, min, option_map};
 ghost use Rattle.std.specs.Option.{ForSome};
 ghost use Rattle.w4_defs.specs.Image.{image};
-ghost use Rattle.w4_editor.specs.Editing.{current_recording, editing_setup};
+ghost use Rattle.w4_editor.specs.Editor.{current_recording, editing_setup, place_session};
 ghost use Rattle.w4_defs.specs.World.{LeavesWriting};
 ghost use Rattle.w4_defs.specs.ScriptAnswers.{film_text};
 ghost use Rattle.w4_defs.specs.Answers.{answer_text};
-ghost use Rattle.w4_answers.specs.Causes.{Written};
-ghost use Rattle.w4_answers.specs.ScriptAnswers.{GivesAnswer, OnlyShows, images_in};
-ghost use Rattle.w4_editor.specs.PlaceSession.{place_session};
+ghost use Rattle.w4_answers.specs.Writing.{Written};
+ghost use Rattle.w4_answers.specs.ScriptAnswers.{GivesAnswer};
+ghost use Rattle.w4_answers.specs.Desk.{OnlyShows};
+ghost use Rattle.w4_answers.specs.FilmAnswer.{images_in};
 ghost use Rattle.w4_segments.specs.FilmPieces.{IsFilming, images_left};
 ghost use Rattle.w4_segments.specs.Settling.{IsSettledWide};
 

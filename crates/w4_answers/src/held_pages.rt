@@ -5,12 +5,13 @@ ghost use Rattle.std.specs.Option.{ForSome};
 ghost use Rattle.w4_defs.specs.PlaceTexts.{as_it_stands};
 ghost use Rattle.w4_defs.specs.QueryAnswers.{watch_text};
 ghost use Rattle.w4_defs.specs.World.{LeavesWriting};
-ghost use Rattle.w4_editor.specs.Editing.{Editing};
+ghost use Rattle.w4_editor.specs.Editor.{Editing};
 ghost use Rattle.w4_inspect.specs.PlacePages.{AreOf};
-ghost use Rattle.w4_inspect.specs.Widths.{IsWidth};
-ghost use Rattle.w4_answers.specs.Causes.{Written};
-ghost use Rattle.w4_answers.specs.RamAnswers.{AreHeld, editor_pages};
-ghost use Rattle.w4_answers.specs.ScriptAnswers.{OnlyShows};
+ghost use Rattle.w4_inspect.specs.Values.{IsWidth};
+ghost use Rattle.w4_answers.specs.Writing.{Written};
+ghost use Rattle.w4_answers.specs.HeldPages.{AreHeld};
+ghost use Rattle.w4_answers.specs.RamAnswers.{editor_pages};
+ghost use Rattle.w4_answers.specs.Desk.{OnlyShows};
 
 use crate::counted_editor::CountedEditor;
 use crate::ram_answers::{Watched, answer_watch, watched_line};

@@ -4,17 +4,14 @@ ghost use Rattle.std.specs.Prelude.{◌≡◌, ◌+◌, ◌^◌, ◌<◌, ◌++�
 ghost use Rattle.w4_defs.specs.FrameTexts.{line_end, numbered, spaced};
 ghost use Rattle.w4_defs.specs.InputsText.{disk_remark, input_lines, input_words, reset_word_of, spaced_coordinate};
 
-use crate::text::{add_hexadecimal, add_number, add_words};
-use itoa::Buffer;
 use w4_defs::{Input, OutOfMemory};
+use w4_devices::text_parts::{add_decimal, add_hexadecimal, add_number, add_numbered, add_words};
 
 /// Adds the comment with a budget.
 pub fn add_budget(text: &mut Vec<u8>, budget: u32) -> Result<(), OutOfMemory>
     ensures { OnOk result (text.new.items ≡ text.old.items ++ numbered (codes "# budget") (budget ∷ [])) }
 {
-    add_words(text, b"# budget")?;
-    add_number(text, u64::from(budget))?;
-    add_words(text, b"\n")
+    add_numbered(text, b"# budget", &[u64::from(budget)])
 }
 
 /// Adds the comment with a disk.
@@ -37,10 +34,7 @@ fn add_coordinate(text: &mut Vec<u8>, coordinate: i16) -> Result<(), OutOfMemory
         return add_number(text, u64::from(coordinate.unsigned_abs()));
     }
     add_words(text, b" -")?;
-    add_words(
-        text,
-        Buffer::new().format(coordinate.unsigned_abs()).as_bytes(),
-    )
+    add_decimal(text, u64::from(coordinate.unsigned_abs()))
 }
 
 /// Adds the numbers of four pads.

@@ -20,6 +20,5 @@ pub mod script_answers;
 pub mod shape;
 mod state_answer;
 pub mod state_line;
-pub mod text;
 mod units_answer;
 pub mod writing;

@@ -4,11 +4,18 @@ ghost use Rattle.std.specs.Prelude.{◌≡◌, ◌++◌};
 ghost use Rattle.w4_defs.specs.Live.{LiveSession, Opened, answer_end, recording_left, refused_save};
 ghost use Rattle.w4_defs.specs.Meaning.{RunsHaveMeaning};
 ghost use Rattle.w4_defs.specs.World.{LeavesWriting};
-ghost use Rattle.w4_editor.specs.Editing.{current_recording};
-ghost use Rattle.w4_script.specs.LiveLines.{IsAsked, asked_view};
-ghost use Rattle.w4_answers.specs.Causes.{Written};
-ghost use Rattle.w4_answers.specs.LiveAnswers.{AnswersSave, GivesPieces, asked_answer, asks_save};
-ghost use Rattle.w4_answers.specs.Serving.{AnswersLine, LeavesServing, Sits};
+ghost use Rattle.w4_editor.specs.Editor.{current_recording};
+ghost use Rattle.w4_script.specs.Live.{IsAsked, asked_view};
+ghost use Rattle.w4_answers.specs.Writing.{Written};
+ghost use Rattle.w4_answers.specs.LiveAnswer.{
+  AnswersSave,
+  GivesPieces,
+  asked_answer,
+  asks_save,
+  AnswersLine,
+  LeavesServing,
+  Sits,
+};
 
 use crate::desk::Desk;
 use crate::own_answer::answer_own;

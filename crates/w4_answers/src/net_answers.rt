@@ -1,17 +1,17 @@
 //! The answer of one line of a log.
 
 ghost use Rattle.std.specs.Prelude.{◌≡◌, ◌≢◌, ◌⊎◌, IfErr, IfOk, None, OnOk, Some, [], length};
-ghost use Rattle.w4_editor.specs.Editing.{editing_setup};
+ghost use Rattle.w4_editor.specs.Editor.{editing_setup};
 ghost use Rattle.w4_defs.specs.World.{LeavesWriting};
 ghost use Rattle.w4_defs.specs.declared.net_refusal.NetRefusal.TheVariants.{OutOfMemory as MemoryRefused};
-ghost use Rattle.w4_netplay.specs.Replicas.{IsNetRefusal, KeepsNetplay, known_of, predicted_draft, prediction};
+ghost use Rattle.w4_netplay.specs.Replica.{IsNetRefusal, KeepsNetplay, known_of, predicted_draft, prediction};
 ghost use Rattle.w4_defs.specs.Rollback.{packet_refusal};
 ghost use Rattle.w4_defs.specs.Session.{keep_refusal, place_refusal, places_alone};
 ghost use Rattle.w4_defs.specs.Run.{run_state};
 ghost use Rattle.w4_defs.specs.State.{State};
 ghost use Rattle.w4_defs.specs.ScriptAnswers.{refused_line};
 ghost use Rattle.w4_defs.specs.Answers.{answer_text};
-ghost use Rattle.w4_answers.specs.Causes.{Written, WritesNothing};
+ghost use Rattle.w4_answers.specs.Writing.{Written, WritesNothing};
 ghost use Rattle.w4_defs.specs.LogAnswers.{
   answer_keep,
   answer_next,
@@ -26,12 +26,12 @@ ghost use Rattle.w4_defs.specs.LogAnswers as session;
 ghost use Rattle.w4_answers.specs.NetAnswers.{GivesHeard, net_session};
 
 use crate::state_line::{Facts, state_line};
-use crate::text::{add_number, add_words};
 use crate::writing::write_bytes;
 use std::alloc::Global;
 use std::sync::ledger::Ledger;
 use w4_defs::netplay::{NetOrder, Packet};
 use w4_defs::{OutOfMemory, Refusal, Steps};
+use w4_devices::text_parts::{add_number, add_words};
 use w4_house::House;
 use w4_image::{IMAGE_LEN, ppm_into};
 use w4_netplay::{NetRefusal, Replica};

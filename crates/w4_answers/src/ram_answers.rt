@@ -3,25 +3,24 @@
 ghost use Rattle.std.specs.Prelude.{◌≡◌, ◌≢◌, ◌⊎◌, ◌++◌, ◌∷◌, ◌≤◌, IfOk, OnOk, codes, decimal};
 ghost use Rattle.std.specs.Option.{ForSome};
 ghost use Rattle.w4_defs.specs.FrameTexts.{line_end, numbered};
-ghost use Rattle.w4_editor.specs.Editing.{current_recording};
+ghost use Rattle.w4_editor.specs.Editor.{current_recording};
 ghost use Rattle.w4_defs.specs.World.{LeavesWriting};
-ghost use Rattle.w4_script.specs.Requests.{IsRequest};
-ghost use Rattle.w4_inspect.specs.Widths.{IsWidth};
+ghost use Rattle.w4_script.specs.Query.{IsRequest};
+ghost use Rattle.w4_inspect.specs.Values.{IsWidth};
 ghost use Rattle.w4_inspect.specs.declared.refusal.RamRefusal.TheVariants.{OutOfMemory as MemoryRefused};
 ghost use Rattle.w4_defs.specs.ScriptAnswers.{no_frame};
-ghost use Rattle.w4_answers.specs.Causes.{Written, WritesNothing};
-ghost use Rattle.w4_answers.specs.ScriptAnswers.{OnlyShows};
+ghost use Rattle.w4_answers.specs.Writing.{Written, WritesNothing};
+ghost use Rattle.w4_answers.specs.Desk.{OnlyShows};
 ghost use Rattle.w4_answers.specs.RamAnswers.{GivesLineAnswer, ask_answer, editor_pages};
 ghost use Rattle.w4_defs.specs.QueryAnswers.{answer_narrow, answer_start, found_text, list_text, watch_text};
 
 use crate::counted_editor::CountedEditor;
 use crate::shape::Shape;
-use crate::text::{add_number, add_words};
-use itoa::Buffer;
 use std::alloc::Global;
 use std::sync::ledger::Ledger;
 use w4_defs::inspect::{Ask, Test};
 use w4_defs::{OutOfMemory, Refusal};
+use w4_devices::text_parts::{add_decimal, add_number, add_numbered, add_words};
 use w4_house::House;
 use w4_inspect::{RamRefusal, Search, ValueBytes, watch};
 
@@ -226,9 +225,7 @@ fn found_lines(alloc: Global, addresses: &[u32]) -> Result<Vec<u8>, OutOfMemory>
     ensures { IfOk result (λ lines. lines.items ≡ found_text addresses.now) }
 {
     let mut lines = Vec::new(alloc);
-    add_words(&mut lines, b"found")?;
-    add_number(&mut lines, addresses.len() as u64)?;
-    add_words(&mut lines, b"\n")?;
+    add_numbered(&mut lines, b"found", &[addresses.len() as u64])?;
     for address in addresses {
         add_address(&mut lines, *address)?;
     }
@@ -239,6 +236,6 @@ fn found_lines(alloc: Global, addresses: &[u32]) -> Result<Vec<u8>, OutOfMemory>
 fn add_address(lines: &mut Vec<u8>, address: u32) -> Result<(), OutOfMemory>
     ensures { OnOk result (lines.new.items ≡ lines.old.items ++ (decimal address ++ line_end)) }
 {
-    lines.extend_from_slice(Buffer::new().format(address).as_bytes())?;
+    add_decimal(lines, u64::from(address))?;
     add_words(lines, b"\n")
 }

@@ -5,13 +5,13 @@ ghost use Rattle.std.specs.Option.{ForSome};
 ghost use Rattle.w4_defs.specs.World.{LeavesWriting};
 ghost use Rattle.w4_defs.specs.ScriptAnswers.{if_place, range_text};
 ghost use Rattle.w4_defs.specs.Answers.{answer_text};
-ghost use Rattle.w4_answers.specs.AnswerFrames.{IsMade, RunsOn, StepsOn, lead_of};
-ghost use Rattle.w4_answers.specs.Causes.{Written};
-ghost use Rattle.w4_answers.specs.ScriptAnswers.{GivesAnswer, OnlyShows, text_by};
-ghost use Rattle.w4_editor.specs.PlaceSession.{place_session};
+ghost use Rattle.w4_answers.specs.Desk.{IsMade, RunsOn, StepsOn, OnlyShows, text_by};
+ghost use Rattle.w4_answers.specs.RangeAnswer.{lead_of};
+ghost use Rattle.w4_answers.specs.Writing.{Written};
+ghost use Rattle.w4_answers.specs.ScriptAnswers.{GivesAnswer};
+ghost use Rattle.w4_editor.specs.Editor.{place_session, current_recording, editing_setup};
 ghost use Rattle.w4_defs.specs.PlaceTexts.{place_texts};
 ghost use Rattle.w4_defs.specs.declared.place_text.PlaceText.TheVariants.{DiskBytes};
-ghost use Rattle.w4_editor.specs.Editing.{current_recording, editing_setup};
 
 use crate::counted_editor::CountedEditor;
 use crate::desk::{Desk, made_image, make_image, schedule, traces};

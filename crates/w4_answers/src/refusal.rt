@@ -4,7 +4,7 @@ ghost use Rattle.std.specs.Prelude.{◌≢◌, ◌⊎◌};
 ghost use Rattle.w4_defs.specs.declared.editing.EditRefusal.TheVariants.{OutOfMemory as MemoryRefused};
 ghost use Rattle.w4_defs.specs.World.{LeavesWriting};
 ghost use Rattle.w4_defs.specs.ScriptAnswers.{refusal_words, refused_line};
-ghost use Rattle.w4_answers.specs.Causes.{Written, WritesNothing};
+ghost use Rattle.w4_answers.specs.Writing.{Written, WritesNothing};
 
 use crate::shape::Shape;
 use std::alloc::Global;

@@ -2,8 +2,8 @@
 
 ghost use Rattle.w4_defs.specs.Recording.{encoding};
 ghost use Rattle.w4_defs.specs.World.{LeavesSaving};
-ghost use Rattle.w4_editor.specs.Editing.{current_recording};
-ghost use Rattle.w4_answers.specs.Causes.{Replaces};
+ghost use Rattle.w4_editor.specs.Editor.{current_recording};
+ghost use Rattle.w4_answers.specs.Saving.{Replaces};
 
 use crate::desk::Desk;
 use crate::writing::write_refusal;

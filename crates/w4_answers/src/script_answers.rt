@@ -1,12 +1,10 @@
 //! The orders of a script, one after another.
 
 ghost use Rattle.std.specs.Prelude.{OnOk};
-ghost use Rattle.w4_editor.specs.Editing.{editing_setup};
+ghost use Rattle.w4_editor.specs.Editor.{editing_setup, place_session};
 ghost use Rattle.w4_defs.specs.World.{LeavesWriting};
 ghost use Rattle.w4_defs.specs.ScriptAnswers.{answers};
-ghost use Rattle.w4_answers.specs.AnswerFrames.{AnswersWithin};
-ghost use Rattle.w4_answers.specs.ScriptAnswers.{GivesAnswer, GivesAnswers, answer_by};
-ghost use Rattle.w4_editor.specs.PlaceSession.{place_session};
+ghost use Rattle.w4_answers.specs.ScriptAnswers.{AnswersWithin, GivesAnswer, GivesAnswers, answer_by};
 
 use crate::change_answer::{answer_changed, change};
 use crate::desk::Desk;

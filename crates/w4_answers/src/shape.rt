@@ -5,13 +5,12 @@ ghost use Rattle.w4_defs.specs.FrameTexts.{line_end};
 ghost use Rattle.w4_defs.specs.Live.{framed};
 ghost use Rattle.w4_defs.specs.PlaceTexts.{as_it_stands};
 ghost use Rattle.w4_defs.specs.World.{LeavesWriting};
-ghost use Rattle.w4_answers.specs.Causes.{Written};
+ghost use Rattle.w4_answers.specs.Writing.{Written};
 
-use crate::text::add_words;
 use crate::writing::write_bytes;
-use itoa::Buffer;
 use std::alloc::Global;
 use w4_defs::{OutOfMemory, Refusal};
+use w4_devices::text_parts::{add_decimal, add_words};
 use w4_house::House;
 
 /// A form in which the pieces of answers are written.
@@ -54,7 +53,7 @@ fn length_line(alloc: Global, piece: &[u8]) -> Result<Vec<u8>, OutOfMemory>
     ensures { IfOk result (λ line. line.items ≡ decimal (length piece.now) ++ line_end) }
 {
     let mut line = Vec::new(alloc);
-    line.extend_from_slice(Buffer::new().format(piece.len() as u64).as_bytes())?;
+    add_decimal(&mut line, piece.len() as u64)?;
     add_words(&mut line, b"\n")?;
     Ok(line)
 }

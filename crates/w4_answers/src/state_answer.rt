@@ -3,13 +3,12 @@
 ghost use Rattle.std.specs.Prelude.{◌≡◌, ◌≤◌, IfOk, OnOk, Some, length, ℕ};
 ghost use Rattle.w4_defs.specs.Run.{run_state};
 ghost use Rattle.w4_defs.specs.State.{State};
-ghost use Rattle.w4_editor.specs.Editing.{current_recording, editing_setup};
+ghost use Rattle.w4_editor.specs.Editor.{current_recording, editing_setup, place_session};
 ghost use Rattle.w4_defs.specs.World.{LeavesWriting};
 ghost use Rattle.w4_defs.specs.ScriptAnswers.{if_place, state_answer};
 ghost use Rattle.w4_defs.specs.Answers.{answer_text};
-ghost use Rattle.w4_answers.specs.AnswerFrames.{RunsOn};
-ghost use Rattle.w4_answers.specs.ScriptAnswers.{GivesAnswer, OnlyShows};
-ghost use Rattle.w4_editor.specs.PlaceSession.{place_session};
+ghost use Rattle.w4_answers.specs.Desk.{RunsOn, OnlyShows};
+ghost use Rattle.w4_answers.specs.ScriptAnswers.{GivesAnswer};
 
 use crate::counted_editor::CountedEditor;
 use crate::refusal::refuse;

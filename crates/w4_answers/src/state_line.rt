@@ -3,11 +3,11 @@
 ghost use Rattle.std.specs.Prelude.{◌≡◌, ◌++◌, flat_map, length, IfOk, OnOk};
 ghost use Rattle.w4_defs.specs.FrameTexts.{cause_words, halt_words, spaced, state_line};
 ghost use Rattle.w4_defs.specs.State.{State};
-ghost use Rattle.w4_editor.specs.PlaceSession.{place_session};
+ghost use Rattle.w4_editor.specs.Editor.{place_session};
 
-use crate::text::{add_number, add_words};
 use std::alloc::Global;
 use w4_defs::{Cause, Halt, OutOfMemory};
+use w4_devices::text_parts::{add_number, add_words};
 use w4_editor::Editor;
 
 fn add_cause(text: &mut Vec<u8>, cause: Cause) -> Result<(), OutOfMemory>

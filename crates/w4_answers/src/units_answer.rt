@@ -5,12 +5,10 @@ ghost use Rattle.std.specs.Option.{ForSome};
 ghost use Rattle.w4_defs.specs.PlaceTexts.{place_texts};
 ghost use Rattle.w4_defs.specs.ScriptAnswers.{if_place};
 ghost use Rattle.w4_defs.specs.World.{LeavesWriting};
-ghost use Rattle.w4_editor.specs.Editing.{current_recording};
-ghost use Rattle.w4_editor.specs.PlaceSession.{place_session};
-ghost use Rattle.w4_answers.specs.AnswerFrames.{IsMade, RunsOn, StepsOn};
-ghost use Rattle.w4_answers.specs.Causes.{Written};
-ghost use Rattle.w4_answers.specs.OwnAnswers.{units_by};
-ghost use Rattle.w4_answers.specs.ScriptAnswers.{OnlyShows};
+ghost use Rattle.w4_editor.specs.Editor.{current_recording, place_session};
+ghost use Rattle.w4_answers.specs.Desk.{IsMade, RunsOn, StepsOn, OnlyShows};
+ghost use Rattle.w4_answers.specs.Writing.{Written};
+ghost use Rattle.w4_answers.specs.UnitsAnswer.{units_by};
 
 use crate::desk::{Desk, frame_taken};
 use crate::shape::Shape;

@@ -2,7 +2,7 @@
 
 ghost use Rattle.w4_defs.specs.World.{LeavesWriting};
 ghost use Rattle.std.specs.Prelude.{◌≡◌};
-ghost use Rattle.w4_answers.specs.Causes.{Written, write_refusal};
+ghost use Rattle.w4_answers.specs.Writing.{Written, write_refusal};
 
 use std::alloc::Global;
 use w4_defs::Refusal;

@@ -6,6 +6,7 @@ ghost use Rattle.w4_blit.specs.Reach.{InReach};
 ghost use Rattle.w4_defs.specs.Blit.{source_column, source_row};
 
 use crate::cells::{TWO_BITS, has_flag};
+use crate::source::{FRAMEBUFFER, FRAMEBUFFER_END};
 use w4_defs::Sprite;
 
 /// The first byte of the framebuffer that is kept for a sprite, and how many are: all that its cells read of
@@ -33,8 +34,8 @@ fn part_between(first: u128, last: u128) -> (usize, usize)
     ensures there { result.0 + result.1 ≤ 6560 }
     ensures kept { (at : ℕ) → first ≤ at → at ≤ last → IsAtHand result.0 result.1 at }
 {
-    let start = first.clamp(160, 6560) as usize;
-    let end = (last + 8).clamp(160, 6560) as usize;
+    let start = first.clamp(FRAMEBUFFER as u128, FRAMEBUFFER_END as u128) as usize;
+    let end = (last + 8).clamp(FRAMEBUFFER as u128, FRAMEBUFFER_END as u128) as usize;
     (start, end.saturating_sub(start))
 }
 

@@ -45,7 +45,7 @@ pub(crate) fn eight_from(page: &PageBytes, kept_from: usize, copy: &[u8], at: u6
     ensures { (i : ℕ) → i < 8 → result / 2 ^ (8 * i) % 256
         ≡ slice_index (with_copied_bytes page.now kept_from copy.now) (at + (7 - i)) }
 {
-    if 6560 <= at && at <= 65528 {
+    if FRAMEBUFFER_END as u64 <= at && at <= 65528 {
         eight_there(page, at as usize)
     } else {
         eight_inside(page, kept_from, copy, at)
@@ -70,8 +70,8 @@ fn eight_inside(page: &PageBytes, kept_from: usize, copy: &[u8], at: u64) -> u64
 fn has_eight(kept_from: usize, len: usize, at: u64) -> bool
     ensures { result ≡ true → (160 ≤ at) × (at + 8 ≤ 6560) × (kept_from ≤ at) × (at - kept_from + 8 ≤ len) }
 {
-    160 <= at
-        && at <= 6552
+    FRAMEBUFFER as u64 <= at
+        && at <= FRAMEBUFFER_END as u64 - 8
         && kept_from as u64 <= at
         && 8 <= len
         && at as usize - kept_from <= len - 8
@@ -133,9 +133,9 @@ pub(crate) fn byte_at(page: &PageBytes, first: usize, copy_bytes: &[u8], at: u64
 {
     if 65536 <= at {
         PAST_THE_END
-    } else if 6560 <= at {
+    } else if FRAMEBUFFER_END as u64 <= at {
         page[at as usize]
-    } else if at < 160 {
+    } else if at < FRAMEBUFFER as u64 {
         page[at as usize]
     } else {
         copied_byte(copy_bytes, (at as usize).saturating_sub(first))

@@ -7,6 +7,7 @@ ghost use Rattle.w4_defs.specs.Blit.{has_flag};
 ghost use Rattle.w4_defs.specs.Framebuffer.{paint};
 
 use crate::cells::{TWO_BITS, has_flag};
+use crate::source::FRAMEBUFFER;
 use w4_defs::{PageBytes, Sprite};
 use w4_pixels::entry_of;
 
@@ -159,7 +160,7 @@ pub(crate) fn put_strip(page: &mut PageBytes, q: usize, row: usize, strip: Strip
     requires mask { IsMask strip.mask }
     ensures { page.new ≡ paint page.old (strip_painter q row strip) }
 {
-    let at = 160 + (40 * row + q);
+    let at = FRAMEBUFFER + (40 * row + q);
     let (a, b) = (u32::from(page[at]), u32::from(page[at + 1]));
     let (c, d) = (u32::from(page[at + 2]), u32::from(page[at + 3]));
     let old = a + 256 * (b + 256 * (c + 256 * d));

@@ -5,11 +5,10 @@ use Rattle.std.proofs.Math.ListN.{drop_of_length-le}
 use Rattle.w4_defs.specs.declared.batch.BatchRow.{BatchRow}
 use Rattle.w4_defs.specs.AllThere.{joined}
 use Rattle.w4_defs.specs.World.{World}
-use Rattle.w4_answers.specs.Causes.{AppendsOut}
-use Rattle.w4_answers.specs.Causes.{StopsWriting}
+use Rattle.w4_answers.specs.Writing.{AppendsOut, StopsWriting}
 use Rattle.w4_defs.specs.Endings.{Manner}
 use Rattle.w4_defs.specs.BatchRows.{row_text, rows_text}
-use Rattle.w4_answers.proofs.OwesLaws.{OwesThere, there_is, there_less, there_nothing, there_stopped}
+use Rattle.w4_answers.proofs.WritingLaws.{OwesThere, there_is, there_less, there_nothing, there_stopped}
 
 -- the lines of the rows from row I on
 abbrev pub lines_from : List (List ℕ) → List (Option BatchRow) → ℕ → Option (List ℕ)

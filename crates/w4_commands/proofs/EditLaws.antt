@@ -9,11 +9,13 @@ use Rattle.w4_defs.specs.Module.{WasmModule}
 use Rattle.w4_defs.specs.Recording.{encoding}
 use Rattle.w4_defs.specs.Session.{Session}
 use Rattle.w4_defs.specs.State.{State}
-use Rattle.w4_editor.specs.Editing.{Editing, new_editing, current_recording}
+use Rattle.w4_editor.specs.Editor.{Editing, new_editing, current_recording}
 use Rattle.w4_defs.specs.World.{NotSaved, Saved, World, Does, LeavesWriting, wrote}
-use Rattle.w4_answers.specs.Causes.{AppendsOut, Carried, Replaces, StopsCarrying, StopsSaving, StopsWriting}
+use Rattle.w4_answers.specs.Writing.{AppendsOut, StopsWriting}
+use Rattle.w4_commands.specs.Edit.{Carried, StopsCarrying}
+use Rattle.w4_answers.specs.Saving.{Replaces, StopsSaving}
 use Rattle.w4_house.proofs.WorldLaws.{does_then, reading_none, rises_later}
-use Rattle.w4_answers.proofs.OutLaws.{front_does, written_does}
+use Rattle.w4_answers.proofs.WritingLaws.{front_does, written_does}
 use Rattle.w4_defs.specs.declared.status.Refusal.{Refusal}
 use Rattle.w4_answers.specs.ScriptAnswers.{IsAnswered, answers_by, recording_by}
 use Rattle.w4_defs.specs.Endings.{Manner, ReadFailed, InputFailed, WriteFailed, MemoryRefused, Refused, manner_of}

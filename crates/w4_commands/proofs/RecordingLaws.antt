@@ -12,9 +12,11 @@ use Rattle.w4_defs.specs.Recording.{Recording}
 use Rattle.w4_defs.specs.InputsText.{disk_remark, input_lines, input_words, inputs_text}
 use Rattle.w4_defs.specs.declared.console.Input.{Input}
 use Rattle.w4_defs.specs.Output.{◌>>=◌, Output, only_written}
-use Rattle.w4_answers.specs.Causes.{AppendsOut, EndsDone, ResultsIn, Stops, StopsWriting, Written}
-use Rattle.w4_answers.proofs.OwesLaws.{Owes, owes_less, piece_stopped}
-use Rattle.w4_commands.proofs.EndLaws.{ends_text, ends_unread}
+use Rattle.w4_answers.specs.Writing.{AppendsOut, StopsWriting, Written}
+use Rattle.w4_commands.specs.Commands.{EndsDone}
+use Rattle.w4_commands.specs.Load.{ResultsIn, Stops}
+use Rattle.w4_answers.proofs.WritingLaws.{Owes, owes_less, piece_stopped}
+use Rattle.w4_commands.proofs.CommandLaws.{ends_text, ends_unread}
 
 -- what is written of a file
 abbrev pub written_of : {G : Type 0} → (Files → Result G Refusal) → (G → List ℕ) → Files → Result Output Refusal

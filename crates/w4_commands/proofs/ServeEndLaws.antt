@@ -11,12 +11,14 @@ use Rattle.w4_defs.specs.Live.{LiveSession, Opened, SaveEnd, Talk, recording_lef
 use Rattle.w4_defs.specs.Output.{Output, all_events}
 use Rattle.w4_defs.specs.Recording.{Recording, encoding}
 use Rattle.w4_defs.specs.World.{Event, Took, InputEnded, InputLost, Saved, NotSaved, Files, World, Rises, Does, FailsToSave, OutFails, LeavesSaving, not_saved}
-use Rattle.w4_answers.specs.Causes.{EndsDone, Replaces, StopsSaving}
-use Rattle.w4_answers.specs.Serving.{EndsStopped, HasServed, LeavesEither, ServedStep, stop_refusal, LinesStop, Serves, ServesPart, ServesThen}
+use Rattle.w4_commands.specs.Commands.{EndsDone}
+use Rattle.w4_answers.specs.Saving.{Replaces, StopsSaving}
+use Rattle.w4_commands.specs.Serve.{EndsStopped, HasServed, ServedStep, stop_refusal, LinesStop, Serves, ServesPart, ServesThen}
+use Rattle.w4_answers.specs.LiveAnswer.{LeavesEither}
 use Rattle.w4_house.proofs.WorldLaws.{does_then, rises_later, rises_on}
-use Rattle.w4_answers.proofs.CountedLaws.{out_fails_not_saved, out_fails_saved, out_rises}
-use Rattle.w4_commands.proofs.RunsOutLaws.{ran_out, ran_out_lost, ran_out_lost_saved, ran_out_saved}
-use Rattle.w4_commands.proofs.ServingLaws.{saving_is, served_is, served_line, talk_of, taken-append}
+use Rattle.w4_answers.proofs.LiveAnswerEventLaws.{out_fails_not_saved, out_fails_saved, out_rises}
+use Rattle.w4_commands.proofs.ServeMemoryLaws.{ran_out, ran_out_lost, ran_out_lost_saved, ran_out_saved}
+use Rattle.w4_commands.proofs.ServeLineLaws.{saving_is, served_is, served_line, talk_of, taken-append}
 
 -- ---- parts of an output
 

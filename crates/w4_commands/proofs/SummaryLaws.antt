@@ -20,8 +20,9 @@ use Rattle.w4_defs.specs.Output.{made_text, make_output, only_written}
 use Rattle.w4_defs.specs.World.{World, LeavesWriting}
 use Rattle.w4_defs.specs.declared.status.Refusal.{Refusal}
 use Rattle.w4_defs.proofs.ThereLaws.{value_there}
-use Rattle.w4_answers.specs.Causes.{EndsDone, MakesOf, Written}
-use Rattle.w4_commands.proofs.EndLaws.{ends_written}
+use Rattle.w4_commands.specs.Commands.{EndsDone, MakesOf}
+use Rattle.w4_answers.specs.Writing.{Written}
+use Rattle.w4_commands.proofs.CommandLaws.{ends_written}
 
 bit_small : (b : Bool) → cond b 1 0 ≤ 1
 bit_small true = omega arith

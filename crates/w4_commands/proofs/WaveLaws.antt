@@ -7,13 +7,11 @@ use Rattle.w4_defs.specs.AllThere.{joined, all_some}
 use Rattle.w4_defs.specs.State.{FrameRecord}
 use Rattle.w4_defs.specs.Sound.{Wave, after_frame, first_wave, rendered, samples, samples_from}
 use Rattle.w4_defs.specs.World.{World}
-use Rattle.w4_answers.specs.Causes.{AppendsOut}
+use Rattle.w4_answers.specs.Writing.{AppendsOut, StopsWriting, Written}
 use Rattle.w4_defs.proofs.OptionLaws.{some_same}
-use Rattle.w4_answers.proofs.OutLaws.{out_then}
+use Rattle.w4_answers.proofs.WritingLaws.{out_then, owes_after, owes_stopped, OwesThere, there_begins, there_is, there_less, there_nothing, there_stopped}
 use Rattle.w4_defs.specs.declared.status.Refusal.{Refusal}
-use Rattle.w4_answers.specs.Causes.{StopsWriting, Written}
 use Rattle.w4_defs.specs.Endings.{Manner, manner_of}
-use Rattle.w4_answers.proofs.OwesLaws.{owes_after, owes_stopped, OwesThere, there_begins, there_is, there_less, there_nothing, there_stopped}
 
 -- the samples of so many places, by what their frames made
 abbrev pub samples_at : (ℕ → Option FrameRecord) → Wave → ℕ → ℕ → Option (List ℕ)

@@ -1,5 +1,13 @@
 -- Arguments and files as the definitions see them, what is read, and runs side by side.
-pub mod Comparing
-pub mod Reads
-pub mod Scenes
-pub mod Views
+pub mod Differences
+pub mod Compare
+pub mod Load
+pub mod LinesStatus
+pub mod Scene
+pub mod Stage
+pub mod Wave
+pub mod Forms
+pub mod Serve
+pub mod LoadTools
+pub mod Commands
+pub mod Edit

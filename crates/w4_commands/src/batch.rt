@@ -6,10 +6,13 @@ ghost use Rattle.w4_defs.specs.Meaning.{RunsHaveMeaning};
 ghost use Rattle.w4_defs.specs.declared.batch.BatchRow.TheVariants.{Bad, Ran, WrongCart};
 ghost use Rattle.w4_defs.specs.World.{LeavesWriting};
 ghost use Rattle.w4_defs.specs.Causes.{LeavesErr};
-ghost use Rattle.w4_answers.specs.Causes.{EndsDone, MakesOf, Written};
+ghost use Rattle.w4_commands.specs.Commands.{EndsDone, MakesOf};
+ghost use Rattle.w4_answers.specs.Writing.{Written};
 ghost use Rattle.w4_defs.specs.BatchRows.{row_text, rows_text};
 ghost use Rattle.w4_defs.specs.ToolOutputs.{batch_output, batch_text};
-ghost use Rattle.w4_commands.specs.Views.{batch_loaded_view, batch_view, cart_view};
+ghost use Rattle.w4_commands.specs.LoadTools.{batch_loaded_view};
+ghost use Rattle.w4_commands.specs.Forms.{batch_view};
+ghost use Rattle.w4_commands.specs.Load.{cart_view};
 
 use crate::forms::BatchNames;
 use crate::load_tools::{BatchLoaded, load_batch};
@@ -17,11 +20,11 @@ use crate::workers::Workers;
 use std::alloc::Global;
 use std::thread::Threads;
 use w4_answers::state_line::add_halt;
-use w4_answers::text::{add_hexadecimal, add_number, add_words};
 use w4_answers::writing::write_bytes;
 use w4_cart::CartFile;
 use w4_defs::batch::BatchRow;
 use w4_defs::{Halt, OutOfMemory, Refusal};
+use w4_devices::text_parts::{add_hexadecimal, add_number, add_words};
 use w4_house::House;
 use w4_segments::{Gate, Resources, batch};
 

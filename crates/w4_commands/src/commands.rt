@@ -1,4 +1,5 @@
-//! The commands, each over a cart that is judged first.
+//! The choice of a command, and the commands that write texts of one run. A command that names a cart is
+//! carried out over it once it is judged; `make` and `inputs` name none.
 
 ghost use Rattle.std.specs.Prelude.{◌≡◌, ◌+◌, ◌-◌, ◌≤◌, [], length, Ok, Some};
 ghost use Rattle.std.specs.Option.{ForSome};
@@ -8,8 +9,10 @@ ghost use Rattle.w4_defs.specs.Meaning.{RunsHaveMeaning};
 ghost use Rattle.w4_defs.specs.Output.{blank_output, checked, disk_output, images_output, place_texts_from, texts_output, written};
 ghost use Rattle.w4_defs.specs.Outputs.{OutputsBy, OutputsOn, OverCart};
 ghost use Rattle.w4_defs.specs.World.{LeavesWriting};
-ghost use Rattle.w4_answers.specs.Causes.{EndsDone, MakesOf, Written, finished};
-ghost use Rattle.w4_commands.specs.Views.{cart_view, command_view, form_view, played_view, run_view};
+ghost use Rattle.w4_commands.specs.Commands.{EndsDone, MakesOf, finished};
+ghost use Rattle.w4_answers.specs.Writing.{Written};
+ghost use Rattle.w4_commands.specs.Load.{cart_view, played_view};
+ghost use Rattle.w4_commands.specs.Forms.{command_view, form_view, run_view};
 
 use crate::batch::run_list;
 use crate::compare::run_compare;

@@ -10,10 +10,11 @@ ghost use Rattle.w4_defs.specs.Outputs.{OverCart};
 ghost use Rattle.w4_defs.specs.RecordingOutputs.{compare_files, compare_output, finish_of, side_of};
 ghost use Rattle.w4_defs.specs.State.{HasGlobals};
 ghost use Rattle.w4_defs.specs.World.{LeavesReading, LeavesWriting};
-ghost use Rattle.w4_answers.specs.Causes.{MakesOf, ResultsIn, StepGives};
-ghost use Rattle.w4_commands.specs.Comparing.{ComparedTo, WrittenTo, scene_side, two_view};
-ghost use Rattle.w4_commands.specs.Scenes.{IsAtPlace};
-ghost use Rattle.w4_commands.specs.Views.{cart_view, compare_view};
+ghost use Rattle.w4_commands.specs.Commands.{MakesOf};
+ghost use Rattle.w4_commands.specs.Load.{ResultsIn, StepGives, cart_view};
+ghost use Rattle.w4_commands.specs.Compare.{ComparedTo, WrittenTo, scene_side, two_view};
+ghost use Rattle.w4_commands.specs.Stage.{IsAtPlace};
+ghost use Rattle.w4_commands.specs.Forms.{compare_view};
 
 use crate::differences::{Differences, differences_text, finish_of, no_differences, note_place};
 use crate::forms::CompareNames;

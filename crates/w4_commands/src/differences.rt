@@ -7,14 +7,14 @@ ghost use Rattle.w4_defs.specs.FrameTexts.{numbered, schedule_text, trace_text};
 ghost use Rattle.w4_defs.specs.Image.{image};
 ghost use Rattle.w4_defs.specs.RecordingOutputs.{finish_of};
 ghost use Rattle.w4_defs.specs.SameState.{same_state};
-ghost use Rattle.w4_commands.specs.Comparing.{after_place, both_stages, if_differs, listed, noted};
-ghost use Rattle.w4_commands.specs.Scenes.{stage_moment};
+ghost use Rattle.w4_commands.specs.Differences.{after_place, both_stages, if_differs, listed, noted};
+ghost use Rattle.w4_commands.specs.Stage.{stage_moment};
 
 use crate::stage::{Stage, disk, paint, painted, schedule, state, traces};
 use std::alloc::Global;
-use w4_answers::text::{add_number, add_words};
 use w4_defs::editing_laws::states_are_compared;
 use w4_defs::{Finish, OutOfMemory};
+use w4_devices::text_parts::{add_number, add_words};
 use w4_map::State;
 use w4_snap::equality::{equal_channels, equal_globals};
 

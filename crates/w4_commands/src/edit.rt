@@ -6,8 +6,10 @@ ghost use Rattle.w4_defs.specs.Recording.{encoding};
 ghost use Rattle.w4_defs.specs.Meaning.{RunsHaveMeaning};
 ghost use Rattle.w4_defs.specs.Output.{edit_answers, edit_output, edited_recording};
 ghost use Rattle.w4_defs.specs.Causes.{LeavesErr};
-ghost use Rattle.w4_answers.specs.Causes.{Carried, EndsDone, MakesOf};
-ghost use Rattle.w4_commands.specs.Views.{cart_view, edit_view, loaded_view};
+ghost use Rattle.w4_commands.specs.Edit.{Carried};
+ghost use Rattle.w4_commands.specs.Commands.{EndsDone, MakesOf};
+ghost use Rattle.w4_commands.specs.Load.{cart_view, loaded_view};
+ghost use Rattle.w4_commands.specs.Forms.{edit_view};
 
 use crate::forms::EditNames;
 use crate::load::{Loaded, load_edit};

@@ -23,7 +23,7 @@ ghost use Rattle.w4_defs.specs.Commands.{
   wave_form,
 };
 ghost use Rattle.w4_defs.specs.Outputs.{cart_word};
-ghost use Rattle.w4_commands.specs.Views.{command_view, form_view, run_view};
+ghost use Rattle.w4_commands.specs.Forms.{command_view, form_view, run_view};
 
 use crate::budget::Budget;
 use crate::places::Places;

@@ -1,6 +1,6 @@
-//! The commands, over a house that stands for files and streams. `specs/` defines what comes of arguments and
-//! files. The layer above relies on `run_form` ending as `Outputs` has it, on `form_of_words` giving the form
-//! of the arguments, and on `line` for a status.
+//! The commands, over a house that stands for files and streams. What comes of arguments and files is defined
+//! in w4_defs (`Commands`, `Outputs`). The layer above relies on `run_form` ending as `Outputs` has it, on
+//! `form_of_words` giving the form of the arguments, and on `status_line` for a status.
 #![tactic(auto)]
 
 mod batch;

@@ -1,7 +1,7 @@
 //! The status for a refused file of lines.
 
 ghost use Rattle.std.specs.Prelude.{◌≡◌};
-ghost use Rattle.w4_commands.specs.Reads.{lines_refused, lines_status};
+ghost use Rattle.w4_commands.specs.LinesStatus.{lines_refused, lines_status};
 
 use w4_defs::{Refusal, ScriptKind};
 use w4_script::ScriptRefusal;

@@ -17,22 +17,25 @@ ghost use Rattle.w4_defs.specs.Output.{
   run_files,
   run_files_to,
 };
-ghost use Rattle.w4_commands.specs.Reads.{GivesValue};
-ghost use Rattle.w4_answers.specs.Causes.{ResultsIn, StepGives};
-ghost use Rattle.w4_commands.specs.Views.{cart_view, edit_view, loaded_view, played_view, run_view};
+ghost use Rattle.w4_commands.specs.Load.{
+  GivesValue,
+  ResultsIn,
+  StepGives,
+  cart_view,
+  loaded_view,
+  played_view,
+};
+ghost use Rattle.w4_commands.specs.Forms.{edit_view, run_view};
 
 use crate::forms::{EditNames, RunNames};
 use crate::lines_status::{LinesFile, lines_status};
 use std::alloc::Global;
 use w4_cart::{CartFile, CartRefusal, accept_file};
 use w4_defs::{Order, RecordingKind, Refusal};
-use w4_font::{Font, FontLength};
+use w4_font::{FONT_BYTES, Font, FontLength};
 use w4_house::{House, HouseFault};
 use w4_record::{Recording, RecordingRefusal, read_recording};
 use w4_script::read_script;
-
-/// The length of a font, in bytes: 8 for each of 224 codes.
-const FONT_LEN: usize = 1_792;
 
 /// The files of a run, without the cart.
 #[derive(Drop)]
@@ -149,7 +152,7 @@ pub fn load_font<H: House>(alloc: Global, house: &mut H, name: &str) -> Result<F
         (ResultsIn (λ files. font_in files name.now)) }
     ensures rest { LeavesReading (H.world house.old) (H.world house.new) }
 {
-    let bytes = read_file(alloc, house, name, FONT_LEN + 1)?;
+    let bytes = read_file(alloc, house, name, FONT_BYTES + 1)?;
     judge_font(bytes.as_slice())
 }
 

@@ -2,9 +2,8 @@
 
 ghost use Rattle.std.specs.Prelude.{◌≡◌, All, IfOk, length, map, string_bytes};
 ghost use Rattle.w4_defs.specs.World.{LeavesReading};
-ghost use Rattle.w4_script.specs.Requests.{IsQueryLine};
-ghost use Rattle.w4_answers.specs.Causes.{ResultsIn, StepGives};
-ghost use Rattle.w4_commands.specs.Reads.{GivesValue};
+ghost use Rattle.w4_script.specs.Query.{IsQueryLine};
+ghost use Rattle.w4_commands.specs.Load.{ResultsIn, StepGives, GivesValue};
 ghost use Rattle.w4_defs.specs.ToolOutputs.{
   batch_files,
   listed_files,
@@ -17,14 +16,8 @@ ghost use Rattle.w4_defs.specs.ToolOutputs.{
   query_lines,
   ram_files,
 };
-ghost use Rattle.w4_commands.specs.Views.{
-  batch_loaded_view,
-  batch_view,
-  net_loaded_view,
-  net_view,
-  ram_loaded_view,
-  run_view,
-};
+ghost use Rattle.w4_commands.specs.LoadTools.{batch_loaded_view, net_loaded_view, ram_loaded_view};
+ghost use Rattle.w4_commands.specs.Forms.{batch_view, net_view, run_view};
 
 use crate::forms::{BatchNames, NetNames, RunNames};
 use crate::lines_status::{LinesFile, lines_status};

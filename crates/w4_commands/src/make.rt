@@ -8,7 +8,8 @@ ghost use Rattle.w4_defs.specs.Generator.{made_budget, made_inputs, made_module}
 ghost use Rattle.w4_defs.specs.MadeSummary.{summary_text};
 ghost use Rattle.w4_defs.specs.World.{LeavesWriting};
 ghost use Rattle.w4_defs.specs.Causes.{LeavesErr};
-ghost use Rattle.w4_answers.specs.Causes.{EndsDone, MakesOf, Written};
+ghost use Rattle.w4_commands.specs.Commands.{EndsDone, MakesOf};
+ghost use Rattle.w4_answers.specs.Writing.{Written};
 ghost use Rattle.w4_defs.specs.Output.{made_text, make_output};
 ghost use Rattle.w4_defs.specs.EncodeModule.{module_bytes};
 
@@ -21,16 +22,13 @@ use w4_cart::{CartRefusal, accept};
 use w4_console::laws::accepted_runs_have_meaning;
 use w4_defs::tool_laws::generator_laws;
 use w4_defs::{OutOfMemory, Refusal};
-use w4_font::Font;
+use w4_font::{FONT_BYTES, Font};
 use w4_house::House;
 use w4_record::digest_of;
 use wasm_read::at_most_one;
 use wasm_register::Cart;
 use wasm_write::laws::made_modules_are_carts;
-use wasm_write::{Made, Maker};
-
-/// How many frames a made cart is run for.
-const FRAMES: usize = 600;
+use wasm_write::{MADE_FRAMES, Made, Maker};
 
 /// `make NUMBER`.
 pub fn make_cart<H: House>(alloc: Global, house: &mut H, number: u32) -> Result<(), Refusal>
@@ -70,7 +68,7 @@ fn accept_made(alloc: Global, bytes: &[u8], number: u32) -> Result<Cart, OutOfMe
 fn zero_font() -> Font
     ensures { result ≡ replicate 1792 0 }
 {
-    match Font::new(&[0; 1792]) {
+    match Font::new(&[0; FONT_BYTES]) {
         Ok(font) => font,
         Err(_) => unreachable!(),
     }
@@ -103,7 +101,12 @@ fn lines_of(alloc: Global, number: u32, made: &Made) -> Result<Vec<u8>, OutOfMem
         disk: &[],
         budget: made.budget,
     };
-    run_to(&mut stage, &scene, made.inputs.as_slice(), FRAMES);
+    run_to(
+        &mut stage,
+        &scene,
+        made.inputs.as_slice(),
+        MADE_FRAMES as usize,
+    );
     summary_of(alloc, &mut stage, bytes.len())
 }
 

@@ -3,14 +3,17 @@
 ghost use Rattle.std.specs.Prelude.{◌≡◌, ◌<◌, []};
 ghost use Rattle.std.specs.Option.{ForSome};
 ghost use Rattle.w4_defs.specs.Meaning.{RunsHaveMeaning};
-ghost use Rattle.w4_editor.specs.Editing.{editing_setup};
+ghost use Rattle.w4_editor.specs.Editor.{editing_setup};
 ghost use Rattle.w4_defs.specs.World.{LeavesWriting};
 ghost use Rattle.w4_defs.specs.Causes.{LeavesErr};
-ghost use Rattle.w4_answers.specs.Causes.{EndsDone, MakesOf, Written};
+ghost use Rattle.w4_commands.specs.Commands.{EndsDone, MakesOf};
+ghost use Rattle.w4_answers.specs.Writing.{Written};
 ghost use Rattle.w4_defs.specs.LogAnswers.{net_answers};
 ghost use Rattle.w4_answers.specs.NetAnswers.{net_session};
 ghost use Rattle.w4_defs.specs.ToolOutputs.{net_output, net_text};
-ghost use Rattle.w4_commands.specs.Views.{cart_view, net_loaded_view, net_view};
+ghost use Rattle.w4_commands.specs.Load.{cart_view};
+ghost use Rattle.w4_commands.specs.LoadTools.{net_loaded_view};
+ghost use Rattle.w4_commands.specs.Forms.{net_view};
 
 use crate::budget::Budget;
 use crate::forms::NetNames;

@@ -5,8 +5,9 @@ ghost use Rattle.std.specs.Option.{ForSome};
 ghost use Rattle.w4_defs.specs.Run.{run};
 ghost use Rattle.w4_defs.specs.World.{LeavesWriting};
 ghost use Rattle.w4_defs.specs.State.{HasGlobals};
-ghost use Rattle.w4_answers.specs.Causes.{Written};
-ghost use Rattle.w4_commands.specs.Scenes.{scene_setup, stage_moment};
+ghost use Rattle.w4_answers.specs.Writing.{Written};
+ghost use Rattle.w4_commands.specs.Scene.{scene_setup};
+ghost use Rattle.w4_commands.specs.Stage.{stage_moment};
 ghost use Rattle.w4_defs.specs.PlaceTexts.{as_it_stands, moment_text, place_text, place_texts};
 
 use crate::scene::Scene;

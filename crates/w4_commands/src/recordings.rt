@@ -16,9 +16,9 @@ ghost use Rattle.w4_defs.specs.RecordingOutputs.{
 ghost use Rattle.w4_defs.specs.InputsText.{disk_remark, input_lines, input_words, inputs_text};
 ghost use Rattle.w4_defs.specs.FrameTexts.{line_end, numbered};
 ghost use Rattle.w4_defs.specs.World.{LeavesReading, LeavesWriting};
-ghost use Rattle.w4_answers.specs.Causes.{EndsDone, MakesOf, ResultsIn, StepGives, Written};
-ghost use Rattle.w4_commands.specs.Reads.{GivesValue};
-ghost use Rattle.w4_commands.specs.Views.{cart_view};
+ghost use Rattle.w4_commands.specs.Commands.{EndsDone, MakesOf};
+ghost use Rattle.w4_commands.specs.Load.{ResultsIn, StepGives, GivesValue, cart_view};
+ghost use Rattle.w4_answers.specs.Writing.{Written};
 
 use crate::budget::Budget;
 use crate::load::read_file;
@@ -28,10 +28,7 @@ use w4_answers::writing::write_bytes;
 use w4_cart::CartFile;
 use w4_defs::{Input, OutOfMemory, RecordingKind, Refusal};
 use w4_house::House;
-use w4_record::{Recording, RecordingRefusal, read_recording, write_recording};
-
-/// How many bytes a disk has at most.
-const MOST_DISK_BYTES: usize = 1_024;
+use w4_record::{MOST_DISK_BYTES, Recording, RecordingRefusal, read_recording, write_recording};
 
 /// `blank CART BUDGET`: the recording of this cart with this budget, no disk and no frames.
 pub fn run_blank<H: House>(

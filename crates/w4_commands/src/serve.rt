@@ -8,19 +8,21 @@ ghost use Rattle.w4_defs.specs.Live.{Opened, Talk, first_live_session, serve_out
 ghost use Rattle.w4_defs.specs.Meaning.{RunsHaveMeaning};
 ghost use Rattle.w4_defs.specs.Recording.{encoding};
 ghost use Rattle.w4_defs.specs.World.{Does, LeavesSaving, LeavesTaking};
-ghost use Rattle.w4_editor.specs.Editing.{current_recording};
+ghost use Rattle.w4_editor.specs.Editor.{current_recording};
 ghost use Rattle.w4_house.specs.Lines.{taken};
-ghost use Rattle.w4_answers.specs.Causes.{EndsDone, Replaces};
-ghost use Rattle.w4_answers.specs.Serving.{
+ghost use Rattle.w4_commands.specs.Commands.{EndsDone};
+ghost use Rattle.w4_answers.specs.Saving.{Replaces};
+ghost use Rattle.w4_commands.specs.Serve.{
   AnswersLines,
   EndsStopped,
-  LeavesServing,
   LosesLine,
   ServedStep,
-  Sits,
   stop_refusal,
+  opened_view,
 };
-ghost use Rattle.w4_commands.specs.Views.{cart_view, opened_view, serve_view};
+ghost use Rattle.w4_answers.specs.LiveAnswer.{LeavesServing, Sits};
+ghost use Rattle.w4_commands.specs.Load.{cart_view};
+ghost use Rattle.w4_commands.specs.Forms.{serve_view};
 
 use crate::forms::ServeNames;
 use crate::load::{Played, load_run};

@@ -3,11 +3,12 @@
 ghost use Rattle.std.specs.Prelude.{◌≡◌, ◌+◌, ◌≤◌, ◌<◌, Some, length, IfOk};
 ghost use Rattle.w4_defs.specs.State.{HasGlobals};
 ghost use Rattle.w4_defs.specs.Frame.{frame};
-ghost use Rattle.w4_commands.specs.Scenes.{IsAtPlace, scene_setup, stage_moment};
+ghost use Rattle.w4_commands.specs.Stage.{IsAtPlace, stage_moment};
+ghost use Rattle.w4_commands.specs.Scene.{scene_setup};
 ghost use Rattle.w4_defs.specs.FrameTexts.{schedule_text, trace_text};
 ghost use Rattle.w4_defs.specs.Image.{image};
 ghost use Rattle.w4_defs.specs.MadeSummary.{lit_pixels};
-ghost use Rattle.w4_console.specs.TakenUnits.{FrameTakes, TellsUnits, taken_of};
+ghost use Rattle.w4_console.specs.Taken.{FrameTakes, TellsUnits, taken_of};
 ghost use Rattle.w4_defs.specs.Units.{start_units};
 ghost use Rattle.w4_defs.specs.Sound.{after_frame, rendered};
 

@@ -13,8 +13,8 @@ ghost use Rattle.w4_defs.specs.StatusLines.{
 };
 
 use std::alloc::Global;
-use w4_answers::text::{add_number, add_words};
 use w4_defs::{CartKind, OutOfMemory, ProfileRefusal, RecordingKind, ScriptKind, Status};
+use w4_devices::text_parts::{add_number, add_words};
 
 /// Adds words and a number after a space.
 fn add_numbered(text: &mut Vec<u8>, words: &[u8], number: usize) -> Result<(), OutOfMemory>

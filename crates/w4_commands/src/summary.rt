@@ -1,16 +1,16 @@
 //! The five lines of a made cart.
 
-ghost use Rattle.std.specs.Prelude.{ℕ, List, ◌≡◌, ◌++◌, ◌∷◌, [], IfOk, OnOk};
+ghost use Rattle.std.specs.Prelude.{ℕ, List, ◌≡◌, IfOk};
 ghost use Rattle.w4_defs.specs.Image.{image};
-ghost use Rattle.w4_defs.specs.FrameTexts.{numbered};
 ghost use Rattle.w4_defs.specs.MadeSummary.{lit_pixels, summary_text};
 ghost use Rattle.w4_defs.specs.State.{State};
 
 use std::alloc::Global;
 use w4_answers::state_line::add_halt;
-use w4_answers::text::{add_hexadecimal, add_number, add_words};
 use w4_defs::{Halt, OutOfMemory, PageBytes};
+use w4_devices::text_parts::{add_hexadecimal, add_numbered, add_words};
 use w4_pixels::pixel;
+use wasm_write::MADE_FRAMES;
 
 /// What the lines of a made cart say of its last frame.
 #[derive(Clone, Copy)]
@@ -36,15 +36,6 @@ pub fn lit_pixels(page: &PageBytes) -> u32
     lit
 }
 
-/// Adds a word, a number and the line's end.
-fn add_line(text: &mut Vec<u8>, word: &[u8], number: u64) -> Result<(), OutOfMemory>
-    ensures { OnOk result (text.new.items ≡ text.old.items ++ numbered word.now (number ∷ [])) }
-{
-    add_words(text, word)?;
-    add_number(text, number)?;
-    add_words(text, b"\n")
-}
-
 /// The five lines.
 #[tactic(auto, unfolding(w4_defs::specs::MadeSummary::summary_text))]
 pub fn summary_text(alloc: Global, summary: &Summary) -> Result<Vec<u8>, OutOfMemory>
@@ -53,12 +44,12 @@ pub fn summary_text(alloc: Global, summary: &Summary) -> Result<Vec<u8>, OutOfMe
         → text.items ≡ summary_text sha256 summary.now.cart_len state) }
 {
     let mut text = Vec::new(alloc);
-    add_line(&mut text, b"cart", summary.cart_len as u64)?;
-    add_line(&mut text, b"frames", 600)?;
+    add_numbered(&mut text, b"cart", &[summary.cart_len as u64])?;
+    add_numbered(&mut text, b"frames", &[u64::from(MADE_FRAMES)])?;
     add_words(&mut text, b"halt ")?;
     add_halt(&mut text, summary.halt)?;
     add_words(&mut text, b"\n")?;
-    add_line(&mut text, b"lit", u64::from(summary.lit))?;
+    add_numbered(&mut text, b"lit", &[u64::from(summary.lit)])?;
     add_words(&mut text, b"image ")?;
     add_hexadecimal(&mut text, &summary.image)?;
     add_words(&mut text, b"\n")?;

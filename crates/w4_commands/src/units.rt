@@ -2,16 +2,18 @@
 
 ghost use Rattle.std.specs.Prelude.{◌≡◌, ◌≤◌, length};
 ghost use Rattle.std.specs.Option.{ForSome};
-ghost use Rattle.w4_console.specs.TakenUnits.{frame_line, taken_of};
+ghost use Rattle.w4_console.specs.Taken.{frame_line, taken_of};
 ghost use Rattle.w4_defs.specs.Causes.{LeavesErr};
 ghost use Rattle.w4_defs.specs.Meaning.{RunsHaveMeaning};
 ghost use Rattle.w4_defs.specs.RecordingOutputs.{run_units, units_output};
 ghost use Rattle.w4_defs.specs.State.{HasGlobals};
 ghost use Rattle.w4_defs.specs.Units.{start_line, units_text};
 ghost use Rattle.w4_defs.specs.World.{LeavesWriting};
-ghost use Rattle.w4_answers.specs.Causes.{EndsDone, MakesOf, Written};
-ghost use Rattle.w4_commands.specs.Scenes.{scene_setup};
-ghost use Rattle.w4_commands.specs.Views.{cart_view, played_view, run_view};
+ghost use Rattle.w4_commands.specs.Commands.{EndsDone, MakesOf};
+ghost use Rattle.w4_answers.specs.Writing.{Written};
+ghost use Rattle.w4_commands.specs.Scene.{scene_setup};
+ghost use Rattle.w4_commands.specs.Load.{cart_view, played_view};
+ghost use Rattle.w4_commands.specs.Forms.{run_view};
 
 use crate::forms::RunNames;
 use crate::load::{Played, load_run};

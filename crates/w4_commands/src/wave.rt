@@ -7,10 +7,13 @@ ghost use Rattle.w4_defs.specs.Sound.{after_frame, rendered, samples, wav_header
 ghost use Rattle.w4_defs.specs.State.{HasGlobals};
 ghost use Rattle.w4_defs.specs.World.{LeavesWriting};
 ghost use Rattle.w4_defs.specs.Causes.{LeavesErr};
-ghost use Rattle.w4_answers.specs.Causes.{EndsDone, MakesOf, Written};
-ghost use Rattle.w4_commands.specs.Scenes.{scene_records, stage_moment};
+ghost use Rattle.w4_commands.specs.Commands.{EndsDone, MakesOf};
+ghost use Rattle.w4_answers.specs.Writing.{Written};
+ghost use Rattle.w4_commands.specs.Wave.{scene_records};
+ghost use Rattle.w4_commands.specs.Stage.{stage_moment};
 ghost use Rattle.w4_defs.specs.ToolOutputs.{wave_output, wave_text};
-ghost use Rattle.w4_commands.specs.Views.{cart_view, played_view, run_view};
+ghost use Rattle.w4_commands.specs.Load.{cart_view, played_view};
+ghost use Rattle.w4_commands.specs.Forms.{run_view};
 
 use crate::forms::RunNames;
 use crate::load::{Played, load_run};

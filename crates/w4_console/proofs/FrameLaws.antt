@@ -8,7 +8,7 @@ use Rattle.w4_defs.specs.State.{empty_record, FrameRecord, Moment, State, Logged
 use Rattle.w4_defs.specs.Units.{Taken, frame_units, taken_from}
 use Rattle.w4_devices.specs.declared.frame_record.FrameRecord.{FrameRecord as Record}
 use Rattle.w4_devices.specs.Records.{record_of}
-use Rattle.w4_console.specs.ConsoleCalls.{so_far}
+use Rattle.w4_console.specs.Calls.{so_far}
 
 pub framed : (setup : Setup) (state : State) (input : Input) (first next : LoggedState) (moment : Moment)
     → before_update setup state input ≡ Some first → update setup input first ≡ Some next

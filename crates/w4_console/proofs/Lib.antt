@@ -1,7 +1,7 @@
 -- Lemmas of resets and frames.
 mod CallLaws
 mod FrameLaws
-mod GlobalLaws
-mod SegmentLaws
+mod StartLaws
+mod PageLaws
 mod MeaningLaws
 pub mod TakenLaws

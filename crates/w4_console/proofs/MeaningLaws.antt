@@ -22,7 +22,7 @@ use Rattle.w4_defs.specs.TypeSoundness.{HasTypes}
 use Rattle.wasm_valid.proofs.NeverStuck.{never_stuck_with, globals_keep_types_with}
 use Rattle.wasm_valid.proofs.ProfileFacts.{entry_point_found, update_found}
 use Rattle.w4_defs.specs.Meaning.{AcceptedRunsHaveMeaning, LeadsOn, RunsHaveMeaning}
-use Rattle.w4_console.proofs.GlobalLaws.{first_types}
+use Rattle.w4_console.proofs.StartLaws.{first_types}
 
 -- what the console's profile lets through, valid, with a body for each own function
 record Accepted (m : WasmModule) : Type 0 where

@@ -8,7 +8,7 @@ use Rattle.w4_defs.specs.Run.{run_state}
 use Rattle.w4_defs.specs.State.{State}
 use Rattle.w4_defs.specs.Units.{frame_units, reset_units, units_line}
 use Rattle.w4_console.specs.declared.taken.FrameTaken.{FrameTaken}
-use Rattle.w4_console.specs.TakenUnits.{FrameTakes, taken_of, TellsUnits}
+use Rattle.w4_console.specs.Taken.{FrameTakes, taken_of, TellsUnits}
 
 goes_on : {A B : Type 0} (o : Option A) (f : A → Option B) (x : A) → o ≡ Some x → (o >>= f) ≡ f x
 goes_on o f x e = ap (λ p. p >>= f) e

@@ -1,4 +1,4 @@
 -- What a reset or a frame of the console has come to.
-pub mod Lending
-pub mod TakenUnits
-pub mod ConsoleCalls
+pub mod Console
+pub mod Taken
+pub mod Calls

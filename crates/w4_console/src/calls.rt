@@ -5,8 +5,15 @@ ghost use Rattle.std.specs.Prelude.{◌≡◌, OnOk, Some};
 ghost use Rattle.w4_defs.specs.declared.console.Halt.TheVariants.{Running};
 ghost use Rattle.w4_defs.specs.Lookup.{signature_of};
 ghost use Rattle.w4_defs.specs.Reset.{store_of, logged_state_after};
-ghost use Rattle.w4_console.specs.ConsoleCalls.{halt_after, IsCalled, IsCalledFirst, rest_after, so_far};
-ghost use Rattle.w4_console.specs.ConsoleCalls.{TakesUnits, TakesUnitsFirst};
+ghost use Rattle.w4_console.specs.Calls.{
+  halt_after,
+  IsCalled,
+  IsCalledFirst,
+  rest_after,
+  so_far,
+  TakesUnits,
+  TakesUnitsFirst,
+};
 ghost use Rattle.w4_defs.specs.State.{HasGlobals};
 ghost use Rattle.w4_defs.specs.Module.{nothing_to_nothing};
 

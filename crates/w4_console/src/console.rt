@@ -7,8 +7,8 @@ ghost use Rattle.w4_defs.specs.Frame.{frame};
 ghost use Rattle.w4_defs.specs.Reset.{reset};
 ghost use Rattle.w4_defs.specs.State.{blank_state, HasGlobals};
 ghost use Rattle.w4_defs.specs.Units.{frame_units, reset_units, start_units};
-ghost use Rattle.w4_console.specs.ConsoleCalls.{moment};
-ghost use Rattle.w4_console.specs.TakenUnits.{taken_of};
+ghost use Rattle.w4_console.specs.Calls.{moment};
+ghost use Rattle.w4_console.specs.Taken.{taken_of};
 
 use crate::frames::{begin_frame, record, update};
 use crate::setup::Setup;
@@ -40,7 +40,7 @@ impl Model for Console {
 
 impl Console {
     ghost use Rattle.std.specs.Borrow.{sem};
-    ghost use Rattle.w4_console.specs.Lending.{LendsState};
+    ghost use Rattle.w4_console.specs.Console.{LendsState};
 
     /// A console before any reset, whose globals are a cart's.
     pub fn new(alloc: Global, cart: &Cart) -> Result<Console, OutOfMemory>

@@ -5,8 +5,8 @@ ghost use Rattle.w4_defs.specs.EntryPoints.{update_entry};
 ghost use Rattle.w4_defs.specs.Frame.{before_update, call_update, update};
 ghost use Rattle.w4_defs.specs.Reset.{recorded};
 ghost use Rattle.w4_defs.specs.Units.{reset_units, taken_by_update, taken_from};
-ghost use Rattle.w4_console.specs.ConsoleCalls.{moment, setup_of, so_far};
-ghost use Rattle.w4_console.specs.TakenUnits.{taken_of};
+ghost use Rattle.w4_console.specs.Calls.{moment, setup_of, so_far};
+ghost use Rattle.w4_console.specs.Taken.{taken_of};
 ghost use Rattle.w4_defs.specs.State.{HasGlobals};
 
 use crate::calls::call_function;

@@ -7,8 +7,9 @@ ghost use Rattle.w4_defs.specs.Lookup.{own_global_types};
 ghost use Rattle.w4_defs.specs.Reset.{call_all, fresh, start};
 ghost use Rattle.w4_defs.specs.RunLaws.{types_of};
 ghost use Rattle.w4_defs.specs.Units.{start_units, taken_by_calls};
-ghost use Rattle.w4_console.specs.ConsoleCalls.{setup_of, so_far};
-ghost use Rattle.w4_console.specs.TakenUnits.{taken_by_calls_of, taken_of};
+ghost use Rattle.w4_defs.specs.Validity.{IsValid};
+ghost use Rattle.w4_console.specs.Calls.{setup_of, so_far};
+ghost use Rattle.w4_console.specs.Taken.{taken_by_calls_of, taken_of};
 ghost use Rattle.w4_defs.specs.State.{HasGlobals};
 
 use crate::calls::call_if_there;
@@ -60,9 +61,16 @@ pub(crate) fn first_globals(cart: &Cart) -> &[Val]
     ensures value { result.now ≡ first_globals cart.now }
     ensures types { types_of result.now ≡ own_global_types cart.now }
 {
-    // a valid module: its constants have the types of their globals
-    let _code = cart.code();
+    is_valid(cart);
     cart.first_globals()
+}
+
+/// A fact for callers, which costs nothing: the module is valid, so its constants have the types of their
+/// globals.
+fn is_valid(cart: &Cart)
+    ensures { IsValid cart.now }
+{
+    let _code = cart.code();
 }
 
 /// Calls the start function and the exports `_start`, `_initialize` and `start`, where present, under one

@@ -1,7 +1,7 @@
 //! What the calls of a frame or a reset take of their budget.
 
 ghost use Rattle.std.specs.Prelude.{◌≡◌};
-ghost use Rattle.w4_console.specs.TakenUnits.{taken_by_calls_of, taken_of};
+ghost use Rattle.w4_console.specs.Taken.{taken_by_calls_of, taken_of};
 
 /// What a frame or a reset took of its budget.
 #[derive(Clone, Copy, PartialEq, Eq, Debug)]

@@ -1,13 +1,13 @@
 //! The lines that tell of units (project rule). Each ends with byte 10.
 
-ghost use Rattle.std.specs.Prelude.{◌≡◌, ◌++◌, OnErr, OnOk, decimal, option_map};
+ghost use Rattle.std.specs.Prelude.{◌≡◌, ◌++◌, OnErr, OnOk, option_map};
 ghost use Rattle.w4_defs.specs.Units.{after_reset, start_line, taken_words};
-ghost use Rattle.w4_console.specs.TakenUnits.{frame_line, taken_of};
+ghost use Rattle.w4_console.specs.Taken.{frame_line, taken_of};
 
 use crate::taken::{FrameTaken, Taken};
-use itoa::Buffer;
 use std::alloc::Global;
 use w4_defs::OutOfMemory;
+use w4_devices::text_parts::{add_decimal, add_words};
 
 /// Appends the line of the frame from place `k` on. If memory is refused, `out` is unchanged.
 pub fn units_line(
@@ -40,9 +40,9 @@ fn add_frame(text: &mut Vec<u8>, k: usize, taken: FrameTaken) -> Result<(), OutO
     ensures { OnOk result (text.new.items ≡ text.old.items ++ frame_line k taken) }
 {
     text.extend_from_slice(b"units ")?;
-    add_number(text, k as u64)?;
+    add_decimal(text, k as u64)?;
     text.push(b' ')?;
-    add_words(text, taken.update)?;
+    add_taken(text, taken.update)?;
     add_reset(text, taken.start)?;
     text.push(b'\n')?;
     Ok(())
@@ -52,7 +52,7 @@ fn add_start(text: &mut Vec<u8>, taken: Taken) -> Result<(), OutOfMemory>
     ensures { OnOk result (text.new.items ≡ text.old.items ++ start_line (taken_of taken)) }
 {
     text.extend_from_slice(b"start ")?;
-    add_words(text, taken)?;
+    add_taken(text, taken)?;
     text.push(b'\n')?;
     Ok(())
 }
@@ -65,30 +65,16 @@ fn add_reset(text: &mut Vec<u8>, start: Option<Taken>) -> Result<(), OutOfMemory
         return Ok(());
     };
     text.extend_from_slice(b" start ")?;
-    add_words(text, taken)
+    add_taken(text, taken)
 }
 
-fn add_words(text: &mut Vec<u8>, taken: Taken) -> Result<(), OutOfMemory>
+fn add_taken(text: &mut Vec<u8>, taken: Taken) -> Result<(), OutOfMemory>
     ensures { OnOk result (text.new.items ≡ text.old.items ++ taken_words (taken_of taken)) }
 {
     match taken {
-        Taken::Units(units) => add_number(text, units.into()),
-        Taken::Halted => add_word(text, b"halted"),
-        Taken::Trapped => add_word(text, b"trap"),
-        Taken::Spent => add_word(text, b"spent"),
+        Taken::Units(units) => add_decimal(text, units.into()),
+        Taken::Halted => add_words(text, b"halted"),
+        Taken::Trapped => add_words(text, b"trap"),
+        Taken::Spent => add_words(text, b"spent"),
     }
-}
-
-fn add_word(text: &mut Vec<u8>, word: &[u8]) -> Result<(), OutOfMemory>
-    ensures { OnOk result (text.new.items ≡ text.old.items ++ word.now) }
-{
-    text.extend_from_slice(word)?;
-    Ok(())
-}
-
-fn add_number(text: &mut Vec<u8>, number: u64) -> Result<(), OutOfMemory>
-    ensures { OnOk result (text.new.items ≡ text.old.items ++ decimal number) }
-{
-    text.extend_from_slice(Buffer::new().format(number).as_bytes())?;
-    Ok(())
 }

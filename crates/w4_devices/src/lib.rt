@@ -1,5 +1,6 @@
-//! The disk, the logs of one frame, and their texts (WASM-4 reference: `diskr`, `diskw`, the trace calls;
-//! project rule: bounds of the logs and the texts). A contract sees lists of bytes, lines and tones.
+//! The disk, the logs of one frame, their texts, and the parts of all texts (WASM-4 reference: `diskr`,
+//! `diskw`, the trace calls; project rule: bounds of the logs and the texts). A contract sees lists of bytes,
+//! lines and tones.
 #![tactic(auto)]
 
 mod bounded;
@@ -10,6 +11,7 @@ mod hexadecimal;
 mod line;
 mod page_bytes;
 mod source;
+pub mod text_parts;
 pub mod texts;
 pub mod tone_log;
 pub mod trace_log;

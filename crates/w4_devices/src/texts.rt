@@ -1,13 +1,13 @@
 //! The schedule text and the trace text of a place (project rule). Each line ends with byte 10.
 
 ghost use Rattle.std.specs.Prelude.{◌≡◌, ◌++◌, ◌∷◌, flat_map, OnErr, OnOk};
-ghost use Rattle.w4_defs.specs.FrameTexts.{dropped_line, escaped, numbered, schedule_text, sound_line, sound_lines, spaced, tone_line, trace_text, trace_text_line};
+ghost use Rattle.w4_defs.specs.FrameTexts.{dropped_line, escaped, schedule_text, sound_line, sound_lines, tone_line, trace_text, trace_text_line};
 ghost use Rattle.w4_devices.specs.Records.{record_of};
 
 use crate::frame_record::FrameRecord;
 use crate::hexadecimal::hex_digit;
 use crate::line::Line;
-use itoa::Buffer;
+use crate::text_parts::add_numbered;
 use std::alloc::Global;
 use w4_defs::{OutOfMemory, Sound, Tone};
 
@@ -73,26 +73,6 @@ fn add_traces(
     add_numbered(text, b"frame", &[place as u64])?;
     add_lines(text, frame_record.traces.lines())?;
     add_dropped(text, frame_record.traces.dropped())
-}
-
-/// Adds a line of a word and numbers, each after a space.
-fn add_numbered(text: &mut Vec<u8>, word: &[u8], numbers: &[u64]) -> Result<(), OutOfMemory>
-    ensures { OnOk result (text.new.items ≡ text.old.items ++ numbered word.now numbers.now) }
-{
-    text.extend_from_slice(word)?;
-    for number in numbers {
-        add_number(text, *number)?;
-    }
-    text.push(b'\n')?;
-    Ok(())
-}
-
-fn add_number(text: &mut Vec<u8>, number: u64) -> Result<(), OutOfMemory>
-    ensures { OnOk result (text.new.items ≡ text.old.items ++ spaced number) }
-{
-    text.push(b' ')?;
-    text.extend_from_slice(Buffer::new().format(number).as_bytes())?;
-    Ok(())
 }
 
 /// Adds how many items were dropped, where any were.

@@ -17,14 +17,15 @@ use Rattle.w4_defs.specs.KeptList.{Entry, kept_entries, place_at, state_at, firs
 use Rattle.w4_defs.specs.KeptList.{IsConsistent, IsSettled}
 use Rattle.w4_defs.proofs.KeptListLaws.{linked_is_run}
 use Rattle.w4_devices.specs.declared.frame_record.FrameRecord.{FrameRecord as Record}
-use Rattle.w4_editor.specs.Playing.{Player, setup_of, in_state}
-use Rattle.w4_editor.specs.Settling.{AreLinked, copied_beside, linked_entry}
-use Rattle.w4_editor.specs.Editing.{Editing, IsEditor, IsShownAt, editing_setup, session_of}
-use Rattle.w4_editor.specs.Showing.{CanKeep, IsPut, IsShown, IsStepped}
-use Rattle.w4_editor.proofs.KeepLaws.{keep_consistent}
-use Rattle.w4_editor.proofs.SettleLaws.{sure_of_itself}
-use Rattle.w4_editor.proofs.ShowLaws.{up_to_last}
-use Rattle.w4_editor.proofs.PlayLaws.{types_as_many}
+use Rattle.w4_editor.specs.Player.{Player, setup_of, in_state}
+use Rattle.w4_editor.specs.Settling.{AreLinked}
+use Rattle.w4_editor.specs.Showing.{copied_beside, linked_entry}
+use Rattle.w4_editor.specs.Editor.{Editing, IsEditor, IsShownAt, editing_setup, session_of}
+use Rattle.w4_editor.specs.Playing.{CanKeep, IsPut, IsShown, IsStepped}
+use Rattle.w4_editor.proofs.EditorKeepLaws.{keep_consistent}
+use Rattle.w4_editor.proofs.SettlingLaws.{sure_of_itself}
+use Rattle.w4_editor.proofs.ShowingLaws.{up_to_last}
+use Rattle.w4_editor.proofs.PlayerLaws.{types_as_many}
 
 -- the place of an editor that shows none
 pub none_shown : (setup : Setup) (disk : List ℕ) (r : Recording) (kept : List Entry)

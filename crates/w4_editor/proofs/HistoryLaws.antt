@@ -18,12 +18,12 @@ use Rattle.w4_defs.specs.State.{State, Moment, HasGlobals}
 use Rattle.w4_devices.specs.declared.frame_record.FrameRecord.{FrameRecord as Record}
 use Rattle.w4_devices.specs.Records.{record_of}
 use Rattle.w4_defs.specs.declared.console.Input.{Input}
-use Rattle.w4_editor.specs.Playing.{Player, setup_of}
-use Rattle.w4_editor.specs.Editing.{IsEditor}
+use Rattle.w4_editor.specs.Player.{Player, setup_of}
+use Rattle.w4_editor.specs.Editor.{IsEditor}
 use Rattle.w4_editor.proofs.ChainLaws.{consistent_from}
-use Rattle.w4_editor.specs.Overwriting.{overwrite_draft}
-use Rattle.w4_editor.proofs.EditLaws.{set_consistent, insert_consistent, delete_consistent}
-use Rattle.w4_editor.proofs.OverwriteLaws.{length_overwritten, overwrite_consistent}
+use Rattle.w4_editor.specs.Draft.{overwrite_draft}
+use Rattle.w4_editor.proofs.DraftLaws.{set_consistent, insert_consistent, delete_consistent}
+use Rattle.w4_editor.proofs.DraftOverwriteLaws.{length_overwritten, overwrite_consistent}
 
 no_place : {A : Type 0} (p : ℕ) → None ≡ Some p → A
 no_place p e = absurd cc

@@ -7,7 +7,7 @@ use Rattle.std.proofs.lemmas.Bool.{eq-eqb, ne_eqb}
 use Rattle.std.proofs.lemmas.List.{length-map}
 use Rattle.w4_defs.specs.KeptList.{Entry, kept_entries, place_at}
 use Rattle.w4_defs.specs.Session.{places_alone, is_kept, with_kept, all_kept}
-use Rattle.w4_editor.specs.PlaceSession.{is_fresh_multiple, with_multiple}
+use Rattle.w4_editor.specs.KeepEvery.{is_fresh_multiple, with_multiple}
 
 -- the multiples among so many places
 abbrev pub multiples_from : ℕ → ℕ → ℕ → List ℕ

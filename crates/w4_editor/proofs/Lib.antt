@@ -1,16 +1,16 @@
 -- Lemmas of the editor.
-pub mod ListLaws
+pub mod KeptListLaws
 pub mod SliceLaws
 pub mod ChainLaws
-pub mod EditLaws
-pub mod OverwriteLaws
-pub mod PlayLaws
-pub mod SettleLaws
-pub mod KeepLaws
-pub mod ShowLaws
+pub mod DraftLaws
+pub mod DraftOverwriteLaws
+pub mod PlayerLaws
+pub mod SettlingLaws
+pub mod EditorKeepLaws
+pub mod ShowingLaws
 pub mod HistoryLaws
 pub mod EditorLaws
-pub mod TypeLaws
-pub mod PlaceLaws
+pub mod EditorTypeLaws
+pub mod EditorPlaceLaws
 pub mod BitLaws
 pub mod KeepEveryLaws

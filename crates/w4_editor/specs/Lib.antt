@@ -1,8 +1,10 @@
 -- The words of the editor's clauses.
-pub mod Playing
+pub mod Player
 pub mod Settling
-pub mod Editing
-pub mod Overwriting
 pub mod Showing
-pub mod PlaceSession
-pub mod Lending
+pub mod Editor
+pub mod Edits
+pub mod KeptList
+pub mod Draft
+pub mod Playing
+pub mod KeepEvery

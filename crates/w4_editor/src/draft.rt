@@ -3,7 +3,7 @@
 ghost use Rattle.std.specs.Prelude.{◌≡◌, ◌+◌, ◌<◌, ◌≤◌, All, IfOk, length};
 ghost use Rattle.w4_defs.specs.KeptList.{kept_entries};
 ghost use Rattle.w4_defs.specs.Session.{delete_draft, insert_draft, set_draft};
-ghost use Rattle.w4_editor.specs.Overwriting.{inputs_after_overwrite, overwrite_draft};
+ghost use Rattle.w4_editor.specs.Draft.{inputs_after_overwrite, overwrite_draft};
 
 use crate::kept::Kept;
 use crate::kept_list::{

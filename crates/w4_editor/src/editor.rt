@@ -6,7 +6,7 @@ ghost use Rattle.w4_defs.specs.Reset.{reset};
 ghost use Rattle.w4_defs.specs.Session.{drop_kept};
 ghost use Rattle.w4_defs.specs.State.{Moment};
 ghost use Rattle.w4_devices.specs.Records.{record_of};
-ghost use Rattle.w4_editor.specs.Editing.{editing_setup, new_editing, current_recording, with_session};
+ghost use Rattle.w4_editor.specs.Editor.{editing_setup, new_editing, current_recording, with_session};
 
 use crate::draft::Draft;
 use crate::kept::Kept;
@@ -40,7 +40,7 @@ pub struct Editor {
 impl Model for Editor {
     ghost use Rattle.std.specs.Coded.{codes};
     ghost use Rattle.w4_defs.specs.TreeCode.{tree_code};
-    ghost use Rattle.w4_editor.specs.Editing.{Editing, IsEditor, session_of};
+    ghost use Rattle.w4_editor.specs.Editor.{Editing, IsEditor, session_of};
 
     ghost Value = { Editing };
 
@@ -94,6 +94,13 @@ impl Editor {
         ensures session { IsSession (editing_setup self.now) self.now.disk self.now.session }
     {
         self.at
+    }
+
+    /// A fact for callers, which costs nothing: what the editor keeps of its places and edits is right.
+    pub fn session_is_consistent(&self)
+        ensures { IsSession (editing_setup self.now) self.now.disk self.now.session }
+    {
+        let _shown = self.at;
     }
 
     /// The recording as the edits so far leave it.

@@ -4,8 +4,8 @@
 ghost use Rattle.std.specs.Prelude.{◌≡◌, IfErr, None, OnErr, OnOk, Ok};
 ghost use Rattle.w4_defs.specs.KeptList.{IsDraft, kept_entries};
 ghost use Rattle.w4_defs.specs.Session.{delete_input, edited, insert_input, set_input};
-ghost use Rattle.w4_editor.specs.Editing.{IsErrorOrMemory, editing_setup, with_session};
-ghost use Rattle.w4_editor.specs.Overwriting.{overwrite_inputs};
+ghost use Rattle.w4_editor.specs.Edits.{IsErrorOrMemory, overwrite_inputs};
+ghost use Rattle.w4_editor.specs.Editor.{editing_setup, with_session};
 
 use crate::draft::{Draft, delete_draft, exchange, insert_draft, overwrite_draft, set_draft};
 use crate::editor::Editor;

@@ -2,7 +2,7 @@
 
 ghost use Rattle.std.specs.Prelude.{◌≡◌, Err, IfErr, None, OnErr, OnOk, Ok};
 ghost use Rattle.w4_defs.specs.Session.{redo, undo};
-ghost use Rattle.w4_editor.specs.Editing.{with_session};
+ghost use Rattle.w4_editor.specs.Editor.{with_session};
 
 use crate::draft::exchange;
 use crate::editor::Editor;

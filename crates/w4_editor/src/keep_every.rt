@@ -2,13 +2,13 @@
 
 ghost use Rattle.std.specs.Prelude.{◌≡◌, ◌≢◌, ℕ, ◌%◌, ◌≤◌, ◌==◌, IfErr, IfOk, List, OnErr, OnOk, length, nat_le};
 ghost use Rattle.w4_defs.specs.declared.editing.EditRefusal.TheVariants.{OutOfMemory as NoMemory};
-ghost use Rattle.w4_defs.specs.Session.{is_kept, keep_every, places_alone, with_list};
-ghost use Rattle.w4_editor.specs.Editing.{current_recording};
-ghost use Rattle.w4_editor.specs.PlaceSession.{IsChanged, KeepsRest, all_to_keep, is_fresh_multiple, place_session, with_multiple};
-ghost use Rattle.w4_editor.specs.Showing.{AreKeptInTurn};
+ghost use Rattle.w4_defs.specs.Session.{keep_every, with_list};
+ghost use Rattle.w4_editor.specs.Editor.{current_recording, IsChanged, KeepsRest, place_session};
+ghost use Rattle.w4_editor.specs.KeepEvery.{all_to_keep, is_fresh_multiple, with_multiple};
+ghost use Rattle.w4_editor.specs.Playing.{AreKeptInTurn};
 
 use crate::editor::Editor;
-use crate::places::last_place;
+use crate::places::{is_kept, last_place};
 use crate::showing::MOST_KEPT;
 use std::alloc::Global;
 use std::sync::ledger::Ledger;
@@ -119,16 +119,4 @@ fn is_multiple(place: usize, every: u32) -> bool
         return place == 0;
     }
     place % every as usize == 0
-}
-
-/// Whether a place is kept.
-fn is_kept(editor: &Editor, place: usize) -> bool
-    ensures { result ≡ is_kept places_alone place (place_session editor.now).current.kept }
-{
-    for i in 0..editor.kept_count() {
-        if editor.kept_place(i) == place {
-            return true;
-        }
-    }
-    false
 }

@@ -32,7 +32,7 @@ ghost use Rattle.w4_defs.specs.Session.{
   with_kept,
   without,
 };
-ghost use Rattle.w4_editor.specs.Overwriting.{is_between, unlink_between};
+ghost use Rattle.w4_editor.specs.KeptList.{is_between, unlink_between};
 
 use crate::kept::Kept;
 use std::alloc::{AllocError, Global};

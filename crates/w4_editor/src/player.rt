@@ -1,13 +1,13 @@
 //! A console with its cart and its font, under one budget.
 
 ghost use Rattle.std.specs.Prelude.{◌≡◌, ◌+◌, ◌<◌, ◌≤◌, IfOk, length, option_map, Some};
-ghost use Rattle.w4_console.specs.ConsoleCalls.{moment};
-ghost use Rattle.w4_console.specs.TakenUnits.{FrameTakes};
+ghost use Rattle.w4_console.specs.Calls.{moment};
+ghost use Rattle.w4_console.specs.Taken.{FrameTakes};
 ghost use Rattle.w4_defs.specs.Frame.{frame};
 ghost use Rattle.w4_defs.specs.State.{HasGlobals};
 ghost use Rattle.w4_defs.specs.Reset.{reset};
 ghost use Rattle.w4_defs.specs.Run.{fold};
-ghost use Rattle.w4_editor.specs.Playing.{IsPlayer, in_state, setup_of};
+ghost use Rattle.w4_editor.specs.Player.{IsPlayer, in_state, setup_of};
 ghost use Rattle.w4_snap.specs.Chunks.{copied_chunks};
 
 use std::alloc::Global;
@@ -34,7 +34,7 @@ pub struct Player {
 impl Model for Player {
     ghost use Rattle.std.specs.Coded.{codes};
     ghost use Rattle.w4_defs.specs.TreeCode.{tree_code};
-    ghost use Rattle.w4_editor.specs.Playing.{IsPlayer, Player};
+    ghost use Rattle.w4_editor.specs.Player.{IsPlayer, Player};
 
     ghost Value = { Player };
 

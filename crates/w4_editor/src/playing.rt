@@ -8,11 +8,11 @@ ghost use Rattle.w4_defs.specs.State.{HasGlobals};
 ghost use Rattle.w4_defs.specs.Run.{run_state};
 ghost use Rattle.w4_defs.specs.Session.{keep_refusal, place_refusal, with_list};
 ghost use Rattle.w4_defs.specs.declared.editing.EditRefusal.TheVariants.{NoFrame, OutOfMemory as NoMemory};
-ghost use Rattle.w4_console.specs.TakenUnits.{TellsUnits};
+ghost use Rattle.w4_console.specs.Taken.{TellsUnits};
 ghost use Rattle.w4_devices.specs.Records.{record_of};
-ghost use Rattle.w4_editor.specs.Editing.{editing_setup, with_session};
+ghost use Rattle.w4_editor.specs.Editor.{editing_setup, with_session};
 ghost use Rattle.w4_editor.specs.Settling.{AreLinked};
-ghost use Rattle.w4_editor.specs.Showing.{
+ghost use Rattle.w4_editor.specs.Playing.{
   AreOfRun,
   CanKeep,
   IsAllSettled,
@@ -42,7 +42,7 @@ use w4_map::State;
 /// Showing.
 impl Editor {
     ghost use Rattle.std.specs.Borrow.{sem};
-    ghost use Rattle.w4_editor.specs.Lending.{LendsShown, LendsStepped};
+    ghost use Rattle.w4_editor.specs.Playing.{LendsShown, LendsStepped};
 
     /// The state at place `p`, which is shown then. Kept places up to it are brought up to date first, if
     /// that is owed; each frame is one tick. Where it is shown already, and they are up to date, no frame is

@@ -5,7 +5,7 @@ ghost use Rattle.w4_defs.specs.KeptList.{IsSettled, SamePlaces, computed, doubtf
 ghost use Rattle.w4_defs.specs.KeptList.{place_at, HasTrueLinks};
 ghost use Rattle.w4_defs.specs.FramesRun.{RunsAtMost};
 ghost use Rattle.w4_defs.specs.State.{HasGlobals};
-ghost use Rattle.w4_editor.specs.Playing.{in_state, setup_of};
+ghost use Rattle.w4_editor.specs.Player.{in_state, setup_of};
 ghost use Rattle.w4_editor.specs.Settling.{AreLinked, IsComputed, StaysConsistent};
 
 use crate::kept::Kept;

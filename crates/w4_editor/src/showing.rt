@@ -3,16 +3,16 @@
 ghost use Rattle.std.specs.Prelude.{◌≡◌, ℕ, ◌+◌, ◌-◌, ◌<◌, ◌≤◌, ◌↔◌, true, IfNone, IfOk, IfSome, IsOk, IsTrue};
 ghost use Rattle.std.specs.Prelude.{OnErr, OnOk};
 ghost use Rattle.std.specs.Prelude.{length, Some};
-ghost use Rattle.w4_console.specs.ConsoleCalls.{moment};
+ghost use Rattle.w4_console.specs.Calls.{moment};
 ghost use Rattle.w4_defs.specs.KeptList.{IsSettled, SamePlaces, kept_entries, last_up_to, linked_at};
 ghost use Rattle.w4_defs.specs.KeptList.{HasTrueLinks};
 ghost use Rattle.w4_defs.specs.KeptList.{place_at, relinked_at, replaced_at, settle_frames, show_frames};
 ghost use Rattle.w4_defs.specs.FramesRun.{RunsAtMost};
 ghost use Rattle.w4_defs.specs.State.{HasGlobals};
 ghost use Rattle.w4_defs.specs.Session.{keep_refusal, with_kept};
-ghost use Rattle.w4_editor.specs.Playing.{in_state, setup_of};
-ghost use Rattle.w4_editor.specs.Settling.{AreLinked, IsOfRun, MovesOn, ShowsFrom, TakesOn};
-ghost use Rattle.w4_editor.specs.Settling.{StaysConsistent, copied_beside, linked_entry};
+ghost use Rattle.w4_editor.specs.Player.{in_state, setup_of};
+ghost use Rattle.w4_editor.specs.Settling.{AreLinked, StaysConsistent};
+ghost use Rattle.w4_editor.specs.Showing.{IsOfRun, MovesOn, ShowsFrom, TakesOn, copied_beside, linked_entry};
 
 use crate::kept::Kept;
 use crate::kept_list::{entry_at, first_above, insert_entry, is_kept, link_at, replace_at};

@@ -4,10 +4,13 @@ ghost use Rattle.std.specs.Prelude.{◌≡◌, ◌≢◌, ℕ, List, IfErr, IfOk
 
 use std::marker::Model;
 
+/// How many bytes a font has: 8 for each of 224 codes.
+pub const FONT_BYTES: usize = 1_792;
+
 /// A font; contracts see its 1,792 bytes.
 #[derive(Drop)]
 pub struct Font {
-    bytes: [u8; 1792],
+    bytes: [u8; FONT_BYTES],
 }
 
 impl Model for Font {
@@ -27,10 +30,10 @@ impl Font {
         ensures taken { IfOk result (λ font. length bytes.now ≡ 1792) }
         ensures refused { IfErr result (λ refusal. length bytes.now ≢ 1792) }
     {
-        if bytes.len() != 1792 {
+        if bytes.len() != FONT_BYTES {
             return Err(FontLength);
         }
-        let mut font_bytes = [0; 1792];
+        let mut font_bytes = [0; FONT_BYTES];
         font_bytes.copy_from_slice(bytes);
         Ok(Font { bytes: font_bytes })
     }
@@ -39,7 +42,7 @@ impl Font {
     pub fn byte(&self, at: u64) -> u8
         ensures { result ≡ slice_index self.now at }
     {
-        if at < 1792 {
+        if at < FONT_BYTES as u64 {
             self.bytes[at as usize]
         } else {
             0

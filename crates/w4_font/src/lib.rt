@@ -3,4 +3,4 @@
 
 pub mod font;
 
-pub use font::{Font, FontLength};
+pub use font::{FONT_BYTES, Font, FontLength};

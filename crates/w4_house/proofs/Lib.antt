@@ -1,6 +1,6 @@
 pub mod StoredLaws
 pub mod WorldLaws
-pub mod EntryLaws
+pub mod EventLogLaws
 pub mod LineLaws
 pub mod InputLaws
-pub mod Listing
+pub mod MemoryLaws

@@ -1,5 +1,6 @@
 pub mod Stored
 pub mod Lines
-pub mod Entries
-pub mod InMemory
-pub mod Edge
+pub mod EventLog
+pub mod Sure
+pub mod Memory
+pub mod Real

@@ -2,7 +2,7 @@
 
 ghost use Rattle.std.specs.Prelude.{◌≡◌, ◌++◌, ◌<◌, [], List, OnOk, OnErr, vec_len, vec_capacity};
 ghost use Rattle.w4_defs.specs.World.{written_by, wrote};
-ghost use Rattle.w4_house.specs.Entries.{events_of, logged};
+ghost use Rattle.w4_house.specs.EventLog.{events_of, logged};
 
 use crate::log_entry::LogEntry;
 use std::alloc::{AllocError, Global};

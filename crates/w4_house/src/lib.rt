@@ -9,9 +9,9 @@ mod input;
 mod line;
 pub mod log_entry;
 pub mod memory;
-mod put;
 pub mod real;
 mod replace;
+mod stored;
 pub mod sure;
 
 pub use calls::{House, HouseFault, WriteRefusal};

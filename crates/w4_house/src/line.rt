@@ -25,9 +25,9 @@ use crate::calls::HouseFault;
 use std::alloc::Global;
 use std::io::{ErrorKind, Read};
 
-/// The most bytes that are given of a line: one more than a line of a live session may have, so that a
+/// How many bytes are given of a line at most: one more than a line of a live session may have, so that a
 /// longer one is seen to be longer.
-pub(crate) const MOST_LINE_BYTES: usize = 1_024 + 1;
+pub(crate) const MOST_FRONT_BYTES: usize = 1_024 + 1;
 
 /// The next byte, or None at the end. A read that a signal interrupts is retried.
 fn next_byte<R: Read>(reader: &mut R) -> Result<Option<u8>, HouseFault>

@@ -50,8 +50,8 @@ pub struct MemoryHouse {
 impl MemoryHouse {
     ghost use Rattle.std.specs.FinMap.{get, empty};
     ghost use Rattle.w4_defs.specs.World.{written_by, Puts, OnlyFiles, SameWorld};
-    ghost use Rattle.w4_house.specs.Entries.{logged};
-    ghost use Rattle.w4_house.specs.InMemory.{
+    ghost use Rattle.w4_house.specs.EventLog.{logged};
+    ghost use Rattle.w4_house.specs.Memory.{
       failing_calls,
       last_call,
       memory_files,
@@ -176,13 +176,7 @@ impl House for MemoryHouse {
       LeavesSaving,
     };
     ghost use Rattle.w4_defs.specs.Limits.{live_line_limit};
-    ghost use Rattle.w4_house.specs.InMemory.{
-      CountsCall,
-      count_after,
-      fails_next,
-      memory_input,
-      memory_world,
-    };
+    ghost use Rattle.w4_house.specs.Memory.{CountsCall, count_after, fails_next, memory_input, memory_world};
     ghost use Rattle.w4_house.specs.Lines.{GivesLine, taken};
 
     ghost world = { memory_world };

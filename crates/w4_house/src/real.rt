@@ -23,7 +23,7 @@ ghost use Rattle.std.specs.Prelude.{
 ghost use Rattle.std.specs.Option.{ForSome};
 
 use crate::calls::{House, HouseFault, WriteRefusal};
-use crate::line::{MOST_LINE_BYTES, next_line};
+use crate::line::{MOST_FRONT_BYTES, next_line};
 use crate::replace::replace;
 use std::alloc::Global;
 use std::fs;
@@ -46,7 +46,7 @@ pub struct RealHouse<'a, R: Files, I: Read + Drop, O: Write + Drop, E: Write + D
 }
 
 impl<'a, R: Files, I: Read + Drop, O: Write + Drop, E: Write + Drop> RealHouse<'a, R, I, O, E> {
-    ghost use Rattle.w4_house.specs.Edge.{real_world};
+    ghost use Rattle.w4_house.specs.Real.{real_world};
 
     /// Nothing has failed so far.
     pub fn new(runtime: &'a R, input: I, out: O, err: E) -> RealHouse<'a, R, I, O, E>
@@ -146,7 +146,7 @@ impl<'a, R: Files, I: Read + Drop, O: Write + Drop, E: Write + Drop> House
       LeavesSaving,
     };
     ghost use Rattle.w4_defs.specs.Limits.{live_line_limit};
-    ghost use Rattle.w4_house.specs.Edge.{real_world, count_since};
+    ghost use Rattle.w4_house.specs.Real.{real_world, count_since};
     ghost use Rattle.w4_house.specs.Lines.{GivesLine, taken};
 
     ghost world = { real_world };
@@ -192,7 +192,7 @@ impl<'a, R: Files, I: Read + Drop, O: Write + Drop, E: Write + Drop> House
         ensures count { (real_world self.new).read_faults ≡ count_since result
             (real_world self.old).read_faults }
     {
-        let answer = next_line(alloc, &mut self.input, MOST_LINE_BYTES);
+        let answer = next_line(alloc, &mut self.input, MOST_FRONT_BYTES);
         if answer.is_err() {
             self.read_faults = self.read_faults.saturating_add(1);
         }

@@ -22,9 +22,9 @@ ghost use Rattle.std.specs.Prelude.{
 use crate::calls::{House, HouseFault, WriteRefusal};
 use crate::event_log::EventLog;
 use crate::input::{first_line, left};
-use crate::line::MOST_LINE_BYTES;
+use crate::line::MOST_FRONT_BYTES;
 use crate::log_entry::LogEntry;
-use crate::put::put;
+use crate::stored::put;
 use std::alloc::{AllocError, Global};
 use std::collections::BTreeMap;
 use w4_defs::OutOfMemory;
@@ -56,8 +56,8 @@ impl SureHouse {
       OnlyFiles,
       SameWorld,
     };
-    ghost use Rattle.w4_house.specs.Entries.{logged};
-    ghost use Rattle.w4_house.specs.InMemory.{sure_files, sure_input, sure_events, sure_world};
+    ghost use Rattle.w4_house.specs.EventLog.{logged};
+    ghost use Rattle.w4_house.specs.Sure.{sure_files, sure_input, sure_events, sure_world};
 
     /// A house with no files and no input, in which nothing was done.
     pub fn new(alloc: Global) -> SureHouse
@@ -176,7 +176,7 @@ impl House for SureHouse {
       LeavesSaving,
     };
     ghost use Rattle.w4_defs.specs.Limits.{live_line_limit};
-    ghost use Rattle.w4_house.specs.InMemory.{sure_input, sure_world};
+    ghost use Rattle.w4_house.specs.Sure.{sure_input, sure_world};
     ghost use Rattle.w4_house.specs.Lines.{GivesLine, taken};
 
     ghost world = { sure_world };
@@ -221,7 +221,7 @@ impl House for SureHouse {
             (Some (sure_input self.new)) (option_map (λ bytes. bytes.items) line)) }
         ensures left { OnErr result (sure_input self.new ≡ sure_input self.old) }
     {
-        match first_line(left(&self.input, self.passed), MOST_LINE_BYTES) {
+        match first_line(left(&self.input, self.passed), MOST_FRONT_BYTES) {
             Some((front, rest)) => {
                 let line = Vec::from_slice(alloc, front)?;
                 let logged = Vec::from_slice(self.alloc, front)?;

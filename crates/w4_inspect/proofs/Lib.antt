@@ -1,5 +1,4 @@
 -- Lemmas of the crate, one file a subject.
-pub mod CandidateLaws
-pub mod NarrowingLaws
-pub mod PageLaws
-pub mod WatchLaws
+pub mod SearchLaws
+pub mod PlacePageLaws
+pub mod WatchingLaws

@@ -1,7 +1,6 @@
 -- The words of the clauses, one file a subject.
-pub mod Narrowings
-pub mod Pages
+pub mod Search
 pub mod PlacePages
-pub mod Refusals
+pub mod Refusal
 pub mod Watching
-pub mod Widths
+pub mod Values

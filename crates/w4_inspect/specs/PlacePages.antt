@@ -1,11 +1,15 @@
--- Pages at places of a recording, which are read once for many watches.
-use Rattle.std.specs.Prelude.{◌≡◌, ℕ, ◌+◌, ◌-◌, ◌≤◌, List, length, map, nat_lt, Option, Some, None, if◌then◌else◌}
+-- The pages of an editor's recording, run from reset, and those that are read once for many watches.
+use Rattle.std.specs.Prelude.{ℕ, List, Option, ◌≡◌, ◌+◌, ◌-◌, ◌≤◌, length, map, nat_lt, Some, None, if◌then◌else◌}
+use Rattle.w4_defs.specs.Run.{run_page}
+use Rattle.w4_editor.specs.Editor.{Editing, editing_setup}
 use Rattle.std.specs.List.{range_with_len}
 use Rattle.w4_defs.specs.AllThere.{all_some}
-use Rattle.w4_editor.specs.Editing.{Editing}
-use Rattle.w4_inspect.specs.Pages.{page_at}
 use Rattle.w4_inspect.specs.declared.refusal.RamRefusal.{RamRefusal}
 use Rattle.w4_inspect.specs.declared.refusal.RamRefusal.TheVariants.{Outside}
+
+-- the page at place P; a run of an accepted cart always comes to one
+abbrev pub page_at : Editing → ℕ → Option (List ℕ)
+page_at e p = run_page (editing_setup e) e.disk e.session.current.inputs p
 
 -- the pages at places A to B, one after another
 pub record ReadPages : Type 0 where

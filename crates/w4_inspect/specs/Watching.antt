@@ -4,9 +4,9 @@ use Rattle.std.specs.List.{range_with_len}
 use Rattle.w4_defs.specs.AllThere.{all_some}
 use Rattle.w4_defs.specs.Bytes.{number_at}
 use Rattle.w4_defs.specs.KeptList.{IsSettled, last_up_to, show_frames}
-use Rattle.w4_editor.specs.Editing.{Editing}
-use Rattle.w4_editor.specs.Showing.{KeepsRecording}
-use Rattle.w4_inspect.specs.Pages.{page_at}
+use Rattle.w4_editor.specs.Editor.{Editing}
+use Rattle.w4_editor.specs.Playing.{KeepsRecording}
+use Rattle.w4_inspect.specs.PlacePages.{page_at}
 
 -- the value at an address, at place P
 abbrev pub value_at : Editing → ℕ → ℕ → ℕ → Option ℕ

@@ -4,13 +4,12 @@ ghost use Rattle.std.specs.Prelude.{◌≡◌, ◌+◌, ◌-◌, ◌<◌, ◌≤
 ghost use Rattle.std.specs.List.{range_with_len};
 ghost use Rattle.w4_defs.specs.AllThere.{all_some};
 ghost use Rattle.w4_defs.specs.Bytes.{number_at};
-ghost use Rattle.w4_editor.specs.Editing.{Editing, with_session};
-ghost use Rattle.w4_editor.specs.Showing.{IsShown, KeepsRecording};
-ghost use Rattle.w4_inspect.specs.Pages.{page_at};
-ghost use Rattle.w4_inspect.specs.PlacePages.{AreOf, outside_refusal};
-ghost use Rattle.w4_inspect.specs.Refusals.{IsRefusal};
+ghost use Rattle.w4_editor.specs.Editor.{Editing, with_session};
+ghost use Rattle.w4_editor.specs.Playing.{IsShown, KeepsRecording};
+ghost use Rattle.w4_inspect.specs.PlacePages.{page_at, AreOf, outside_refusal};
+ghost use Rattle.w4_inspect.specs.Refusal.{IsRefusal};
 ghost use Rattle.w4_inspect.specs.Watching.{IsWatched, watched};
-ghost use Rattle.w4_inspect.specs.Widths.{IsInPage, IsWidth};
+ghost use Rattle.w4_inspect.specs.Values.{IsInPage, IsWidth};
 
 use crate::refusal::RamRefusal;
 use crate::search::copy_of;

@@ -2,7 +2,8 @@
 
 ghost use Rattle.std.specs.Prelude.{◌≡◌, ◌≤◌, filter, IfOk, length, take};
 ghost use Rattle.w4_defs.specs.Search.{addresses, begin, test_holds_at, narrow};
-ghost use Rattle.w4_inspect.specs.Widths.{AreWithin, IsWidth};
+ghost use Rattle.w4_inspect.specs.Search.{AreWithin};
+ghost use Rattle.w4_inspect.specs.Values.{IsWidth};
 
 use crate::values::{test_holds, value_at};
 use std::alloc::Global;
@@ -22,7 +23,7 @@ pub struct Search {
 
 impl Model for Search {
     ghost use Rattle.w4_defs.specs.Search.{Search};
-    ghost use Rattle.w4_inspect.specs.Widths.{IsSearch};
+    ghost use Rattle.w4_inspect.specs.Search.{IsSearch};
 
     ghost Value = { Search };
 

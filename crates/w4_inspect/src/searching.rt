@@ -2,10 +2,10 @@
 
 ghost use Rattle.std.specs.Prelude.{◌≡◌, ◌≢◌, ◌≤◌, IfErr, IfOk, None, OnErr, OnOk, Some, length, option_map};
 ghost use Rattle.w4_defs.specs.Search.{begin, narrow};
-ghost use Rattle.w4_editor.specs.Showing.{IsShown, KeepsRecording};
-ghost use Rattle.w4_inspect.specs.Pages.{page_at};
-ghost use Rattle.w4_inspect.specs.Refusals.{IsRefusal, no_frame_refusal};
-ghost use Rattle.w4_inspect.specs.Widths.{IsWidth};
+ghost use Rattle.w4_editor.specs.Playing.{IsShown, KeepsRecording};
+ghost use Rattle.w4_inspect.specs.PlacePages.{page_at};
+ghost use Rattle.w4_inspect.specs.Refusal.{IsRefusal, no_frame_refusal};
+ghost use Rattle.w4_inspect.specs.Values.{IsWidth};
 ghost use Rattle.w4_inspect.specs.declared.refusal.RamRefusal.TheVariants.{OutOfMemory as NoMemory};
 
 use crate::refusal::RamRefusal;

@@ -3,7 +3,7 @@
 ghost use Rattle.std.specs.Prelude.{◌≡◌, ◌+◌, ◌≤◌};
 ghost use Rattle.w4_defs.specs.Bytes.{number_at};
 ghost use Rattle.w4_defs.specs.Search.{test_holds};
-ghost use Rattle.w4_inspect.specs.Widths.{IsWidth};
+ghost use Rattle.w4_inspect.specs.Values.{IsWidth};
 
 use w4_defs::PageBytes;
 use w4_defs::inspect::Test;

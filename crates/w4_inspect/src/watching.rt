@@ -4,10 +4,10 @@ ghost use Rattle.std.specs.Prelude.{◌≡◌, ◌≢◌, ◌+◌, ◌-◌, ◌<
 ghost use Rattle.std.specs.List.{range_with_len};
 ghost use Rattle.w4_defs.specs.AllThere.{all_some, joined};
 ghost use Rattle.w4_defs.specs.Bytes.{number_at};
-ghost use Rattle.w4_editor.specs.Editing.{with_session};
-ghost use Rattle.w4_editor.specs.Showing.{IsShown, KeepsRecording};
-ghost use Rattle.w4_inspect.specs.Widths.{IsInPage, IsWidth};
-ghost use Rattle.w4_inspect.specs.Refusals.{IsRefusal, watch_refusal};
+ghost use Rattle.w4_editor.specs.Editor.{with_session};
+ghost use Rattle.w4_editor.specs.Playing.{IsShown, KeepsRecording};
+ghost use Rattle.w4_inspect.specs.Values.{IsInPage, IsWidth};
+ghost use Rattle.w4_inspect.specs.Refusal.{IsRefusal, watch_refusal};
 ghost use Rattle.w4_inspect.specs.Watching.{IsWatched, value_at, watched};
 ghost use Rattle.w4_inspect.specs.declared.refusal.RamRefusal.TheVariants.{OutOfMemory as NoMemory};
 

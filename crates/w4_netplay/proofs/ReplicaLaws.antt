@@ -1,6 +1,6 @@
 -- What the editor's calls leave of a replica whose editor was rolled back.
-use Rattle.std.proofs.Common.{◌≡◌, ◌≢◌, ℕ, zero, suc, ◌<◌, ◌≤◌, Bool, true, false, cond, ltb, eqb, leb, ◌||◌, List, [], ◌∷◌, length, Option, Some, None, Result, Ok, Err, refl, sym, ap, ◌∙◌, inl, inr, arith}
-use Rattle.std.proofs.lemmas.Bool.{eq-eqb, ne_eqb, lt-ltb, le-ltb, lt-leb, le-leb}
+use Rattle.std.proofs.Common.{◌≡◌, ℕ, ◌<◌, ◌≤◌, Bool, true, false, cond, ltb, eqb, leb, ◌||◌, List, [], ◌∷◌, length, Option, Some, None, Result, Ok, Err, refl, sym, ap, ◌∙◌, inl, inr, arith}
+use Rattle.std.proofs.lemmas.Bool.{lt-ltb, le-ltb, lt-leb, le-leb}
 use Rattle.std.proofs.lemmas.List.{length-map}
 use Rattle.std.specs.Prelude.{OnOk, OnErr}
 use Rattle.std.specs.List.{slice_get}
@@ -9,24 +9,22 @@ use Rattle.std.proofs.lemmas.List.FromFn.{get_or-map-range_with_len}
 use Rattle.w4_defs.specs.declared.console.Input.{Input}
 use Rattle.w4_defs.specs.declared.editing.EditRefusal.{EditRefusal}
 use Rattle.w4_defs.specs.declared.editing.EditRefusal.TheVariants.{NoFrame, Kept, FullSnapshots, OutOfMemory}
-use Rattle.w4_defs.specs.KeptList.{Entry, kept_entries, places_of, place_at, show_frames}
+use Rattle.w4_defs.specs.KeptList.{Entry, kept_entries, places_of, show_frames}
 use Rattle.w4_defs.specs.Rollback.{Known, net_input, net_inputs}
 use Rattle.w4_defs.specs.Run.{run_state}
 use Rattle.w4_defs.specs.Session.{Session, places_alone, is_kept, with_kept, with_list, keep_refusal, place_refusal, unless}
 use Rattle.w4_defs.specs.State.{State}
-use Rattle.w4_editor.specs.Editing.{Editing, editing_setup, with_session}
-use Rattle.w4_editor.specs.Settling.{linked_entry}
-use Rattle.w4_editor.specs.Showing.{IsShown, IsKeptAt, IsPut, IsCauseOrMemory, KeepsRecording}
-use Rattle.w4_netplay.specs.Bound.{rollback_frames}
+use Rattle.w4_editor.specs.Editor.{Editing, editing_setup, with_session}
+use Rattle.w4_editor.specs.Showing.{linked_entry}
+use Rattle.w4_editor.specs.Playing.{IsShown, IsKeptAt, IsPut, IsCauseOrMemory, KeepsRecording}
+use Rattle.w4_netplay.specs.Rollback.{rollback_frames, IsRight, IsRolledTo, IsPartlyRolled}
 use Rattle.w4_defs.specs.declared.net_refusal.NetRefusal.{NetRefusal}
 use Rattle.w4_defs.specs.declared.net_refusal.NetRefusal.TheVariants as net
 use Rattle.w4_netplay.specs.Pads.{known_in}
-use Rattle.w4_netplay.specs.Refusals.{edit_refusal}
-use Rattle.w4_netplay.specs.Replicas.{Netplay, IsReplica, IsNetRefusal, KeepsNetplay, ShowsPlace, KeepsPlace, known_of, places_kept, prediction, predicted_draft}
-use Rattle.w4_netplay.specs.Rolling.{IsRight, IsRolledTo, IsPartlyRolled, IsRolled}
-use Rattle.w4_netplay.proofs.BoundLaws.{shown_within}
-use Rattle.w4_netplay.proofs.LinkLaws.{same_places}
-use Rattle.w4_netplay.proofs.RollLaws.{rolled_all, rolled_length, net_length}
+use Rattle.w4_netplay.specs.Replica.{edit_refusal, Netplay, IsReplica, IsNetRefusal, KeepsNetplay, ShowsPlace, KeepsPlace, known_of, places_kept, prediction, predicted_draft, IsRolled}
+use Rattle.w4_netplay.proofs.RollbackFrameLaws.{shown_within}
+use Rattle.w4_netplay.proofs.RollbackLinkLaws.{same_places}
+use Rattle.w4_netplay.proofs.RollbackLaws.{rolled_all, rolled_length, net_length}
 
 -- what a replica's parts are seen as
 abbrev pub netplay_view : List (List (Option ℕ)) → ℕ → Editing → Netplay
@@ -153,32 +151,6 @@ is_one : (p : ℕ) (kept : List Entry)
     → is_kept kept_entries p kept ≡ is_kept places_alone p (places_of kept)
 is_one p [] = refl
 is_one p (x ∷ kept) = ap (λ t. eqb x.place p || t) (is_one p kept)
-
-or_true : (b : Bool) → (b || true) ≡ true
-or_true true = refl
-or_true false = refl
-
-kept_here : (p i : ℕ) (kept : List Entry) → i < length kept → place_at kept i ≡ p
-    → is_kept kept_entries p kept ≡ true
-kept_here p i [] lt is = absurd (omega (arith, lt))
-kept_here p zero (x ∷ kept) lt is = ap (λ t. t || is_kept kept_entries p kept) (eq-eqb x.place p is)
-kept_here p (suc i) (x ∷ kept) lt is =
-    ap (λ t. eqb x.place p || t) (kept_here p i kept (omega (arith, lt)) is) ∙ or_true (eqb x.place p)
-
-kept_nowhere : (p : ℕ) (kept : List Entry) → ((i : ℕ) → i < length kept → place_at kept i ≢ p)
-    → is_kept kept_entries p kept ≡ false
-kept_nowhere p [] other = refl
-kept_nowhere p (x ∷ kept) other =
-    λ j. ne_eqb x.place p (other 0 (omega arith)) j
-    || kept_nowhere p kept (λ i lt. other (suc i) (omega (arith, lt))) j
-
-pub kept_place_found : (p i : ℕ) (kept : List Entry) → i < length kept → place_at kept i ≡ p
-    → true ≡ is_kept places_alone p (places_of kept)
-kept_place_found p i kept lt is = sym (kept_here p i kept lt is) ∙ is_one p kept
-
-pub is_nowhere : (p : ℕ) (kept : List Entry) → ((i : ℕ) → i < length kept → place_at kept i ≢ p)
-    → false ≡ is_kept places_alone p (places_of kept)
-is_nowhere p kept other = sym (kept_nowhere p kept other) ∙ is_one p kept
 
 -- why a place isn't kept, by the number of inputs, whether it is kept, and how many places are
 abbrev keep_cause : ℕ → ℕ → Bool → ℕ → Option EditRefusal

@@ -2,21 +2,21 @@
 //! predicted.
 
 ghost use Rattle.std.specs.Prelude.{◌≡◌, ◌≢◌, ◌+◌, ◌<◌, ◌≤◌, [], ◌∷◌, IfErr, IfOk, IfSome, None, OnErr, OnOk, Some};
-ghost use Rattle.w4_defs.specs.KeptList.{places_of, state_at};
+ghost use Rattle.w4_defs.specs.KeptList.{state_at};
 ghost use Rattle.w4_defs.specs.Rollback.{learned, nothing_known};
 ghost use Rattle.w4_defs.specs.Run.{run_state};
-ghost use Rattle.w4_defs.specs.Session.{is_kept, keep_refusal, place_refusal, places_alone};
-ghost use Rattle.w4_editor.specs.Editing.{editing_setup, new_editing};
+ghost use Rattle.w4_defs.specs.Session.{keep_refusal, place_refusal, places_alone};
+ghost use Rattle.w4_editor.specs.Editor.{editing_setup, new_editing};
 ghost use Rattle.w4_defs.specs.Rollback.{packet_refusal};
-ghost use Rattle.w4_netplay.specs.Replicas.{
+ghost use Rattle.w4_netplay.specs.Replica.{
   KeepsPlace,
   IsNetRefusal,
   KeepsNetplay,
   known_of,
   predicted_draft,
   prediction,
+  IsRolled,
 };
-ghost use Rattle.w4_netplay.specs.Rolling.{IsRolled};
 ghost use Rattle.w4_defs.specs.declared.net_refusal.NetRefusal.TheVariants.{FullRecording, OutOfMemory as NoMemory};
 
 use crate::pads::Pads;
@@ -26,6 +26,7 @@ use std::marker::Model;
 use std::sync::ledger::Ledger;
 use w4_defs::netplay::Packet;
 use w4_defs::{NetRefusal, OutOfMemory, Steps};
+use w4_editor::places::is_kept;
 use w4_editor::{Editor, MOST_KEPT};
 use w4_font::Font;
 use w4_map::State;
@@ -44,7 +45,7 @@ pub struct Replica {
 impl Model for Replica {
     ghost use Rattle.std.specs.Coded.{codes};
     ghost use Rattle.w4_defs.specs.TreeCode.{tree_code};
-    ghost use Rattle.w4_netplay.specs.Replicas.{IsReplica, Netplay};
+    ghost use Rattle.w4_netplay.specs.Replica.{IsReplica, Netplay};
 
     ghost Value = { Netplay };
 
@@ -135,7 +136,7 @@ impl Replica {
 /// Keeping and showing.
 impl Replica {
     ghost use Rattle.std.specs.Borrow.{sem};
-    ghost use Rattle.w4_netplay.specs.Lending.{LendsPredicted};
+    ghost use Rattle.w4_netplay.specs.ReplicaLending.{LendsPredicted};
 
     /// The state at place `p` of the predicted recording. The editor's inputs are brought up to it first;
     /// each frame that is run is one tick. Errors: NoFrame if that many frames haven't passed; OutOfMemory,
@@ -213,16 +214,4 @@ impl Replica {
     {
         roll_back(alloc, &mut self.editor, &self.pads, self.frames)
     }
-}
-
-/// Whether a place is kept.
-fn is_kept(editor: &Editor, p: usize) -> bool
-    ensures { result ≡ is_kept places_alone p (places_of editor.now.session.current.kept) }
-{
-    for i in 0..editor.kept_count() {
-        if editor.kept_place(i) == p {
-            return true;
-        }
-    }
-    false
 }

@@ -5,7 +5,7 @@
 ghost use Rattle.std.specs.Prelude.{◌≡◌, ◌+◌, ◌-◌, ◌≤◌, ◌↔◌, [], IsTrue, OnErr, OnOk, Some, false, length, pos};
 ghost use Rattle.std.specs.List.{slice_get};
 ghost use Rattle.w4_netplay.specs.Pads.{known_in};
-ghost use Rattle.w4_netplay.specs.Rolling.{IsPartlyRolled, IsRolledTo, IsWritten};
+ghost use Rattle.w4_netplay.specs.Rollback.{IsPartlyRolled, IsRolledTo, IsWritten};
 
 use crate::pads::Pads;
 use std::alloc::Global;

@@ -21,7 +21,7 @@ use Rattle.wasm_read.specs.Unique.{AtMostOneModule}
 use Rattle.wasm_write.specs.Laws.{MadeModulesAreCarts}
 use Rattle.w4_program.proofs.FinishLaws.{form_done}
 use Rattle.w4_program.proofs.OutputLaws.{one_output}
-use Rattle.w4_program.proofs.WordsLaws.{not_none}
+use Rattle.w4_program.proofs.RunLaws.{not_none}
 
 same_form : (found : Option Form) (form other : Form) → found ≡ Some form → found ≡ Some other → other ≡ form
 same_form found form other one two = cc

@@ -18,7 +18,7 @@ use Rattle.w4_defs.specs.Output.{CartFile, Output, JudgedCart, reading}
 use Rattle.w4_defs.specs.RecordingOutputs.{compare_output}
 use Rattle.w4_defs.specs.Outputs.{OutputsAlone, OutputsOn, OverCart, OverFile, OverJudged, cart_word}
 use Rattle.w4_defs.specs.OneOutput.{AtMostOneOutput}
-use Rattle.w4_commands.proofs.CartLaws.{never_both, no_profile}
+use Rattle.w4_commands.proofs.LoadLaws.{never_both, no_profile}
 
 -- the first function without a typing is one
 first_ordered : (m : WasmModule) (f g : ℕ) → IsFirstUntyped m f → IsFirstUntyped m g

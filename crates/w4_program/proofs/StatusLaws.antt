@@ -14,8 +14,8 @@ use Rattle.w4_defs.specs.Endings.{status_of_finish}
 use Rattle.w4_defs.specs.Output.{Output, all_events}
 use Rattle.w4_defs.specs.Causes.{ChangesNothing, EndsWhole, IsCutShort, IsExact, LeavesErr, LeavesOutputs, LosesInput, ReadFails, Reports, StepRefuses, WritesPart}
 use Rattle.w4_defs.specs.Promise.{NoFault}
-use Rattle.w4_program.specs.Obeyed.{IsObeyed}
-use Rattle.w4_program.proofs.ReportLaws.{EndsBy, Step}
+use Rattle.w4_program.specs.Run.{IsObeyed}
+use Rattle.w4_program.proofs.RunLaws.{EndsBy, Step}
 
 whole_means : (old new : World) (wanted : Finish) (step : Step) (Means : Files → Type 0)
     → ((files : Files) → Means files) → EndsWhole old new wanted step

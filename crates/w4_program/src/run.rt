@@ -8,7 +8,7 @@ ghost use Rattle.w4_defs.specs.Outputs.{Outputs};
 ghost use Rattle.w4_defs.specs.Promise.{KeepsPromise};
 ghost use Rattle.w4_defs.specs.StatusLines.{status_line};
 ghost use Rattle.w4_defs.specs.World.{AppendsFront, LeavesReporting};
-ghost use Rattle.w4_program.specs.Obeyed.{IsObeyed, status_of_end};
+ghost use Rattle.w4_program.specs.Run.{IsObeyed, status_of_end};
 
 use std::alloc::Global;
 use std::thread::Threads;

@@ -16,6 +16,6 @@ pub mod writing;
 
 pub use digest::digest_of;
 pub use reading::{MOST_BYTES, read_recording};
-pub use recording::{MOST_FRAMES, Recording};
+pub use recording::{MOST_DISK_BYTES, MOST_FRAMES, Recording};
 pub use refusal::RecordingRefusal;
 pub use writing::write_recording;

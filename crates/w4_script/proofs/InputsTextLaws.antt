@@ -17,7 +17,7 @@ use Rattle.w4_defs.specs.Reading.{◌>>=◌, IsBytes}
 use Rattle.w4_defs.specs.Recording.{IsInput}
 use Rattle.w4_defs.specs.Script.{frame_order, order_of, reset_word, script_rows}
 use Rattle.w4_defs.proofs.DecimalLaws.{decimal_is_read}
-use Rattle.w4_script.proofs.WrittenWords.{IsShortWord, IsVisible, all_append, line_visible, spread, spread_short, words_again}
+use Rattle.w4_script.proofs.InputsTextWordLaws.{IsShortWord, IsVisible, all_append, line_visible, spread, spread_short, words_again}
 
 -- ---- numbers
 

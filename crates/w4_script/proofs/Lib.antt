@@ -1,10 +1,10 @@
-mod DigitLaws
+mod NumberLaws
 mod PieceLaws
-mod LineLaws
-mod OrderLaws
+mod ReadingLaws
+mod OrderFileLaws
 mod NameLaws
-mod RequestLaws
-mod WrittenWords
+mod QueryLaws
+mod InputsTextWordLaws
 mod InputsTextLaws
-mod TextsOfInputs
-mod RemadeInputs
+mod InputsTextOrderLaws
+mod InputsTextRemadeLaws

@@ -10,7 +10,7 @@ use Rattle.w4_defs.specs.Lines.{pieces}
 use Rattle.w4_defs.specs.declared.status.ScriptKind.{ScriptKind}
 use Rattle.w4_defs.specs.declared.status.ScriptKind.TheVariants.{BadLine}
 use Rattle.w4_defs.specs.NameLists.{NameLine, NameListCases, name_after, name_lines, name_lines_from, names_after, names_of}
-use Rattle.w4_script.proofs.OrderLaws.{with_orders, regroup_orders}
+use Rattle.w4_script.proofs.OrderFileLaws.{with_orders, regroup_orders}
 
 pub named_before : (number : ℕ) (bytes line rest name : List ℕ)
     → pieces 10 bytes ≡ line ∷ pieces 10 rest → name ≡ strip_last 13 line → 0 < length name

@@ -1,8 +1,10 @@
 -- What a contract sees of words, lines and requests, what each refusal says of a text, and laws of texts.
-pub mod DigitValue
+pub mod Number
 pub mod InputsTextLaws
-pub mod Left
-pub mod LineView
-pub mod LiveLines
-pub mod Refuses
-pub mod Requests
+pub mod Words
+pub mod Reading
+pub mod NameLines
+pub mod Lines
+pub mod Live
+pub mod Refusal
+pub mod Query

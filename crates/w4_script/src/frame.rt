@@ -4,7 +4,7 @@ ghost use Rattle.std.specs.Prelude.{◌≡◌, ℕ, option_map};
 ghost use Rattle.w4_defs.specs.Script.{frame_order, reset_word};
 ghost use Rattle.w4_defs.specs.declared.console.Input.{Input};
 ghost use Rattle.w4_defs.specs.declared.order.Order.{Order};
-ghost use Rattle.w4_script.specs.Left.{words_left};
+ghost use Rattle.w4_script.specs.Words.{words_left};
 
 use crate::number::{coordinate_of, decimal_byte, number_of};
 use crate::words::Words;

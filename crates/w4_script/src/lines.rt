@@ -2,8 +2,8 @@
 
 ghost use Rattle.std.specs.Prelude.{◌≡◌, ◌≤◌, IfOk, length, map};
 ghost use Rattle.w4_defs.specs.Lines.{lines_of};
-ghost use Rattle.w4_script.specs.Left.{words_left};
-ghost use Rattle.w4_script.specs.LineView.{line_view};
+ghost use Rattle.w4_script.specs.Words.{words_left};
+ghost use Rattle.w4_script.specs.Lines.{line_view};
 
 use crate::reading::Lines;
 use crate::words::Words;

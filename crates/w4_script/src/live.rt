@@ -3,8 +3,8 @@
 ghost use Rattle.std.specs.Prelude.{◌≡◌, IfSome};
 ghost use Rattle.w4_defs.specs.Live.{asked_of, live_order_of, own_rows};
 ghost use Rattle.w4_defs.specs.OrderFile.{order_by, order_named};
-ghost use Rattle.w4_script.specs.Left.{words_left};
-ghost use Rattle.w4_script.specs.LiveLines.{IsAsked, IsLiveOrder, asked_view};
+ghost use Rattle.w4_script.specs.Words.{words_left};
+ghost use Rattle.w4_script.specs.Live.{IsAsked, IsLiveOrder, asked_view};
 
 use crate::order::order_of;
 use crate::order_words::{no_word, one_number, range};

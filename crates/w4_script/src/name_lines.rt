@@ -21,7 +21,7 @@ pub struct NameLines<'a> {
 }
 
 impl<'a> NameLines<'a> {
-    ghost use Rattle.w4_script.specs.Left.{name_lines_left};
+    ghost use Rattle.w4_script.specs.NameLines.{name_lines_left};
     ghost use Rattle.w4_defs.specs.NameLists.{name_lines};
 
     /// The lines of a list.
@@ -38,8 +38,8 @@ impl<'a> NameLines<'a> {
 
 impl<'a> Iterator for NameLines<'a> {
     ghost use Rattle.std.specs.Iterator.{YieldsFirstBy, item_count};
-    ghost use Rattle.w4_script.specs.Left.{name_lines_left};
-    ghost use Rattle.w4_script.specs.LineView.{named_view};
+    ghost use Rattle.w4_script.specs.NameLines.{name_lines_left};
+    ghost use Rattle.w4_script.specs.NameLines.{named_view};
 
     type Item = NamedLine<'a>;
 

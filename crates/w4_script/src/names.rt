@@ -2,7 +2,7 @@
 
 ghost use Rattle.std.specs.Prelude.{◌≡◌, IfErr, IfOk, Ok, map, option_map, string_bytes};
 ghost use Rattle.w4_defs.specs.NameLists.{name_after, names_of};
-ghost use Rattle.w4_script.specs.Refuses.{Refuses};
+ghost use Rattle.w4_script.specs.Refusal.{Refuses};
 
 use crate::name_lines::NameLines;
 use crate::refusal::ScriptRefusal;

@@ -4,8 +4,8 @@ ghost use Rattle.std.specs.Prelude.{◌≡◌, IfErr, IfOk, Ok, option_map};
 ghost use Rattle.w4_defs.specs.NetLog.{log_rows, net_log_of, net_order_of, packet_words};
 ghost use Rattle.w4_defs.specs.OrderFile.{order_named};
 ghost use Rattle.w4_defs.specs.declared.netplay.NetOrder.TheVariants.{Pad};
-ghost use Rattle.w4_script.specs.Left.{words_left};
-ghost use Rattle.w4_script.specs.Refuses.{Refuses};
+ghost use Rattle.w4_script.specs.Words.{words_left};
+ghost use Rattle.w4_script.specs.Refusal.{Refuses};
 
 use crate::number::{decimal_byte, number_of};
 use crate::order_file::{LineOrder, read_orders};

@@ -2,7 +2,7 @@
 
 ghost use Rattle.std.specs.Prelude.{◌≡◌};
 ghost use Rattle.w4_defs.specs.Lines.{coordinate_of, decimal_byte, number_of};
-ghost use Rattle.w4_script.specs.DigitValue.{digit_value};
+ghost use Rattle.w4_script.specs.Number.{digit_value};
 
 /// The value of decimal digits, or None if a byte is no digit or the value is above 4,294,967,295.
 fn value_of(digits: &[u8]) -> Option<u32>

@@ -3,7 +3,7 @@
 ghost use Rattle.std.specs.Prelude.{◌≡◌};
 ghost use Rattle.w4_defs.specs.OrderFile.{order_named};
 ghost use Rattle.w4_defs.specs.Script.{order_of, script_rows};
-ghost use Rattle.w4_script.specs.Left.{words_left};
+ghost use Rattle.w4_script.specs.Words.{words_left};
 
 use crate::frame::frame;
 use crate::order_words::{no_word, one_number, range};

@@ -2,8 +2,8 @@
 
 ghost use Rattle.std.specs.Prelude.{◌≡◌, IfErr, IfOk, List, Ok, Option, ℕ};
 ghost use Rattle.w4_defs.specs.OrderFile.{file_of};
-ghost use Rattle.w4_script.specs.Left.{words_left};
-ghost use Rattle.w4_script.specs.Refuses.{Refuses};
+ghost use Rattle.w4_script.specs.Words.{words_left};
+ghost use Rattle.w4_script.specs.Refusal.{Refuses};
 
 use crate::reading::Lines;
 use crate::refusal::ScriptRefusal;

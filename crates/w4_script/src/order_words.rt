@@ -2,7 +2,7 @@
 
 ghost use Rattle.std.specs.Prelude.{◌≡◌, ◌≤◌, IfSome};
 ghost use Rattle.w4_defs.specs.OrderWords.{no_word, one_number, range_order};
-ghost use Rattle.w4_script.specs.Left.{words_left};
+ghost use Rattle.w4_script.specs.Words.{words_left};
 
 use crate::number::number_of;
 use crate::words::Words;

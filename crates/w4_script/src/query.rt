@@ -4,9 +4,9 @@ ghost use Rattle.std.specs.Prelude.{◌≡◌, IfErr, IfOk, IfSome, Ok};
 ghost use Rattle.std.specs.List.{All};
 ghost use Rattle.w4_defs.specs.OrderFile.{order_named};
 ghost use Rattle.w4_defs.specs.RamQuery.{ask_of, decimal_width, is_words, keeping, query_line_of, query_of, query_rows, start_words, test_words, watch_words};
-ghost use Rattle.w4_script.specs.Left.{words_left};
-ghost use Rattle.w4_script.specs.Refuses.{Refuses};
-ghost use Rattle.w4_script.specs.Requests.{IsQueryLine, IsRequest};
+ghost use Rattle.w4_script.specs.Words.{words_left};
+ghost use Rattle.w4_script.specs.Refusal.{Refuses};
+ghost use Rattle.w4_script.specs.Query.{IsQueryLine, IsRequest};
 
 use crate::number::number_of;
 use crate::order::order_of;

@@ -22,7 +22,7 @@ pub struct Lines<'a> {
 
 impl<'a> Lines<'a> {
     ghost use Rattle.w4_defs.specs.Lines.{lines_of};
-    ghost use Rattle.w4_script.specs.Left.{lines_left};
+    ghost use Rattle.w4_script.specs.Reading.{lines_left};
 
     /// The lines of a text.
     pub fn of(bytes: &'a [u8]) -> Lines<'a>
@@ -38,8 +38,8 @@ impl<'a> Lines<'a> {
 
 impl<'a> Iterator for Lines<'a> {
     ghost use Rattle.std.specs.Iterator.{YieldsFirstBy, item_count};
-    ghost use Rattle.w4_script.specs.Left.{lines_left};
-    ghost use Rattle.w4_script.specs.LineView.{written_view};
+    ghost use Rattle.w4_script.specs.Reading.{lines_left};
+    ghost use Rattle.w4_script.specs.Reading.{written_view};
 
     type Item = WrittenLine<'a>;
 

@@ -2,7 +2,7 @@
 
 ghost use Rattle.std.specs.Prelude.{◌≡◌, IfErr, IfOk, Ok};
 ghost use Rattle.w4_defs.specs.Script.{script_of};
-ghost use Rattle.w4_script.specs.Refuses.{Refuses};
+ghost use Rattle.w4_script.specs.Refusal.{Refuses};
 
 use crate::order::order_of;
 use crate::order_file::{LineOrder, read_orders};

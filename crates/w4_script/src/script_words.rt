@@ -3,7 +3,7 @@
 ghost use Rattle.std.specs.Prelude.{◌≡◌, ℕ, option_map};
 ghost use Rattle.w4_defs.specs.Script.{film_order, number_order};
 ghost use Rattle.w4_defs.specs.declared.order.Order.{Order};
-ghost use Rattle.w4_script.specs.Left.{words_left};
+ghost use Rattle.w4_script.specs.Words.{words_left};
 
 use crate::number::number_of;
 use crate::order_words::one_number;

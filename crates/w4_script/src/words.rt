@@ -3,7 +3,7 @@
 ghost use Rattle.std.specs.Prelude.{◌≡◌};
 ghost use Rattle.std.specs.Io.BufRead.{strip_last};
 ghost use Rattle.w4_defs.specs.Lines.{is_skipped, words_of};
-ghost use Rattle.w4_script.specs.Left.{words_left};
+ghost use Rattle.w4_script.specs.Words.{words_left};
 
 use crate::pieces::first_piece;
 
@@ -44,7 +44,7 @@ pub fn is_skipped(mut words: Words<'_>) -> bool
 
 impl<'a> Iterator for Words<'a> {
     ghost use Rattle.std.specs.Iterator.{YieldsFirstBy, item_count};
-    ghost use Rattle.w4_script.specs.Left.{words_left};
+    ghost use Rattle.w4_script.specs.Words.{words_left};
 
     type Item = &'a [u8];
 

@@ -5,14 +5,14 @@ use Rattle.std.proofs.lemmas.Option.{slice_get_cases}
 use Rattle.w4_defs.specs.AllThere.{joined}
 use Rattle.w4_defs.specs.Film.{run_images}
 use Rattle.w4_defs.specs.KeptList.{place_at}
-use Rattle.w4_editor.specs.Editing.{Editing, editing_setup}
-use Rattle.w4_editor.specs.Showing.{KeepsRecording}
+use Rattle.w4_editor.specs.Editor.{Editing, editing_setup}
+use Rattle.w4_editor.specs.Playing.{KeepsRecording}
 use Rattle.w4_segments.specs.declared.worker.Worker.{Worker}
-use Rattle.w4_segments.specs.FilmPieces.{CanGoOn, images_between, images_by}
+use Rattle.w4_segments.specs.FilmPieces.{CanGoOn, images_between, images_by, AreOfRunBelow, ArePieces, piece_begin}
 use Rattle.w4_segments.specs.Filming.{film_images}
-use Rattle.w4_segments.specs.Pieces.{AreOfRunBelow, ArePieces, piece_begin}
 use Rattle.w4_segments.specs.Rounds.{entries_of}
-use Rattle.w4_segments.specs.Working.{EachDid, HasCartTypes, HasFilmed, worker_images}
+use Rattle.w4_segments.specs.Worker.{EachDid, HasCartTypes}
+use Rattle.w4_segments.specs.Pieces.{HasFilmed, worker_images}
 use Rattle.w4_segments.proofs.PieceLaws.{cut_inside, cut_rises, cut_there, cut_to_end, pieces_filmed, span_both, span_none, types_filmed}
 
 module _ (e : Editing) (worker_list : List Worker) (first end first_entry next filmed : ℕ)

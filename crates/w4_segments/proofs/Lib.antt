@@ -1,4 +1,4 @@
-pub mod BatchLaws
+pub mod BatchingLaws
 pub mod WorkerLaws
 pub mod RoundLaws
 pub mod SettlingLaws

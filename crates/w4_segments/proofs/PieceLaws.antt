@@ -13,7 +13,7 @@ use Rattle.w4_defs.specs.KeptList.{Entry, place_at, state_at, IsDraft}
 use Rattle.w4_defs.specs.Reset.{Setup}
 use Rattle.w4_defs.specs.Run.{run, run_state}
 use Rattle.w4_defs.specs.State.{State, HasGlobals}
-use Rattle.w4_editor.specs.Editing.{Editing, editing_setup}
+use Rattle.w4_editor.specs.Editor.{Editing, editing_setup}
 use Rattle.w4_defs.specs.AllThere.{joined}
 use Rattle.w4_defs.specs.PlaceTexts.{as_it_stands, place_text}
 use Rattle.w4_defs.specs.declared.place_text.PlaceText.TheVariants.{Image}
@@ -24,10 +24,10 @@ use Rattle.w4_editor.specs.Settling.{AreLinked}
 use Rattle.w4_segments.specs.declared.worker.Task.{Task}
 use Rattle.w4_segments.specs.declared.worker.Worker.{Worker}
 use Rattle.w4_defs.specs.Film.{run_images}
-use Rattle.w4_segments.specs.FilmPieces.{images_between}
-use Rattle.w4_segments.specs.Pieces.{images_of, piece_begin, AreOfRunBelow, IsPiece, ArePieces}
+use Rattle.w4_segments.specs.FilmPieces.{images_between, images_of, piece_begin, AreOfRunBelow, IsPiece, ArePieces}
 use Rattle.w4_segments.specs.Rounds.{entries_of}
-use Rattle.w4_segments.specs.Working.{HasCartTypes, CanFilm, EachDid, HasFilmed, task_images, worker_images}
+use Rattle.w4_segments.specs.Worker.{HasCartTypes, EachDid}
+use Rattle.w4_segments.specs.Pieces.{CanFilm, HasFilmed, task_images, worker_images}
 
 -- ---- images of a run
 

@@ -10,16 +10,16 @@ use Rattle.std.specs.List.{slice_range}
 use Rattle.w4_defs.specs.KeptList.{Entry, state_at, linked_at, computed, relinked_at, replaced_at, SamePlaces, IsDraft}
 use Rattle.w4_defs.specs.Session.{with_list}
 use Rattle.w4_defs.specs.State.{State, HasGlobals}
-use Rattle.w4_editor.specs.Editing.{Editing, editing_setup, with_session}
+use Rattle.w4_editor.specs.Editor.{Editing, editing_setup, with_session}
 use Rattle.w4_defs.specs.Run.{fold}
 use Rattle.w4_editor.specs.Settling.{AreLinked, IsComputed}
-use Rattle.w4_editor.specs.Showing.{KeepsRecording}
-use Rattle.w4_editor.proofs.SettleLaws.{relinked_computed, replaced_computed}
+use Rattle.w4_editor.specs.Playing.{KeepsRecording}
+use Rattle.w4_editor.proofs.SettlingLaws.{relinked_computed, replaced_computed}
 use Rattle.w4_segments.specs.declared.worker.Task.{Task}
 use Rattle.w4_segments.specs.declared.worker.Worker.{Worker}
 use Rattle.w4_segments.specs.Filming.{KeepsShown}
-use Rattle.w4_segments.specs.Rounds.{entries_of, IsSegment, IsDealt, AreRising, AreDealt, AreComputed, LinksNext, CanTake, IsTaken, LengthensFront}
-use Rattle.w4_segments.specs.Working.{HasCartTypes, CanPlay, HasPlayed, EachDid}
+use Rattle.w4_segments.specs.Rounds.{entries_of, IsSegment, IsDealt, AreRising, AreDealt, AreComputed, LinksNext, CanTake, IsTaken, LengthensFront, CanPlay, HasPlayed}
+use Rattle.w4_segments.specs.Worker.{HasCartTypes, EachDid}
 use Rattle.w4_segments.proofs.WorkerLaws.{up_to_here, all_changed, changed_here, unchanged}
 
 -- ---- linked entries

@@ -4,7 +4,7 @@ use Rattle.std.specs.Prelude.{IsOk, OnOk, Result, Ok, Err}
 use Rattle.std.proofs.lemmas.List.{get_or_past}
 use Rattle.w4_defs.specs.KeptList.{Entry, IsSettled, SamePlaces, kept_entry_at, linked_at, nowhere, state_at}
 use Rattle.w4_defs.specs.SameState.{same_state}
-use Rattle.w4_editor.specs.Editing.{Editing}
+use Rattle.w4_editor.specs.Editor.{Editing}
 use Rattle.w4_editor.specs.Settling.{AreLinked}
 use Rattle.w4_segments.specs.Filming.{KeepsShown}
 use Rattle.w4_segments.specs.Rounds.{entries_of}

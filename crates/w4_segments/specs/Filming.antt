@@ -3,8 +3,8 @@ use Rattle.std.specs.Prelude.{◌≡◌, ℕ, ◌+◌, ◌-◌, ◌⊎◌, List,
 use Rattle.w4_defs.specs.Film.{run_images}
 use Rattle.w4_defs.specs.declared.film_refusal.FilmRefusal.{FilmRefusal}
 use Rattle.w4_defs.specs.declared.film_refusal.FilmRefusal.TheVariants.{OutOfMemory}
-use Rattle.w4_editor.specs.Editing.{Editing, editing_setup}
-use Rattle.w4_editor.specs.Showing.{KeepsRecording}
+use Rattle.w4_editor.specs.Editor.{Editing, editing_setup}
+use Rattle.w4_editor.specs.Playing.{KeepsRecording}
 
 -- the images of places A to B of an editor's recording as it is
 abbrev pub film_images : Editing → ℕ → ℕ → Option (List ℕ)

@@ -1,5 +1,5 @@
 pub mod Filming
-pub mod Working
+pub mod Worker
 pub mod Rounds
 pub mod Pieces
 pub mod FilmPieces

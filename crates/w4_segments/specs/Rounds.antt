@@ -1,11 +1,28 @@
--- A round of settling: how segments are dealt, and how what was played is taken over.
-use Rattle.std.specs.Prelude.{◌≡◌, ◌≢◌, ℕ, ◌+◌, ◌≤◌, ◌<◌, ◌⊎◌, true, List, All, length, slice_index_or, Option, Some, None, IsFalse}
-use Rattle.w4_defs.specs.KeptList.{Entry, place_at, state_at, linked_at, computed}
-use Rattle.w4_editor.specs.Editing.{Editing, editing_setup}
-use Rattle.w4_editor.specs.Settling.{AreLinked, IsComputed}
+-- A round of settling: how segments are dealt and played, and how what was played is taken over.
+use Rattle.std.specs.Prelude.{◌≡◌, ◌≤◌, List, length, slice_range, Some, ◌≢◌, ℕ, ◌+◌, ◌<◌, ◌⊎◌, true, All, slice_index_or, Option, None, IsFalse}
+use Rattle.w4_defs.specs.declared.console.Input.{Input}
+use Rattle.w4_defs.specs.Module.{WasmModule}
+use Rattle.w4_defs.specs.Reset.{Setup}
+use Rattle.w4_defs.specs.Run.{fold}
 use Rattle.w4_segments.specs.declared.worker.Task.{Task}
 use Rattle.w4_segments.specs.declared.worker.Worker.{Worker}
-use Rattle.w4_segments.specs.Working.{HasCartTypes}
+use Rattle.w4_defs.specs.KeptList.{Entry, place_at, state_at, linked_at, computed}
+use Rattle.w4_editor.specs.Editor.{Editing, editing_setup}
+use Rattle.w4_editor.specs.Settling.{AreLinked, IsComputed}
+use Rattle.w4_segments.specs.Worker.{HasCartTypes}
+
+-- a worker that can play from its place to its end
+pub record CanPlay (cart : WasmModule) (inputs : List Input) (worker : Worker) : Type 0 where
+  pub types : HasCartTypes cart worker
+  pub order : (task : Task) → worker.task ≡ Some task → task.place ≤ task.end
+  pub within : (task : Task) → worker.task ≡ Some task → task.end ≤ length inputs
+
+-- it has played the inputs between
+pub record HasPlayed (setup : Setup) (inputs : List Input) (old new : Worker) : Type 0 where
+  pub types : HasCartTypes setup.cart new
+  pub task : new.task ≡ old.task
+  pub state : (task : Task) → old.task ≡ Some task
+      → fold setup old.console (slice_range inputs task.place task.end) ≡ Some new.console
 
 -- the kept list of an editor
 abbrev pub entries_of : Editing → List Entry

@@ -1,9 +1,9 @@
 -- What a settling by many workers leaves: what one leaves.
 use Rattle.std.specs.Prelude.{◌≡◌, ◌-◌, ◌⊎◌, length, None}
 use Rattle.w4_defs.specs.KeptList.{IsSession, IsSettled}
-use Rattle.w4_editor.specs.Editing.{Editing, editing_setup}
+use Rattle.w4_editor.specs.Editor.{Editing, editing_setup}
 use Rattle.w4_editor.specs.Settling.{AreLinked}
-use Rattle.w4_editor.specs.Showing.{KeepsRecording, AreOfRun}
+use Rattle.w4_editor.specs.Playing.{KeepsRecording, AreOfRun}
 
 -- all entries are linked
 abbrev pub AreAllLinked : Editing → Type 0

@@ -4,11 +4,21 @@ ghost use Rattle.std.specs.Prelude.{◌≡◌, ◌≢◌, ℕ, ◌+◌, ◌-◌,
 ghost use Rattle.w4_defs.specs.AllThere.{joined};
 ghost use Rattle.w4_defs.specs.Image.{image};
 ghost use Rattle.w4_defs.specs.KeptList.{place_at};
-ghost use Rattle.w4_segments.specs.FilmPieces.{IsFilming, HasNext, film_cut, images_left, piece_of, pieces_left};
+ghost use Rattle.w4_segments.specs.FilmPieces.{
+  IsFilming,
+  HasNext,
+  film_cut,
+  images_left,
+  piece_of,
+  pieces_left,
+  AreOfRunBelow,
+  ArePieces,
+  IsPiece,
+  piece_begin,
+};
 ghost use Rattle.w4_defs.specs.Film.{film_refusal};
 ghost use Rattle.w4_segments.specs.Filming.{IsFilmRefusal, KeepsShown, film_images};
-ghost use Rattle.w4_segments.specs.Pieces.{AreOfRunBelow, ArePieces, IsPiece, piece_begin};
-ghost use Rattle.w4_segments.specs.Working.{HasCartTypes};
+ghost use Rattle.w4_segments.specs.Worker.{HasCartTypes};
 ghost use Rattle.w4_defs.specs.declared.film_refusal.FilmRefusal.TheVariants.{OutOfMemory as NoMemory};
 
 use crate::gate::{Gate, OpenGate};

@@ -7,7 +7,8 @@ ghost use Rattle.w4_defs.specs.Image.{image};
 ghost use Rattle.w4_defs.specs.Run.{run_state};
 ghost use Rattle.w4_defs.specs.State.{HasGlobals};
 ghost use Rattle.w4_defs.specs.Film.{run_images};
-ghost use Rattle.w4_segments.specs.Working.{CanFilm, EachDid, HasFilmed};
+ghost use Rattle.w4_segments.specs.Pieces.{CanFilm, HasFilmed};
+ghost use Rattle.w4_segments.specs.Worker.{EachDid};
 
 use crate::gate::Gate;
 use crate::playing::play;

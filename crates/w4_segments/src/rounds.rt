@@ -6,13 +6,23 @@ ghost use Rattle.w4_defs.specs.Board.{console_setup};
 ghost use Rattle.w4_defs.specs.KeptList.{IsDraft, computed, linked_at};
 ghost use Rattle.w4_defs.specs.FramesRun.{RunsAtMost};
 ghost use Rattle.w4_defs.specs.State.{HasGlobals};
-ghost use Rattle.w4_editor.specs.Editing.{editing_setup};
+ghost use Rattle.w4_editor.specs.Editor.{editing_setup};
 ghost use Rattle.w4_editor.specs.Settling.{AreLinked};
 ghost use Rattle.w4_segments.specs.Filming.{KeepsShown};
-ghost use Rattle.w4_segments.specs.Rounds.{AreComputed, AreDealt, CanTake, IsDealt, LinksNext, IsTaken, LengthensFront};
+ghost use Rattle.w4_segments.specs.Rounds.{
+  AreComputed,
+  AreDealt,
+  CanTake,
+  IsDealt,
+  LinksNext,
+  IsTaken,
+  LengthensFront,
+  CanPlay,
+  HasPlayed,
+};
 ghost use Rattle.w4_segments.specs.declared.worker.Task.{Task};
 ghost use Rattle.w4_segments.specs.declared.worker.Worker.{Worker};
-ghost use Rattle.w4_segments.specs.Working.{CanPlay, EachDid, HasPlayed, HasCartTypes};
+ghost use Rattle.w4_segments.specs.Worker.{EachDid, HasCartTypes};
 
 use crate::gate::Gate;
 use crate::playing::play;
@@ -157,7 +167,7 @@ fn deal_segment(
 pub(crate) fn is_consistent(editor: &Editor)
     ensures { IsDraft (editing_setup editor.now) editor.now.disk editor.now.session.current }
 {
-    let _shown = editor.at();
+    editor.session_is_consistent();
 }
 
 /// How many of the entries up to `last` aren't linked.

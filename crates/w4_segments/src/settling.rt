@@ -3,7 +3,7 @@
 ghost use Rattle.std.specs.Prelude.{◌≡◌, ◌-◌, ◌<◌, ◌≤◌, ◌⊎◌, IsOk, None, OnErr, OnOk, length};
 ghost use Rattle.w4_defs.specs.FramesRun.{RunsAtMost};
 ghost use Rattle.w4_editor.specs.Settling.{AreLinked};
-ghost use Rattle.w4_editor.specs.Showing.{KeepsRecording};
+ghost use Rattle.w4_editor.specs.Playing.{KeepsRecording};
 ghost use Rattle.w4_segments.specs.Filming.{KeepsShown};
 ghost use Rattle.w4_segments.specs.Settling.{AreAllLinked, IsPartlySettled, IsSettledWide};
 
@@ -72,8 +72,7 @@ pub fn settle_wide_counted<R: Threads + Sync, G: Gate + Sync, L: Ledger>(
     ensures idle { AreAllLinked editor.old → rounds.new ≡ rounds.old }
 {
     let settled = settle_by_rounds(resources, editor, workers, rounds);
-    // What an editor keeps true is known by this call, which costs nothing.
-    let _shown = editor.at();
+    editor.session_is_consistent();
     settled
 }
 

@@ -1,7 +1,7 @@
 //! Workers: each has a console of its own. None has a snapshot or an editor.
 
 ghost use Rattle.std.specs.Prelude.{◌≡◌, All, IfOk, vec_len};
-ghost use Rattle.w4_segments.specs.Working.{HasCartTypes};
+ghost use Rattle.w4_segments.specs.Worker.{HasCartTypes};
 
 use std::alloc::Global;
 use w4_console::Console;

@@ -67,6 +67,15 @@ impl Channels {
         channel_sound(self.voices[channel], tick)
     }
 
+    /// A fact for callers, which costs nothing: there are four channels, and what they play is within its
+    /// ranges.
+    pub fn are_within(&self)
+        ensures four { length self.now ≡ 4 }
+        ensures playing { All IsPlaying self.now }
+    {
+        let _voices = &self.voices;
+    }
+
     /// The tone that a channel plays. None if and only if the channel is silent. The other clauses say what
     /// is true of all channels.
     pub fn tone(&self, channel: usize) -> Option<Tone>

@@ -1,7 +1,7 @@
 //! One channel: a voice begins, grows older, ends, and sounds.
 
 ghost use Rattle.std.specs.Prelude.{◌≡◌, ◌<◌, ◌≤◌, option_map};
-ghost use Rattle.w4_defs.specs.Tones.{aged, IsPlaying, IsTone, IsVoice, older, sound_of, started};
+ghost use Rattle.w4_defs.specs.Tones.{aged, IsPlaying, IsTone, IsVoice, older, sound_of, started, tone_frames};
 
 use crate::envelope::{frames_of, ticks_of, tone_level};
 use crate::frequency::tone_frequency;
@@ -62,12 +62,19 @@ pub fn channel_sound(channel: Option<Voice>, tick: u32) -> Option<Sound>
     }
 }
 
+/// A fact for callers, which costs nothing: a tone has at most four times 255 frames.
+fn frames_are_few(tone: Tone)
+    ensures { tone_frames tone ≤ 1020 }
+{
+    let _frames = frames_of(tone);
+}
+
 fn voice_sound(voice: Voice, tick: u32) -> Sound
     requires voice { IsVoice voice }
     requires tick { tick < 735 }
     ensures { result ≡ sound_of tick voice }
 {
-    let _frames = frames_of(voice.tone);
+    frames_are_few(voice.tone);
     let at = ticks_of(voice.age) + tick;
     Sound {
         level: tone_level(voice.tone, at),

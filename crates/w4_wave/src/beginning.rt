@@ -50,7 +50,7 @@ fn silence_if_recorded(channels: &mut Channels, channel: u8, sound: Option<Sound
         slice_set channels.old channel (silenced (slice_index_or channels.old channel None) sound) }
     ensures four { length channels.old ≡ 4 }
 {
-    let _playing = channels.tone(0);
+    channels.are_within();
     if sound.is_none() {
         channels.play(Tone { channel, ..REST });
     }

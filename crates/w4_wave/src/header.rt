@@ -3,8 +3,7 @@
 ghost use Rattle.std.specs.Prelude.{◌≡◌, ◌≤◌};
 ghost use Rattle.w4_defs.specs.Sound.{wav_header};
 
-/// How many bytes the samples of one place have.
-const PLACE_LEN: u32 = 2940;
+use crate::samples::FRAME_LEN;
 
 /// PCM, 2 channels, 44,100 samples and 176,400 bytes a second, 4 bytes and 16 bits a sample.
 const FORMAT: [u8; 32] =
@@ -15,7 +14,7 @@ pub fn wav_header(places: u32) -> [u8; 44]
     requires { places ≤ 36001 }
     ensures { result ≡ wav_header places }
 {
-    let length = PLACE_LEN * places;
+    let length = FRAME_LEN as u32 * places;
     let mut header = [0; 44];
     header[0..4].copy_from_slice(b"RIFF");
     header[4..8].copy_from_slice(&(length + 36).to_le_bytes());

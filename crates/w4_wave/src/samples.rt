@@ -4,8 +4,10 @@ ghost use Rattle.std.specs.Prelude.{◌≡◌, ◌+◌, ◌++◌, ◌+ℤ◌, �
 ghost use Rattle.std.specs.Int.{cast_unsigned, to_le_bytes, w16};
 ghost use Rattle.w4_defs.specs.Bytes.{replaced};
 
-/// The bytes of a frame: 735 samples, each two bytes for the left and two for the right.
-pub const FRAME_LEN: usize = 2940;
+use crate::output::TICKS;
+
+/// The bytes of a frame: at each tick, a sample of two bytes for the left and one for the right.
+pub const FRAME_LEN: usize = 4 * TICKS;
 
 pub fn put_sample(out: &mut [u8; FRAME_LEN], at: usize, sample: [u8; 4])
     requires { at + 4 ≤ 2940 }

@@ -117,8 +117,7 @@ impl Wave {
         ensures register_bound { result.register < 32768 }
         ensures ranges { IsWave self.now }
     {
-        // Its contract says that four channels play within their ranges.
-        let _tone = self.channels.tone(0);
+        self.channels.are_within();
         Part {
             left: [0; TICKS],
             right: [0; TICKS],

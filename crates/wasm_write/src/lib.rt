@@ -15,5 +15,5 @@ pub mod number;
 mod tests;
 pub mod value_type;
 
-pub use made::{Made, Maker};
+pub use made::{MADE_FRAMES, Made, Maker};
 pub use module::write_module;

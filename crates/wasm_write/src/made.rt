@@ -29,7 +29,8 @@ pub struct Maker;
 
 const BUDGET: u32 = 100_000;
 
-const FRAMES: u32 = 600;
+/// How many inputs a made cart has: ten seconds of 60 frames.
+pub const MADE_FRAMES: u32 = 600;
 
 /// Where the words begin that the small functions change: right after the framebuffer.
 const WORDS: u32 = 6560;
@@ -196,7 +197,7 @@ fn inputs(alloc: Global, draws: &mut Draws) -> Result<Vec<Input>, OutOfMemory>
     ensures { IfOk result (λ is. is.items ≡ inputs_from draws.old.number) }
 {
     let mut inputs = Vec::new(alloc);
-    for _k in 0..FRAMES {
+    for _k in 0..MADE_FRAMES {
         inputs.push(input(draws.next()))?;
     }
     Ok(inputs)

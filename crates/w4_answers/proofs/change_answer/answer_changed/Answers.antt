@@ -1,5 +1,5 @@
 use Rattle.w4_answers.proofs.ChangeAnswerLaws.{carried, refused_on}
-use Rattle.w4_answers.proofs.AnswerFramesLaws.{refused_within}
+use Rattle.w4_answers.proofs.DeskLaws.{refused_within}
 use Rattle.w4_answers.proofs.change_answer.answer_changed.Goals as goal
 
 pub returns-in-Ok-clause-answered : goal.returns-in-Ok-clause-answered

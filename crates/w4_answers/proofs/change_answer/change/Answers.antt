@@ -1,10 +1,10 @@
 use Rattle.std.proofs.Common.{None, inr, refl}
 use Rattle.w4_defs.specs.KeptList.{kept_entries, nowhere}
 use Rattle.w4_defs.specs.Session.{places_alone, set_input, insert_input, delete_input, undo, redo, drop_kept}
-use Rattle.w4_editor.specs.PlaceSession.{place_session}
+use Rattle.w4_editor.specs.Editor.{place_session}
 use Rattle.w4_answers.proofs.ChangeAnswerLaws.{changed_by, changed_exactly, recording_unchanged}
-use Rattle.w4_editor.proofs.PlaceLaws.{no_input}
-use Rattle.w4_answers.proofs.AnswerFramesLaws.{idle_within}
+use Rattle.w4_editor.proofs.EditorPlaceLaws.{no_input}
+use Rattle.w4_answers.proofs.DeskLaws.{idle_within}
 use Rattle.w4_answers.proofs.ScriptAnswerLaws.{on_ok_map}
 use Rattle.w4_answers.proofs.change_answer.change.Goals as goal
 

@@ -1,5 +1,5 @@
 use Rattle.w4_answers.proofs.ChangeAnswerLaws.{changed_by_keep, unchanged_by_keep}
-use Rattle.w4_editor.proofs.PlaceLaws.{same_recording}
+use Rattle.w4_editor.proofs.EditorPlaceLaws.{same_recording}
 use Rattle.w4_answers.proofs.change_answer.keep_place.Goals as goal
 
 pub returns-in-Ok-clause-changed : goal.returns-in-Ok-clause-changed

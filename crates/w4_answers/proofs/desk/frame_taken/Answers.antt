@@ -1,9 +1,9 @@
 use Rattle.std.proofs.Common.{◌≡◌, ◌+◌, ◌-◌, ◌∙◌, Some, ap, arith, subst}
 use Rattle.w4_defs.specs.KeptList.{Entry}
 use Rattle.w4_defs.specs.Session.{Session}
-use Rattle.w4_editor.specs.Editing.{Editing}
-use Rattle.w4_answers.specs.AnswerFrames.{RunsOn}
-use Rattle.w4_answers.proofs.AnswerFramesLaws.{made_from_before}
+use Rattle.w4_editor.specs.Editor.{Editing}
+use Rattle.w4_answers.specs.Desk.{RunsOn}
+use Rattle.w4_answers.proofs.DeskLaws.{made_from_before}
 use Rattle.w4_answers.proofs.desk.frame_taken.Goals as goal
 
 pub returns-clause-made : goal.returns-clause-made

@@ -1,7 +1,7 @@
 use Rattle.std.proofs.Common.{◌≡◌, ◌∙◌, ap, arith, sym, true, false}
 use Rattle.w4_defs.specs.KeptList.{Entry}
 use Rattle.w4_defs.specs.Session.{Session}
-use Rattle.w4_answers.proofs.AnswerFramesLaws.{made_by_step}
+use Rattle.w4_answers.proofs.DeskLaws.{made_by_step}
 use Rattle.w4_answers.proofs.ScriptAnswerLaws.{on_ok}
 use Rattle.w4_answers.proofs.desk.make_image.Goals as goal
 

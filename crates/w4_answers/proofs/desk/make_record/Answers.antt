@@ -1,8 +1,8 @@
 use Rattle.std.proofs.Common.{◌∙◌, ap, arith}
 use Rattle.w4_defs.specs.KeptList.{Entry}
 use Rattle.w4_defs.specs.Session.{Session}
-use Rattle.w4_editor.specs.Editing.{Editing}
-use Rattle.w4_answers.proofs.AnswerFramesLaws.{made_from_before}
+use Rattle.w4_editor.specs.Editor.{Editing}
+use Rattle.w4_answers.proofs.DeskLaws.{made_from_before}
 use Rattle.w4_answers.proofs.desk.make_record.Goals as goal
 
 pub returns-clause-made : goal.returns-clause-made

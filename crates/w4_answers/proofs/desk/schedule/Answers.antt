@@ -2,9 +2,9 @@ use Rattle.std.proofs.Common.{ℕ, List, ◌++◌, Some, ap, arith, sym, ◌∙�
 use Rattle.w4_defs.specs.FrameTexts.{schedule_text}
 use Rattle.w4_defs.specs.Run.{run}
 use Rattle.w4_devices.specs.Records.{record_of}
-use Rattle.w4_editor.specs.Editing.{editing_setup}
-use Rattle.w4_answers.proofs.PlaceAnswerLaws.{reset_record, schedule_of_record}
-use Rattle.w4_answers.proofs.AnswerFramesLaws.{made_of_reset}
+use Rattle.w4_editor.specs.Editor.{editing_setup}
+use Rattle.w4_answers.proofs.RangeAnswerLaws.{reset_record, schedule_of_record}
+use Rattle.w4_answers.proofs.DeskLaws.{made_of_reset}
 use Rattle.w4_answers.proofs.desk.schedule.Goals as goal
 
 pub returns-then-place-eq0-clause-text : goal.returns-then-place-eq0-clause-text

@@ -2,10 +2,10 @@ use Rattle.std.proofs.Common.{ℕ, List, Some, ap, sym, ◌∙◌}
 use Rattle.w4_defs.specs.PlaceTexts.{as_it_stands}
 use Rattle.w4_defs.specs.Run.{run}
 use Rattle.w4_defs.proofs.TextsOfStates.{image_of_state}
-use Rattle.w4_editor.specs.Editing.{editing_setup}
-use Rattle.w4_answers.proofs.SessionLaws.{only_shows}
-use Rattle.w4_editor.proofs.PlaceLaws.{same_recording}
-use Rattle.w4_answers.proofs.AnswerFramesLaws.{made_by_show}
+use Rattle.w4_editor.specs.Editor.{editing_setup}
+use Rattle.w4_answers.proofs.DeskSessionLaws.{only_shows}
+use Rattle.w4_editor.proofs.EditorPlaceLaws.{same_recording}
+use Rattle.w4_answers.proofs.DeskLaws.{made_by_show}
 use Rattle.w4_answers.proofs.desk.show_image.Goals as goal
 
 pub returns-in-Ok-clause-shows : goal.returns-in-Ok-clause-shows

@@ -1,8 +1,8 @@
 use Rattle.std.proofs.Common.{◌≡◌, ◌+◌, ◌-◌, ℕ, List, Some, ap, sym, ◌∙◌, arith, subst}
 use Rattle.w4_defs.specs.PlaceTexts.{as_it_stands}
 use Rattle.w4_defs.specs.Run.{run, run_state}
-use Rattle.w4_editor.specs.Editing.{Editing, editing_setup}
-use Rattle.w4_answers.proofs.SessionLaws.{shows_at, shows_recording, same_place, not_at_end}
+use Rattle.w4_editor.specs.Editor.{Editing, editing_setup}
+use Rattle.w4_answers.proofs.DeskSessionLaws.{shows_at, shows_recording, same_place, not_at_end}
 use Rattle.w4_defs.proofs.TextsOfStates.{image_of_state}
 use Rattle.w4_answers.proofs.desk.step_image.Goals as goal
 

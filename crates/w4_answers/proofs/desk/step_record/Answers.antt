@@ -2,8 +2,8 @@ use Rattle.std.proofs.Common.{◌≡◌, ◌+◌, ◌-◌, ◌∙◌, Some, ap, 
 use Rattle.w4_defs.specs.Run.{run}
 use Rattle.w4_defs.specs.State.{Moment}
 use Rattle.w4_devices.specs.Records.{record_of}
-use Rattle.w4_editor.specs.Editing.{Editing, editing_setup}
-use Rattle.w4_answers.proofs.SessionLaws.{shows_at, shows_recording, same_place, not_at_end}
+use Rattle.w4_editor.specs.Editor.{Editing, editing_setup}
+use Rattle.w4_answers.proofs.DeskSessionLaws.{shows_at, shows_recording, same_place, not_at_end}
 use Rattle.w4_answers.proofs.desk.step_record.Goals as goal
 
 pub returns-clause-shows : goal.returns-clause-shows

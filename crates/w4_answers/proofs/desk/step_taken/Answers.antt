@@ -1,7 +1,7 @@
 use Rattle.std.proofs.Common.{◌+◌, ◌∙◌, Some, ap}
-use Rattle.w4_answers.proofs.SessionLaws.{same_place, shows_at, shows_recording}
+use Rattle.w4_answers.proofs.DeskSessionLaws.{same_place, shows_at, shows_recording}
 use Rattle.w4_answers.proofs.UnitsAnswerLaws.{before_end}
-use Rattle.w4_editor.specs.Editing.{Editing}
+use Rattle.w4_editor.specs.Editor.{Editing}
 use Rattle.w4_answers.proofs.desk.step_taken.Goals as goal
 
 pub returns-clause-shows : goal.returns-clause-shows

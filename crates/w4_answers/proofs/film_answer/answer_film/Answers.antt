@@ -1,21 +1,18 @@
 use Rattle.std.proofs.Common.{[], Some, ap, option_map, refl, sym, subst, ◌∙◌}
-use Rattle.w4_editor.specs.Editing.{editing_setup}
+use Rattle.w4_editor.specs.Editor.{editing_setup, place_session}
 use Rattle.w4_segments.specs.FilmPieces.{images_left}
 use Rattle.w4_segments.specs.Filming.{IsFilmRefusal}
 use Rattle.w4_defs.specs.Film.{film_refusal}
 use Rattle.w4_defs.specs.declared.film_refusal.FilmRefusal.{FilmRefusal}
 use Rattle.w4_defs.specs.declared.film_refusal.FilmRefusal.TheVariants.{FilmTooLong, NoFrame}
 use Rattle.w4_defs.specs.ScriptAnswers.{film_refusal_words, film_text, no_frame, refused_line}
-use Rattle.w4_answers.specs.Causes.{AppendsOut}
-use Rattle.w4_answers.specs.Causes.{Written}
-use Rattle.w4_answers.specs.ScriptAnswers.{images_in}
-use Rattle.w4_editor.proofs.PlaceLaws.{same_recording}
-use Rattle.w4_answers.proofs.OutLaws.{out_none}
-use Rattle.w4_editor.specs.PlaceSession.{place_session}
+use Rattle.w4_answers.specs.Writing.{AppendsOut, Written}
+use Rattle.w4_answers.specs.FilmAnswer.{images_in}
+use Rattle.w4_editor.proofs.EditorPlaceLaws.{same_recording}
+use Rattle.w4_answers.proofs.WritingLaws.{out_none, there_is}
 use Rattle.w4_answers.proofs.ScriptAnswerLaws.{on_ok}
 use Rattle.w4_answers.proofs.FilmAnswerLaws.{film_shown, film_refused, film_past, film_of_none}
-use Rattle.w4_answers.proofs.OwesLaws.{there_is}
-use Rattle.w4_answers.proofs.SessionLaws.{appends_nothing, only_shows, refused_place, shows_none, told, answered_on}
+use Rattle.w4_answers.proofs.DeskSessionLaws.{appends_nothing, only_shows, refused_place, shows_none, told, answered_on}
 use Rattle.w4_answers.proofs.film_answer.answer_film.Goals as goal
 
 pub returns-then-to-last_place-clause-answered : goal.returns-then-to-last_place-clause-answered

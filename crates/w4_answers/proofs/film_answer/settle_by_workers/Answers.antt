@@ -1,5 +1,5 @@
 use Rattle.w4_answers.proofs.ScriptAnswerLaws.{on_ok_map}
-use Rattle.w4_answers.proofs.SessionLaws.{only_shows}
+use Rattle.w4_answers.proofs.DeskSessionLaws.{only_shows}
 use Rattle.w4_answers.proofs.FilmAnswerLaws.{settled_recording}
 use Rattle.w4_answers.proofs.film_answer.settle_by_workers.Goals as goal
 

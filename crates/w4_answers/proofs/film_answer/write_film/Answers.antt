@@ -1,15 +1,13 @@
 use Rattle.std.proofs.Common.{ℕ, List, Some, flat_map, option_map, refl, ap, ◌∙◌, subst}
 use Rattle.std.proofs.lemmas.Result.{err_from_is_err_and}
 use Rattle.w4_defs.specs.Image.{image}
-use Rattle.w4_answers.specs.Causes.{AppendsOut}
+use Rattle.w4_answers.specs.Writing.{AppendsOut, StopsWriting}
 use Rattle.w4_house.proofs.WorldLaws.{writing_none, writing_then}
-use Rattle.w4_answers.proofs.OutLaws.{out_none}
+use Rattle.w4_answers.proofs.WritingLaws.{out_none, OwesThere, there_begins, there_begun, there_is, there_less, there_nothing, there_stopped}
 use Rattle.w4_segments.specs.FilmPieces.{images_left, piece_of}
-use Rattle.w4_answers.specs.Causes.{StopsWriting}
-use Rattle.w4_answers.specs.ScriptAnswers.{images_in}
+use Rattle.w4_answers.specs.FilmAnswer.{images_in}
 use Rattle.w4_defs.specs.Endings.{manner_of}
 use Rattle.w4_answers.proofs.FilmAnswerLaws.{blocks_joined}
-use Rattle.w4_answers.proofs.OwesLaws.{OwesThere, there_begins, there_begun, there_is, there_less, there_nothing, there_stopped}
 use Rattle.w4_answers.proofs.film_answer.write_film.Goals as goal
 
 pub loop-image_bytes-init : goal.loop-image_bytes-init

@@ -1,8 +1,8 @@
 use Rattle.std.specs.Prelude.{option_map}
 use Rattle.w4_defs.specs.World.{LeavesWriting}
 use Rattle.w4_segments.specs.FilmPieces.{IsFilming, images_left, pieces_left}
-use Rattle.w4_answers.specs.ScriptAnswers.{images_in}
-use Rattle.w4_answers.proofs.OwesLaws.{OwesThere}
+use Rattle.w4_answers.specs.FilmAnswer.{images_in}
+use Rattle.w4_answers.proofs.WritingLaws.{OwesThere}
 use Rattle.w4_answers.proofs.film_answer.write_film.Given as goal
 
 -- what was written so far and what is left of the film make the whole

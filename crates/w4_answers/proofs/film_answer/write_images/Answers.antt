@@ -4,7 +4,7 @@ use Rattle.w4_defs.specs.Image.{image}
 use Rattle.w4_house.proofs.WorldLaws.{writing_then}
 use Rattle.w4_defs.specs.Endings.{manner_of}
 use Rattle.w4_answers.proofs.FilmAnswerLaws.{next_image, no_image}
-use Rattle.w4_answers.proofs.OwesLaws.{Owes, owes_less, owes_nothing, piece_stopped}
+use Rattle.w4_answers.proofs.WritingLaws.{Owes, owes_less, owes_nothing, piece_stopped}
 use Rattle.w4_answers.proofs.film_answer.write_images.Goals as goal
 
 pub loop-screen-preserved : goal.loop-screen-preserved

@@ -1,7 +1,7 @@
 use Rattle.std.proofs.Common.{drop, flat_map}
 use Rattle.w4_defs.specs.Image.{image}
 use Rattle.w4_defs.specs.World.{LeavesWriting}
-use Rattle.w4_answers.proofs.OwesLaws.{Owes}
+use Rattle.w4_answers.proofs.WritingLaws.{Owes}
 use Rattle.w4_answers.proofs.film_answer.write_images.Given as goal
 
 -- what was written so far and the images of the screens that are left make the whole

@@ -3,11 +3,11 @@ use Rattle.std.specs.Prelude.{codes}
 use Rattle.w4_defs.specs.FrameTexts.{numbered}
 use Rattle.w4_defs.specs.PlaceTexts.{as_it_stands}
 use Rattle.w4_defs.specs.QueryAnswers.{outside, watch_text}
-use Rattle.w4_inspect.specs.Refusals.{IsRefusal}
+use Rattle.w4_inspect.specs.Refusal.{IsRefusal}
 use Rattle.w4_inspect.specs.declared.refusal.RamRefusal.{RamRefusal}
-use Rattle.w4_answers.specs.Causes.{Written}
+use Rattle.w4_answers.specs.Writing.{Written}
 use Rattle.w4_answers.specs.RamAnswers.{editor_pages}
-use Rattle.w4_answers.proofs.OwesLaws.{there_is}
+use Rattle.w4_answers.proofs.WritingLaws.{there_is}
 use Rattle.w4_answers.proofs.RamAnswerLaws.{held_refusal, watch_answered, watch_outside}
 use Rattle.w4_answers.proofs.held_pages.answer_from_pages.Goals as goal
 

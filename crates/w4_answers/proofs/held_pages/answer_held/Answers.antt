@@ -2,9 +2,10 @@ use Rattle.std.proofs.Common.{ℕ, List, Option, ap, subst, sym}
 use Rattle.w4_defs.specs.PlaceTexts.{as_it_stands}
 use Rattle.w4_defs.specs.QueryAnswers.{Pages, watch_text}
 use Rattle.w4_inspect.specs.PlacePages.{ReadPages}
-use Rattle.w4_answers.specs.Causes.{Written}
-use Rattle.w4_answers.specs.RamAnswers.{AreHeld, editor_pages}
-use Rattle.w4_answers.proofs.OwesLaws.{there_as}
+use Rattle.w4_answers.specs.Writing.{Written}
+use Rattle.w4_answers.specs.HeldPages.{AreHeld}
+use Rattle.w4_answers.specs.RamAnswers.{editor_pages}
+use Rattle.w4_answers.proofs.WritingLaws.{there_as}
 use Rattle.w4_answers.proofs.RamAnswerLaws.{held_on, same_editor_pages}
 use Rattle.w4_answers.proofs.ScriptAnswerLaws.{on_ok_map}
 use Rattle.w4_answers.proofs.held_pages.answer_held.Goals as goal

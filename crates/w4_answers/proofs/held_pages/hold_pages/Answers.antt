@@ -1,5 +1,5 @@
 use Rattle.std.proofs.Common.{Some}
-use Rattle.w4_answers.proofs.SessionLaws.{only_shows}
+use Rattle.w4_answers.proofs.DeskSessionLaws.{only_shows}
 use Rattle.w4_answers.proofs.RamAnswerLaws.{held_on}
 use Rattle.w4_answers.proofs.held_pages.hold_pages.Goals as goal
 

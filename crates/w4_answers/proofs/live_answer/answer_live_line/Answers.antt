@@ -1,6 +1,6 @@
 use Rattle.std.proofs.Common.{sym, ◌∙◌}
 use Rattle.std.proofs.lemmas.Result.{err_from_is_err_and}
-use Rattle.w4_script.specs.LiveLines.{asked_view}
+use Rattle.w4_script.specs.Live.{asked_view}
 use Rattle.w4_answers.proofs.LiveAnswerLaws.{asks_save_is, pieces_line, pieces_stopped, save_line, serving_then, serving_writing}
 use Rattle.w4_answers.proofs.live_answer.answer_live_line.Goals as goal
 

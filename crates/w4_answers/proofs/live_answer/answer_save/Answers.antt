@@ -2,8 +2,8 @@ use Rattle.std.proofs.Common.{subst}
 use Rattle.w4_defs.specs.declared.status.Refusal.{Refusal}
 use Rattle.w4_defs.specs.Endings.{manner_of}
 use Rattle.w4_defs.specs.Recording.{encoding}
-use Rattle.w4_editor.specs.Editing.{current_recording}
-use Rattle.w4_answers.specs.Causes.{StopsSaving}
+use Rattle.w4_editor.specs.Editor.{current_recording}
+use Rattle.w4_answers.specs.Saving.{StopsSaving}
 use Rattle.w4_answers.proofs.LiveAnswerLaws.{other_manner, save_refused, save_replaced, save_stopped, serving_saving, serving_then, serving_writing}
 use Rattle.w4_answers.proofs.live_answer.answer_save.Goals as goal
 

@@ -1,7 +1,7 @@
 use Rattle.std.proofs.lemmas.Result.{err_from_is_err_and}
 use Rattle.w4_defs.specs.Endings.{manner_of}
 use Rattle.w4_defs.specs.Live.{answer_end, refused_save}
-use Rattle.w4_answers.proofs.OwesLaws.{stops_more, written_then}
+use Rattle.w4_answers.proofs.WritingLaws.{stops_more, written_then}
 use Rattle.w4_answers.proofs.live_answer.refuse_save.Goals as goal
 
 pub returns-in_err-write-clause-out : goal.returns-in_err-write-clause-out

@@ -1,5 +1,5 @@
 use Rattle.w4_defs.specs.Session.{keep_refusal, places_alone}
-use Rattle.w4_netplay.specs.Replicas.{predicted_draft}
+use Rattle.w4_netplay.specs.Replica.{predicted_draft}
 use Rattle.w4_defs.specs.ScriptAnswers.{refused_line}
 use Rattle.w4_defs.specs.LogAnswers.{answer_keep, net_words}
 use Rattle.w4_answers.specs.NetAnswers.{net_session}

@@ -1,6 +1,6 @@
 use Rattle.std.proofs.Common.{refl}
 use Rattle.w4_defs.specs.Rollback.{packet_refusal}
-use Rattle.w4_netplay.specs.Replicas.{known_of}
+use Rattle.w4_netplay.specs.Replica.{known_of}
 use Rattle.w4_defs.specs.ScriptAnswers.{refused_line}
 use Rattle.w4_defs.specs.LogAnswers.{answer_packet, net_words}
 use Rattle.w4_answers.specs.NetAnswers.{net_session}

@@ -1,11 +1,10 @@
 use Rattle.std.proofs.Common.{◌≡◌, ap, sym, ◌∙◌}
 use Rattle.std.specs.Prelude.{List, Option, Some, ℕ}
 use Rattle.w4_defs.specs.FrameTexts.{state_line}
-use Rattle.w4_editor.specs.Editing.{Editing, editing_setup}
-use Rattle.w4_netplay.specs.Replicas.{places_kept}
+use Rattle.w4_editor.specs.Editor.{Editing, editing_setup, place_session}
+use Rattle.w4_netplay.specs.Replica.{places_kept}
 use Rattle.w4_defs.specs.ScriptAnswers.{refused_line}
 use Rattle.w4_defs.specs.Answers.{answer_text}
-use Rattle.w4_editor.specs.PlaceSession.{place_session}
 use Rattle.w4_defs.specs.LogAnswers.{if_passed, net_words, predicted_state}
 use Rattle.w4_answers.specs.NetAnswers.{net_session}
 use Rattle.w4_answers.proofs.NetAnswerLaws.{heard_on_text, net_refused_on_text, not_passed, passed_text, same_netplay, state_answered}

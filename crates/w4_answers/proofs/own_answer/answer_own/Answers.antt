@@ -4,8 +4,8 @@ use Rattle.w4_defs.specs.PlaceTexts.{place_texts}
 use Rattle.w4_defs.specs.ScriptAnswers.{if_place}
 use Rattle.w4_defs.specs.Session.{Session}
 use Rattle.w4_defs.specs.Units.{units_at}
-use Rattle.w4_editor.specs.Editing.{editing_setup}
-use Rattle.w4_answers.specs.Causes.{Written}
+use Rattle.w4_editor.specs.Editor.{editing_setup}
+use Rattle.w4_answers.specs.Writing.{Written}
 use Rattle.w4_answers.proofs.own_answer.answer_own.Goals as goal
 
 pub returns-in-Units-clause-out : goal.returns-in-Units-clause-out

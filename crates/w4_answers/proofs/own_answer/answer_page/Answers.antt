@@ -1,6 +1,6 @@
 use Rattle.w4_answers.proofs.ScriptAnswerLaws.{on_ok}
-use Rattle.w4_answers.proofs.SessionLaws.{only_shows}
-use Rattle.w4_answers.proofs.AnswerFramesLaws.{shown_runs}
+use Rattle.w4_answers.proofs.DeskSessionLaws.{only_shows}
+use Rattle.w4_answers.proofs.DeskLaws.{shown_runs}
 use Rattle.w4_answers.proofs.own_answer.answer_page.Goals as goal
 
 pub returns-in-Ok-clause-shows : goal.returns-in-Ok-clause-shows

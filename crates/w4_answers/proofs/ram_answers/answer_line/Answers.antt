@@ -2,11 +2,11 @@ use Rattle.std.proofs.Common.{Some, refl}
 use Rattle.w4_defs.specs.Answers.{answer_text}
 use Rattle.w4_answers.specs.RamAnswers.{editor_pages}
 use Rattle.w4_defs.specs.QueryAnswers.{list_text, watch_text}
-use Rattle.w4_answers.specs.Causes.{Written}
+use Rattle.w4_answers.specs.Writing.{Written}
 use Rattle.w4_answers.proofs.ScriptAnswerLaws.{on_ok}
-use Rattle.w4_answers.proofs.OwesLaws.{there_is}
+use Rattle.w4_answers.proofs.WritingLaws.{there_is}
 use Rattle.w4_answers.proofs.RamAnswerLaws.{line_answered_on}
-use Rattle.w4_answers.proofs.SessionLaws.{shows_none}
+use Rattle.w4_answers.proofs.DeskSessionLaws.{shows_none}
 use Rattle.w4_answers.proofs.ram_answers.answer_line.Goals as goal
 
 pub returns-in-Watch-clause-told : goal.returns-in-Watch-clause-told

@@ -2,12 +2,12 @@ use Rattle.std.proofs.Common.{Some, refl}
 use Rattle.w4_defs.specs.ScriptAnswers.{no_frame}
 use Rattle.w4_answers.specs.RamAnswers.{editor_pages}
 use Rattle.w4_defs.specs.QueryAnswers.{answer_narrow, no_search}
-use Rattle.w4_answers.specs.Causes.{Written}
+use Rattle.w4_answers.specs.Writing.{Written}
 use Rattle.w4_answers.proofs.ScriptAnswerLaws.{on_ok}
-use Rattle.w4_answers.proofs.OwesLaws.{there_is}
+use Rattle.w4_answers.proofs.WritingLaws.{there_is}
 use Rattle.w4_answers.proofs.RamAnswerLaws.{narrow_past, narrow_there, refused_on_text, line_answered_alone, line_answered_on}
-use Rattle.w4_answers.proofs.SessionLaws.{only_shows, shows_none, shows_same}
-use Rattle.w4_editor.proofs.PlaceLaws.{same_recording}
+use Rattle.w4_answers.proofs.DeskSessionLaws.{only_shows, shows_none, shows_same}
+use Rattle.w4_editor.proofs.EditorPlaceLaws.{same_recording}
 use Rattle.w4_answers.proofs.ram_answers.answer_narrow.Goals as goal
 
 pub returns-in-None-clause-told : goal.returns-in-None-clause-told

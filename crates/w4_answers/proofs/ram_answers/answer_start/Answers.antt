@@ -3,8 +3,8 @@ use Rattle.w4_defs.specs.ScriptAnswers.{no_frame}
 use Rattle.w4_answers.specs.RamAnswers.{editor_pages}
 use Rattle.w4_defs.specs.QueryAnswers.{answer_start}
 use Rattle.w4_answers.proofs.RamAnswerLaws.{refused_on_text, start_past, start_there, line_answered_alone}
-use Rattle.w4_answers.proofs.SessionLaws.{only_shows, shows_same}
-use Rattle.w4_editor.proofs.PlaceLaws.{same_recording}
+use Rattle.w4_answers.proofs.DeskSessionLaws.{only_shows, shows_same}
+use Rattle.w4_editor.proofs.EditorPlaceLaws.{same_recording}
 use Rattle.w4_answers.proofs.ram_answers.answer_start.Goals as goal
 
 pub returns-in-Ok-clause-told : goal.returns-in-Ok-clause-told

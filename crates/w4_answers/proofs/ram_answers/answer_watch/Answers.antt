@@ -5,13 +5,12 @@ use Rattle.w4_defs.specs.FrameTexts.{numbered}
 use Rattle.w4_answers.specs.RamAnswers.{editor_pages}
 use Rattle.w4_defs.specs.QueryAnswers.{outside, watch_text}
 use Rattle.w4_defs.specs.ScriptAnswers.{no_frame}
-use Rattle.w4_answers.specs.Causes.{Written}
+use Rattle.w4_answers.specs.Writing.{Written}
 use Rattle.w4_answers.proofs.ScriptAnswerLaws.{on_ok}
-use Rattle.w4_answers.proofs.OutLaws.{out_none}
-use Rattle.w4_answers.proofs.OwesLaws.{there_is}
+use Rattle.w4_answers.proofs.WritingLaws.{out_none, there_is}
 use Rattle.w4_answers.proofs.RamAnswerLaws.{watch_answered, watch_past, watch_outside}
-use Rattle.w4_answers.proofs.SessionLaws.{only_shows}
-use Rattle.w4_editor.proofs.PlaceLaws.{same_recording}
+use Rattle.w4_answers.proofs.DeskSessionLaws.{only_shows}
+use Rattle.w4_editor.proofs.EditorPlaceLaws.{same_recording}
 use Rattle.w4_answers.proofs.ram_answers.answer_watch.Goals as goal
 
 pub returns-in_ok-line-in-Ok-clause-out : goal.returns-in_ok-line-in-Ok-clause-out

@@ -1,8 +1,7 @@
-use Rattle.w4_editor.specs.Editing.{editing_setup}
+use Rattle.w4_editor.specs.Editor.{editing_setup, place_session}
 use Rattle.w4_defs.specs.ScriptAnswers.{if_place, no_frame, range_text}
-use Rattle.w4_editor.specs.PlaceSession.{place_session}
-use Rattle.w4_answers.proofs.SessionLaws.{refused_place, answered_on}
-use Rattle.w4_answers.proofs.PlaceAnswerLaws.{if_place-past, if_place-within}
+use Rattle.w4_answers.proofs.DeskSessionLaws.{refused_place, answered_on}
+use Rattle.w4_answers.proofs.RangeAnswerLaws.{if_place-past, if_place-within}
 use Rattle.w4_answers.proofs.range_answer.answer_range.Goals as goal
 
 pub returns-then-b-last_place-clause-answered : goal.returns-then-b-last_place-clause-answered

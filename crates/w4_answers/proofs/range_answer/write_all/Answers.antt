@@ -1,16 +1,15 @@
 use Rattle.std.proofs.Common.{◌+◌, ◌-◌, arith, sym, ◌∙◌}
 use Rattle.std.proofs.lemmas.Result.{err_from_is_err_and}
 use Rattle.w4_house.proofs.WorldLaws.{writing_then, writing_none}
-use Rattle.w4_answers.specs.Causes.{AppendsOut}
-use Rattle.w4_answers.specs.Causes.{StopsWriting}
-use Rattle.w4_answers.specs.AnswerFrames.{lead_of}
-use Rattle.w4_answers.specs.ScriptAnswers.{text_by}
-use Rattle.w4_answers.proofs.AnswerFramesLaws.{run_all, run_begins, run_on}
+use Rattle.w4_answers.specs.Writing.{AppendsOut, StopsWriting}
+use Rattle.w4_answers.specs.RangeAnswer.{lead_of}
+use Rattle.w4_answers.specs.Desk.{text_by}
+use Rattle.w4_answers.proofs.DeskLaws.{run_all, run_begins, run_on}
 use Rattle.w4_defs.specs.Endings.{manner_of}
 use Rattle.w4_defs.specs.PlaceTexts.{place_texts}
-use Rattle.w4_answers.proofs.OwesLaws.{there_as, there_begins}
+use Rattle.w4_answers.proofs.WritingLaws.{there_as, there_begins}
 use Rattle.w4_answers.proofs.PlaceTextLaws.{texts-more, texts-all, texts-stop}
-use Rattle.w4_answers.proofs.SessionLaws.{same_text, shows_none, shows_recording, shows_then}
+use Rattle.w4_answers.proofs.DeskSessionLaws.{same_text, shows_none, shows_recording, shows_then}
 use Rattle.w4_answers.proofs.range_answer.write_all.Goals as goal
 
 pub loop-place-init : goal.loop-place-init

@@ -1,11 +1,11 @@
 use Rattle.std.proofs.Common.{◌≡◌, ◌+◌, ◌-◌, ◌≤◌}
 use Rattle.w4_defs.specs.World.{LeavesWriting}
-use Rattle.w4_answers.specs.ScriptAnswers.{OnlyShows, text_by}
+use Rattle.w4_answers.specs.Desk.{OnlyShows, text_by}
 use Rattle.w4_defs.specs.PlaceTexts.{place_texts}
 use Rattle.w4_defs.specs.declared.place_text.PlaceText.TheVariants.{DiskBytes}
-use Rattle.w4_answers.specs.AnswerFrames.{lead_of}
-use Rattle.w4_answers.proofs.AnswerFramesLaws.{HasRun}
-use Rattle.w4_answers.proofs.OwesLaws.{OwesThere}
+use Rattle.w4_answers.specs.RangeAnswer.{lead_of}
+use Rattle.w4_answers.proofs.DeskLaws.{HasRun}
+use Rattle.w4_answers.proofs.WritingLaws.{OwesThere}
 use Rattle.w4_answers.proofs.range_answer.write_all.Given as goal
 
 -- what was written so far and the texts of the places that are left make the whole

@@ -1,14 +1,14 @@
 use Rattle.w4_defs.specs.Run.{run}
-use Rattle.w4_editor.specs.Editing.{editing_setup}
-use Rattle.w4_answers.specs.Causes.{Written}
-use Rattle.w4_answers.specs.ScriptAnswers.{text_by}
+use Rattle.w4_editor.specs.Editor.{editing_setup}
+use Rattle.w4_answers.specs.Writing.{Written}
+use Rattle.w4_answers.specs.Desk.{text_by}
 use Rattle.w4_defs.specs.declared.place_text.PlaceText.TheVariants.{DiskBytes}
 use Rattle.w4_answers.proofs.ScriptAnswerLaws.{on_ok}
-use Rattle.w4_answers.proofs.OwesLaws.{there_is}
-use Rattle.w4_answers.proofs.SessionLaws.{only_shows}
-use Rattle.w4_answers.proofs.PlaceAnswerLaws.{disk_of_state}
-use Rattle.w4_editor.proofs.PlaceLaws.{same_recording}
-use Rattle.w4_answers.proofs.AnswerFramesLaws.{made_by_show}
+use Rattle.w4_answers.proofs.WritingLaws.{there_is}
+use Rattle.w4_answers.proofs.DeskSessionLaws.{only_shows}
+use Rattle.w4_answers.proofs.RangeAnswerLaws.{disk_of_state}
+use Rattle.w4_editor.proofs.EditorPlaceLaws.{same_recording}
+use Rattle.w4_answers.proofs.DeskLaws.{made_by_show}
 use Rattle.w4_answers.proofs.range_answer.write_disk.Goals as goal
 
 pub returns-in-Ok-clause-out : goal.returns-in-Ok-clause-out

@@ -1,8 +1,8 @@
-use Rattle.w4_answers.specs.Causes.{Written}
-use Rattle.w4_answers.specs.ScriptAnswers.{text_by}
+use Rattle.w4_answers.specs.Writing.{Written}
+use Rattle.w4_answers.specs.Desk.{text_by}
 use Rattle.w4_defs.specs.declared.place_text.PlaceText.TheVariants.{Image, Schedule, Traces}
-use Rattle.w4_answers.proofs.OwesLaws.{there_is}
-use Rattle.w4_answers.proofs.PlaceAnswerLaws.{run_at, text_formed}
+use Rattle.w4_answers.proofs.WritingLaws.{there_is}
+use Rattle.w4_answers.proofs.RangeAnswerLaws.{run_at, text_formed}
 use Rattle.w4_answers.proofs.ScriptAnswerLaws.{on_ok}
 use Rattle.w4_answers.proofs.range_answer.write_one.Goals as goal
 

@@ -1,14 +1,14 @@
 use Rattle.std.proofs.Common.{arith, refl, sym, subst}
 use Rattle.std.specs.Prelude.{ℕ}
 use Rattle.w4_defs.specs.Session.{Session}
-use Rattle.w4_editor.specs.Editing.{editing_setup}
+use Rattle.w4_editor.specs.Editor.{editing_setup, place_session}
 use Rattle.w4_defs.specs.Answers.{Answered}
-use Rattle.w4_answers.specs.ScriptAnswers.{GivesAnswer, changed}
-use Rattle.w4_editor.specs.PlaceSession.{place_session}
+use Rattle.w4_answers.specs.ScriptAnswers.{GivesAnswer}
+use Rattle.w4_answers.specs.ChangeAnswer.{changed}
 use Rattle.w4_answers.proofs.ChangeAnswerLaws.{change_answers}
 use Rattle.w4_defs.specs.declared.place_text.PlaceText.TheVariants.{Image, DiskBytes}
-use Rattle.w4_answers.proofs.PlaceAnswerLaws.{one_range}
-use Rattle.w4_answers.proofs.AnswerFramesLaws.{change_answers_within, runs_one}
+use Rattle.w4_answers.proofs.RangeAnswerLaws.{one_range}
+use Rattle.w4_answers.proofs.DeskLaws.{change_answers_within, runs_one}
 use Rattle.w4_answers.proofs.ScriptAnswerLaws.{on_ok, on_ok_map}
 use Rattle.w4_answers.proofs.script_answers.answer.Goals as goal
 

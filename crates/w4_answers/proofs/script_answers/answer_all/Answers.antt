@@ -1,14 +1,13 @@
 use Rattle.std.proofs.Common.{get_or, refl}
 use Rattle.std.proofs.lemmas.Result.{err_from_is_err_and}
-use Rattle.w4_editor.specs.Editing.{editing_setup}
+use Rattle.w4_editor.specs.Editor.{editing_setup, place_session}
 use Rattle.w4_house.proofs.WorldLaws.{writing_none, writing_then}
 use Rattle.w4_defs.specs.PlaceTexts.{as_it_stands}
 use Rattle.w4_defs.specs.ScriptAnswers.{answer, answers}
-use Rattle.w4_editor.specs.PlaceSession.{place_session}
 use Rattle.w4_defs.specs.Endings.{manner_of}
 use Rattle.w4_answers.proofs.ScriptAnswerLaws.{past_end, answered_at_first, stopped_at_first, answers-out-step, answers-session-step, answers-stop, answers-done}
-use Rattle.w4_answers.proofs.OwesLaws.{there_begins}
-use Rattle.w4_editor.proofs.PlaceLaws.{rest_none, rest_then}
+use Rattle.w4_answers.proofs.WritingLaws.{there_begins}
+use Rattle.w4_editor.proofs.EditorPlaceLaws.{rest_none, rest_then}
 use Rattle.w4_answers.proofs.script_answers.answer_all.Goals as goal
 
 pub loop-order-init : goal.loop-order-init

@@ -1,9 +1,8 @@
 use Rattle.std.proofs.Common.{◌≡◌, drop}
-use Rattle.w4_editor.specs.Editing.{editing_setup}
+use Rattle.w4_editor.specs.Editor.{editing_setup, KeepsRest, place_session}
 use Rattle.w4_defs.specs.World.{LeavesWriting}
 use Rattle.w4_defs.specs.ScriptAnswers.{answers}
-use Rattle.w4_editor.specs.PlaceSession.{KeepsRest, place_session}
-use Rattle.w4_answers.proofs.OwesLaws.{OwesThere}
+use Rattle.w4_answers.proofs.WritingLaws.{OwesThere}
 use Rattle.w4_answers.proofs.script_answers.answer_all.Given as goal
 
 -- what was written so far and the answers that are left make the whole, and so do their sessions

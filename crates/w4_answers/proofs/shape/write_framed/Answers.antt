@@ -3,8 +3,8 @@ use Rattle.std.specs.Prelude.{◌++◌, decimal}
 use Rattle.std.proofs.lemmas.Result.{err_from_is_err_and}
 use Rattle.w4_defs.specs.Endings.{manner_of}
 use Rattle.w4_defs.specs.FrameTexts.{line_end}
-use Rattle.w4_answers.specs.Causes.{AppendsOut, StopsWriting, Written}
-use Rattle.w4_answers.proofs.OwesLaws.{stops_more, written_then}
+use Rattle.w4_answers.specs.Writing.{AppendsOut, StopsWriting, Written}
+use Rattle.w4_answers.proofs.WritingLaws.{stops_more, written_then}
 use Rattle.w4_answers.proofs.shape.write_framed.Goals as goal
 
 pub returns-in_err-write_bytes-clause-out : goal.returns-in_err-write_bytes-clause-out

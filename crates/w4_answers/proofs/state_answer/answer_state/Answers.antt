@@ -2,16 +2,14 @@ use Rattle.std.proofs.Common.{ℕ, List, Some, length, ap, refl, sym, ◌∙◌}
 use Rattle.std.proofs.lemmas.Result.{err_from_is_err_and}
 use Rattle.w4_defs.specs.FrameTexts.{state_line}
 use Rattle.w4_defs.specs.Run.{run}
-use Rattle.w4_editor.specs.Editing.{editing_setup}
-use Rattle.w4_answers.proofs.OutLaws.{out_none}
+use Rattle.w4_editor.specs.Editor.{editing_setup, place_session}
+use Rattle.w4_answers.proofs.WritingLaws.{out_none, there_is}
 use Rattle.w4_defs.specs.ScriptAnswers.{if_place, no_frame, state_answer}
-use Rattle.w4_editor.specs.PlaceSession.{place_session}
 use Rattle.w4_answers.proofs.ScriptAnswerLaws.{on_ok}
-use Rattle.w4_answers.proofs.SessionLaws.{refused_place, answered_on}
+use Rattle.w4_answers.proofs.DeskSessionLaws.{refused_place, answered_on}
 use Rattle.w4_defs.proofs.TextsOfStates.{line_of_state}
-use Rattle.w4_answers.specs.Causes.{Written}
-use Rattle.w4_answers.proofs.OwesLaws.{there_is}
-use Rattle.w4_answers.proofs.PlaceAnswerLaws.{if_place-past, if_place-within}
+use Rattle.w4_answers.specs.Writing.{Written}
+use Rattle.w4_answers.proofs.RangeAnswerLaws.{if_place-past, if_place-within}
 use Rattle.w4_answers.proofs.state_answer.answer_state.Goals as goal
 
 pub returns-then-place-count-clause-answered : goal.returns-then-place-count-clause-answered

@@ -1,6 +1,6 @@
-use Rattle.w4_answers.proofs.SessionLaws.{only_shows}
-use Rattle.w4_editor.proofs.PlaceLaws.{same_recording}
-use Rattle.w4_answers.proofs.AnswerFramesLaws.{shown_runs}
+use Rattle.w4_answers.proofs.DeskSessionLaws.{only_shows}
+use Rattle.w4_editor.proofs.EditorPlaceLaws.{same_recording}
+use Rattle.w4_answers.proofs.DeskLaws.{shown_runs}
 use Rattle.w4_answers.proofs.state_answer.facts.Goals as goal
 
 pub returns-in-Ok-clause-shows : goal.returns-in-Ok-clause-shows

@@ -1,8 +1,8 @@
 use Rattle.std.proofs.Common.{◌++◌}
 use Rattle.std.specs.Prelude.{flat_map}
 use Rattle.w4_defs.specs.FrameTexts.{spaced}
-use Rattle.w4_editor.specs.PlaceSession.{place_session}
-use Rattle.w4_answers.proofs.PlaceAnswerLaws.{numbers-more, numbers-all}
+use Rattle.w4_editor.specs.Editor.{place_session}
+use Rattle.w4_answers.proofs.RangeAnswerLaws.{numbers-more, numbers-all}
 use Rattle.w4_answers.proofs.state_line.add_kept.Goals as goal
 
 pub loop-i-preserved : goal.loop-i-preserved

@@ -1,7 +1,7 @@
 use Rattle.std.proofs.Common.{◌≡◌, ◌++◌, drop}
 use Rattle.std.specs.Prelude.{flat_map}
 use Rattle.w4_defs.specs.FrameTexts.{spaced}
-use Rattle.w4_editor.specs.PlaceSession.{place_session}
+use Rattle.w4_editor.specs.Editor.{place_session}
 use Rattle.w4_answers.proofs.state_line.add_kept.Given as goal
 
 abbrev pub invariant-loop-i : goal.invariant-loop-i

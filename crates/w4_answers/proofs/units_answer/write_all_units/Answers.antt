@@ -1,17 +1,16 @@
 use Rattle.std.proofs.Common.{◌≡◌, ◌+◌, ◌-◌, arith, sym, subst, ◌∙◌}
 use Rattle.std.proofs.lemmas.Result.{err_from_is_err_and}
 use Rattle.w4_house.proofs.WorldLaws.{writing_then, writing_none}
-use Rattle.w4_answers.specs.Causes.{AppendsOut}
-use Rattle.w4_answers.specs.Causes.{StopsWriting}
-use Rattle.w4_answers.specs.AnswerFrames.{RunsOn}
-use Rattle.w4_answers.specs.OwnAnswers.{units_by}
-use Rattle.w4_answers.proofs.AnswerFramesLaws.{run_all, run_begins, run_on}
+use Rattle.w4_answers.specs.Writing.{AppendsOut, StopsWriting}
+use Rattle.w4_answers.specs.Desk.{RunsOn}
+use Rattle.w4_answers.specs.UnitsAnswer.{units_by}
+use Rattle.w4_answers.proofs.DeskLaws.{run_all, run_begins, run_on}
 use Rattle.w4_defs.specs.Endings.{manner_of}
 use Rattle.w4_defs.specs.PlaceTexts.{place_texts}
-use Rattle.w4_answers.proofs.OwesLaws.{there_as, there_begins}
+use Rattle.w4_answers.proofs.WritingLaws.{there_as, there_begins}
 use Rattle.w4_answers.proofs.PlaceTextLaws.{texts-more, texts-all, texts-stop}
 use Rattle.w4_answers.proofs.UnitsAnswerLaws.{same_units}
-use Rattle.w4_answers.proofs.SessionLaws.{shows_none, shows_recording, shows_then}
+use Rattle.w4_answers.proofs.DeskSessionLaws.{shows_none, shows_recording, shows_then}
 use Rattle.w4_answers.proofs.units_answer.write_all_units.Goals as goal
 
 pub loop-k-init : goal.loop-k-init

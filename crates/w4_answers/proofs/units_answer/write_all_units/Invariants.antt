@@ -1,10 +1,10 @@
 use Rattle.std.proofs.Common.{◌+◌, ◌-◌}
 use Rattle.w4_defs.specs.World.{LeavesWriting}
-use Rattle.w4_answers.specs.OwnAnswers.{units_by}
-use Rattle.w4_answers.specs.ScriptAnswers.{OnlyShows}
+use Rattle.w4_answers.specs.UnitsAnswer.{units_by}
+use Rattle.w4_answers.specs.Desk.{OnlyShows}
 use Rattle.w4_defs.specs.PlaceTexts.{place_texts}
-use Rattle.w4_answers.proofs.AnswerFramesLaws.{HasRun}
-use Rattle.w4_answers.proofs.OwesLaws.{OwesThere}
+use Rattle.w4_answers.proofs.DeskLaws.{HasRun}
+use Rattle.w4_answers.proofs.WritingLaws.{OwesThere}
 use Rattle.w4_answers.proofs.units_answer.write_all_units.Given as goal
 
 -- what was written so far and the lines of the frames that are left make the whole

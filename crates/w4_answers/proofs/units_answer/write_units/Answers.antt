@@ -1,8 +1,8 @@
 use Rattle.std.proofs.Common.{List, ℕ, ◌++◌, ◌∙◌, ap, subst}
-use Rattle.w4_console.specs.TakenUnits.{frame_line}
-use Rattle.w4_answers.specs.Causes.{Written}
-use Rattle.w4_answers.specs.OwnAnswers.{units_by}
-use Rattle.w4_answers.proofs.OwesLaws.{there_is}
+use Rattle.w4_console.specs.Taken.{frame_line}
+use Rattle.w4_answers.specs.Writing.{Written}
+use Rattle.w4_answers.specs.UnitsAnswer.{units_by}
+use Rattle.w4_answers.proofs.WritingLaws.{there_is}
 use Rattle.w4_answers.proofs.units_answer.write_units.Goals as goal
 
 pub returns-clause-out : goal.returns-clause-out

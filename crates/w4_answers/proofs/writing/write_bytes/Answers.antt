@@ -1,5 +1,5 @@
 use Rattle.std.proofs.Common.{Err, ap}
-use Rattle.w4_answers.proofs.OutLaws.{out_refused}
+use Rattle.w4_answers.proofs.WritingLaws.{out_refused}
 use Rattle.w4_answers.proofs.writing.write_bytes.Goals as goal
 
 pub returns-in-Err-clause-out : goal.returns-in-Err-clause-out

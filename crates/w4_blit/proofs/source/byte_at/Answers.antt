@@ -6,18 +6,18 @@ pub returns-then-at-ge65536 : goal.returns-then-at-ge65536
 returns-then-at-ge65536 c =
     sym (kept_past c.args.page.now c.args.first c.args.copy_bytes.now c.args.at (omega arith))
 
-pub returns-then-at-ge6560 : goal.returns-then-at-ge6560
-returns-then-at-ge6560 c =
+pub returns-then-at : goal.returns-then-at
+returns-then-at c =
     sym (kept_outside c.args.page.now c.args.first c.args.copy_bytes.now c.args.at (omega arith)
     (inr (omega arith)))
 
-pub returns-then-at-lt160 : goal.returns-then-at-lt160
-returns-then-at-lt160 c =
+pub returns-then-at-2 : goal.returns-then-at-2
+returns-then-at-2 c =
     sym (kept_outside c.args.page.now c.args.first c.args.copy_bytes.now c.args.at (omega arith)
     (inl (omega arith)))
 
-pub returns-else-at-lt160 : goal.returns-else-at-lt160
-returns-else-at-lt160 c =
+pub returns-else-at-2 : goal.returns-else-at-2
+returns-else-at-2 c =
     c.copied_byte.ensures
     ∙ ap (λ i. get_or c.args.copy_bytes.now i 0) c.saturating_sub.ensures
     ∙ sym (kept_inside c.args.page.now c.args.first c.args.copy_bytes.now c.args.at (omega arith)

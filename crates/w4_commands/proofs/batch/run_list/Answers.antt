@@ -1,8 +1,10 @@
 use Rattle.std.proofs.lemmas.Result.{err_from_is_err_and}
 use Rattle.w4_defs.specs.ToolOutputs.{batch_files, batch_output, batch_text}
 use Rattle.w4_defs.proofs.OutputsThereLaws.{batch_text_there}
-use Rattle.w4_commands.specs.Views.{batch_loaded_view, batch_view, cart_view}
-use Rattle.w4_commands.proofs.EndLaws.{ends_unprinted, ends_printed}
+use Rattle.w4_commands.specs.LoadTools.{batch_loaded_view}
+use Rattle.w4_commands.specs.Forms.{batch_view}
+use Rattle.w4_commands.specs.Load.{cart_view}
+use Rattle.w4_commands.proofs.CommandLaws.{ends_unprinted, ends_printed}
 use Rattle.w4_commands.proofs.batch.run_list.Goals as goal
 
 pub returns-in_err-loaded-clause-ends : goal.returns-in_err-loaded-clause-ends

@@ -4,9 +4,10 @@ use Rattle.w4_defs.specs.declared.batch.BatchRow.{BatchRow}
 use Rattle.w4_defs.specs.Batch.{file_rows}
 use Rattle.w4_defs.specs.BatchRows.{rows_text}
 use Rattle.w4_defs.specs.ToolOutputs.{batch_text}
-use Rattle.w4_commands.specs.Views.{batch_loaded_view, cart_view}
-use Rattle.w4_answers.specs.Causes.{Written}
-use Rattle.w4_answers.proofs.OwesLaws.{there_as}
+use Rattle.w4_commands.specs.LoadTools.{batch_loaded_view}
+use Rattle.w4_commands.specs.Load.{cart_view}
+use Rattle.w4_answers.specs.Writing.{Written}
+use Rattle.w4_answers.proofs.WritingLaws.{there_as}
 use Rattle.w4_commands.proofs.batch.write_batch.Goals as goal
 
 pub returns-clause-out : goal.returns-clause-out

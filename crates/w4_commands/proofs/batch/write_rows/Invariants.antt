@@ -1,7 +1,7 @@
 use Rattle.std.proofs.Common.{Some, map, string_bytes}
 use Rattle.w4_defs.specs.World.{LeavesWriting}
 use Rattle.w4_defs.specs.BatchRows.{rows_text}
-use Rattle.w4_answers.proofs.OwesLaws.{OwesThere}
+use Rattle.w4_answers.proofs.WritingLaws.{OwesThere}
 use Rattle.w4_commands.proofs.BatchLaws.{lines_from}
 use Rattle.w4_commands.proofs.batch.write_rows.Given as goal
 

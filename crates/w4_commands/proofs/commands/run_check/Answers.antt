@@ -1,5 +1,5 @@
 use Rattle.w4_defs.specs.Output.{checked}
-use Rattle.w4_commands.proofs.EndLaws.{ends_written}
+use Rattle.w4_commands.proofs.CommandLaws.{ends_written}
 use Rattle.w4_commands.proofs.commands.run_check.Goals as goal
 
 pub returns-clause-ends : goal.returns-clause-ends

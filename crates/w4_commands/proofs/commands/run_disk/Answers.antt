@@ -1,12 +1,13 @@
 use Rattle.std.proofs.lemmas.Result.{err_from_is_err_and}
 use Rattle.std.proofs.Common.{◌≡◌, ◌+◌, ◌-◌, arith, subst}
 use Rattle.std.specs.Option.{ForSome}
-use Rattle.w4_answers.specs.Causes.{Written}
+use Rattle.w4_answers.specs.Writing.{Written}
 use Rattle.w4_defs.specs.Output.{disk_output, place_texts_from, run_files_to}
 use Rattle.w4_defs.specs.declared.place_text.PlaceText.TheVariants as wanted
 use Rattle.w4_defs.proofs.OutputsThereLaws.{place_texts_there}
-use Rattle.w4_commands.specs.Views.{played_view, run_view}
-use Rattle.w4_commands.proofs.EndLaws.{ends_unprinted, ends_printed}
+use Rattle.w4_commands.specs.Load.{played_view}
+use Rattle.w4_commands.specs.Forms.{run_view}
+use Rattle.w4_commands.proofs.CommandLaws.{ends_unprinted, ends_printed}
 use Rattle.w4_commands.proofs.commands.run_disk.Goals as goal
 
 pub returns-in_err-run-clause-ends : goal.returns-in_err-run-clause-ends

@@ -1,9 +1,10 @@
 use Rattle.std.proofs.lemmas.Result.{err_from_is_err_and}
 use Rattle.w4_defs.specs.Output.{make_output}
 use Rattle.w4_defs.specs.RecordingOutputs.{inputs_output}
-use Rattle.w4_answers.specs.Causes.{MakesOf, ResultsIn}
-use Rattle.w4_commands.specs.Views.{cart_view, command_view}
-use Rattle.w4_commands.proofs.EndLaws.{by_any, judged_form, unjudged_form}
+use Rattle.w4_commands.specs.Commands.{MakesOf}
+use Rattle.w4_commands.specs.Load.{ResultsIn, cart_view}
+use Rattle.w4_commands.specs.Forms.{command_view}
+use Rattle.w4_commands.proofs.CommandLaws.{by_any, judged_form, unjudged_form}
 use Rattle.w4_commands.proofs.commands.run_form.Goals as goal
 
 pub returns-in-Make-clause-ends : goal.returns-in-Make-clause-ends

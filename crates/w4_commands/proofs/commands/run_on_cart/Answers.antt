@@ -4,9 +4,10 @@ use Rattle.w4_defs.specs.Output.{blank_output, checked, disk_output, edit_output
 use Rattle.w4_defs.specs.Outputs.{OverCart}
 use Rattle.w4_defs.specs.RecordingOutputs.{blank_disk_output, compare_output, rebind_output, units_output}
 use Rattle.w4_defs.specs.ToolOutputs.{batch_output, net_output, ram_output, wave_output}
-use Rattle.w4_answers.specs.Causes.{MakesOf, ResultsIn}
-use Rattle.w4_commands.specs.Views.{batch_view, cart_view, compare_view, edit_view, net_view, run_view}
-use Rattle.w4_commands.proofs.EndLaws.{any_talk, by_any}
+use Rattle.w4_commands.specs.Commands.{MakesOf}
+use Rattle.w4_commands.specs.Load.{ResultsIn, cart_view}
+use Rattle.w4_commands.specs.Forms.{batch_view, compare_view, edit_view, net_view, run_view}
+use Rattle.w4_commands.proofs.CommandLaws.{any_talk, by_any}
 use Rattle.w4_commands.proofs.commands.run_on_cart.Goals as goal
 
 pub returns-in-Check-clause-ends : goal.returns-in-Check-clause-ends

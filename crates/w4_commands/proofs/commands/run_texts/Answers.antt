@@ -1,11 +1,12 @@
 use Rattle.std.proofs.lemmas.Result.{err_from_is_err_and}
 use Rattle.std.proofs.Common.{◌≡◌, ◌+◌, ◌-◌, length, arith, subst}
 use Rattle.std.specs.Option.{ForSome}
-use Rattle.w4_answers.specs.Causes.{Written}
+use Rattle.w4_answers.specs.Writing.{Written}
 use Rattle.w4_defs.specs.Output.{place_texts_from, run_files, texts_output}
 use Rattle.w4_defs.proofs.OutputsThereLaws.{place_texts_there}
-use Rattle.w4_commands.specs.Views.{played_view, run_view}
-use Rattle.w4_commands.proofs.EndLaws.{ends_unprinted, ends_printed}
+use Rattle.w4_commands.specs.Load.{played_view}
+use Rattle.w4_commands.specs.Forms.{run_view}
+use Rattle.w4_commands.proofs.CommandLaws.{ends_unprinted, ends_printed}
 use Rattle.w4_commands.proofs.commands.run_texts.Goals as goal
 
 pub returns-in_err-run-clause-ends : goal.returns-in_err-run-clause-ends

@@ -1,9 +1,10 @@
 use Rattle.std.proofs.lemmas.Result.{err_from_is_err_and}
 use Rattle.w4_defs.specs.RecordingOutputs.{compare_files, compare_output, compared_runs}
-use Rattle.w4_commands.specs.Comparing.{two_view}
-use Rattle.w4_commands.specs.Views.{cart_view, compare_view}
-use Rattle.w4_commands.proofs.EndLaws.{ends_unmade}
-use Rattle.w4_commands.proofs.ComparisonLaws.{ends_sides}
+use Rattle.w4_commands.specs.Compare.{two_view}
+use Rattle.w4_commands.specs.Load.{cart_view}
+use Rattle.w4_commands.specs.Forms.{compare_view}
+use Rattle.w4_commands.proofs.CommandLaws.{ends_unmade}
+use Rattle.w4_commands.proofs.CompareLaws.{ends_sides}
 use Rattle.w4_commands.proofs.compare.compare_carts.Goals as goal
 
 pub returns-clause-ends : goal.returns-clause-ends

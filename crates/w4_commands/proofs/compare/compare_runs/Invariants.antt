@@ -1,8 +1,8 @@
 -- The runs were compared up to the place where both stages stand.
 use Rattle.std.proofs.Common.{◌≤◌}
 use Rattle.std.specs.Prelude.{length, min}
-use Rattle.w4_commands.specs.Comparing.{ComparedTo, scene_side}
-use Rattle.w4_commands.specs.Scenes.{IsAtPlace}
+use Rattle.w4_commands.specs.Compare.{ComparedTo, scene_side}
+use Rattle.w4_commands.specs.Stage.{IsAtPlace}
 use Rattle.w4_commands.proofs.compare.compare_runs.Given as goal
 
 abbrev pub invariant-loop-place : goal.invariant-loop-place

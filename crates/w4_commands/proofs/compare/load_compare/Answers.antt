@@ -4,7 +4,7 @@ use Rattle.std.proofs.lemmas.Result.{err_from_is_err_and}
 use Rattle.w4_defs.specs.Endings.{manner_of}
 use Rattle.w4_defs.specs.Output.{◌>>=◌, recording_in, font_in}
 use Rattle.w4_defs.specs.RecordingOutputs.{compare_files}
-use Rattle.w4_commands.proofs.StepLaws.{stops_first, stops_later}
+use Rattle.w4_commands.proofs.LoadLaws.{stops_first, stops_later}
 use Rattle.w4_commands.proofs.compare.load_compare.Goals as goal
 
 pub returns-in_err-first-clause-gives : goal.returns-in_err-first-clause-gives

@@ -1,8 +1,9 @@
 use Rattle.std.proofs.Common.{◌≡◌, Some}
 use Rattle.std.proofs.lemmas.Result.{err_from_is_err_and}
 use Rattle.w4_defs.specs.RecordingOutputs.{compare_output}
-use Rattle.w4_commands.specs.Views.{cart_view, compare_view}
-use Rattle.w4_commands.proofs.EndLaws.{ends_judged, ends_unjudged}
+use Rattle.w4_commands.specs.Load.{cart_view}
+use Rattle.w4_commands.specs.Forms.{compare_view}
+use Rattle.w4_commands.proofs.CommandLaws.{ends_judged, ends_unjudged}
 use Rattle.w4_commands.proofs.compare.run_compare.Goals as goal
 
 pub compare_carts-requires-clause-other_meaning : goal.compare_carts-requires-clause-other_meaning

@@ -1,6 +1,6 @@
 use Rattle.std.proofs.Common.{refl}
 use Rattle.std.proofs.lemmas.Result.{err_from_is_err_and}
-use Rattle.w4_answers.proofs.OutLaws.{out_none}
+use Rattle.w4_answers.proofs.WritingLaws.{out_none}
 use Rattle.w4_commands.proofs.compare.write_comparison.Goals as goal
 
 pub returns-in_err-text-clause-out : goal.returns-in_err-text-clause-out

@@ -1,7 +1,7 @@
 use Rattle.std.specs.Prelude.{codes}
 use Rattle.w4_defs.specs.Comparison.{respect_line}
 use Rattle.w4_defs.specs.FrameTexts.{line_end, spaced}
-use Rattle.w4_commands.proofs.ComparisonLaws.{lines_in_order}
+use Rattle.w4_commands.proofs.CompareLaws.{lines_in_order}
 use Rattle.w4_commands.proofs.differences.differences_text.Goals as goal
 
 pub returns : goal.returns

@@ -1,5 +1,5 @@
 use Rattle.w4_defs.specs.SameState.{same_state}
-use Rattle.w4_commands.proofs.ComparisonLaws.{same_answer}
+use Rattle.w4_commands.proofs.CompareLaws.{same_answer}
 use Rattle.w4_commands.proofs.differences.same_states.Goals as goal
 
 pub returns : goal.returns

@@ -3,8 +3,9 @@ use Rattle.std.proofs.lemmas.Result.{err_from_is_err_and}
 use Rattle.w4_defs.specs.Output.{edit_answers, edit_files, edit_output, edit_result}
 use Rattle.w4_defs.proofs.OutputsThereLaws.{edit_answers_there}
 use Rattle.w4_defs.proofs.ThereLaws.{value_there}
-use Rattle.w4_commands.specs.Views.{cart_view, edit_view, loaded_view}
-use Rattle.w4_commands.proofs.EndLaws.{ends_edit, ends_unmade}
+use Rattle.w4_commands.specs.Load.{cart_view, loaded_view}
+use Rattle.w4_commands.specs.Forms.{edit_view}
+use Rattle.w4_commands.proofs.CommandLaws.{ends_edit, ends_unmade}
 use Rattle.w4_commands.proofs.edit.run_edit.Goals as goal
 
 pub returns-in_err-loaded-clause-ends : goal.returns-in_err-loaded-clause-ends

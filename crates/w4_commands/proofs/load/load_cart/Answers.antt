@@ -1,8 +1,8 @@
 use Rattle.std.proofs.Common.{refl}
 use Rattle.std.proofs.lemmas.Result.{err_from_is_err_and}
 use Rattle.w4_defs.specs.Endings.{manner_of}
-use Rattle.w4_commands.specs.Views.{cart_view}
-use Rattle.w4_commands.proofs.CartLaws.{cart_unread, cart_given, cart_file_refused}
+use Rattle.w4_commands.specs.Load.{cart_view}
+use Rattle.w4_commands.proofs.LoadLaws.{cart_unread, cart_given, cart_file_refused}
 use Rattle.w4_commands.proofs.load.load_cart.Goals as goal
 
 pub returns-in_err-bytes-clause-gives : goal.returns-in_err-bytes-clause-gives

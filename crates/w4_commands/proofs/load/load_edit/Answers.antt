@@ -3,8 +3,9 @@ use Rattle.std.proofs.Common.{Ok}
 use Rattle.std.proofs.lemmas.Result.{err_from_is_err_and}
 use Rattle.w4_defs.specs.Endings.{manner_of}
 use Rattle.w4_defs.specs.Output.{◌>>=◌, run_files, script_in, edit_files}
-use Rattle.w4_commands.specs.Views.{run_view, played_view}
-use Rattle.w4_commands.proofs.StepLaws.{stops_first, stops_later}
+use Rattle.w4_commands.specs.Forms.{run_view}
+use Rattle.w4_commands.specs.Load.{played_view}
+use Rattle.w4_commands.proofs.LoadLaws.{stops_first, stops_later}
 use Rattle.w4_commands.proofs.load.load_edit.Goals as goal
 
 pub returns-in_err-run-clause-gives : goal.returns-in_err-run-clause-gives

@@ -1,7 +1,7 @@
 use Rattle.std.proofs.lemmas.Result.{err_from_is_err_and}
 use Rattle.w4_defs.specs.Endings.{manner_of}
 use Rattle.w4_defs.specs.Output.{reading, orders_of, script_in}
-use Rattle.w4_commands.proofs.StepLaws.{stops_first, judged_by}
+use Rattle.w4_commands.proofs.LoadLaws.{stops_first, judged_by}
 use Rattle.w4_commands.proofs.load.load_orders.Goals as goal
 
 pub returns-in_err-bytes-clause-gives : goal.returns-in_err-bytes-clause-gives

@@ -3,7 +3,7 @@ use Rattle.std.proofs.Common.{Ok}
 use Rattle.std.proofs.lemmas.Result.{err_from_is_err_and}
 use Rattle.w4_defs.specs.Endings.{manner_of}
 use Rattle.w4_defs.specs.Output.{◌>>=◌, recording_in, font_in, run_files}
-use Rattle.w4_commands.proofs.StepLaws.{stops_first, stops_later}
+use Rattle.w4_commands.proofs.LoadLaws.{stops_first, stops_later}
 use Rattle.w4_commands.proofs.load.load_run.Goals as goal
 
 pub returns-in_err-recording-clause-gives : goal.returns-in_err-recording-clause-gives

@@ -3,8 +3,8 @@ use Rattle.std.proofs.lemmas.Result.{err_from_is_err_and}
 use Rattle.w4_defs.specs.declared.status.Refusal.TheVariants.{FrameRefused}
 use Rattle.w4_defs.specs.Endings.{manner_of}
 use Rattle.w4_defs.specs.Output.{run_files, run_files_to}
-use Rattle.w4_commands.specs.Views.{run_view}
-use Rattle.w4_commands.proofs.StepLaws.{stops_first}
+use Rattle.w4_commands.specs.Forms.{run_view}
+use Rattle.w4_commands.proofs.LoadLaws.{stops_first}
 use Rattle.w4_commands.proofs.load.load_run_to.Goals as goal
 
 pub returns-in_err-run-clause-gives : goal.returns-in_err-run-clause-gives

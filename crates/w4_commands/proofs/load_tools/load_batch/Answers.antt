@@ -4,7 +4,7 @@ use Rattle.std.proofs.lemmas.Result.{err_from_is_err_and}
 use Rattle.w4_defs.specs.Endings.{manner_of}
 use Rattle.w4_defs.specs.Output.{◌>>=◌, font_in}
 use Rattle.w4_defs.specs.ToolOutputs.{batch_files, listed_files, names_in}
-use Rattle.w4_commands.proofs.StepLaws.{stops_first, stops_later}
+use Rattle.w4_commands.proofs.LoadLaws.{stops_first, stops_later}
 use Rattle.w4_commands.proofs.load_tools.load_batch.Goals as goal
 
 pub returns-in_err-font-clause-gives : goal.returns-in_err-font-clause-gives

@@ -3,10 +3,10 @@ use Rattle.std.specs.Option.{ForSome}
 use Rattle.std.proofs.lemmas.List.{length-append, map-append}
 use Rattle.std.proofs.lemmas.Result.{err_from_is_err_and}
 use Rattle.w4_house.proofs.WorldLaws.{reading_then}
-use Rattle.w4_answers.specs.Causes.{ResultsIn, Stops}
+use Rattle.w4_commands.specs.Load.{ResultsIn, Stops}
 use Rattle.w4_defs.specs.Endings.{manner_of}
 use Rattle.w4_defs.specs.Output.{reading}
-use Rattle.w4_commands.proofs.ListedLaws.{owes_fewer, owes_no_file, owes_stops, named_item, past_all_names, within_all}
+use Rattle.w4_commands.proofs.LoadToolLaws.{owes_fewer, owes_no_file, owes_stops, named_item, past_all_names, within_all}
 use Rattle.w4_commands.proofs.load_tools.load_listed.Goals as goal
 
 pub loop-name-preserved : goal.loop-name-preserved

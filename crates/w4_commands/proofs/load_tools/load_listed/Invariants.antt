@@ -1,6 +1,6 @@
 use Rattle.std.proofs.Common.{◌≡◌, drop, length, map, string_bytes}
 use Rattle.w4_defs.specs.World.{LeavesReading}
-use Rattle.w4_commands.proofs.ListedLaws.{StillOwes}
+use Rattle.w4_commands.proofs.LoadToolLaws.{StillOwes}
 use Rattle.w4_commands.proofs.load_tools.load_listed.Given as goal
 
 -- what was read and what the names that are left come to make the whole

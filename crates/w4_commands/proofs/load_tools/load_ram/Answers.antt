@@ -4,8 +4,9 @@ use Rattle.std.proofs.lemmas.Result.{err_from_is_err_and}
 use Rattle.w4_defs.specs.Endings.{manner_of}
 use Rattle.w4_defs.specs.Output.{◌>>=◌, run_files}
 use Rattle.w4_defs.specs.ToolOutputs.{query_in, ram_files}
-use Rattle.w4_commands.specs.Views.{run_view, played_view}
-use Rattle.w4_commands.proofs.StepLaws.{stops_first, stops_later}
+use Rattle.w4_commands.specs.Forms.{run_view}
+use Rattle.w4_commands.specs.Load.{played_view}
+use Rattle.w4_commands.proofs.LoadLaws.{stops_first, stops_later}
 use Rattle.w4_commands.proofs.load_tools.load_ram.Goals as goal
 
 pub returns-in_err-run-clause-gives : goal.returns-in_err-run-clause-gives

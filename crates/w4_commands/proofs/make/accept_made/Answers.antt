@@ -1,6 +1,6 @@
 use Rattle.std.proofs.Common.{Err, ap, ◌∙◌}
 use Rattle.w4_defs.specs.Generator.{made_module}
-use Rattle.w4_commands.proofs.CartLaws.{never_both}
+use Rattle.w4_commands.proofs.LoadLaws.{never_both}
 use Rattle.w4_commands.proofs.make.accept_made.Goals as goal
 
 pub returns-in-Ok : goal.returns-in-Ok

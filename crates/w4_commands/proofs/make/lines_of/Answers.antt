@@ -1,5 +1,5 @@
 use Rattle.std.proofs.Common.{ℕ, List, Some, length, ◌∙◌, ap, sym, arith}
-use Rattle.w4_commands.specs.Scenes.{stage_moment}
+use Rattle.w4_commands.specs.Stage.{stage_moment}
 use Rattle.w4_answers.proofs.ScriptAnswerLaws.{if_ok_map}
 use Rattle.w4_commands.proofs.SummaryLaws.{summary_is}
 use Rattle.w4_commands.proofs.make.lines_of.Goals as goal

@@ -1,7 +1,7 @@
 use Rattle.std.proofs.Common.{List, ℕ, Some, ap, sym, ◌∙◌}
 use Rattle.w4_defs.specs.Output.{made_text}
-use Rattle.w4_answers.specs.Causes.{Written}
-use Rattle.w4_answers.proofs.OwesLaws.{there_is}
+use Rattle.w4_answers.specs.Writing.{Written}
+use Rattle.w4_answers.proofs.WritingLaws.{there_is}
 use Rattle.w4_commands.proofs.make.write_made.Goals as goal
 
 pub returns-clause-out : goal.returns-clause-out

@@ -1,13 +1,13 @@
 use Rattle.std.proofs.Common.{List, ap, sym, ◌∙◌}
 use Rattle.w4_defs.specs.declared.netplay.NetOrder.{NetOrder}
 use Rattle.w4_defs.specs.KeptList.{state_at}
-use Rattle.w4_editor.specs.Editing.{editing_setup}
+use Rattle.w4_editor.specs.Editor.{editing_setup}
 use Rattle.w4_defs.specs.LogAnswers.{net_answers}
 use Rattle.w4_answers.specs.NetAnswers.{net_session}
 use Rattle.w4_defs.specs.ToolOutputs.{net_text}
-use Rattle.w4_commands.specs.Views.{net_loaded_view}
-use Rattle.w4_answers.specs.Causes.{Written}
-use Rattle.w4_answers.proofs.OwesLaws.{there_as}
+use Rattle.w4_commands.specs.LoadTools.{net_loaded_view}
+use Rattle.w4_answers.specs.Writing.{Written}
+use Rattle.w4_answers.proofs.WritingLaws.{there_as}
 use Rattle.w4_answers.proofs.NetAnswerLaws.{netplay_begins, blank_as}
 use Rattle.w4_commands.proofs.net.answer_log.Goals as goal
 

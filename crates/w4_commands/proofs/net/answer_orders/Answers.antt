@@ -1,16 +1,15 @@
 use Rattle.std.proofs.Common.{ap, drop, get_or, refl}
 use Rattle.std.proofs.lemmas.Result.{err_from_is_err_and}
-use Rattle.w4_editor.specs.Editing.{editing_setup}
+use Rattle.w4_editor.specs.Editor.{editing_setup}
 use Rattle.w4_house.proofs.WorldLaws.{writing_none, writing_then}
-use Rattle.w4_answers.proofs.OutLaws.{out_none}
+use Rattle.w4_answers.proofs.WritingLaws.{out_none, there_begins, there_nothing}
 use Rattle.w4_defs.specs.Answers.{Answered}
 use Rattle.w4_defs.specs.Endings.{manner_of}
 use Rattle.w4_defs.specs.LogAnswers.{NetSession, net_answer, net_answers}
 use Rattle.w4_answers.specs.NetAnswers.{net_session}
 use Rattle.w4_answers.proofs.ScriptAnswerLaws.{answers-out-step, answers-stop, answers-end}
-use Rattle.w4_answers.proofs.OwesLaws.{there_begins, there_nothing}
 use Rattle.w4_answers.proofs.NetAnswerLaws.{heard_at_first, net_stopped_at_first, past_log}
-use Rattle.w4_editor.proofs.PlaceLaws.{rest_none, rest_then}
+use Rattle.w4_editor.proofs.EditorPlaceLaws.{rest_none, rest_then}
 use Rattle.w4_commands.proofs.net.answer_orders.Goals as goal
 
 pub loop-order-init : goal.loop-order-init

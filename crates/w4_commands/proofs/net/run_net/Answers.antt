@@ -1,8 +1,9 @@
 use Rattle.std.proofs.lemmas.Result.{err_from_is_err_and}
 use Rattle.w4_defs.specs.ToolOutputs.{net_files, net_output, net_text}
 use Rattle.w4_defs.proofs.OutputsThereLaws.{net_text_there}
-use Rattle.w4_commands.specs.Views.{net_loaded_view, net_view}
-use Rattle.w4_commands.proofs.EndLaws.{ends_unprinted, ends_printed}
+use Rattle.w4_commands.specs.LoadTools.{net_loaded_view}
+use Rattle.w4_commands.specs.Forms.{net_view}
+use Rattle.w4_commands.proofs.CommandLaws.{ends_unprinted, ends_printed}
 use Rattle.w4_commands.proofs.net.run_net.Goals as goal
 
 pub returns-in_err-loaded-clause-ends : goal.returns-in_err-loaded-clause-ends

@@ -3,13 +3,13 @@
 use Rattle.std.proofs.Common.{◌+◌, ◌-◌, List, ℕ, Option, refl, arith}
 use Rattle.std.proofs.lemmas.Result.{err_from_is_err_and}
 use Rattle.w4_defs.specs.Run.{run}
-use Rattle.w4_answers.specs.Causes.{AppendsOut}
+use Rattle.w4_answers.specs.Writing.{AppendsOut, StopsWriting}
 use Rattle.w4_house.proofs.WorldLaws.{writing_then}
 use Rattle.w4_defs.specs.Endings.{manner_of}
-use Rattle.w4_answers.specs.Causes.{StopsWriting}
-use Rattle.w4_commands.specs.Scenes.{scene_setup, stage_moment}
+use Rattle.w4_commands.specs.Scene.{scene_setup}
+use Rattle.w4_commands.specs.Stage.{stage_moment}
 use Rattle.w4_defs.specs.PlaceTexts.{as_it_stands, place_text, moment_text, place_texts}
-use Rattle.w4_answers.proofs.OwesLaws.{there_begins, there_is}
+use Rattle.w4_answers.proofs.WritingLaws.{there_begins, there_is}
 use Rattle.w4_answers.proofs.PlaceTextLaws.{texts-more, texts-all, texts-stop}
 use Rattle.w4_commands.proofs.place_text.write_places.Goals as goal
 

@@ -1,9 +1,10 @@
 use Rattle.std.proofs.Common.{◌+◌, ◌-◌, ◌≤◌}
 use Rattle.w4_defs.specs.Run.{run}
 use Rattle.w4_defs.specs.World.{LeavesWriting}
-use Rattle.w4_commands.specs.Scenes.{IsAtPlace, scene_setup}
+use Rattle.w4_commands.specs.Stage.{IsAtPlace}
+use Rattle.w4_commands.specs.Scene.{scene_setup}
 use Rattle.w4_defs.specs.PlaceTexts.{as_it_stands, place_text, place_texts}
-use Rattle.w4_answers.proofs.OwesLaws.{OwesThere}
+use Rattle.w4_answers.proofs.WritingLaws.{OwesThere}
 use Rattle.w4_commands.proofs.place_text.write_places.Given as goal
 
 abbrev pub invariant-loop-place : goal.invariant-loop-place

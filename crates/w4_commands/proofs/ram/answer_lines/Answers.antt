@@ -1,15 +1,15 @@
 use Rattle.std.proofs.Common.{ap, drop, get_or}
 use Rattle.std.proofs.lemmas.Result.{err_from_is_err_and}
 use Rattle.w4_house.proofs.WorldLaws.{writing_none, writing_then}
-use Rattle.w4_editor.specs.Editing.{editing_setup}
-use Rattle.w4_editor.proofs.PlaceLaws.{rest_none, rest_then}
+use Rattle.w4_editor.specs.Editor.{editing_setup}
+use Rattle.w4_editor.proofs.EditorPlaceLaws.{rest_none, rest_then}
 use Rattle.w4_defs.specs.Answers.{Answered}
 use Rattle.w4_defs.specs.Endings.{manner_of}
 use Rattle.w4_defs.specs.Live.{LiveSession}
 use Rattle.w4_defs.specs.ToolOutputs.{line_answer, ram_answers}
 use Rattle.w4_answers.specs.RamAnswers.{query_answers, query_session}
 use Rattle.w4_answers.proofs.ScriptAnswerLaws.{answers-out-step, answers-stop, answers-end}
-use Rattle.w4_answers.proofs.OwesLaws.{there_begins, there_nothing}
+use Rattle.w4_answers.proofs.WritingLaws.{there_begins, there_nothing}
 use Rattle.w4_answers.proofs.RamAnswerLaws.{past_query_line, query_answered_at_first, query_stopped_at_first}
 use Rattle.w4_commands.proofs.ram.answer_lines.Goals as goal
 

@@ -1,10 +1,10 @@
 use Rattle.std.proofs.Common.{drop}
-use Rattle.w4_editor.specs.Editing.{editing_setup}
-use Rattle.w4_editor.specs.PlaceSession.{KeepsRest}
+use Rattle.w4_editor.specs.Editor.{editing_setup, KeepsRest}
 use Rattle.w4_defs.specs.World.{LeavesWriting}
 use Rattle.w4_defs.specs.ToolOutputs.{ram_answers}
-use Rattle.w4_answers.specs.RamAnswers.{AreHeld, query_answers, query_session}
-use Rattle.w4_answers.proofs.OwesLaws.{OwesThere}
+use Rattle.w4_answers.specs.HeldPages.{AreHeld}
+use Rattle.w4_answers.specs.RamAnswers.{query_answers, query_session}
+use Rattle.w4_answers.proofs.WritingLaws.{OwesThere}
 use Rattle.w4_commands.proofs.ram.answer_lines.Given as goal
 
 -- what was written so far and the answers that are left make the whole

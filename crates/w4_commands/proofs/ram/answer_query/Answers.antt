@@ -1,13 +1,12 @@
 use Rattle.std.proofs.Common.{List, None, ap, refl, sym, ◌∙◌}
 use Rattle.std.proofs.lemmas.Result.{err_from_is_err_and}
 use Rattle.w4_defs.specs.declared.inspect.QueryLine.{QueryLine}
-use Rattle.w4_editor.specs.Editing.{Editing}
-use Rattle.w4_answers.proofs.OutLaws.{out_none}
+use Rattle.w4_editor.specs.Editor.{Editing}
+use Rattle.w4_answers.proofs.WritingLaws.{out_none, there_as}
 use Rattle.w4_answers.specs.RamAnswers.{query_answers}
 use Rattle.w4_defs.specs.ToolOutputs.{ram_text}
-use Rattle.w4_commands.specs.Views.{ram_loaded_view}
-use Rattle.w4_answers.specs.Causes.{Written}
-use Rattle.w4_answers.proofs.OwesLaws.{there_as}
+use Rattle.w4_commands.specs.LoadTools.{ram_loaded_view}
+use Rattle.w4_answers.specs.Writing.{Written}
 use Rattle.w4_commands.proofs.ram.answer_query.Goals as goal
 
 pub returns-clause-out : goal.returns-clause-out

@@ -1,6 +1,6 @@
 use Rattle.w4_defs.specs.declared.order.Order.TheVariants as order
-use Rattle.w4_editor.specs.PlaceSession.{place_session}
-use Rattle.w4_answers.specs.ScriptAnswers.{changed}
+use Rattle.w4_editor.specs.Editor.{place_session}
+use Rattle.w4_answers.specs.ChangeAnswer.{changed}
 use Rattle.w4_answers.proofs.RamAnswerLaws.{told_by_order}
 use Rattle.w4_commands.proofs.ram.answer_query_line.Goals as goal
 

@@ -1,8 +1,9 @@
 use Rattle.std.proofs.lemmas.Result.{err_from_is_err_and}
 use Rattle.w4_defs.specs.ToolOutputs.{ram_files, ram_output, ram_text}
 use Rattle.w4_defs.proofs.OutputsThereLaws.{ram_text_there}
-use Rattle.w4_commands.specs.Views.{ram_loaded_view, run_view}
-use Rattle.w4_commands.proofs.EndLaws.{ends_unprinted, ends_printed}
+use Rattle.w4_commands.specs.LoadTools.{ram_loaded_view}
+use Rattle.w4_commands.specs.Forms.{run_view}
+use Rattle.w4_commands.proofs.CommandLaws.{ends_unprinted, ends_printed}
 use Rattle.w4_commands.proofs.ram.run_ram.Goals as goal
 
 pub returns-in_err-loaded-clause-ends : goal.returns-in_err-loaded-clause-ends

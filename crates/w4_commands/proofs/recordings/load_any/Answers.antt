@@ -2,7 +2,7 @@ use Rattle.std.proofs.lemmas.Result.{err_from_is_err_and}
 use Rattle.w4_defs.specs.Endings.{manner_of}
 use Rattle.w4_defs.specs.Output.{any_recording, reading}
 use Rattle.w4_defs.specs.RecordingOutputs.{any_recording_in}
-use Rattle.w4_commands.proofs.StepLaws.{stops_first, judged_by}
+use Rattle.w4_commands.proofs.LoadLaws.{stops_first, judged_by}
 use Rattle.w4_commands.proofs.recordings.load_any.Goals as goal
 
 pub returns-in_err-bytes-clause-gives : goal.returns-in_err-bytes-clause-gives

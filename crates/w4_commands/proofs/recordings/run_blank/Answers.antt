@@ -2,8 +2,8 @@ use Rattle.std.proofs.Common.{subst}
 use Rattle.std.specs.Prelude.{[]}
 use Rattle.w4_defs.specs.Recording.{encoding}
 use Rattle.w4_defs.specs.Output.{blank_recording}
-use Rattle.w4_answers.specs.Causes.{Written}
-use Rattle.w4_commands.proofs.EndLaws.{ends_written}
+use Rattle.w4_answers.specs.Writing.{Written}
+use Rattle.w4_commands.proofs.CommandLaws.{ends_written}
 use Rattle.w4_commands.proofs.recordings.run_blank.Goals as goal
 
 pub returns-clause-ends : goal.returns-clause-ends

@@ -2,7 +2,7 @@ use Rattle.std.proofs.Common.{drop}
 use Rattle.std.specs.Prelude.{codes}
 use Rattle.w4_defs.specs.InputsText.{input_lines}
 use Rattle.w4_defs.specs.World.{LeavesWriting}
-use Rattle.w4_answers.proofs.OwesLaws.{Owes}
+use Rattle.w4_answers.proofs.WritingLaws.{Owes}
 use Rattle.w4_commands.proofs.recordings.write_lines.Given as goal
 
 abbrev pub invariant-loop-number : goal.invariant-loop-number

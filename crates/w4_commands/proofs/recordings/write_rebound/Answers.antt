@@ -2,7 +2,7 @@ use Rattle.std.proofs.Common.{refl}
 use Rattle.std.proofs.lemmas.Result.{err_from_is_err_and}
 use Rattle.w4_defs.specs.Recording.{encoding}
 use Rattle.w4_defs.specs.RecordingOutputs.{rebound}
-use Rattle.w4_answers.proofs.OutLaws.{out_none}
+use Rattle.w4_answers.proofs.WritingLaws.{out_none}
 use Rattle.w4_commands.proofs.recordings.write_rebound.Goals as goal
 
 pub returns-in_err-bytes-clause-out : goal.returns-in_err-bytes-clause-out

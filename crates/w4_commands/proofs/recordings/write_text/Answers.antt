@@ -5,8 +5,8 @@ use Rattle.w4_defs.specs.Endings.{manner_of}
 use Rattle.w4_defs.specs.Recording.{Recording}
 use Rattle.w4_defs.specs.InputsText.{input_lines}
 use Rattle.w4_defs.specs.declared.console.Input.{Input}
-use Rattle.w4_answers.specs.Causes.{StopsWriting, Written}
-use Rattle.w4_answers.proofs.OwesLaws.{stops_more}
+use Rattle.w4_answers.specs.Writing.{StopsWriting, Written}
+use Rattle.w4_answers.proofs.WritingLaws.{stops_more}
 use Rattle.w4_commands.proofs.WaveLaws.{header_and_more}
 use Rattle.w4_commands.proofs.RecordingLaws.{text_of_parts}
 use Rattle.w4_commands.proofs.recordings.write_text.Goals as goal

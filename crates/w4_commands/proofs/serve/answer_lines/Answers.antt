@@ -3,8 +3,8 @@ use Rattle.w4_defs.specs.World.{Took, Does}
 use Rattle.std.proofs.lemmas.Result.{err_from_is_err_and}
 use Rattle.w4_defs.specs.Endings.{manner_of}
 use Rattle.w4_defs.specs.Live.{first_live_session}
-use Rattle.w4_editor.specs.Editing.{current_recording}
-use Rattle.w4_commands.proofs.SessionLoopLaws.{line_stopped, lines_ended, lines_lost, serves_line, serves_none, serving_none, serving_then, taking_serves}
+use Rattle.w4_editor.specs.Editor.{current_recording}
+use Rattle.w4_commands.proofs.ServeLaws.{line_stopped, lines_ended, lines_lost, serves_line, serves_none, serving_none, serving_then, taking_serves}
 use Rattle.w4_commands.proofs.serve.answer_lines.Goals as goal
 
 pub loop-init : goal.loop-init

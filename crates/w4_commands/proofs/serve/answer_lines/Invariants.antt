@@ -1,7 +1,8 @@
 use Rattle.std.proofs.Common.{◌≡◌, None}
 use Rattle.w4_defs.specs.Live.{LiveSession, Opened, first_live_session}
 use Rattle.w4_defs.specs.Meaning.{RunsHaveMeaning}
-use Rattle.w4_answers.specs.Serving.{LeavesServing, Serves, Sits}
+use Rattle.w4_answers.specs.LiveAnswer.{LeavesServing, Sits}
+use Rattle.w4_commands.specs.Serve.{Serves}
 use Rattle.w4_commands.proofs.serve.answer_lines.Given as goal
 
 -- all lines that were taken so far are answered, and the editor and the search are the session's

@@ -1,6 +1,7 @@
 use Rattle.std.proofs.lemmas.Result.{err_from_is_err_and}
-use Rattle.w4_commands.specs.Views.{cart_view, played_view, serve_view}
-use Rattle.w4_commands.proofs.ServeOutputLaws.{serve_made, serve_unread}
+use Rattle.w4_commands.specs.Load.{cart_view, played_view}
+use Rattle.w4_commands.specs.Forms.{serve_view}
+use Rattle.w4_commands.proofs.ServeLaws.{serve_made, serve_unread}
 use Rattle.w4_commands.proofs.serve.run_serve.Goals as goal
 
 pub returns-clause-ends : goal.returns-clause-ends

@@ -1,9 +1,9 @@
 use Rattle.std.proofs.Common.{refl}
 use Rattle.w4_defs.specs.KeptList.{state_at}
-use Rattle.w4_editor.specs.Editing.{current_recording}
-use Rattle.w4_commands.specs.Views.{opened_view}
+use Rattle.w4_editor.specs.Editor.{current_recording}
+use Rattle.w4_commands.specs.Serve.{opened_view}
 use Rattle.w4_commands.proofs.ServeEndLaws.{serve_ended, stopped_ends}
-use Rattle.w4_commands.proofs.SessionLoopLaws.{opens}
+use Rattle.w4_commands.proofs.ServeLaws.{opens}
 use Rattle.w4_commands.proofs.serve.serve_run.Goals as goal
 
 pub returns-in-Ok-clause-ends : goal.returns-in-Ok-clause-ends

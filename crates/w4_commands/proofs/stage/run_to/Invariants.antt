@@ -1,4 +1,4 @@
-use Rattle.w4_commands.specs.Scenes.{IsAtPlace}
+use Rattle.w4_commands.specs.Stage.{IsAtPlace}
 use Rattle.w4_commands.proofs.stage.run_to.Given as goal
 
 abbrev pub invariant-loop-passed : goal.invariant-loop-passed

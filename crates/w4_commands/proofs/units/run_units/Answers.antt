@@ -2,8 +2,9 @@ use Rattle.std.proofs.lemmas.Result.{err_from_is_err_and}
 use Rattle.w4_defs.specs.Output.{run_files}
 use Rattle.w4_defs.specs.RecordingOutputs.{run_units, units_output}
 use Rattle.w4_defs.proofs.UnitsThereLaws.{units_text_there}
-use Rattle.w4_commands.specs.Views.{played_view, run_view}
-use Rattle.w4_commands.proofs.EndLaws.{ends_printed, ends_unprinted}
+use Rattle.w4_commands.specs.Load.{played_view}
+use Rattle.w4_commands.specs.Forms.{run_view}
+use Rattle.w4_commands.proofs.CommandLaws.{ends_printed, ends_unprinted}
 use Rattle.w4_commands.proofs.units.run_units.Goals as goal
 
 pub returns-in_err-run-clause-ends : goal.returns-in_err-run-clause-ends

@@ -2,14 +2,14 @@
 -- place that the last frame led to.
 use Rattle.std.proofs.Common.{◌≡◌, ℕ, ◌-◌, List, Option, option_map, length, refl, ap, subst, arith}
 use Rattle.std.proofs.lemmas.Result.{err_from_is_err_and}
-use Rattle.w4_console.specs.TakenUnits.{frame_line, taken_of}
+use Rattle.w4_console.specs.Taken.{frame_line, taken_of}
 use Rattle.w4_defs.specs.Endings.{manner_of}
 use Rattle.w4_defs.specs.PlaceTexts.{as_it_stands, place_texts}
 use Rattle.w4_defs.specs.Units.{start_line, start_units, units_at, units_text}
 use Rattle.w4_house.proofs.WorldLaws.{writing_then}
-use Rattle.w4_answers.specs.Causes.{AppendsOut, StopsWriting}
-use Rattle.w4_commands.specs.Scenes.{scene_setup}
-use Rattle.w4_answers.proofs.OwesLaws.{OwesThere, there_begins, there_is, there_less, there_stopped}
+use Rattle.w4_answers.specs.Writing.{AppendsOut, StopsWriting}
+use Rattle.w4_commands.specs.Scene.{scene_setup}
+use Rattle.w4_answers.proofs.WritingLaws.{OwesThere, there_begins, there_is, there_less, there_stopped}
 use Rattle.w4_answers.proofs.PlaceTextLaws.{texts-more, texts-all, texts-stop}
 use Rattle.w4_commands.proofs.units.write_lines.Goals as goal
 

@@ -2,8 +2,9 @@ use Rattle.std.proofs.Common.{◌-◌, ◌≤◌, length}
 use Rattle.w4_defs.specs.PlaceTexts.{as_it_stands, place_texts}
 use Rattle.w4_defs.specs.Units.{units_at, units_text}
 use Rattle.w4_defs.specs.World.{LeavesWriting}
-use Rattle.w4_commands.specs.Scenes.{IsAtPlace, scene_setup}
-use Rattle.w4_answers.proofs.OwesLaws.{OwesThere}
+use Rattle.w4_commands.specs.Stage.{IsAtPlace}
+use Rattle.w4_commands.specs.Scene.{scene_setup}
+use Rattle.w4_answers.proofs.WritingLaws.{OwesThere}
 use Rattle.w4_commands.proofs.units.write_lines.Given as goal
 
 -- what was written so far and the lines of the frames that are left make the whole

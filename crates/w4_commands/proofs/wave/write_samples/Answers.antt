@@ -1,11 +1,11 @@
 use Rattle.std.proofs.Common.{◌≡◌, ◌+◌, ◌-◌, length, refl, arith}
 use Rattle.std.proofs.lemmas.Result.{err_from_is_err_and}
 use Rattle.w4_defs.specs.Sound.{first_wave}
-use Rattle.w4_answers.specs.Causes.{AppendsOut}
+use Rattle.w4_answers.specs.Writing.{AppendsOut, StopsWriting}
 use Rattle.w4_house.proofs.WorldLaws.{writing_then}
 use Rattle.w4_defs.specs.Endings.{manner_of}
-use Rattle.w4_answers.specs.Causes.{StopsWriting}
-use Rattle.w4_commands.specs.Scenes.{scene_record, scene_records, stage_moment}
+use Rattle.w4_commands.specs.Wave.{scene_record, scene_records}
+use Rattle.w4_commands.specs.Stage.{stage_moment}
 use Rattle.w4_commands.proofs.WaveLaws.{samples_at, samples_of, samples-begin, samples-go_on, samples-stop_first, samples-stop, samples-end}
 use Rattle.w4_commands.proofs.wave.write_samples.Goals as goal
 

@@ -1,8 +1,9 @@
 use Rattle.std.proofs.Common.{◌+◌, ◌-◌, ◌≤◌, length}
 use Rattle.w4_defs.specs.Sound.{first_wave}
 use Rattle.w4_defs.specs.World.{LeavesWriting}
-use Rattle.w4_commands.specs.Scenes.{IsAtPlace, scene_record}
-use Rattle.w4_answers.proofs.OwesLaws.{OwesThere}
+use Rattle.w4_commands.specs.Stage.{IsAtPlace}
+use Rattle.w4_commands.specs.Wave.{scene_record}
+use Rattle.w4_answers.proofs.WritingLaws.{OwesThere}
 use Rattle.w4_commands.proofs.WaveLaws.{samples_at}
 use Rattle.w4_commands.proofs.wave.write_samples.Given as goal
 

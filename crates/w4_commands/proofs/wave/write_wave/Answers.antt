@@ -1,8 +1,8 @@
 use Rattle.std.proofs.lemmas.Result.{err_from_is_err_and}
 use Rattle.w4_defs.specs.Endings.{manner_of}
 use Rattle.w4_defs.specs.Sound.{samples}
-use Rattle.w4_answers.specs.Causes.{Written, StopsWriting}
-use Rattle.w4_answers.proofs.OwesLaws.{stops_more}
+use Rattle.w4_answers.specs.Writing.{Written, StopsWriting}
+use Rattle.w4_answers.proofs.WritingLaws.{stops_more}
 use Rattle.w4_commands.proofs.WaveLaws.{header_and_more, of_records}
 use Rattle.w4_commands.proofs.wave.write_wave.Goals as goal
 

@@ -5,9 +5,9 @@ use Rattle.w4_defs.specs.Lookup.{own_global_types}
 use Rattle.w4_defs.specs.Outcome.{Store}
 use Rattle.w4_defs.specs.RunLaws.{types_of}
 use Rattle.w4_defs.specs.State.{Board, State, LoggedState}
-use Rattle.w4_console.specs.ConsoleCalls.{so_far}
+use Rattle.w4_console.specs.Calls.{so_far}
 use Rattle.w4_console.proofs.CallLaws.{called, still_runs, units_taken}
-use Rattle.w4_console.proofs.GlobalLaws.{values_as_long}
+use Rattle.w4_console.proofs.StartLaws.{values_as_long}
 use Rattle.w4_console.proofs.calls.call_function.Goals as goal
 
 -- the globals that are handed to the machine, and those that it leaves

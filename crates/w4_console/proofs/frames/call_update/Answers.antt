@@ -1,6 +1,6 @@
 use Rattle.std.proofs.Common.{ℕ, ap, sym, Option, Some, ◌∙◌}
 use Rattle.w4_defs.specs.Units.{taken_by_update}
-use Rattle.w4_console.specs.ConsoleCalls.{setup_of, so_far}
+use Rattle.w4_console.specs.Calls.{setup_of, so_far}
 use Rattle.w4_console.proofs.CallLaws.{one_call_taken}
 use Rattle.w4_console.proofs.frames.call_update.Goals as goal
 

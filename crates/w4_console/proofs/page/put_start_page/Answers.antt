@@ -1,6 +1,6 @@
 use Rattle.std.proofs.Common.{sym, ◌∙◌, arith}
 use Rattle.w4_defs.specs.Reset.{start_page}
-use Rattle.w4_console.proofs.SegmentLaws.{none_left, one_more_segment}
+use Rattle.w4_console.proofs.PageLaws.{none_left, one_more_segment}
 use Rattle.w4_console.proofs.page.put_start_page.Goals as goal
 
 pub loop-i-preserved : goal.loop-i-preserved

@@ -2,8 +2,8 @@ use Rattle.std.proofs.Common.{rules, ◌≡◌, ℕ, List, [], ◌∷◌, Option
 use Rattle.w4_defs.specs.EntryPoints.{exported_function}
 use Rattle.w4_defs.specs.Module.{WasmModule}
 use Rattle.w4_console.specs.declared.taken.Stop.{Stop}
-use Rattle.w4_console.specs.ConsoleCalls.{so_far}
-use Rattle.w4_console.specs.TakenUnits.{taken_by_calls_of}
+use Rattle.w4_console.specs.Calls.{so_far}
+use Rattle.w4_console.specs.Taken.{taken_by_calls_of}
 use Rattle.w4_console.proofs.CallLaws.{calls_end, calls_go_on, stops, taken_end, taken_go_on, units_at_stop}
 use Rattle.w4_console.proofs.start.call_all.Goals as goal
 

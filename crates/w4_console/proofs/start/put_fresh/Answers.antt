@@ -2,7 +2,7 @@ use Rattle.std.proofs.Common.{ap, ◌∙◌}
 use Rattle.w4_defs.specs.Lookup.{own_global_types}
 use Rattle.w4_defs.specs.RunLaws.{types_of}
 use Rattle.w4_defs.specs.State.{State}
-use Rattle.w4_console.proofs.GlobalLaws.{values_as_long}
+use Rattle.w4_console.proofs.StartLaws.{values_as_long}
 use Rattle.w4_console.proofs.start.put_fresh.Goals as goal
 
 pub copy_from_slice-requires : goal.copy_from_slice-requires

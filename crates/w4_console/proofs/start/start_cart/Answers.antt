@@ -3,7 +3,7 @@ use Rattle.w4_defs.specs.EntryPoints.{start_functions}
 use Rattle.w4_defs.specs.Reset.{call_all, fresh, start}
 use Rattle.w4_defs.specs.State.{LoggedState}
 use Rattle.w4_defs.specs.Units.{start_units, taken_by_calls}
-use Rattle.w4_console.specs.ConsoleCalls.{setup_of, so_far}
+use Rattle.w4_console.specs.Calls.{setup_of, so_far}
 use Rattle.w4_console.proofs.FrameLaws.{frame_begins}
 use Rattle.w4_console.proofs.start.start_cart.Goals as goal
 

@@ -2,7 +2,7 @@ use Rattle.std.proofs.Common.{◌<◌, sym, ap, ◌∙◌, subst}
 use Rattle.std.specs.List.{All}
 use Rattle.w4_defs.specs.KeptList.{Entry, kept_entries}
 use Rattle.w4_defs.specs.Session.{unlink_above}
-use Rattle.w4_editor.proofs.EditLaws.{below_unlinked}
+use Rattle.w4_editor.proofs.DraftLaws.{below_unlinked}
 use Rattle.w4_editor.proofs.draft.insert_draft.Goals as goal
 
 pub move_up_above-requires : goal.move_up_above-requires

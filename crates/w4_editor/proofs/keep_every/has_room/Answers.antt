@@ -3,7 +3,8 @@ use Rattle.std.specs.Prelude.{nat_le}
 use Rattle.std.proofs.lemmas.Bool.{lt-leb}
 use Rattle.std.proofs.lemmas.List.{length-map}
 use Rattle.w4_defs.specs.KeptList.{kept_entries}
-use Rattle.w4_editor.specs.PlaceSession.{all_to_keep, place_session}
+use Rattle.w4_editor.specs.KeepEvery.{all_to_keep}
+use Rattle.w4_editor.specs.Editor.{place_session}
 use Rattle.w4_editor.proofs.KeepEveryLaws.{Counted, counted_none, counted_more, counted_most, counted_all}
 use Rattle.w4_editor.proofs.BitLaws.{bit_of}
 use Rattle.w4_editor.proofs.keep_every.has_room.Goals as goal

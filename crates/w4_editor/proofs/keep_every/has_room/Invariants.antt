@@ -1,5 +1,6 @@
 use Rattle.std.proofs.Common.{◌+◌, length}
-use Rattle.w4_editor.specs.PlaceSession.{all_to_keep, place_session}
+use Rattle.w4_editor.specs.KeepEvery.{all_to_keep}
+use Rattle.w4_editor.specs.Editor.{place_session}
 use Rattle.w4_editor.proofs.KeepEveryLaws.{Counted}
 use Rattle.w4_editor.proofs.keep_every.has_room.Given as goal
 

@@ -1,10 +1,11 @@
 use Rattle.std.proofs.Common.{◌+◌, ◌-◌, ◌++◌, List, ℕ, length, sym, ap, ◌∙◌, arith, subst}
 use Rattle.std.proofs.lemmas.Result.{err_from_is_err_and}
 use Rattle.w4_defs.specs.Session.{Session, all_kept, with_list}
-use Rattle.w4_editor.specs.PlaceSession.{all_to_keep, place_session, with_multiple}
-use Rattle.w4_editor.specs.Showing.{AreKeptInTurn}
+use Rattle.w4_editor.specs.KeepEvery.{all_to_keep, with_multiple}
+use Rattle.w4_editor.specs.Editor.{place_session}
+use Rattle.w4_editor.specs.Playing.{AreKeptInTurn}
 use Rattle.w4_editor.proofs.KeepEveryLaws.{multiples_from, multiple_kept, all_are_kept, room_for_multiple}
-use Rattle.w4_editor.proofs.PlaceLaws.{kept_then, rest_then, same_recording_kept}
+use Rattle.w4_editor.proofs.EditorPlaceLaws.{kept_then, rest_then, same_recording_kept}
 use Rattle.w4_editor.proofs.keep_every.keep_all.Goals as goal
 
 pub keep_wanted-requires-clause-place : goal.keep_wanted-requires-clause-place

@@ -1,7 +1,8 @@
 use Rattle.std.proofs.Common.{◌≡◌, ℕ, ◌+◌, ◌-◌, ◌*◌, ◌≤◌, List, length}
 use Rattle.w4_defs.specs.Session.{all_kept, with_list}
-use Rattle.w4_editor.specs.PlaceSession.{KeepsRest, all_to_keep, place_session}
-use Rattle.w4_editor.specs.Showing.{AreKeptInTurn}
+use Rattle.w4_editor.specs.Editor.{KeepsRest, place_session}
+use Rattle.w4_editor.specs.KeepEvery.{all_to_keep}
+use Rattle.w4_editor.specs.Playing.{AreKeptInTurn}
 use Rattle.w4_editor.proofs.KeepEveryLaws.{multiples_from}
 use Rattle.w4_editor.proofs.keep_every.keep_all.Given as goal
 

@@ -2,7 +2,8 @@ use Rattle.std.proofs.Common.{ℕ, Bool, cond, Some, None, Ok, length, refl, sym
 use Rattle.std.proofs.lemmas.Bool.{leb-true}
 use Rattle.w4_defs.specs.declared.editing.EditRefusal.TheVariants.{FullSnapshots}
 use Rattle.w4_defs.specs.Session.{Session, unless, with_list}
-use Rattle.w4_editor.specs.PlaceSession.{all_to_keep, place_session}
+use Rattle.w4_editor.specs.KeepEvery.{all_to_keep}
+use Rattle.w4_editor.specs.Editor.{place_session}
 use Rattle.w4_editor.proofs.keep_every.keep_every.Goals as goal
 
 pub returns-then-not-has_room-clause-changed : goal.returns-then-not-has_room-clause-changed

@@ -1,7 +1,7 @@
 use Rattle.std.proofs.Common.{[], Bool, cond, refl, sym, ap, ◌∙◌}
 use Rattle.w4_defs.specs.Session.{keep_refusal, places_alone, with_kept, with_list}
-use Rattle.w4_editor.specs.PlaceSession.{place_session}
-use Rattle.w4_editor.proofs.PlaceLaws.{accepted_is, kept_made, kept_rest, one_kept, same_recording}
+use Rattle.w4_editor.specs.Editor.{place_session}
+use Rattle.w4_editor.proofs.EditorPlaceLaws.{accepted_is, kept_made, kept_rest, one_kept, same_recording}
 use Rattle.w4_editor.proofs.keep_every.keep_wanted.Goals as goal
 
 pub returns-then-not-is_wanted-clause-kept : goal.returns-then-not-is_wanted-clause-kept

@@ -1,7 +1,7 @@
 use Rattle.std.proofs.Common.{List, sym, ap, ◌∙◌, eqb, set, get_or, length, arith}
 use Rattle.std.specs.List.{position}
 use Rattle.w4_defs.specs.KeptList.{Entry, kept_entries}
-use Rattle.w4_editor.proofs.ListLaws.{position_none, without_none, without_linked, without_last_one}
+use Rattle.w4_editor.proofs.KeptListLaws.{position_none, without_none, without_linked, without_last_one}
 use Rattle.w4_editor.proofs.kept_list.drop_at.Goals as goal
 
 pub returns-then-at-len : goal.returns-then-at-len

@@ -1,7 +1,7 @@
 use Rattle.std.proofs.Common.{◌∙◌, ap, length, ltb}
 use Rattle.std.specs.Option.{unwrap_or}
 use Rattle.w4_defs.specs.KeptList.{Entry}
-use Rattle.w4_editor.proofs.ListLaws.{position_else}
+use Rattle.w4_editor.proofs.KeptListLaws.{position_else}
 use Rattle.w4_editor.proofs.kept_list.first_above.Goals as goal
 
 pub returns : goal.returns

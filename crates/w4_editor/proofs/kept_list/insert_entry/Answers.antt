@@ -2,7 +2,7 @@ use Rattle.std.proofs.Common.{sym, ap, ◌∙◌, ltb, arith}
 use Rattle.std.specs.List.{insert}
 use Rattle.w4_defs.specs.KeptList.{Entry, first_above}
 use Rattle.w4_defs.proofs.KeptListLaws.{kept_in_order}
-use Rattle.w4_editor.proofs.ListLaws.{position_or_len_le}
+use Rattle.w4_editor.proofs.KeptListLaws.{position_or_len_le}
 use Rattle.w4_editor.proofs.kept_list.insert_entry.Goals as goal
 
 pub insert-requires : goal.insert-requires

@@ -1,7 +1,7 @@
 use Rattle.std.proofs.Common.{◌∙◌, ap, sym, arith}
 use Rattle.w4_defs.specs.KeptList.{Entry}
-use Rattle.w4_editor.specs.Overwriting.{is_between}
-use Rattle.w4_editor.proofs.OverwriteLaws.{between_more, unlinked_if}
+use Rattle.w4_editor.specs.KeptList.{is_between}
+use Rattle.w4_editor.proofs.DraftOverwriteLaws.{between_more, unlinked_if}
 use Rattle.w4_editor.proofs.kept_list.unlink_between.Goals as goal
 
 pub loop-entry-preserved : goal.loop-entry-preserved

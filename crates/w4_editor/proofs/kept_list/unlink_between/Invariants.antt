@@ -1,5 +1,5 @@
 use Rattle.std.proofs.Common.{◌≡◌, ◌++◌, take, drop}
-use Rattle.w4_editor.specs.Overwriting.{unlink_between}
+use Rattle.w4_editor.specs.KeptList.{unlink_between}
 use Rattle.w4_editor.proofs.kept_list.unlink_between.Given as goal
 
 -- the entries so far are as they will be, and the others as they were

@@ -1,11 +1,11 @@
 use Rattle.std.proofs.Common.{◌≡◌, ◌+◌, ◌∙◌, ap, sym, subst, arith, refl}
 use Rattle.w4_defs.specs.Reset.{Setup}
 use Rattle.w4_defs.specs.KeptList.{Entry, IsConsistent, IsSettled, linked_at}
-use Rattle.w4_editor.specs.Playing.{setup_of}
+use Rattle.w4_editor.specs.Player.{setup_of}
 use Rattle.w4_editor.specs.Settling.{IsComputed}
-use Rattle.w4_editor.proofs.PlayLaws.{same_setup, still_in_state}
-use Rattle.w4_editor.proofs.SettleLaws.{progress_none, progress_on, progress_more}
-use Rattle.w4_editor.proofs.ShowLaws.{progress_consistent}
+use Rattle.w4_editor.proofs.PlayerLaws.{same_setup, still_in_state}
+use Rattle.w4_editor.proofs.SettlingLaws.{progress_none, progress_on, progress_more}
+use Rattle.w4_editor.proofs.ShowingLaws.{progress_consistent}
 use Rattle.w4_editor.proofs.settling.settle.Goals.{then-not-linked+in_ok-settle_one, else-not-linked}
 use Rattle.w4_editor.proofs.settling.settle.Goals as goal
 

@@ -1,6 +1,6 @@
 use Rattle.std.proofs.Common.{◌≡◌}
-use Rattle.w4_editor.specs.Playing.{setup_of, in_state}
-use Rattle.w4_editor.proofs.SettleLaws.{Progress}
+use Rattle.w4_editor.specs.Player.{setup_of, in_state}
+use Rattle.w4_editor.proofs.SettlingLaws.{Progress}
 use Rattle.w4_editor.proofs.settling.settle.Given as goal
 
 abbrev pub invariant-loop-i : goal.invariant-loop-i

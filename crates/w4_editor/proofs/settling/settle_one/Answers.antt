@@ -1,10 +1,10 @@
 use Rattle.std.proofs.Common.{◌≡◌, ◌+◌, ◌∙◌, ap, sym, subst, Some, true, false}
 use Rattle.w4_defs.specs.KeptList.{Entry, state_at}
 use Rattle.w4_defs.specs.State.{HasGlobals}
-use Rattle.w4_editor.specs.Playing.{setup_of}
+use Rattle.w4_editor.specs.Player.{setup_of}
 use Rattle.w4_editor.specs.Settling.{IsComputed}
-use Rattle.w4_editor.proofs.PlayLaws.{same_cart}
-use Rattle.w4_editor.proofs.SettleLaws.{relinked_computed, replaced_computed}
+use Rattle.w4_editor.proofs.PlayerLaws.{same_cart}
+use Rattle.w4_editor.proofs.SettlingLaws.{relinked_computed, replaced_computed}
 use Rattle.w4_editor.proofs.settling.settle_one.Goals as goal
 
 pub returns-then-same-clause-ok : goal.returns-then-same-clause-ok

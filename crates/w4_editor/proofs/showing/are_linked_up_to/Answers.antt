@@ -1,5 +1,5 @@
 use Rattle.std.proofs.Common.{arith}
-use Rattle.w4_editor.proofs.ShowLaws.{last_within}
+use Rattle.w4_editor.proofs.ShowingLaws.{last_within}
 use Rattle.w4_editor.proofs.showing.are_linked_up_to.Goals as goal
 
 pub entry_at-requires : goal.entry_at-requires

@@ -1,6 +1,6 @@
 use Rattle.std.proofs.Common.{◌∙◌, ap, arith, length}
 use Rattle.w4_defs.specs.KeptList.{Entry, last_up_to}
-use Rattle.w4_editor.proofs.ShowLaws.{last_within}
+use Rattle.w4_editor.proofs.ShowingLaws.{last_within}
 use Rattle.w4_editor.proofs.showing.keep.Goals as goal
 
 pub entry_at-before-requires : goal.entry_at-before-requires

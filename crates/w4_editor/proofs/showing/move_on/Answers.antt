@@ -1,12 +1,12 @@
 use Rattle.std.proofs.Common.{◌≡◌, ◌∙◌, ap, subst, sym, get_or, Some}
 use Rattle.std.proofs.lemmas.Option.{slice_get-get_or}
-use Rattle.w4_console.specs.ConsoleCalls.{moment}
+use Rattle.w4_console.specs.Calls.{moment}
 use Rattle.w4_console.proofs.TakenLaws.{units_told}
 use Rattle.w4_defs.specs.declared.console.Input.{Input}
 use Rattle.w4_defs.specs.Frame.{frame}
 use Rattle.w4_defs.specs.Recording.{Recording}
-use Rattle.w4_editor.specs.Playing.{setup_of}
-use Rattle.w4_editor.proofs.PlayLaws.{moves_on}
+use Rattle.w4_editor.specs.Player.{setup_of}
+use Rattle.w4_editor.proofs.PlayerLaws.{moves_on}
 use Rattle.w4_editor.proofs.showing.move_on.Goals as goal
 
 pub returns-clause-moment : goal.returns-clause-moment

@@ -3,7 +3,7 @@ use Rattle.std.proofs.lemmas.List.{take_at}
 use Rattle.w4_defs.specs.declared.console.Input.{Input}
 use Rattle.w4_defs.specs.Recording.{Recording}
 use Rattle.w4_defs.specs.KeptList.{Entry, linked_at}
-use Rattle.w4_editor.specs.Playing.{setup_of}
+use Rattle.w4_editor.specs.Player.{setup_of}
 use Rattle.w4_editor.specs.Settling.{StaysConsistent}
 use Rattle.w4_editor.proofs.showing.settle_all.Goals as goal
 

@@ -4,8 +4,9 @@ use Rattle.std.proofs.lemmas.List.{take_at}
 use Rattle.w4_defs.specs.declared.console.Input.{Input}
 use Rattle.w4_defs.specs.Recording.{Recording}
 use Rattle.w4_defs.specs.KeptList.{Entry, last_up_to}
-use Rattle.w4_editor.specs.Playing.{setup_of}
-use Rattle.w4_editor.specs.Settling.{AreLinked, IsOfRun, StaysConsistent}
+use Rattle.w4_editor.specs.Player.{setup_of}
+use Rattle.w4_editor.specs.Settling.{AreLinked, StaysConsistent}
+use Rattle.w4_editor.specs.Showing.{IsOfRun}
 use Rattle.w4_editor.proofs.showing.show.Goals as goal
 
 pub returns-clause-consistent : goal.returns-clause-consistent

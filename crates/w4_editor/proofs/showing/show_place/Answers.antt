@@ -1,10 +1,10 @@
 use Rattle.std.proofs.Common.{ℕ, ◌≤◌, ap, subst, arith}
 use Rattle.w4_defs.specs.Reset.{Setup}
 use Rattle.w4_defs.specs.KeptList.{place_at}
-use Rattle.w4_editor.specs.Playing.{setup_of}
-use Rattle.w4_editor.specs.Settling.{ShowsFrom}
-use Rattle.w4_editor.proofs.PlayLaws.{same_setup}
-use Rattle.w4_editor.proofs.ShowLaws.{last_within, last_below, run_shown}
+use Rattle.w4_editor.specs.Player.{setup_of}
+use Rattle.w4_editor.specs.Showing.{ShowsFrom}
+use Rattle.w4_editor.proofs.PlayerLaws.{same_setup}
+use Rattle.w4_editor.proofs.ShowingLaws.{last_within, last_below, run_shown}
 use Rattle.w4_editor.proofs.showing.show_place.Goals as goal
 
 pub settle-requires-clause-there : goal.settle-requires-clause-there

@@ -1,4 +1,4 @@
-use Rattle.w4_inspect.proofs.NarrowingLaws.{found_is_remaining, found_rises}
+use Rattle.w4_inspect.proofs.SearchLaws.{found_is_remaining, found_rises}
 use Rattle.w4_inspect.proofs.laws.narrowing_laws.Goals as goal
 
 pub returns-clause-left : goal.returns-clause-left

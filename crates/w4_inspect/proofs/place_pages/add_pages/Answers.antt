@@ -1,10 +1,10 @@
 use Rattle.std.proofs.Common.{◌+◌, ◌-◌, ◌≡◌, map, Some, ap, ◌∙◌, arith}
 use Rattle.std.specs.List.{range_with_len}
 use Rattle.w4_defs.specs.AllThere.{all_some}
-use Rattle.w4_editor.specs.Editing.{with_session}
-use Rattle.w4_inspect.specs.Pages.{page_at}
-use Rattle.w4_inspect.proofs.PageLaws.{moved_on, moved_page}
-use Rattle.w4_inspect.proofs.WatchLaws.{one_more_page}
+use Rattle.w4_editor.specs.Editor.{with_session}
+use Rattle.w4_inspect.specs.PlacePages.{page_at}
+use Rattle.w4_inspect.proofs.PlacePageLaws.{moved_on, moved_page}
+use Rattle.w4_inspect.proofs.WatchingLaws.{one_more_page}
 use Rattle.w4_inspect.proofs.place_pages.add_pages.Goals as goal
 
 pub loop-p-init : goal.loop-p-init

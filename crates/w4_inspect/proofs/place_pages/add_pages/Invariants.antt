@@ -1,8 +1,8 @@
 use Rattle.std.proofs.Common.{◌≡◌, ◌+◌, ◌-◌, map, Some}
 use Rattle.std.specs.List.{range_with_len}
 use Rattle.w4_defs.specs.AllThere.{all_some}
-use Rattle.w4_editor.specs.Editing.{with_session}
-use Rattle.w4_inspect.specs.Pages.{page_at}
+use Rattle.w4_editor.specs.Editor.{with_session}
+use Rattle.w4_inspect.specs.PlacePages.{page_at}
 use Rattle.w4_inspect.proofs.place_pages.add_pages.Given as goal
 
 abbrev pub invariant-loop-p : goal.invariant-loop-p

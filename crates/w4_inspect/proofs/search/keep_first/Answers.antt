@@ -2,7 +2,7 @@ use Rattle.std.proofs.Common.{◌≡◌, ◌∙◌, ◌<◌, sym, length, get_or
 use Rattle.std.proofs.lemmas.List.{get_or_default}
 use Rattle.std.proofs.lemmas.List.Filters.{FiltersInPlace-more_no, FiltersInPlace-more_set}
 use Rattle.w4_defs.specs.Search.{test_holds_at}
-use Rattle.w4_inspect.proofs.CandidateLaws.{next_is_within}
+use Rattle.w4_inspect.proofs.SearchLaws.{next_is_within}
 use Rattle.w4_inspect.proofs.search.keep_first.Goals as goal
 use Rattle.w4_inspect.proofs.search.keep_first.Goals.{then-test_holds, else-test_holds}
 

@@ -1,7 +1,7 @@
 use Rattle.std.proofs.Common.{◌+◌, Some, arith}
 use Rattle.w4_inspect.specs.Watching.{value_at}
-use Rattle.w4_inspect.proofs.PageLaws.{moved_on, moved_value}
-use Rattle.w4_inspect.proofs.WatchLaws.{one_more_value}
+use Rattle.w4_inspect.proofs.PlacePageLaws.{moved_on, moved_value}
+use Rattle.w4_inspect.proofs.WatchingLaws.{one_more_value}
 use Rattle.w4_inspect.proofs.watching.add_values.Goals as goal
 
 pub loop-p-preserved : goal.loop-p-preserved

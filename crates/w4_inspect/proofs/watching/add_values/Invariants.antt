@@ -1,7 +1,7 @@
 use Rattle.std.proofs.Common.{◌≡◌, ◌+◌, ◌-◌, map, Some}
 use Rattle.std.specs.List.{range_with_len}
 use Rattle.w4_defs.specs.AllThere.{all_some, joined}
-use Rattle.w4_editor.specs.Editing.{with_session}
+use Rattle.w4_editor.specs.Editor.{with_session}
 use Rattle.w4_inspect.specs.Watching.{value_at}
 use Rattle.w4_inspect.proofs.watching.add_values.Given as goal
 

@@ -1,9 +1,9 @@
 use Rattle.std.proofs.Common.{ℕ, Option, option_map, ap}
 use Rattle.w4_defs.specs.Bytes.{number_at}
-use Rattle.w4_editor.specs.Editing.{Editing}
+use Rattle.w4_editor.specs.Editor.{Editing}
 use Rattle.w4_inspect.specs.Watching.{value_at}
-use Rattle.w4_inspect.proofs.PageLaws.{same_pages}
-use Rattle.w4_inspect.proofs.WatchLaws.{first_and_more}
+use Rattle.w4_inspect.proofs.PlacePageLaws.{same_pages}
+use Rattle.w4_inspect.proofs.WatchingLaws.{first_and_more}
 use Rattle.w4_inspect.proofs.watching.values.Goals as goal
 
 pub returns-clause-values : goal.returns-clause-values

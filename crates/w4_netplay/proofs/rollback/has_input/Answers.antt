@@ -3,7 +3,7 @@ use Rattle.std.specs.Bool.{Decides}
 use Rattle.std.specs.List.{slice_get}
 use Rattle.w4_defs.specs.declared.console.Input.{Input}
 use Rattle.w4_defs.specs.Recording.{Recording}
-use Rattle.w4_netplay.proofs.RollLaws.{is_found, is_past}
+use Rattle.w4_netplay.proofs.RollbackLaws.{is_found, is_past}
 use Rattle.w4_netplay.proofs.rollback.has_input.Goals as goal
 
 pub returns-in-Some : goal.returns-in-Some

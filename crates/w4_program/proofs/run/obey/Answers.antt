@@ -1,6 +1,6 @@
 use Rattle.std.proofs.Common.{map, string_bytes, sym}
-use Rattle.w4_commands.specs.Views.{form_view}
-use Rattle.w4_program.proofs.WordsLaws.{form_obeyed}
+use Rattle.w4_commands.specs.Forms.{form_view}
+use Rattle.w4_program.proofs.RunLaws.{form_obeyed}
 use Rattle.w4_program.proofs.run.obey.Goals as goal
 
 pub returns-in-Some-clause-obeyed : goal.returns-in-Some-clause-obeyed

@@ -4,9 +4,8 @@ use Rattle.w4_defs.specs.StatusLines.{status_line}
 use Rattle.w4_defs.specs.Commands.{form_of}
 use Rattle.w4_defs.specs.Outputs.{Outputs}
 use Rattle.w4_defs.specs.CartRuns.{CartRunsHaveMeaning}
-use Rattle.w4_program.proofs.CartRunLaws.{cart_runs}
+use Rattle.w4_program.proofs.RunLaws.{cart_runs, obeyed_reported}
 use Rattle.w4_program.proofs.CompletenessLaws.{complete}
-use Rattle.w4_program.proofs.ReportLaws.{obeyed_reported}
 use Rattle.w4_program.proofs.StatusLaws as laws
 use Rattle.w4_program.proofs.run.w4_run_gated.Goals as goal
 

@@ -1,5 +1,5 @@
 use Rattle.std.proofs.Common.{◌≡◌, ◌++◌, map}
-use Rattle.w4_script.specs.Left.{words_left}
+use Rattle.w4_script.specs.Words.{words_left}
 use Rattle.w4_script.proofs.lines.owned_words.Given as goal
 
 abbrev pub invariant-loop-word : goal.invariant-loop-word

@@ -1,7 +1,7 @@
 use Rattle.std.proofs.Common.{◌≡◌, ◌++◌, map}
 use Rattle.w4_defs.specs.Lines.{lines_of}
-use Rattle.w4_script.specs.Left.{lines_left}
-use Rattle.w4_script.specs.LineView.{line_view}
+use Rattle.w4_script.specs.Reading.{lines_left}
+use Rattle.w4_script.specs.Lines.{line_view}
 use Rattle.w4_script.proofs.lines.script_lines.Given as goal
 
 abbrev pub invariant-loop-line : goal.invariant-loop-line

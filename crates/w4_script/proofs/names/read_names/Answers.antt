@@ -1,6 +1,5 @@
 use Rattle.std.proofs.Common.{◌≡◌, rules, length, map, string_bytes, sym, ◌∙◌, arith}
-use Rattle.w4_script.specs.Left.{name_lines_left}
-use Rattle.w4_script.specs.LineView.{named_view}
+use Rattle.w4_script.specs.NameLines.{name_lines_left, named_view}
 use Rattle.w4_defs.specs.NameLists.{name_lines, names_after}
 use Rattle.w4_script.proofs.NameLaws.{one_more_name, bad_name, no_name, short_list}
 use Rattle.w4_script.proofs.names.read_names.Goals as goal

@@ -1,5 +1,5 @@
 use Rattle.std.proofs.Common.{refl, sym, ◌∙◌, arith}
-use Rattle.w4_script.proofs.DigitLaws.{no_digits, one_more, no_digit, past_limit, all_read}
+use Rattle.w4_script.proofs.NumberLaws.{no_digits, one_more, no_digit, past_limit, all_read}
 use Rattle.w4_script.proofs.number.value_of.Goals as goal
 
 pub loop-digit-init : goal.loop-digit-init

@@ -1,10 +1,9 @@
 use Rattle.std.proofs.Common.{sym, ◌∙◌, arith}
 use Rattle.w4_defs.specs.Lines.{lines_of}
 use Rattle.w4_defs.specs.OrderFile.{orders_in}
-use Rattle.w4_script.specs.Left.{lines_left}
-use Rattle.w4_script.specs.LineView.{written_view}
+use Rattle.w4_script.specs.Reading.{lines_left, written_view}
 use Rattle.w4_defs.proofs.ScriptLaws.{file_limit}
-use Rattle.w4_script.proofs.OrderLaws.{one_order, bad_line, no_line}
+use Rattle.w4_script.proofs.OrderFileLaws.{one_order, bad_line, no_line}
 use Rattle.w4_script.proofs.order_file.read_orders.Goals as goal
 
 pub loop-line-preserved : goal.loop-line-preserved

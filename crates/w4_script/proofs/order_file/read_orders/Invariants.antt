@@ -1,8 +1,8 @@
 use Rattle.std.proofs.Common.{◌≡◌}
 use Rattle.w4_defs.specs.Lines.{lines_of}
 use Rattle.w4_defs.specs.OrderFile.{orders_in}
-use Rattle.w4_script.proofs.OrderLaws.{with_orders}
-use Rattle.w4_script.specs.Left.{lines_left}
+use Rattle.w4_script.proofs.OrderFileLaws.{with_orders}
+use Rattle.w4_script.specs.Reading.{lines_left}
 use Rattle.w4_script.proofs.order_file.read_orders.Given as goal
 
 abbrev pub invariant-loop-line : goal.invariant-loop-line

@@ -1,5 +1,5 @@
-use Rattle.w4_script.specs.Left.{words_left}
-use Rattle.w4_script.proofs.RequestLaws.{request_fits}
+use Rattle.w4_script.specs.Words.{words_left}
+use Rattle.w4_script.proofs.QueryLaws.{request_fits}
 use Rattle.w4_script.proofs.query.ask_of.Goals as goal
 
 pub returns-clause-fit : goal.returns-clause-fit

@@ -2,8 +2,8 @@ use Rattle.std.proofs.Common.{◌≡◌, All, Ok}
 use Rattle.std.proofs.lemmas.Result.{IfOk-weaker}
 use Rattle.w4_defs.specs.OrderFile.{file_of}
 use Rattle.w4_defs.specs.RamQuery.{query_line_of}
-use Rattle.w4_script.specs.Requests.{IsQueryLine}
-use Rattle.w4_script.proofs.RequestLaws.{query_fits}
+use Rattle.w4_script.specs.Query.{IsQueryLine}
+use Rattle.w4_script.proofs.QueryLaws.{query_fits}
 use Rattle.w4_script.proofs.query.read_query.Goals as goal
 
 pub returns-clause-fit : goal.returns-clause-fit

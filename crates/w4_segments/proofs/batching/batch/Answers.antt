@@ -1,6 +1,6 @@
 use Rattle.std.proofs.Common.{length, subst, sym}
 use Rattle.w4_segments.specs.Batching.{item_row, AreDealtOut, AreOfWorkers}
-use Rattle.w4_segments.proofs.BatchLaws.{batch_rows}
+use Rattle.w4_segments.proofs.BatchingLaws.{batch_rows}
 use Rattle.w4_segments.proofs.batching.batch.Goals as goal
 
 pub returns : goal.returns

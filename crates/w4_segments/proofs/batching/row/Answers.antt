@@ -1,7 +1,7 @@
 use Rattle.std.proofs.Common.{◌∙◌, sym, ap, Err}
 use Rattle.w4_defs.specs.Recording.{Recording}
 use Rattle.sha2.specs.Sha256.{sha256}
-use Rattle.w4_segments.proofs.BatchLaws.{bad_row, wrong_row, right_row, bytes_differ, bytes_agree}
+use Rattle.w4_segments.proofs.BatchingLaws.{bad_row, wrong_row, right_row, bytes_differ, bytes_agree}
 use Rattle.w4_segments.proofs.batching.row.Goals as goal
 
 pub returns-in-Err-BadRecording : goal.returns-in-Err-BadRecording

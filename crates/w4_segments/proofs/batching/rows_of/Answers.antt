@@ -3,7 +3,7 @@ use Rattle.std.proofs.lemmas.List.{length-append}
 use Rattle.sha2.specs.Sha256.{sha256}
 use Rattle.w4_defs.specs.Batch.{file_row}
 use Rattle.w4_segments.specs.Batching.{item_row}
-use Rattle.w4_segments.proofs.BatchLaws.{item_bytes, next_at, one_more_row}
+use Rattle.w4_segments.proofs.BatchingLaws.{item_bytes, next_at, one_more_row}
 use Rattle.w4_segments.proofs.batching.rows_of.Goals as goal
 
 pub loop-at-preserved : goal.loop-at-preserved

@@ -1,14 +1,14 @@
 use Rattle.std.proofs.Common.{◌≡◌, length, ap, ◌∙◌, sym, subst, Some}
 use Rattle.std.specs.List.{slice_range}
 use Rattle.sha2.specs.Sha256.{sha256}
-use Rattle.w4_console.specs.ConsoleCalls.{moment}
+use Rattle.w4_console.specs.Calls.{moment}
 use Rattle.w4_defs.specs.declared.console.Input.{Input}
 use Rattle.w4_defs.specs.Batch.{ran_row}
 use Rattle.w4_defs.specs.Board.{console_setup}
 use Rattle.w4_defs.specs.Recording.{Recording}
 use Rattle.w4_defs.specs.Reset.{reset}
 use Rattle.w4_defs.specs.Run.{fold}
-use Rattle.w4_segments.proofs.BatchLaws.{run_is}
+use Rattle.w4_segments.proofs.BatchingLaws.{run_is}
 use Rattle.w4_segments.proofs.batching.run_recording.Goals as goal
 
 pub returns-clause-row : goal.returns-clause-row

@@ -5,7 +5,7 @@ use Rattle.std.proofs.lemmas.List.{take_at}
 use Rattle.w4_defs.specs.Module.{WasmModule}
 use Rattle.w4_segments.specs.declared.worker.Worker.{Worker}
 use Rattle.w4_segments.specs.FilmPieces.{CanGoOn}
-use Rattle.w4_segments.specs.Working.{HasCartTypes}
+use Rattle.w4_segments.specs.Worker.{HasCartTypes}
 use Rattle.w4_segments.proofs.FilmPieceLaws.{film_begun, images_begun, keeps_cart, keeps_count}
 use Rattle.w4_segments.proofs.PieceLaws.{states_below}
 use Rattle.w4_segments.proofs.film_pieces.begin_there.Goals as goal

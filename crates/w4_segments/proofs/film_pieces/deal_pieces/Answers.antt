@@ -1,6 +1,6 @@
 use Rattle.std.proofs.Common.{◌+◌, ◌<◌, length, ◌∙◌, length-set, arith}
-use Rattle.w4_segments.specs.Pieces.{IsPiece}
-use Rattle.w4_segments.specs.Working.{HasCartTypes}
+use Rattle.w4_segments.specs.FilmPieces.{IsPiece}
+use Rattle.w4_segments.specs.Worker.{HasCartTypes}
 use Rattle.w4_segments.proofs.WorkerLaws.{all_changed, up_to_here}
 use Rattle.w4_segments.proofs.film_pieces.deal_pieces.Goals as goal
 

@@ -1,8 +1,8 @@
 use Rattle.std.proofs.Common.{◌≡◌, ℕ, ◌+◌, ◌<◌, length, get_or}
 use Rattle.std.specs.List.{All}
 use Rattle.w4_segments.specs.declared.worker.Worker.{Worker}
-use Rattle.w4_segments.specs.Pieces.{IsPiece}
-use Rattle.w4_segments.specs.Working.{HasCartTypes}
+use Rattle.w4_segments.specs.FilmPieces.{IsPiece}
+use Rattle.w4_segments.specs.Worker.{HasCartTypes}
 use Rattle.w4_segments.proofs.film_pieces.deal_pieces.Given as goal
 
 abbrev pub invariant-loop-worker_index : goal.invariant-loop-worker_index

@@ -3,7 +3,7 @@ use Rattle.std.proofs.lemmas.List.{length-append}
 use Rattle.w4_defs.specs.Board.{console_setup}
 use Rattle.w4_defs.specs.Image.{image}
 use Rattle.w4_defs.specs.State.{State}
-use Rattle.w4_editor.proofs.PlayLaws.{run_links}
+use Rattle.w4_editor.proofs.PlayerLaws.{run_links}
 use Rattle.w4_segments.proofs.PieceLaws.{first_screen, more_screens}
 use Rattle.w4_segments.proofs.pieces.film_task.Goals as goal
 

@@ -1,6 +1,6 @@
-use Rattle.w4_console.specs.ConsoleCalls.{moment}
+use Rattle.w4_console.specs.Calls.{moment}
 use Rattle.w4_defs.specs.Board.{console_setup}
-use Rattle.w4_editor.proofs.PlayLaws.{fold_more}
+use Rattle.w4_editor.proofs.PlayerLaws.{fold_more}
 use Rattle.w4_segments.proofs.playing.play_frames.Goals as goal
 
 pub loop-input-preserved : goal.loop-input-preserved

@@ -3,7 +3,8 @@ use Rattle.std.specs.List.{All}
 use Rattle.w4_defs.specs.Board.{console_setup}
 use Rattle.w4_defs.specs.Module.{WasmModule}
 use Rattle.w4_defs.specs.Recording.{Recording}
-use Rattle.w4_segments.specs.Working.{CanPlay, HasPlayed, EachDid}
+use Rattle.w4_segments.specs.Rounds.{CanPlay, HasPlayed}
+use Rattle.w4_segments.specs.Worker.{EachDid}
 use Rattle.w4_segments.proofs.RoundLaws.{all_before, idle_linked, dealt_can_play, dealt_computed, front_lengthens}
 use Rattle.w4_segments.proofs.rounds.settle_round.Goals as goal
 

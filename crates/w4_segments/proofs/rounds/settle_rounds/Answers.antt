@@ -1,7 +1,7 @@
 use Rattle.std.proofs.Common.{refl, ◌∙◌, subst, arith}
 use Rattle.std.specs.List.{All}
-use Rattle.w4_editor.specs.Editing.{Editing}
-use Rattle.w4_segments.specs.Working.{HasCartTypes}
+use Rattle.w4_editor.specs.Editor.{Editing}
+use Rattle.w4_segments.specs.Worker.{HasCartTypes}
 use Rattle.w4_segments.proofs.RoundLaws.{all_before, shown_keeps_same, keeps_both}
 use Rattle.w4_segments.proofs.rounds.settle_rounds.Goals as goal
 

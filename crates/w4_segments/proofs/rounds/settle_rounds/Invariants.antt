@@ -4,7 +4,7 @@ use Rattle.w4_defs.specs.FramesRun.{RunsAtMost}
 use Rattle.w4_editor.specs.Settling.{AreLinked}
 use Rattle.w4_segments.specs.declared.worker.Worker.{Worker}
 use Rattle.w4_segments.specs.Filming.{KeepsShown}
-use Rattle.w4_segments.specs.Working.{HasCartTypes}
+use Rattle.w4_segments.specs.Worker.{HasCartTypes}
 use Rattle.w4_segments.proofs.rounds.settle_rounds.Given as goal
 
 abbrev pub invariant-loop : goal.invariant-loop

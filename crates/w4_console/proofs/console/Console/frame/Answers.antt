@@ -3,8 +3,8 @@ use Rattle.w4_defs.specs.Board.{console_setup}
 use Rattle.w4_defs.specs.Frame.{frame}
 use Rattle.w4_defs.specs.State.{State}
 use Rattle.w4_defs.specs.Units.{frame_units}
-use Rattle.w4_console.specs.ConsoleCalls.{moment, so_far}
-use Rattle.w4_console.specs.TakenUnits.{taken_of}
+use Rattle.w4_console.specs.Calls.{moment, so_far}
+use Rattle.w4_console.specs.Taken.{taken_of}
 use Rattle.w4_console.proofs.FrameLaws.{frame_taken, framed}
 use Rattle.w4_console.proofs.console.Console.frame.Goals as goal
 

@@ -1,7 +1,7 @@
 use Rattle.std.proofs.Common.{◌≡◌, ℕ, List, Some, subst}
 use Rattle.w4_defs.specs.Board.{console_setup}
 use Rattle.w4_defs.specs.Reset.{start}
-use Rattle.w4_console.specs.ConsoleCalls.{moment, so_far}
+use Rattle.w4_console.specs.Calls.{moment, so_far}
 use Rattle.w4_console.proofs.FrameLaws.{was_reset}
 use Rattle.w4_console.proofs.console.Console.reset.Goals as goal
 

@@ -2,7 +2,7 @@ use Rattle.std.proofs.Common.{ap, ◌∙◌, sym, subst, [], ◌∷◌, ◌++◌
 use Rattle.circular_buffer.specs.Buffer.{buffer}
 use Rattle.w4_defs.specs.KeptList.{Entry, IsDraft}
 use Rattle.w4_defs.specs.Session.{Draft, keep_last}
-use Rattle.w4_editor.specs.Editing.{Editing, editing_setup}
+use Rattle.w4_editor.specs.Editor.{Editing, editing_setup}
 use Rattle.w4_editor.proofs.HistoryLaws.{edit_leaves}
 use Rattle.w4_editor.proofs.editor.Editor.accept.Goals as goal
 

@@ -1,8 +1,8 @@
 use Rattle.std.proofs.Common.{sym, subst}
 use Rattle.w4_defs.specs.KeptList.{IsConsistent}
-use Rattle.w4_editor.specs.Playing.{setup_of}
+use Rattle.w4_editor.specs.Player.{setup_of}
 use Rattle.w4_editor.proofs.HistoryLaws.{kept_leaves}
-use Rattle.w4_editor.proofs.KeepLaws.{drop_consistent}
+use Rattle.w4_editor.proofs.EditorKeepLaws.{drop_consistent}
 use Rattle.w4_editor.proofs.editor.Editor.drop_kept.Goals as goal
 
 pub invariant_of-self : goal.invariant_of-self

@@ -1,7 +1,7 @@
 use Rattle.std.proofs.Common.{[], ap, ◌∙◌, subst, length, ◌<◌, ◌≤◌, arith}
 use Rattle.w4_defs.specs.KeptList.{IsDraft}
 use Rattle.w4_editor.specs.declared.editor.Editor.TheInside.{Inside}
-use Rattle.w4_editor.specs.Editing.{Editing, editing_setup}
+use Rattle.w4_editor.specs.Editor.{Editing, editing_setup}
 use Rattle.w4_editor.proofs.HistoryLaws.{insert_is_good, places_are_low}
 use Rattle.w4_editor.proofs.editor.Editor.insert.Goals as goal
 

@@ -1,7 +1,7 @@
 use Rattle.std.proofs.Common.{◌≡◌, sym, subst, None}
 use Rattle.w4_defs.specs.KeptList.{kept_entries}
 use Rattle.w4_defs.specs.Session.{keep_refusal}
-use Rattle.w4_editor.specs.Editing.{Editing}
+use Rattle.w4_editor.specs.Editor.{Editing}
 use Rattle.w4_editor.proofs.EditorLaws.{can_keep}
 use Rattle.w4_editor.proofs.editor.Editor.keep.Goals as goal
 

@@ -1,8 +1,8 @@
 use Rattle.std.proofs.Common.{ℕ, Option, subst, sym, refl, Some}
 use Rattle.w4_defs.specs.KeptList.{IsConsistent}
-use Rattle.w4_editor.specs.Playing.{setup_of}
-use Rattle.w4_editor.specs.Editing.{Editing}
-use Rattle.w4_editor.specs.Showing.{CanKeep, IsPut}
+use Rattle.w4_editor.specs.Player.{setup_of}
+use Rattle.w4_editor.specs.Editor.{Editing}
+use Rattle.w4_editor.specs.Playing.{CanKeep, IsPut}
 use Rattle.w4_editor.proofs.EditorLaws.{stays, place_shown, run_here, within_here, put_consistent, view, is_put}
 use Rattle.w4_editor.proofs.editor.Editor.keep_shown.Goals as goal
 

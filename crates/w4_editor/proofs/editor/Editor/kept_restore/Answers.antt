@@ -1,7 +1,7 @@
 use Rattle.std.proofs.Common.{◌<◌, ◌∙◌, ap, length, subst, sym, List}
 use Rattle.w4_defs.specs.State.{State}
 use Rattle.w4_defs.specs.KeptList.{Entry, kept_entry_at, state_at}
-use Rattle.w4_editor.specs.Editing.{Editing}
+use Rattle.w4_editor.specs.Editor.{Editing}
 use Rattle.w4_editor.proofs.EditorLaws.{globals_as_many}
 use Rattle.w4_editor.proofs.editor.Editor.kept_restore.Goals as goal
 

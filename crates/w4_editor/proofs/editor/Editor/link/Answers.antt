@@ -1,9 +1,9 @@
 use Rattle.std.proofs.Common.{◌≡◌, ◌<◌, ◌-◌, length, subst, sym, refl, Some}
 use Rattle.w4_defs.specs.KeptList.{IsConsistent, computed, state_at}
-use Rattle.w4_editor.specs.Playing.{setup_of}
-use Rattle.w4_editor.specs.Editing.{Editing, editing_setup}
+use Rattle.w4_editor.specs.Player.{setup_of}
+use Rattle.w4_editor.specs.Editor.{Editing, editing_setup}
 use Rattle.w4_editor.proofs.EditorLaws.{stays}
-use Rattle.w4_editor.proofs.ShowLaws.{link_consistent}
+use Rattle.w4_editor.proofs.ShowingLaws.{link_consistent}
 use Rattle.w4_editor.proofs.editor.Editor.link.Goals as goal
 
 pub invariant_of-self : goal.invariant_of-self

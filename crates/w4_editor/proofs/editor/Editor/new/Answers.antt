@@ -2,8 +2,8 @@ use Rattle.std.proofs.Common.{List, [], ◌∷◌, ◌++◌, Some, sym, ap, ◌�
 use Rattle.w4_defs.specs.KeptList.{Entry}
 use Rattle.w4_defs.specs.Recording.{Recording}
 use Rattle.w4_defs.specs.Reset.{reset}
-use Rattle.w4_editor.specs.Playing.{Player, setup_of}
-use Rattle.w4_editor.specs.Editing.{IsEditor}
+use Rattle.w4_editor.specs.Player.{Player, setup_of}
+use Rattle.w4_editor.specs.Editor.{IsEditor}
 use Rattle.w4_editor.proofs.HistoryLaws.{first_entry, opens}
 use Rattle.w4_editor.proofs.editor.Editor.new.Goals as goal
 

@@ -1,8 +1,8 @@
 use Rattle.std.proofs.Common.{◌≤◌, length, Some, None, subst, sym}
 use Rattle.w4_defs.specs.KeptList.{last_up_to}
-use Rattle.w4_editor.specs.Playing.{setup_of}
+use Rattle.w4_editor.specs.Player.{setup_of}
 use Rattle.w4_editor.specs.Settling.{AreLinked}
-use Rattle.w4_editor.specs.Editing.{Editing}
+use Rattle.w4_editor.specs.Editor.{Editing}
 use Rattle.w4_editor.proofs.EditorLaws.{stays, none_shown, place_shown}
 use Rattle.w4_editor.proofs.editor.Editor.play_to.Goals as goal
 

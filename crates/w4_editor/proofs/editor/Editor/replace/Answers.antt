@@ -1,10 +1,10 @@
 use Rattle.std.proofs.Common.{◌≡◌, ◌<◌, ◌-◌, length, subst, sym, refl, arith, Some}
 use Rattle.w4_defs.specs.KeptList.{IsConsistent, computed, state_at, kept_segment}
-use Rattle.w4_editor.specs.Playing.{setup_of}
-use Rattle.w4_editor.specs.Editing.{Editing, editing_setup}
+use Rattle.w4_editor.specs.Player.{setup_of}
+use Rattle.w4_editor.specs.Editor.{Editing, editing_setup}
 use Rattle.w4_editor.proofs.EditorLaws.{stays}
-use Rattle.w4_editor.proofs.ShowLaws.{replace_consistent}
-use Rattle.w4_editor.proofs.TypeLaws.{fold_keeps}
+use Rattle.w4_editor.proofs.ShowingLaws.{replace_consistent}
+use Rattle.w4_editor.proofs.EditorTypeLaws.{fold_keeps}
 use Rattle.w4_editor.proofs.editor.Editor.replace.Goals as goal
 
 pub invariant_of-self-2 : goal.invariant_of-self-2

@@ -1,7 +1,7 @@
 use Rattle.std.proofs.Common.{◌-◌, length, None, subst, sym}
-use Rattle.w4_editor.specs.Playing.{setup_of}
+use Rattle.w4_editor.specs.Player.{setup_of}
 use Rattle.w4_editor.specs.Settling.{AreLinked}
-use Rattle.w4_editor.specs.Editing.{Editing}
+use Rattle.w4_editor.specs.Editor.{Editing}
 use Rattle.w4_editor.proofs.EditorLaws.{stays, none_shown, states_of_run}
 use Rattle.w4_editor.proofs.editor.Editor.settle.Goals as goal
 

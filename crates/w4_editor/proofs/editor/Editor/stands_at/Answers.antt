@@ -1,6 +1,6 @@
 use Rattle.std.proofs.Common.{◌∙◌, List, ap, Some, sym, subst}
 use Rattle.w4_defs.specs.KeptList.{Entry, last_up_to}
-use Rattle.w4_editor.specs.Editing.{Editing}
+use Rattle.w4_editor.specs.Editor.{Editing}
 use Rattle.w4_editor.specs.Settling.{AreLinked}
 use Rattle.w4_editor.proofs.editor.Editor.stands_at.Goals as goal
 

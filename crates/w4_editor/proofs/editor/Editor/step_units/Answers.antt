@@ -1,11 +1,11 @@
 use Rattle.std.proofs.Common.{◌≡◌, ◌+◌, ℕ, ap, subst, sym, ◌∙◌, arith, refl, Some, option_map}
 use Rattle.std.proofs.lemmas.Option.{same_Some}
-use Rattle.w4_console.specs.TakenUnits.{TellsUnits}
+use Rattle.w4_console.specs.Taken.{TellsUnits}
 use Rattle.w4_defs.specs.State.{Moment}
 use Rattle.w4_devices.specs.Records.{record_of}
-use Rattle.w4_editor.specs.Playing.{setup_of}
-use Rattle.w4_editor.specs.Editing.{Editing, editing_setup}
-use Rattle.w4_editor.specs.Showing.{IsAtEnd, IsStepped}
+use Rattle.w4_editor.specs.Player.{setup_of}
+use Rattle.w4_editor.specs.Editor.{Editing, editing_setup}
+use Rattle.w4_editor.specs.Playing.{IsAtEnd, IsStepped}
 use Rattle.w4_editor.proofs.EditorLaws.{stays, place_shown, nowhere_or_at_end, run_here, within_here, view, is_stepped}
 use Rattle.w4_editor.proofs.editor.Editor.step_units.Goals as goal
 

@@ -1,7 +1,7 @@
 use Rattle.std.proofs.Common.{ap, sym, ◌∙◌, length, subst}
 use Rattle.w4_defs.specs.State.{State}
-use Rattle.w4_editor.specs.Playing.{Player, IsPlayer}
-use Rattle.w4_editor.proofs.PlayLaws.{globals_as_long}
+use Rattle.w4_editor.specs.Player.{Player, IsPlayer}
+use Rattle.w4_editor.proofs.PlayerLaws.{globals_as_long}
 use Rattle.w4_editor.proofs.player.Player.restore.Goals as goal
 
 pub restore-requires : goal.restore-requires

@@ -1,7 +1,7 @@
 use Rattle.std.proofs.Common.{arith}
-use Rattle.w4_console.specs.ConsoleCalls.{moment}
-use Rattle.w4_editor.specs.Playing.{setup_of}
-use Rattle.w4_editor.proofs.PlayLaws.{fold_more, frame_as_first, still_in_state}
+use Rattle.w4_console.specs.Calls.{moment}
+use Rattle.w4_editor.specs.Player.{setup_of}
+use Rattle.w4_editor.proofs.PlayerLaws.{fold_more, frame_as_first, still_in_state}
 use Rattle.w4_editor.proofs.player.Player.run.Goals as goal
 
 pub loop-input-preserved : goal.loop-input-preserved

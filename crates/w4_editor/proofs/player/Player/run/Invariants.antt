@@ -1,7 +1,7 @@
 use Rattle.std.proofs.Common.{◌≡◌, ◌+◌, take, Some}
 use Rattle.w4_defs.specs.State.{HasGlobals}
 use Rattle.w4_defs.specs.Run.{fold}
-use Rattle.w4_editor.specs.Playing.{setup_of, in_state}
+use Rattle.w4_editor.specs.Player.{setup_of, in_state}
 use Rattle.w4_editor.proofs.player.Player.run.Given as goal
 
 abbrev pub invariant-loop-input : goal.invariant-loop-input

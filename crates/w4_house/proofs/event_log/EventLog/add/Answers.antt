@@ -1,8 +1,8 @@
 use Rattle.std.proofs.Common.{List, ap, ◌∙◌}
 use Rattle.w4_defs.specs.World.{written_by}
-use Rattle.w4_house.specs.Entries.{logged}
+use Rattle.w4_house.specs.EventLog.{logged}
 use Rattle.w4_house.specs.declared.log_entry.LogEntry.{LogEntry}
-use Rattle.w4_house.proofs.EntryLaws.{written_silently}
+use Rattle.w4_house.proofs.EventLogLaws.{written_silently}
 use Rattle.w4_house.proofs.event_log.EventLog.add.Goals as goal
 
 pub invariant_of-self : goal.invariant_of-self

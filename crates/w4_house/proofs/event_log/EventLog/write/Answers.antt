@@ -1,9 +1,9 @@
 use Rattle.std.proofs.Common.{List, [], ◌∷◌, ◌++◌, ap, sym, ◌∙◌}
 use Rattle.w4_defs.specs.World.{wrote, written_by}
-use Rattle.w4_house.specs.Entries.{logged}
+use Rattle.w4_house.specs.EventLog.{logged}
 use Rattle.w4_house.specs.declared.log_entry.LogEntry.{LogEntry}
 use Rattle.w4_house.specs.declared.log_entry.LogEntry.TheVariants.{Output}
-use Rattle.w4_house.proofs.EntryLaws.{written_more}
+use Rattle.w4_house.proofs.EventLogLaws.{written_more}
 use Rattle.w4_house.proofs.event_log.EventLog.write.Goals as goal
 
 pub invariant_of-self-2 : goal.invariant_of-self-2

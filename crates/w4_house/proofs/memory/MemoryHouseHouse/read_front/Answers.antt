@@ -1,4 +1,4 @@
-use Rattle.w4_house.proofs.Listing.{unlisted}
+use Rattle.w4_house.proofs.MemoryLaws.{unlisted}
 use Rattle.w4_house.proofs.memory.MemoryHouseHouse.read_front.Goals as goal
 
 pub returns-clause-fails : goal.returns-clause-fails

@@ -1,7 +1,7 @@
 use Rattle.std.proofs.Common.{ℕ, ◌+◌, ◌-◌, ◌∷◌, ◌++◌, [], List, Option, map, Some, ap, sym, ◌∙◌}
 use Rattle.std.specs.List.{range_with_len}
 use Rattle.w4_defs.specs.AllThere.{all_some}
-use Rattle.w4_inspect.proofs.PageLaws.{same_pages}
+use Rattle.w4_inspect.proofs.PlacePageLaws.{same_pages}
 use Rattle.w4_inspect.proofs.place_pages.PlacePages.read.Goals as goal
 
 pub add_pages-requires-clause-first : goal.add_pages-requires-clause-first

@@ -1,9 +1,8 @@
 use Rattle.std.proofs.Common.{◌+◌, ◌-◌, List, map, ℕ, Some, ap, sym, ◌∙◌}
 use Rattle.std.specs.List.{range_with_len}
 use Rattle.w4_defs.specs.Bytes.{number_at}
-use Rattle.w4_inspect.specs.Pages.{page_at}
-use Rattle.w4_inspect.specs.PlacePages.{ReadPages}
-use Rattle.w4_inspect.proofs.WatchLaws.{value_of_each}
+use Rattle.w4_inspect.specs.PlacePages.{page_at, ReadPages}
+use Rattle.w4_inspect.proofs.WatchingLaws.{value_of_each}
 use Rattle.w4_inspect.proofs.place_pages.PlacePages.watch.Goals as goal
 
 pub returns-clause-values : goal.returns-clause-values

@@ -2,8 +2,7 @@ use Rattle.std.proofs.Common.{subst}
 use Rattle.std.specs.Prelude.{OnOk, OnErr}
 use Rattle.std.proofs.lemmas.Result.{on_ok_weaker, on_err_weaker}
 use Rattle.w4_netplay.specs.Pads.{known_in}
-use Rattle.w4_netplay.specs.Replicas.{Netplay, KeepsNetplay}
-use Rattle.w4_netplay.specs.Rolling.{IsRolled}
+use Rattle.w4_netplay.specs.Replica.{Netplay, KeepsNetplay, IsRolled}
 use Rattle.w4_netplay.proofs.ReplicaLaws.{netplay_view, is_rolled, partly_keeps, either_limits}
 use Rattle.w4_netplay.proofs.replica.Replica.roll_back.Goals as goal
 

@@ -2,10 +2,9 @@ use Rattle.std.proofs.Common.{◌≡◌, None, refl, sym, ◌∙◌, subst}
 use Rattle.std.proofs.lemmas.Result.{IfErr-at_err, IfOk-at_ok, err_from_is_err_and}
 use Rattle.w4_defs.specs.declared.editing.EditRefusal.TheVariants as edit
 use Rattle.w4_defs.specs.Session.{place_refusal}
-use Rattle.w4_editor.specs.Showing.{IsShown, KeepsRecording}
+use Rattle.w4_editor.specs.Playing.{IsShown, KeepsRecording}
 use Rattle.w4_defs.specs.declared.net_refusal.NetRefusal.TheVariants.{NoFrame}
-use Rattle.w4_netplay.specs.Replicas.{Netplay, IsNetRefusal, predicted_draft}
-use Rattle.w4_netplay.specs.Rolling.{IsRolled}
+use Rattle.w4_netplay.specs.Replica.{Netplay, IsNetRefusal, predicted_draft, IsRolled}
 use Rattle.w4_netplay.proofs.ReplicaLaws.{netplay_view, keeps_same, still_keeps, shows_place, predicted_run_state, same_place_refusal, no_place, some_place, refused_for, memory_alone, memory_refused}
 use Rattle.w4_netplay.proofs.replica.Replica.show.Goals.{in-Ok, in-Err}
 use Rattle.w4_netplay.proofs.replica.Replica.show.Goals as goal

@@ -1,7 +1,7 @@
 use Rattle.std.proofs.Common.{◌≡◌, length, false, true, sym, ap, ◌∙◌, rules}
 use Rattle.w4_defs.specs.Lines.{is_skipped}
-use Rattle.w4_script.specs.Left.{words_left}
-use Rattle.w4_script.proofs.LineLaws.{line_before, skipped_before, no_lines}
+use Rattle.w4_script.specs.Words.{words_left}
+use Rattle.w4_script.proofs.ReadingLaws.{line_before, skipped_before, no_lines}
 use Rattle.w4_script.proofs.reading.LinesIterator.next.Goals as goal
 
 pub returns-then-not-is_skipped-clause-steps : goal.returns-then-not-is_skipped-clause-steps

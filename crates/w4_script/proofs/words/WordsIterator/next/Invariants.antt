@@ -1,5 +1,5 @@
 use Rattle.std.proofs.Common.{◌≡◌, length}
-use Rattle.w4_script.specs.Left.{words_in}
+use Rattle.w4_script.specs.Words.{words_in}
 use Rattle.w4_script.proofs.words.WordsIterator.next.Given as goal
 
 abbrev pub invariant-loop-word : goal.invariant-loop-word

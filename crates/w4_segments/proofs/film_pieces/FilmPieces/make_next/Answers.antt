@@ -3,11 +3,11 @@ use Rattle.std.proofs.lemmas.List.{take_at}
 use Rattle.w4_defs.specs.Board.{console_setup}
 use Rattle.w4_defs.specs.Module.{WasmModule}
 use Rattle.w4_defs.specs.Recording.{Recording}
-use Rattle.w4_editor.specs.Editing.{editing_setup}
+use Rattle.w4_editor.specs.Editor.{editing_setup}
 use Rattle.w4_segments.specs.declared.worker.Worker.{Worker}
-use Rattle.w4_segments.specs.FilmPieces.{CanGoOn}
-use Rattle.w4_segments.specs.Pieces.{ArePieces}
-use Rattle.w4_segments.specs.Working.{EachDid, HasFilmed}
+use Rattle.w4_segments.specs.FilmPieces.{CanGoOn, ArePieces}
+use Rattle.w4_segments.specs.Worker.{EachDid}
+use Rattle.w4_segments.specs.Pieces.{HasFilmed}
 use Rattle.w4_segments.proofs.FilmPieceLaws.{round_more}
 use Rattle.w4_segments.proofs.film_pieces.FilmPieces.make_next.Goals as goal
 

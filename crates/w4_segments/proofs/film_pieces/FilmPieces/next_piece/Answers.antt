@@ -1,8 +1,7 @@
 use Rattle.std.proofs.Common.{◌+◌, ◌-◌, List, length, sym, ap, ◌∙◌, arith}
 use Rattle.w4_defs.specs.AllThere.{joined}
 use Rattle.w4_segments.specs.declared.worker.Worker.{Worker}
-use Rattle.w4_segments.specs.FilmPieces.{images_between}
-use Rattle.w4_segments.specs.Pieces.{piece_begin}
+use Rattle.w4_segments.specs.FilmPieces.{images_between, piece_begin}
 use Rattle.w4_segments.specs.Rounds.{entries_of}
 use Rattle.w4_segments.proofs.FilmPieceLaws.{left_begins, nothing_left, piece_handed_out, piece_less}
 use Rattle.w4_segments.proofs.film_pieces.FilmPieces.next_piece.Goals as goal

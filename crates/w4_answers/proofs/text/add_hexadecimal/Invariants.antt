@@ -1,6 +1,0 @@
-use Rattle.std.proofs.Common.{◌≡◌, ◌++◌, take}
-use Rattle.w4_defs.specs.MadeSummary.{hexadecimal}
-use Rattle.w4_answers.proofs.text.add_hexadecimal.Given as goal
-
-abbrev pub invariant-loop-byte : goal.invariant-loop-byte
-invariant-loop-byte l = l.text.items ≡ l.initial.text.items ++ hexadecimal (take l.byte-index l.bytes)

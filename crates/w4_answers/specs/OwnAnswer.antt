@@ -1,0 +1,22 @@
+-- The orders that a live session alone has, but `save`, and how many frames their answers run at most
+-- (project rule).
+use Rattle.std.specs.Prelude.{⊤, ◌≡◌, ℕ, ◌-◌}
+use Rattle.w4_defs.specs.declared.live.LiveOrder.{LiveOrder}
+use Rattle.w4_defs.specs.declared.live.LiveOrder.TheVariants as live
+use Rattle.w4_editor.specs.Editor.{Editing}
+use Rattle.w4_answers.specs.Desk.{RunsOn}
+
+abbrev pub IsOwn : LiveOrder → Type 0
+IsOwn (live.PageAt p) = ⊤
+IsOwn (live.GlobalsAt p) = ⊤
+IsOwn (live.Inputs a b) = ⊤
+IsOwn (live.Units a b) = ⊤
+IsOwn order = ⊥
+
+-- an order that a live session alone has is answered within so many frames
+abbrev pub OwnWithin : LiveOrder → (ticks_before ticks_after : ℕ) → (old new : Editing) → Type 0
+OwnWithin (live.PageAt p) ticks_before ticks_after old new = RunsOn p 0 ticks_before ticks_after old new
+OwnWithin (live.GlobalsAt p) ticks_before ticks_after old new = RunsOn p 0 ticks_before ticks_after old new
+OwnWithin (live.Units a b) ticks_before ticks_after old new =
+    RunsOn a (b - a) ticks_before ticks_after old new
+OwnWithin other ticks_before ticks_after old new = ticks_after ≡ ticks_before

@@ -1,0 +1,20 @@
+-- What an edit leaves of the world: its answers, then the recording.
+use Rattle.std.specs.Prelude.{◌⊎◌, ◌++◌, ◌∷◌, [], List, ℕ, Result, Ok, Err}
+use Rattle.w4_defs.specs.declared.status.Refusal.{Refusal}
+use Rattle.w4_defs.specs.Endings.{Manner, ReadFailed, InputFailed, WriteFailed, MemoryRefused, Refused, manner_of}
+use Rattle.w4_defs.specs.World.{Saved, World, Rises, Does, FailsToSave, wrote}
+use Rattle.w4_answers.specs.Writing.{DoesFront}
+
+-- why an edit stopped: a first part of its answers was written, or all of them, and the file wasn't replaced
+abbrev pub StopsCarrying : World → World → Manner → List ℕ → List ℕ → List ℕ → Type 0
+StopsCarrying old new InputFailed out name bytes = ⊥
+StopsCarrying old new ReadFailed out name bytes = ⊥
+StopsCarrying old new WriteFailed out name bytes = Rises old.write_faults new.write_faults
+    × (DoesFront old new out ⊎ FailsToSave old new (wrote out) (Saved name bytes ∷ []))
+StopsCarrying old new MemoryRefused out name bytes = DoesFront old new out
+StopsCarrying old new (Refused refusal) out name bytes = ⊥
+
+-- what an edit gave: standard output gets its answers, and then the file of this name the recording
+abbrev pub Carried : {X : Type 0} → World → World → Result X Refusal → List ℕ → List ℕ → List ℕ → Type 0
+Carried old new (Ok x) out name bytes = Does old new (wrote out ++ Saved name bytes ∷ [])
+Carried old new (Err why) out name bytes = StopsCarrying old new (manner_of why) out name bytes

@@ -1,0 +1,60 @@
+-- Arguments as the definitions see them.
+use Rattle.w4_commands.specs.declared.forms.RunNames.{RunNames}
+use Rattle.w4_commands.specs.declared.forms.EditNames.{EditNames}
+use Rattle.w4_commands.specs.declared.forms.NetNames.{NetNames}
+use Rattle.w4_commands.specs.declared.forms.BatchNames.{BatchNames}
+use Rattle.w4_commands.specs.declared.forms.ServeNames.{ServeNames}
+use Rattle.w4_commands.specs.declared.forms.CompareNames.{CompareNames}
+use Rattle.w4_commands.specs.declared.forms.Command.{Command}
+use Rattle.w4_commands.specs.declared.forms.Command.TheVariants as command
+use Rattle.w4_commands.specs.declared.forms.Form.{Form as Named}
+use Rattle.w4_commands.specs.declared.forms.Form.TheVariants as named
+use Rattle.w4_defs.specs.Commands.{RunWords, EditWords, NetWords, BatchWords, ServeWords, CompareWords, Form, Check, Blank, Frames, Tones, Trace, Disk, Edit, Make, Net, Ram, Wave, Batch, Serve, Units, Compare, Rebind, Inputs, BlankDisk}
+
+abbrev pub run_view : RunNames → RunWords
+run_view n = record { cart = n.cart.now; recording = n.recording.now; font = n.font.now }
+
+abbrev pub edit_view : EditNames → EditWords
+edit_view n = record { run = run_view n.run; script = n.script.now; out = n.out.now }
+
+abbrev pub net_view : NetNames → NetWords
+net_view n = record { cart = n.cart.now; font = n.font.now; budget = n.budget.units; log = n.log.now }
+
+abbrev pub batch_view : BatchNames → BatchWords
+batch_view n =
+    record { cart = n.cart.now; font = n.font.now; list = n.list.now; workers = n.workers.count }
+
+abbrev pub serve_view : ServeNames → ServeWords
+serve_view n = record { run = run_view n.run; out = n.out.now }
+
+abbrev pub compare_view : CompareNames → CompareWords
+compare_view n = record {
+  cart = n.cart.now;
+  recording = n.recording.now;
+  other_cart = n.other_cart.now;
+  other_recording = n.other_recording.now;
+  font = n.font.now;
+}
+
+abbrev pub command_view : Command → Form
+command_view (command.Check cart) = Check cart.now
+command_view (command.Blank cart budget) = Blank cart.now budget.units
+command_view (command.BlankDisk cart budget disk) = BlankDisk cart.now budget.units disk.now
+command_view (command.Rebind cart recording) = Rebind cart.now recording.now
+command_view (command.Frames names places) = Frames (run_view names) places.from places.to
+command_view (command.Tones names) = Tones (run_view names)
+command_view (command.Trace names) = Trace (run_view names)
+command_view (command.Disk names place) = Disk (run_view names) place
+command_view (command.Units names) = Units (run_view names)
+command_view (command.Wave names) = Wave (run_view names)
+command_view (command.Ram names query) = Ram (run_view names) query.now
+command_view (command.Edit names) = Edit (edit_view names)
+command_view (command.Serve names) = Serve (serve_view names)
+command_view (command.Compare names) = Compare (compare_view names)
+command_view (command.Net names) = Net (net_view names)
+command_view (command.Batch names) = Batch (batch_view names)
+
+abbrev pub form_view : Named → Form
+form_view (named.Make number) = Make number
+form_view (named.Inputs recording) = Inputs recording.now
+form_view (named.OnCart given) = command_view given
