@@ -4,11 +4,12 @@ ghost use Rattle.std.specs.Prelude.{◌≡◌, ◌+◌, ◌-◌, ◌<◌, ◌≤
 ghost use Rattle.w4_defs.specs.FrameTexts.{schedule_text, trace_text};
 ghost use Rattle.w4_defs.specs.KeptList.{state_at};
 ghost use Rattle.w4_defs.specs.PlaceTexts.{as_it_stands};
-ghost use Rattle.w4_defs.specs.Run.{run, run_state};
-ghost use Rattle.w4_defs.specs.State.{Moment, State};
+ghost use Rattle.w4_defs.specs.Run.{run};
+ghost use Rattle.w4_defs.specs.State.{Moment};
 ghost use Rattle.w4_devices.specs.Records.{record_of};
 ghost use Rattle.w4_editor.specs.Editor.{current_recording, editing_setup, new_editing};
 ghost use Rattle.w4_console.specs.Taken.{TellsUnits};
+ghost use Rattle.w4_segments.specs.Counting.{IsBlankOf};
 ghost use Rattle.w4_answers.specs.Desk.{IsMade, RunsOn, StepsOn, OnlyShows, text_by};
 ghost use Rattle.w4_defs.specs.declared.place_text.PlaceText.TheVariants.{Image, Schedule, Traces};
 
@@ -40,9 +41,7 @@ pub fn new_desk<L: Ledger>(
     recording: Recording,
     blank: Blank,
 ) -> Result<Desk<L>, OutOfMemory>
-    requires name { blank.name ≡ L.name }
-    requires parts { blank.parts ≡ L.parts }
-    requires some { 0 < L.parts }
+    requires { IsBlankOf L.name L.parts blank }
     ensures { IfOk result (λ desk. desk.counted.editor ≡ new_editing cart font recording
         (state_at desk.counted.editor.session.current.kept 0)) }
 {

@@ -1,6 +1,6 @@
 //! Orders that are carried out by many workers: `film` and `settle`.
 
-ghost use Rattle.std.specs.Prelude.{◌≡◌, ◌≤◌, OnOk, flat_map, max, min, option_map};
+ghost use Rattle.std.specs.Prelude.{◌≡◌, OnOk, flat_map, max, min, option_map};
 ghost use Rattle.std.specs.Option.{ForSome};
 ghost use Rattle.w4_defs.specs.Image.{image};
 ghost use Rattle.w4_editor.specs.Editor.{current_recording, editing_setup, place_session};
@@ -23,15 +23,15 @@ use w4_editor::Editor;
 use w4_editor::places::last_place;
 use w4_house::House;
 use w4_image::{IMAGE_LEN, Screen, screen_into};
-use w4_segments::{FilmPieces, FilmRefusal, Gate, Resources, settle_wide};
+use w4_segments::{FilmPieces, FilmRefusal, Gate, MOST_WORKERS, Resources, Workers, settle_wide};
 
 /// A number of workers, within the range that scripts have for it.
-fn worker_count(workers: u32) -> usize
-    ensures number { result ≡ min (max workers 1) 16 }
-    ensures some { 1 ≤ result }
-    ensures few { result ≤ 16 }
+fn workers_of(count: u32) -> Workers
+    ensures { result.count ≡ min (max count 1) 16 }
 {
-    (workers as usize).max(1).min(16)
+    Workers {
+        count: (count as usize).max(1).min(MOST_WORKERS),
+    }
 }
 
 /// The answer of `film`: at most 600 images.
@@ -59,7 +59,7 @@ pub fn answer_film<S: Shape, R: Threads + Sync, H: House, G: Gate + Sync>(
     if from > to {
         return Ok(());
     }
-    match FilmPieces::begin(rt, alloc, editor, from, to, worker_count(workers)) {
+    match FilmPieces::begin(rt, alloc, editor, from, to, workers_of(workers)) {
         Ok(mut film) => write_film::<S, R, H, G>(resources, house, &mut film, editor),
         Err(FilmRefusal::NoFrame) => refuse::<S, H>(alloc, house, EditRefusal::NoFrame),
         Err(FilmRefusal::FilmTooLong) => S::write(alloc, house, b"refused too long\n"),
@@ -115,5 +115,5 @@ pub fn settle_by_workers<R: Threads + Sync, G: Gate + Sync>(
     ensures recording { current_recording editor.new ≡ current_recording editor.old }
     ensures settled { OnOk result (IsSettledWide editor.old editor.new) }
 {
-    settle_wide(resources, editor, worker_count(workers))
+    settle_wide(resources, editor, workers_of(workers))
 }

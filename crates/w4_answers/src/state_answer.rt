@@ -1,6 +1,6 @@
 //! The answer of `state`.
 
-ghost use Rattle.std.specs.Prelude.{◌≡◌, ◌≤◌, IfOk, OnOk, Some, length, ℕ};
+ghost use Rattle.std.specs.Prelude.{◌≡◌, ◌≤◌, IfOk, OnOk, Some, length};
 ghost use Rattle.w4_defs.specs.Run.{run_state};
 ghost use Rattle.w4_defs.specs.State.{State};
 ghost use Rattle.w4_editor.specs.Editor.{current_recording, editing_setup, place_session};

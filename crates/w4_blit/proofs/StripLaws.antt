@@ -1,5 +1,5 @@
 -- Words as digits of two bits, the first the lowest.
-use Rattle.std.proofs.Common.{◌≡◌, ◌≢◌, ℕ, ◌+◌, ◌-◌, ◌*◌, ◌/◌, ◌%◌, ◌^◌, ◌<◌, ◌≤◌, ◌⊎◌, min, Bool, true, false, ◌&&◌, List, length, get_or, set, subst, Option, Some, None, unwrap_or, bit_and, bit_xor, mul_assoc, refl, sym, ◌∙◌, ap, inl, inr, arith}
+use Rattle.std.proofs.Common.{◌≡◌, ◌≢◌, ℕ, ◌+◌, ◌-◌, ◌*◌, ◌/◌, ◌%◌, ◌^◌, ◌<◌, ◌≤◌, ◌⊎◌, min, Bool, true, false, ◌&&◌, ◌||◌, List, length, get_or, set, subst, Option, Some, None, unwrap_or, bit_and, bit_xor, mul_assoc, refl, sym, ◌∙◌, ap, inl, inr, arith}
 use Rattle.std.specs.Prelude.{◌==◌, nat_le, nat_lt, if◌then◌else◌}
 use Rattle.std.specs.Int.{bit_at}
 use Rattle.std.specs.Option.{option_or}
@@ -13,8 +13,9 @@ use Rattle.w4_defs.specs.Framebuffer.{Painter, paint, painted_pixel}
 use Rattle.w4_defs.specs.Shapes.{only_if}
 use Rattle.w4_defs.proofs.PaintLaws.{below_four, length-paint, paint_off, paint_step, set_paint}
 use Rattle.w4_pixels.specs.Clipping.{clipped}
-use Rattle.w4_blit.specs.Strips.{IsMask, masked_index, masked_painter, strip_index, strip_painter}
-use Rattle.w4_blit.specs.declared.strips.Strip.{Strip}
+use Rattle.w4_blit.specs.Masks.{IsMask}
+use Rattle.w4_blit.specs.Strips.{masked_index, masked_painter, strip_index, strip_painter}
+use Rattle.w4_blit.specs.declared.masks.Strip.{Strip}
 
 pub below_eight : (P : ℕ → Type 0) → P 0 → P 1 → P 2 → P 3 → P 4 → P 5 → P 6 → P 7
     → (k : ℕ) → k < 8 → P k
@@ -180,7 +181,21 @@ pub plain_some : (index k : ℕ) → index < 4 → k < 16 → masked_index (1431
 plain_some index k hi hk =
     masked_some (1431655765 * index) 4294967295 k index (ones_digit k hk) (plain_digit index k hi hk)
 
--- three times a bit is a digit of a mask
+-- a digit of a mask is 0 or 3
+pub is_mask_digit : (d : ℕ) → (d ≡ 0) ⊎ (d ≡ 3) → (d == 0 || d == 3) ≡ true
+is_mask_digit d (inl e) = grind (arith, nat_tests)
+is_mask_digit d (inr e) = grind (arith, nat_tests)
+
+zero_or_three : (d : ℕ) → (d == 0 || d == 3) ≡ true → (d ≡ 0) ⊎ (d ≡ 3)
+zero_or_three d e = elim (cases_eq d 0) [
+  | inl zero ↦ inl zero
+  | inr some ↦ inr (grind (arith, nat_tests))
+]
+
+pub mask_digit : (mask k : ℕ) → IsMask mask → k < 16 → (mask / 4 ^ k % 4 ≡ 0) ⊎ (mask / 4 ^ k % 4 ≡ 3)
+mask_digit mask k is hk = zero_or_three (mask / 4 ^ k % 4) (is k hk)
+
+-- three times a bit is one
 pub bit_mask : (n digit : ℕ) → digit ≡ 3 * (n % 2) → (digit ≡ 0) ⊎ (digit ≡ 3)
 bit_mask n digit e = elim (cases_eq (n % 2) 1) [
   | inl one ↦ inr (omega arith)
@@ -408,7 +423,7 @@ one_more page p row q j next word strip len small hrow hq hj en is kept taken un
     byte_digit_at strip.indices j k t hj hk refl in
     let byte : t / 4 ≡ j = omega arith in
     let place : t % 4 ≡ k = omega arith in
-    let either : (mask / 4 ^ k % 4 ≡ 0) ⊎ (mask / 4 ^ k % 4 ≡ 3) = elim (is t ht) [
+    let either : (mask / 4 ^ k % 4 ≡ 0) ⊎ (mask / 4 ^ k % 4 ≡ 3) = elim (mask_digit strip.mask t is ht) [
       | inl none ↦ inl (of_mask ∙ none)
       | inr all ↦ inr (of_mask ∙ all)
     ] in

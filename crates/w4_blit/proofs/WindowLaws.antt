@@ -14,9 +14,10 @@ use Rattle.w4_defs.specs.Framebuffer.{Painter}
 use Rattle.w4_defs.specs.Shapes.{natural, only_if}
 use Rattle.w4_defs.proofs.PaintLaws.{below_four}
 use Rattle.w4_pixels.specs.Clipping.{clipped}
-use Rattle.w4_blit.specs.Strips.{AreInks, ink_of, strip_index}
+use Rattle.w4_blit.specs.Inks.{ink_of}
+use Rattle.w4_blit.specs.Strips.{strip_index}
 use Rattle.w4_blit.specs.Walks.{walked}
-use Rattle.w4_blit.specs.declared.strips.Inks.{Inks}
+use Rattle.w4_blit.specs.declared.inks.Inks.{Inks}
 use Rattle.w4_blit.specs.declared.walks.Walk.{Walk}
 use Rattle.w4_blit.proofs.StripLaws.{below_eight, fours, mod_four, or_none, right_digit, zero_digit}
 
@@ -212,11 +213,12 @@ pub few_values : (page : List ℕ) (sprite : Sprite) (q : ℕ)
     → source_value page sprite q < (if has_flag sprite 1 then 4 else 2)
 few_values page sprite q = few_either (has_flag sprite 1) _ _ (omega arith) (omega arith)
 
-pub ink_index : (inks : Inks) (colors k value : ℕ) → AreInks inks colors → k < 16 → value < 4
-    → strip_index (ink_of inks value) k ≡ palette_index colors (value + 1)
-ink_index inks colors k value are hk hv =
-    let P : ℕ → Type 0 = λ value. strip_index (ink_of inks value) k ≡ palette_index colors (value + 1) in
-    below_four P (are.0.0 k hk) (are.1.0 k hk) (are.2.0 k hk) (are.3.0 k hk) value hv
+pub ink_index : (inks : Inks) (k value : ℕ) → k < 16 → value < 4
+    → strip_index (ink_of inks value) k ≡ palette_index inks.colors (value + 1)
+ink_index inks k value hk hv =
+    let P : ℕ → Type 0 = λ value. strip_index (ink_of inks value) k ≡ palette_index inks.colors (value + 1) in
+    below_four P (inks.first_plain k hk) (inks.second_plain k hk) (inks.third_plain k hk)
+    (inks.fourth_plain k hk) value hv
 
 -- ---- one more strip of a row
 

@@ -3,6 +3,8 @@ use Rattle.std.specs.Prelude.{ℕ, ◌+◌, ◌-◌, ◌<◌, ◌≤◌, ◌⊎�
 use Rattle.std.specs.List.{range_with_len}
 use Rattle.w4_defs.specs.declared.console.TextSource.{TextSource}
 use Rattle.w4_defs.specs.declared.console.TextSource.TheVariants.{Cstr, Utf8, Utf16}
+use Rattle.w4_blit.specs.declared.kept.Kept.{Kept}
+use Rattle.w4_blit.specs.declared.kept.Source.{Source}
 
 -- a byte of it, where the copy begins with that at address `first`
 abbrev pub byte_with_copy : List ℕ → ℕ → List ℕ → ℕ → ℕ
@@ -12,6 +14,13 @@ byte_with_copy page first copy_bytes i =
 unfoldable pub with_copied_bytes : List ℕ → ℕ → List ℕ → List ℕ
 with_copied_bytes page first copy_bytes = map (byte_with_copy page first copy_bytes)
     (range_with_len 0 (length page))
+
+-- the page when the call began, by the page as it is painted and by what is kept
+abbrev pub with_kept : List ℕ → Kept → List ℕ
+with_kept page kept = with_copied_bytes page kept.first kept.bytes.now
+
+abbrev pub page_of : Source → List ℕ
+page_of source = with_kept source.page.now source.kept
 
 -- where a text begins
 abbrev pub source_start : TextSource → ℕ

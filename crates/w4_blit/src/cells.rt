@@ -1,15 +1,15 @@
 //! What a blit reads for one cell.
 
-ghost use Rattle.std.specs.Option.{ForSome};
-ghost use Rattle.std.specs.Prelude.{◌+◌, ◌-◌, ◌-ℤ◌, ◌*◌, ◌/◌, ◌%◌, ◌<◌, ◌==◌, ◌≡◌, ◌≤◌, ◌^◌, if◌then◌else◌, pos};
-ghost use Rattle.w4_blit.specs.FramebufferCopy.{with_copied_bytes};
+ghost use Rattle.std.specs.Prelude.{◌+◌, ◌-◌, ◌-ℤ◌, ◌*◌, ◌/◌, ◌%◌, ◌<◌, ◌==◌, ◌≡◌, pos};
+ghost use Rattle.w4_blit.specs.FramebufferCopy.{page_of};
 ghost use Rattle.w4_blit.specs.Walks.{pixel_index};
 ghost use Rattle.w4_defs.specs.Blit.{has_flag, height_on_screen, source_column, source_row, source_value, width_on_screen};
 ghost use Rattle.w4_defs.specs.Shapes.{natural};
 
+use crate::kept::Source;
 use crate::source::{byte_at, offset};
-use w4_defs::{PageBytes, Sprite};
-use w4_pixels::entry_of;
+use w4_defs::Sprite;
+use w4_pixels::{PaletteIndex, entry_of};
 
 pub(crate) const TWO_BITS: u32 = 1;
 
@@ -20,79 +20,64 @@ pub(crate) const FLIP_Y: u32 = 4;
 pub(crate) const ROTATE: u32 = 8;
 
 /// What the sprite's pixel `pixel` paints: pixel value v is painted in colour v + 1.
-pub(crate) fn index_at(
-    page: &PageBytes,
-    kept_from: usize,
-    copy: &[u8],
-    sprite: &Sprite,
-    pixel: u64,
-) -> Option<u8>
-    ensures value { result ≡ pixel_index (with_copied_bytes page.now kept_from copy.now) sprite.now pixel }
-    ensures bound { ForSome result (λ e. e < 4) }
+pub(crate) fn index_at(source: Source, sprite: &Sprite, pixel: u64) -> Option<PaletteIndex>
+    ensures { result ≡ pixel_index (page_of source.entry) sprite.now pixel }
 {
-    entry_of(
-        sprite.colors,
-        source_value(page, kept_from, copy, sprite, pixel) + 1,
-    )
+    entry_of(sprite.colors, source_value(source, sprite, pixel) + 1)
 }
 
 /// How far column or row `u` of the screen is past `x`; 0 if it is before.
-pub(crate) fn distance(u: usize, x: i32) -> u64
+pub(crate) fn distance(u: usize, x: i32) -> u32
     requires { u < 160 }
-    ensures value { result ≡ natural (pos u -ℤ x) }
-    ensures bound { result < 4294967295 }
+    ensures { result ≡ natural (pos u -ℤ x) }
 {
-    offset(u, i64::from(x))
+    offset(u, i64::from(x)) as u32
 }
 
 /// The value of the sprite's pixel `pixel`: two bits or one, the first pixel in a byte's highest bits.
-fn source_value(page: &PageBytes, kept_from: usize, copy: &[u8], sprite: &Sprite, pixel: u64) -> u8
-    ensures value { result ≡ source_value (with_copied_bytes page.now kept_from copy.now) sprite.now pixel }
+fn source_value(source: Source, sprite: &Sprite, pixel: u64) -> u8
+    ensures value { result ≡ source_value (page_of source.entry) sprite.now pixel }
     ensures bound { result < 4 }
 {
     let ptr = u64::from(sprite.ptr);
     if has_flag(sprite, TWO_BITS) {
-        (byte_at(page, kept_from, copy, ptr + pixel / 4) >> (6 - 2 * (pixel % 4) as u32)) % 4
+        (byte_at(source, ptr + pixel / 4) >> (6 - 2 * (pixel % 4) as u32)) % 4
     } else {
-        (byte_at(page, kept_from, copy, ptr + pixel / 8) >> (7 - (pixel % 8) as u32)) % 2
+        (byte_at(source, ptr + pixel / 8) >> (7 - (pixel % 8) as u32)) % 2
     }
 }
 
 /// The column of the sprite that the cells of column `i` read.
-pub(crate) fn column_of(sprite: &Sprite, i: u64) -> u64
-    requires { i < 4294967296 }
+pub(crate) fn column_of(sprite: &Sprite, i: u32) -> u64
     ensures value { result ≡ source_column sprite.now i }
     ensures bound { result < 8589934592 }
 {
     let start = u64::from(sprite.src_x);
     if has_flag(sprite, FLIP_X) == has_flag(sprite, ROTATE) {
-        start + i
+        start + u64::from(i)
     } else {
-        start + mirrored(sprite.w, i)
+        start + u64::from(mirrored(sprite.w, i))
     }
 }
 
 /// The row of the sprite that the cells of row `j` read.
-pub(crate) fn row_of(sprite: &Sprite, j: u64) -> u64
-    requires { j < 4294967296 }
+pub(crate) fn row_of(sprite: &Sprite, j: u32) -> u64
     ensures value { result ≡ source_row sprite.now j }
     ensures bound { result < 8589934592 }
 {
     let start = u64::from(sprite.src_y);
     if has_flag(sprite, FLIP_Y) {
-        start + mirrored(sprite.h, j)
+        start + u64::from(mirrored(sprite.h, j))
     } else {
-        start + j
+        start + u64::from(j)
     }
 }
 
 /// Cell `i` of `count`, counted from the other end.
-pub(crate) fn mirrored(count: u32, i: u64) -> u64
-    requires { i < 4294967296 }
-    ensures value { result ≡ count - 1 - i }
-    ensures bound { result < 4294967295 }
+pub(crate) fn mirrored(count: u32, i: u32) -> u32
+    ensures { result ≡ count - 1 - i }
 {
-    u64::from(count).saturating_sub(1 + i)
+    count.saturating_sub(1).saturating_sub(i)
 }
 
 pub(crate) fn has_flag(sprite: &Sprite, weight: u32) -> bool

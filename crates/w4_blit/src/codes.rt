@@ -1,9 +1,10 @@
 //! The codes of a text, read from the page as it was when the call began.
 
 ghost use Rattle.std.specs.Prelude.{◌+◌, ◌-◌, ◌<◌, ◌==◌, ◌≡◌, ◌≤◌, ℕ, drop, length, min, not, slice_index, take_while};
-ghost use Rattle.w4_blit.specs.FramebufferCopy.{IsAtHand, bytes_read, source_start, with_copied_bytes};
+ghost use Rattle.w4_blit.specs.FramebufferCopy.{IsAtHand, bytes_read, page_of, source_start};
 ghost use Rattle.w4_defs.specs.Text.{text_codes};
 
+use crate::kept::Source;
 use crate::source::{FRAMEBUFFER, FRAMEBUFFER_END, byte_at};
 use w4_defs::{PageBytes, TextSource};
 
@@ -58,32 +59,20 @@ fn bytes_read(source: TextSource, count: usize) -> usize
     }
 }
 
-/// The code of number `k`, where the framebuffer's bytes are kept from `first` on: a byte, or a
-/// little-endian unit of 16 bits.
-pub(crate) fn code_at(
-    page: &PageBytes,
-    first: usize,
-    copy_bytes: &[u8],
-    source: TextSource,
-    k: usize,
-) -> u16
-    requires there { k < length (text_codes (with_copied_bytes page.now first copy_bytes.now) source) }
+/// The code of number `k` of a text: a byte, or a little-endian unit of 16 bits.
+pub(crate) fn code_at(source: Source, text: TextSource, k: usize) -> u16
+    requires there { k < length (text_codes (page_of source) text) }
     requires small { k < 65536 }
-    ensures { result ≡ slice_index (text_codes (with_copied_bytes page.now first copy_bytes.now) source) k }
+    ensures { result ≡ slice_index (text_codes (page_of source.entry) text) k }
 {
     let k = k as u64;
-    match source {
-        TextSource::Cstr { ptr } => u16::from(byte_at(page, first, copy_bytes, u64::from(ptr) + k)),
-        TextSource::Utf8 { ptr, .. } => u16::from(byte_at(
-            page,
-            first,
-            copy_bytes,
-            u64::from(ptr) + k,
-        )),
+    match text {
+        TextSource::Cstr { ptr } => u16::from(byte_at(source, u64::from(ptr) + k)),
+        TextSource::Utf8 { ptr, .. } => u16::from(byte_at(source, u64::from(ptr) + k)),
         TextSource::Utf16 { ptr, .. } => {
             let at = u64::from(ptr) + 2 * k;
-            let low = byte_at(page, first, copy_bytes, at);
-            let high = byte_at(page, first, copy_bytes, at + 1);
+            let low = byte_at(source, at);
+            let high = byte_at(source, at + 1);
             u16::from(low) + 256 * u16::from(high)
         }
     }

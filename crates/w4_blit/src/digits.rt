@@ -1,9 +1,10 @@
 //! Words as sixteen digits of two bits: their order, and their bits as masks.
 
 ghost use Rattle.std.specs.Prelude.{◌-◌, ◌*◌, ◌/◌, ◌%◌, ◌<◌, ◌≡◌, ◌≤◌, ◌^◌, ℕ};
-ghost use Rattle.w4_blit.specs.Strips.{AreMasks, HasValue, Swaps, partner};
+ghost use Rattle.w4_blit.specs.Strips.{HasValue, Swaps, partner};
 
-use crate::strips::{Bits, chosen, moved};
+use crate::masks::Bits;
+use crate::strips::{chosen, moved};
 
 /// The digits in the other order.
 pub(crate) fn reversed(word: u32) -> u32
@@ -28,8 +29,7 @@ fn swapped(word: u32, by: u32, mask: u32) -> u32
 
 /// The low and the high bits of sixteen values.
 pub(crate) fn bits_of(values: u32) -> Bits
-    ensures values { (k : ℕ) → k < 16 → HasValue result k (values / 4 ^ k % 4) }
-    ensures masks { AreMasks result }
+    ensures { (k : ℕ) → k < 16 → HasValue result k (values / 4 ^ k % 4) }
 {
     Bits {
         low: low_bits(values),

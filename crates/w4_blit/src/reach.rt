@@ -1,6 +1,6 @@
 //! How much of the framebuffer a sprite reads.
 
-ghost use Rattle.std.specs.Prelude.{◌*◌, ◌+◌, ◌<◌, ◌≡◌, ◌≤◌, ◌^◌, ℕ, max, min};
+ghost use Rattle.std.specs.Prelude.{◌*◌, ◌+◌, ◌<◌, ◌≤◌, ◌^◌, ℕ};
 ghost use Rattle.w4_blit.specs.FramebufferCopy.{IsAtHand};
 ghost use Rattle.w4_blit.specs.Reach.{InReach};
 ghost use Rattle.w4_defs.specs.Blit.{source_column, source_row};

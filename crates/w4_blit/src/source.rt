@@ -1,11 +1,11 @@
 //! The page as it was when the call began, while the framebuffer is painted: the bytes outside are read where
 //! they stand, those of the framebuffer from a copy of those that the call reads.
 
-ghost use Rattle.std.specs.Prelude.{[], ◌∷◌, ◌+◌, ◌-◌, ◌-ℤ◌, ◌*◌, ◌/◌, ◌%◌, ◌<◌, ◌≡◌, ◌≤◌, ◌^◌, ℕ, length, pos, slice_index, slice_range, true};
-ghost use Rattle.w4_blit.specs.FramebufferCopy.{with_copied_bytes};
+ghost use Rattle.std.specs.Prelude.{[], ◌∷◌, ◌+◌, ◌-◌, ◌-ℤ◌, ◌*◌, ◌/◌, ◌%◌, ◌<◌, ◌≡◌, ◌≤◌, ◌^◌, ℕ, length, pos, slice_index, true};
+ghost use Rattle.w4_blit.specs.FramebufferCopy.{page_of};
 ghost use Rattle.w4_defs.specs.Shapes.{natural};
 
-use w4_defs::PageBytes;
+use crate::kept::{Kept, Source};
 
 /// The first byte of the framebuffer.
 pub(crate) const FRAMEBUFFER: usize = 160;
@@ -17,64 +17,46 @@ pub(crate) const FRAMEBUFFER_END: u32 = 6560;
 /// What a byte past the page's end reads.
 const PAST_THE_END: u8 = 0;
 
-/// `len` bytes of the page from `first` on, and 0 for the others.
-pub(crate) fn many_bytes(page: &PageBytes, first: usize, len: usize) -> [u8; 6400]
-    requires many { len ≤ 6400 }
-    requires there { first + len ≤ 65536 }
-    ensures { slice_range result 0 len ≡ slice_range page.now first (first + len) }
-{
-    let mut copy_bytes = [0; 6400];
-    copy_bytes[..len].copy_from_slice(&page[first..first + len]);
-    copy_bytes
-}
-
-/// `len` bytes of the page from `first` on, where they are few.
-pub(crate) fn few_bytes(page: &PageBytes, first: usize, len: usize) -> [u8; 256]
-    requires few { len ≤ 256 }
-    requires there { first + len ≤ 65536 }
-    ensures { slice_range result 0 len ≡ slice_range page.now first (first + len) }
-{
-    let mut copy_bytes = [0; 256];
-    copy_bytes[..len].copy_from_slice(&page[first..first + len]);
-    copy_bytes
-}
-
 /// Eight bytes of the page when the call began, the first the highest.
-pub(crate) fn eight_from(page: &PageBytes, kept_from: usize, copy: &[u8], at: u64) -> u64
+pub(crate) fn eight_from(source: Source, at: u64) -> u64
     requires { at < 18446744073709551608 }
     ensures { (i : ℕ) → i < 8 → result / 2 ^ (8 * i) % 256
-        ≡ slice_index (with_copied_bytes page.now kept_from copy.now) (at + (7 - i)) }
+        ≡ slice_index (page_of source.entry) (at + (7 - i)) }
 {
     if FRAMEBUFFER_END as u64 <= at && at <= 65528 {
+        let page = source.page;
         eight_there(page, at as usize)
     } else {
-        eight_inside(page, kept_from, copy, at)
+        eight_inside(source, at)
     }
 }
 
 /// The same, where they may be of the framebuffer. It isn't inlined, since most sprites lie behind that.
 #[inline(never)]
-fn eight_inside(page: &PageBytes, kept_from: usize, copy: &[u8], at: u64) -> u64
+fn eight_inside(source: Source, at: u64) -> u64
     requires { at < 18446744073709551608 }
     ensures { (i : ℕ) → i < 8 → result / 2 ^ (8 * i) % 256
-        ≡ slice_index (with_copied_bytes page.now kept_from copy.now) (at + (7 - i)) }
+        ≡ slice_index (page_of source.entry) (at + (7 - i)) }
 {
-    if has_eight(kept_from, copy.len(), at) {
-        eight_there(copy, at as usize - kept_from)
+    let kept = source.kept;
+    if has_eight(kept, at) {
+        let bytes = kept.bytes;
+        eight_there(bytes, at as usize - kept.first)
     } else {
-        eight_read(page, kept_from, copy, at)
+        eight_read(source, at)
     }
 }
 
-/// Whether the eight bytes are of the framebuffer, and all among the `len` that are kept.
-fn has_eight(kept_from: usize, len: usize, at: u64) -> bool
-    ensures { result ≡ true → (160 ≤ at) × (at + 8 ≤ 6560) × (kept_from ≤ at) × (at - kept_from + 8 ≤ len) }
+/// Whether the eight bytes are of the framebuffer, and all among those that are kept.
+fn has_eight(kept: Kept, at: u64) -> bool
+    ensures { result ≡ true → (160 ≤ at) × (at + 8 ≤ 6560) × (kept.entry.first ≤ at)
+        × (at - kept.entry.first + 8 ≤ length kept.entry.bytes.now) }
 {
     FRAMEBUFFER as u64 <= at
         && at <= FRAMEBUFFER_END as u64 - 8
-        && kept_from as u64 <= at
-        && 8 <= len
-        && at as usize - kept_from <= len - 8
+        && kept.first as u64 <= at
+        && 8 <= kept.bytes.len()
+        && at as usize - kept.first <= kept.bytes.len() - 8
 }
 
 fn eight_there(bytes: &[u8], at: usize) -> u64
@@ -87,26 +69,26 @@ fn eight_there(bytes: &[u8], at: usize) -> u64
 }
 
 /// Each by itself, where they aren't all in one place.
-fn eight_read(page: &PageBytes, kept_from: usize, copy: &[u8], at: u64) -> u64
+fn eight_read(source: Source, at: u64) -> u64
     requires { at < 18446744073709551608 }
     ensures { (i : ℕ) → i < 8 → result / 2 ^ (8 * i) % 256
-        ≡ slice_index (with_copied_bytes page.now kept_from copy.now) (at + (7 - i)) }
+        ≡ slice_index (page_of source.entry) (at + (7 - i)) }
 {
-    let first = four_read(page, kept_from, copy, at);
-    first * 4294967296 + four_read(page, kept_from, copy, at + 4)
+    let first = four_read(source, at);
+    first * 4294967296 + four_read(source, at + 4)
 }
 
-fn four_read(page: &PageBytes, kept_from: usize, copy: &[u8], at: u64) -> u64
+fn four_read(source: Source, at: u64) -> u64
     requires { at < 18446744073709551612 }
     ensures bytes { (i : ℕ) → i < 4 → result / 2 ^ (8 * i) % 256
-        ≡ slice_index (with_copied_bytes page.now kept_from copy.now) (at + (3 - i)) }
+        ≡ slice_index (page_of source.entry) (at + (3 - i)) }
     ensures bound { result < 4294967296 }
 {
     four_of(
-        byte_at(page, kept_from, copy, at),
-        byte_at(page, kept_from, copy, at + 1),
-        byte_at(page, kept_from, copy, at + 2),
-        byte_at(page, kept_from, copy, at + 3),
+        byte_at(source, at),
+        byte_at(source, at + 1),
+        byte_at(source, at + 2),
+        byte_at(source, at + 3),
     )
 }
 
@@ -127,10 +109,11 @@ pub(crate) fn byte_of(word: u64, i: u32) -> u8
     ((word >> (8 * i)) % 256) as u8
 }
 
-/// A byte of the page when the call began, where the framebuffer's are kept from `first` on; 0 past its end.
-pub(crate) fn byte_at(page: &PageBytes, first: usize, copy_bytes: &[u8], at: u64) -> u8
-    ensures { result ≡ slice_index (with_copied_bytes page.now first copy_bytes.now) at }
+/// A byte of the page when the call began; 0 past its end.
+pub(crate) fn byte_at(source: Source, at: u64) -> u8
+    ensures { result ≡ slice_index (page_of source.entry) at }
 {
+    let (page, kept) = (source.page, source.kept);
     if 65536 <= at {
         PAST_THE_END
     } else if FRAMEBUFFER_END as u64 <= at {
@@ -138,7 +121,7 @@ pub(crate) fn byte_at(page: &PageBytes, first: usize, copy_bytes: &[u8], at: u64
     } else if at < FRAMEBUFFER as u64 {
         page[at as usize]
     } else {
-        copied_byte(copy_bytes, (at as usize).saturating_sub(first))
+        copied_byte(kept.bytes, (at as usize).saturating_sub(kept.first))
     }
 }
 

@@ -2,7 +2,7 @@
 //! pixel, which has a byte's highest bits, is the lowest digit, as in the framebuffer.
 
 ghost use Rattle.std.specs.Prelude.{◌+◌, ◌-◌, ◌*◌, ◌/◌, ◌%◌, ◌<◌, ◌≡◌, ◌^◌, ℕ, slice_index};
-ghost use Rattle.w4_blit.specs.Strips.{IsMask};
+ghost use Rattle.w4_blit.specs.Masks.{IsMask};
 
 use crate::strips::moved;
 

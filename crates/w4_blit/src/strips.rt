@@ -1,67 +1,17 @@
 //! Sixteen pixels that stand side by side, and the four bytes of the framebuffer that take them.
 
-ghost use Rattle.std.specs.Option.{ForSome};
 ghost use Rattle.std.specs.Prelude.{◌*◌, ◌+◌, ◌/◌, ◌%◌, ◌<◌, ◌≡◌, ◌≤◌, ◌⊎◌, ◌^◌, ℕ, if◌then◌else◌};
-ghost use Rattle.w4_blit.specs.Strips.{AreInks, AreMasks, HasValue, HaveMasks, IsMask, IsPlain, ink_of, strip_index, strip_painter};
+ghost use Rattle.w4_blit.specs.Inks.{ink_of};
+ghost use Rattle.w4_blit.specs.Masks.{IsMask};
+ghost use Rattle.w4_blit.specs.Strips.{HasValue, strip_index, strip_painter};
 ghost use Rattle.w4_defs.specs.Blit.{has_flag};
 ghost use Rattle.w4_defs.specs.Framebuffer.{paint};
 
 use crate::cells::{TWO_BITS, has_flag};
+use crate::inks::Inks;
+use crate::masks::{Bits, Strip};
 use crate::source::FRAMEBUFFER;
 use w4_defs::{PageBytes, Sprite};
-use w4_pixels::entry_of;
-
-/// Sixteen palette indices of two bits, the first in the lowest. The mask has ones where one is given.
-#[derive(Clone, Copy)]
-pub(crate) struct Strip {
-    pub indices: u32,
-    pub mask: u32,
-}
-
-/// What pixel values 0 to 3 paint, each sixteen times.
-#[derive(Clone, Copy)]
-pub(crate) struct Inks {
-    pub first: Strip,
-    pub second: Strip,
-    pub third: Strip,
-    pub fourth: Strip,
-}
-
-/// The low and the high bits of sixteen pixel values, as masks.
-#[derive(Clone, Copy)]
-pub(crate) struct Bits {
-    pub low: u32,
-    pub high: u32,
-}
-
-/// The draw colours. They are looked up once a call.
-pub(crate) fn inks_of(colors: u16) -> Inks
-    ensures { AreInks result colors }
-{
-    Inks {
-        first: plain(entry_of(colors, 1)),
-        second: plain(entry_of(colors, 2)),
-        third: plain(entry_of(colors, 3)),
-        fourth: plain(entry_of(colors, 4)),
-    }
-}
-
-fn plain(index: Option<u8>) -> Strip
-    requires { ForSome index (λ e. e < 4) }
-    ensures index { IsPlain result index }
-    ensures mask { IsMask result.mask }
-{
-    match index {
-        Some(index) => Strip {
-            indices: 0x5555_5555 * u32::from(index),
-            mask: u32::MAX,
-        },
-        None => Strip {
-            indices: 0,
-            mask: 0,
-        },
-    }
-}
 
 /// The bits of `other` where the mask has ones, those of `word` elsewhere.
 pub(crate) fn chosen(mask: u32, word: u32, other: u32) -> u32
@@ -73,12 +23,9 @@ pub(crate) fn chosen(mask: u32, word: u32, other: u32) -> u32
 
 /// The pixels of `other` where the mask has ones, those of `strip` elsewhere.
 pub(crate) fn either(mask: u32, strip: Strip, other: Strip) -> Strip
-    requires mask { IsMask mask }
-    requires strip { IsMask strip.mask }
-    requires other { IsMask other.mask }
+    requires { IsMask mask }
     ensures strip { (k : ℕ) → k < 16 → mask / 4 ^ k % 4 ≡ 0 → strip_index result k ≡ strip_index strip k }
     ensures other { (k : ℕ) → k < 16 → mask / 4 ^ k % 4 ≡ 3 → strip_index result k ≡ strip_index other k }
-    ensures mask { IsMask result.mask }
 {
     Strip {
         indices: chosen(mask, strip.indices, other.indices),
@@ -88,37 +35,28 @@ pub(crate) fn either(mask: u32, strip: Strip, other: Strip) -> Strip
 
 /// What sixteen values of a sprite paint.
 pub(crate) fn painted_by(sprite: &Sprite, inks: &Inks, bits: Bits) -> Strip
-    requires inks { HaveMasks inks.now }
-    requires bits { AreMasks bits }
-    ensures values { (k value : ℕ) → k < 16 → value < (if has_flag sprite.now 1 then 4 else 2)
+    ensures { (k value : ℕ) → k < 16 → value < (if has_flag sprite.now 1 then 4 else 2)
         → HasValue bits k value → strip_index result k ≡ strip_index (ink_of inks.now value) k }
-    ensures mask { IsMask result.mask }
 {
     if has_flag(sprite, TWO_BITS) {
         painted(inks, bits)
     } else {
-        painted_low(inks, bits.low)
+        painted_low(inks, bits)
     }
 }
 
 /// What values of one bit paint.
-fn painted_low(inks: &Inks, low: u32) -> Strip
-    requires inks { HaveMasks inks.now }
-    requires bits { IsMask low }
-    ensures values { (k value : ℕ) → k < 16 → value < 2 → low / 4 ^ k % 4 ≡ 3 * (value % 2)
+fn painted_low(inks: &Inks, bits: Bits) -> Strip
+    ensures { (k value : ℕ) → k < 16 → value < 2 → bits.low / 4 ^ k % 4 ≡ 3 * (value % 2)
         → strip_index result k ≡ strip_index (ink_of inks.now value) k }
-    ensures mask { IsMask result.mask }
 {
-    either(low, inks.first, inks.second)
+    either(bits.low, inks.first, inks.second)
 }
 
 /// What values of two bits paint.
 fn painted(inks: &Inks, bits: Bits) -> Strip
-    requires inks { HaveMasks inks.now }
-    requires bits { AreMasks bits }
-    ensures values { (k value : ℕ) → k < 16 → value < 4 → HasValue bits k value
-        → strip_index result k ≡ strip_index (ink_of inks.now value) k }
-    ensures mask { IsMask result.mask }
+    ensures { (k value : ℕ) → k < 16 → value < 4 → HasValue bits k value → strip_index result k
+        ≡ strip_index (ink_of inks.now value) k }
 {
     let lower = either(bits.low, inks.first, inks.second);
     let upper = either(bits.low, inks.third, inks.fourth);
@@ -140,10 +78,8 @@ pub(crate) fn part_of(strip: Strip, low: u32, high: u32) -> Strip
     requires low { low < 16 }
     requires some { 0 < high }
     requires high { high ≤ 16 }
-    requires mask { IsMask strip.mask }
     ensures inside { (k : ℕ) → low ≤ k → k < high → strip_index result k ≡ strip_index strip k }
     ensures outside { (k : ℕ) → k < 16 → (k < low) ⊎ (high ≤ k) → result.mask / 4 ^ k % 4 ≡ 0 }
-    ensures mask { IsMask result.mask }
 {
     let from_low = u32::MAX << (2 * low);
     let to_high = u32::MAX >> (32 - 2 * high);
@@ -157,7 +93,6 @@ pub(crate) fn part_of(strip: Strip, low: u32, high: u32) -> Strip
 pub(crate) fn put_strip(page: &mut PageBytes, q: usize, row: usize, strip: Strip)
     requires column { q ≤ 36 }
     requires row { row < 160 }
-    requires mask { IsMask strip.mask }
     ensures { page.new ≡ paint page.old (strip_painter q row strip) }
 {
     let at = FRAMEBUFFER + (40 * row + q);

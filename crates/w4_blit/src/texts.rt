@@ -1,14 +1,15 @@
 //! Text, code by code.
 
 ghost use Rattle.std.specs.Prelude.{◌+ℤ◌, ◌==◌, ◌≡◌, ◌≤◌, ◌≤ℤ◌, if◌then◌else◌, length, pos};
-ghost use Rattle.w4_blit.specs.FramebufferCopy.{source_start, with_copied_bytes};
+ghost use Rattle.w4_blit.specs.FramebufferCopy.{source_start, with_kept};
 ghost use Rattle.w4_defs.specs.Framebuffer.{paint};
 ghost use Rattle.w4_defs.specs.Text.{text_codes, text_painter};
 
 use crate::codes::{code_at, code_count, part_kept, start_of};
 use crate::glyphs::{Glyph, put_glyph};
-use crate::source::{FRAMEBUFFER, FRAMEBUFFER_END, few_bytes, many_bytes};
-use crate::strips::inks_of;
+use crate::inks::inks_of;
+use crate::kept::{Kept, Source, few_bytes, many_bytes};
+use crate::source::{FRAMEBUFFER, FRAMEBUFFER_END};
 use w4_defs::{PageBytes, TextSource};
 use w4_font::Font;
 
@@ -61,7 +62,11 @@ fn text_outside(page: &mut PageBytes, font: &Font, placed: PlacedText)
     ensures { page.new ≡ paint page.old
         (text_painter font.now placed.colors (text_codes page.old placed.source) placed.x placed.y) }
 {
-    put_codes(page, FRAMEBUFFER, &[], font, placed);
+    let kept = Kept {
+        first: FRAMEBUFFER,
+        bytes: &[],
+    };
+    put_codes(page, kept, font, placed);
 }
 
 /// Paints a text that may lie in the framebuffer. What it reads of that is kept aside.
@@ -72,20 +77,21 @@ fn text_inside(page: &mut PageBytes, font: &Font, placed: PlacedText)
 {
     let (first, len) = part_kept(placed.source, placed.count);
     if len <= 256 {
-        let copy_bytes = few_bytes(page, first, len);
-        put_codes(page, first, &copy_bytes[..len], font, placed);
+        let copy = few_bytes(page, first, len);
+        let bytes = &copy[..len];
+        put_codes(page, Kept { first, bytes }, font, placed);
     } else {
-        let copy_bytes = many_bytes(page, first, len);
-        put_codes(page, first, &copy_bytes[..len], font, placed);
+        let copy = many_bytes(page, first, len);
+        let bytes = &copy[..len];
+        put_codes(page, Kept { first, bytes }, font, placed);
     }
 }
 
-/// Paints the codes of a text, where the framebuffer's bytes are kept from `first` on.
-fn put_codes(page: &mut PageBytes, first: usize, copy_bytes: &[u8], font: &Font, placed: PlacedText)
-    requires { placed.count
-        ≡ length (text_codes (with_copied_bytes page.old first copy_bytes.now) placed.source) }
+/// Paints the codes of a text.
+fn put_codes(page: &mut PageBytes, kept: Kept, font: &Font, placed: PlacedText)
+    requires { placed.count ≡ length (text_codes (with_kept page.old kept) placed.source) }
     ensures { page.new ≡ paint page.old (text_painter font.now placed.colors
-        (text_codes (with_copied_bytes page.old first copy_bytes.now) placed.source) placed.x placed.y) }
+        (text_codes (with_kept page.old kept.entry) placed.source) placed.x placed.y) }
 {
     let inks = inks_of(placed.colors);
     let mut pen = Pen {
@@ -96,9 +102,8 @@ fn put_codes(page: &mut PageBytes, first: usize, copy_bytes: &[u8], font: &Font,
         if SCREEN_END <= pen.y {
             return;
         }
-        let code = code_at(page, first, copy_bytes, placed.source, k);
+        let code = code_at(Source { page, kept }, placed.source, k);
         let glyph = Glyph {
-            colors: placed.colors,
             code,
             x: pen.x,
             y: pen.y,

@@ -1,13 +1,16 @@
 //! Judging bytes as a cart.
 
-ghost use Rattle.std.specs.Prelude.{◌≡◌, Err, IfOk, Option, ℕ};
+ghost use Rattle.std.proofs.Props.{props};
+ghost use Rattle.std.specs.Prelude.{◌≡◌, Err, IfOk};
 ghost use Rattle.sha2.specs.Sha256.{sha256};
 ghost use Rattle.w4_defs.specs.Cart.{IsCart, IsRefused};
+ghost use Rattle.w4_defs.specs.Meaning.{RunsHaveMeaning};
 ghost use Rattle.w4_defs.specs.declared.refusal.CartKind.{CartKind};
 ghost use Rattle.w4_cart.specs.declared.refusal.CartRefusal.TheVariants.{Kind as OfKind};
 
 use crate::refusal::CartRefusal;
 use std::alloc::Global;
+use w4_console::laws::accepted_runs_have_meaning;
 use w4_defs::{CartKind, OutOfMemory};
 use w4_record::digest_of;
 use wasm_link::check_profile;
@@ -18,11 +21,12 @@ use wasm_valid::{Cart as ValidCart, ValidRefusal, validate};
 /// How many bytes a cart has at most: 64 KiB, as in WASM-4.
 pub const MOST_BYTES: usize = 65_536;
 
-/// A cart and the SHA-256 of its bytes, by which recordings name it.
+/// An accepted cart, whose runs all have a meaning, and the SHA-256 of its bytes, by which recordings name it.
 #[derive(Drop)]
 pub struct CartFile {
     pub cart: Cart,
     pub digest: [u8; 32],
+    ghost meaning: { RunsHaveMeaning cart } by { Prim.hlevel props },
 }
 
 /// The valid module that the bytes are. The causes of `CartKind` are looked at in their order.
@@ -66,6 +70,7 @@ pub fn accept_file(alloc: Global, bytes: &[u8]) -> Result<CartFile, CartRefusal>
     ensures digest { IfOk result (λ file. file.digest ≡ sha256 bytes.now) }
     ensures refused { (kind : CartKind) → result ≡ Err (OfKind kind) → IsRefused bytes.now kind }
 {
+    accepted_runs_have_meaning();
     let cart = accept(alloc, bytes)?;
     let digest = digest_of(bytes);
     Ok(CartFile { cart, digest })

@@ -20,7 +20,8 @@ use Rattle.w4_defs.specs.declared.status.Refusal.{Refusal}
 use Rattle.w4_defs.proofs.AllThereLaws.{values_more}
 use Rattle.w4_commands.specs.Commands.{MakesOf}
 use Rattle.w4_answers.specs.Writing.{StopsWriting}
-use Rattle.w4_commands.specs.Compare.{ComparedTo, WrittenTo, scene_side}
+use Rattle.w4_commands.specs.Compare.{ComparedTo, WrittenTo}
+use Rattle.w4_commands.specs.Scene.{scene_side}
 use Rattle.w4_commands.specs.Differences.{after_place, both_stages, differences_of, if_differs, listed, noted}
 use Rattle.w4_commands.specs.Stage.{IsAtPlace, stage_moment}
 use Rattle.w4_commands.specs.declared.scene.Scene.{Scene}
@@ -119,7 +120,7 @@ pub stands_still : (scene : Scene) (inputs : List Input) (place : ℕ) (old new 
     → IsAtPlace scene inputs place new
 stands_still scene inputs place old new same (is, globals) = (
   is ∙ ap (λ (m : Moment). Some m) (sym same),
-  subst (λ (m : Moment). HasGlobals scene.cart.now m.state) (sym same) globals,
+  subst (λ (m : Moment). HasGlobals scene.setup.cart.now m.state) (sym same) globals,
 )
 
 module _ (one other : Scene) (inputs other_inputs : List Input) where

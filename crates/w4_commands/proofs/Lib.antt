@@ -1,5 +1,4 @@
 pub mod LoadLaws
-pub mod LinesStatusLaws
 pub mod EditLaws
 pub mod SummaryLaws
 pub mod CommandLaws
@@ -10,5 +9,6 @@ pub mod CompareLaws
 pub mod ServeMemoryLaws
 pub mod ServeEndLaws
 pub mod WaveLaws
-pub mod LoadToolLaws
+pub mod BatchListLaws
 pub mod BatchLaws
+pub mod WholeTextLaws

@@ -1,7 +1,6 @@
 -- Two runs side by side, as far as they were compared.
 use Rattle.std.specs.Prelude.{◌≡◌, ℕ, ◌+◌, List, length, map, Some, Result, Ok, Err}
 use Rattle.std.specs.List.{range_with_len}
-use Rattle.w4_defs.specs.declared.console.Input.{Input}
 use Rattle.w4_defs.specs.declared.status.Finish.{Finish}
 use Rattle.w4_defs.specs.declared.status.Refusal.{Refusal}
 use Rattle.w4_defs.specs.AllThere.{all_some}
@@ -10,14 +9,9 @@ use Rattle.w4_defs.specs.Endings.{manner_of}
 use Rattle.w4_defs.specs.RecordingOutputs.{TwoPlayed}
 use Rattle.w4_defs.specs.World.{World}
 use Rattle.w4_answers.specs.Writing.{AppendsOut, StopsWriting}
-use Rattle.w4_commands.specs.Scene.{scene_setup}
 use Rattle.w4_commands.specs.declared.compare.TwoLoaded.{TwoLoaded}
 use Rattle.w4_commands.specs.declared.differences.Differences.{Differences}
-use Rattle.w4_commands.specs.declared.scene.Scene.{Scene}
 use Rattle.w4_commands.specs.Differences.{differences_of}
-
-abbrev pub scene_side : Scene → List Input → Side
-scene_side scene inputs = record { setup = scene_setup scene; disk = scene.disk.now; inputs = inputs }
 
 -- two runs were compared up to a place
 abbrev pub ComparedTo : Side → Side → ℕ → Differences → Type 0

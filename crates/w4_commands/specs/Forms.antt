@@ -9,7 +9,8 @@ use Rattle.w4_commands.specs.declared.forms.Command.{Command}
 use Rattle.w4_commands.specs.declared.forms.Command.TheVariants as command
 use Rattle.w4_commands.specs.declared.forms.Form.{Form as Named}
 use Rattle.w4_commands.specs.declared.forms.Form.TheVariants as named
-use Rattle.w4_defs.specs.Commands.{RunWords, EditWords, NetWords, BatchWords, ServeWords, CompareWords, Form, Check, Blank, Frames, Tones, Trace, Disk, Edit, Make, Net, Ram, Wave, Batch, Serve, Units, Compare, Rebind, Inputs, BlankDisk}
+use Rattle.w4_defs.specs.Commands.{RunWords, EditWords, NetWords, BatchWords, ServeWords, CompareWords, Form, Check, Blank, Frames, Disk, Edit, Make, Net, Ram, Batch, Serve, Compare, Rebind, Inputs, BlankDisk}
+use Rattle.w4_commands.specs.RunOutputs.{whole_command}
 
 abbrev pub run_view : RunNames → RunWords
 run_view n = record { cart = n.cart.now; recording = n.recording.now; font = n.font.now }
@@ -42,11 +43,8 @@ command_view (command.Blank cart budget) = Blank cart.now budget.units
 command_view (command.BlankDisk cart budget disk) = BlankDisk cart.now budget.units disk.now
 command_view (command.Rebind cart recording) = Rebind cart.now recording.now
 command_view (command.Frames names places) = Frames (run_view names) places.from places.to
-command_view (command.Tones names) = Tones (run_view names)
-command_view (command.Trace names) = Trace (run_view names)
+command_view (command.Whole names text) = whole_command text (run_view names)
 command_view (command.Disk names place) = Disk (run_view names) place
-command_view (command.Units names) = Units (run_view names)
-command_view (command.Wave names) = Wave (run_view names)
 command_view (command.Ram names query) = Ram (run_view names) query.now
 command_view (command.Edit names) = Edit (edit_view names)
 command_view (command.Serve names) = Serve (serve_view names)

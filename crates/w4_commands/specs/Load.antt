@@ -7,9 +7,8 @@ use Rattle.w4_defs.specs.Causes.{ReadFails, StepRefuses}
 use Rattle.w4_defs.specs.Endings.{Manner, ReadFailed, InputFailed, WriteFailed, MemoryRefused, Refused, manner_of}
 use Rattle.w4_defs.specs.World.{Files, World}
 use Rattle.w4_cart.specs.declared.acceptance.CartFile.{CartFile}
-use Rattle.w4_commands.specs.declared.load.Played.{Played}
-use Rattle.w4_commands.specs.declared.load.Loaded.{Loaded}
-use Rattle.w4_defs.specs.Output.{CartFile as GivenCart, Played as Given, Loaded as GivenOrders}
+use Rattle.w4_commands.specs.declared.load.RunFiles.{RunFiles}
+use Rattle.w4_defs.specs.Output.{CartFile as GivenCart, Played as Given}
 
 -- a step that is a function of the files
 abbrev pub ResultsIn : {Y : Type 0} → (Files → Result Y Refusal) → Files → Result Y Refusal → Type 0
@@ -43,8 +42,5 @@ GivesValue view (Err status) output = GivesRefusal (manner_of status) output
 abbrev pub cart_view : CartFile → GivenCart
 cart_view c = record { code = c.cart; digest = c.digest }
 
-abbrev pub played_view : Played → Given
-played_view p = record { recording = p.recording; font = p.font }
-
-abbrev pub loaded_view : Loaded → GivenOrders
-loaded_view l = record { run = played_view l.run; orders = l.orders.items }
+abbrev pub run_files_view : RunFiles → Given
+run_files_view p = record { recording = p.recording; font = p.font }

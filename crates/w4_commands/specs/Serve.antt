@@ -1,6 +1,6 @@
 -- A live session as its loop sees it: what was done for the lines taken so far, and what is edited then.
 use Rattle.std.specs.Prelude.{ℕ, List, ◌≡◌, ◌⊎◌, [], ◌∷◌, ◌++◌, Some, option_map, Result, Ok, Err, ⊤}
-use Rattle.w4_commands.specs.declared.load.Played.{Played}
+use Rattle.w4_commands.specs.declared.load.RunFiles.{RunFiles}
 use Rattle.w4_defs.specs.Live.{Opened, LiveSession, SaveEnd, Talk, first_live_session, recording_left, served, session_after, session_events, taken_lines}
 use Rattle.w4_defs.specs.Module.{WasmModule}
 use Rattle.w4_defs.specs.declared.status.Refusal.{Refusal}
@@ -10,12 +10,12 @@ use Rattle.w4_defs.specs.Output.{Output}
 use Rattle.w4_defs.specs.Recording.{Recording}
 use Rattle.w4_defs.specs.World.{Event, Files, Took, InputEnded, InputLost, World, Rises, Does, OutFails}
 use Rattle.w4_answers.specs.Saving.{Replaces}
-use Rattle.w4_commands.specs.Load.{played_view}
+use Rattle.w4_commands.specs.Load.{run_files_view}
 use Rattle.w4_answers.specs.LiveAnswer.{StepsTo, IsFront, LeavesEither, DoesCounted}
 
 -- what a session is opened on
-abbrev pub opened_view : WasmModule → Played → List ℕ → Opened
-opened_view cart p out = record { cart = cart; run = played_view p; out = out }
+abbrev pub opened_view : WasmModule → RunFiles → List ℕ → Opened
+opened_view cart p out = record { cart = cart; run = run_files_view p; out = out }
 
 -- the events of the lines so far, whatever lines are still to come; how the saves among them ended; and the
 -- session that they leave

@@ -15,4 +15,4 @@ stage_moment stage = moment stage.console stage.frame_record
 abbrev pub IsAtPlace : Scene → List Input → ℕ → Stage → Type 0
 IsAtPlace scene inputs place stage =
     (run (scene_setup scene) scene.disk.now inputs place ≡ Some (stage_moment stage))
-    × HasGlobals scene.cart.now stage.console
+    × HasGlobals scene.setup.cart.now stage.console

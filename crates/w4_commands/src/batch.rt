@@ -2,21 +2,27 @@
 
 ghost use Rattle.std.specs.Prelude.{◌≡◌, ◌++◌, IfOk, OnOk, Some, length, map, string_bytes};
 ghost use Rattle.std.specs.Option.{ForSome};
-ghost use Rattle.w4_defs.specs.Meaning.{RunsHaveMeaning};
 ghost use Rattle.w4_defs.specs.declared.batch.BatchRow.TheVariants.{Bad, Ran, WrongCart};
-ghost use Rattle.w4_defs.specs.World.{LeavesWriting};
+ghost use Rattle.w4_defs.specs.World.{LeavesReading, LeavesWriting};
 ghost use Rattle.w4_defs.specs.Causes.{LeavesErr};
 ghost use Rattle.w4_commands.specs.Commands.{EndsDone, MakesOf};
+ghost use Rattle.w4_commands.specs.Load.{ResultsIn, StepGives, GivesValue, cart_view};
 ghost use Rattle.w4_answers.specs.Writing.{Written};
 ghost use Rattle.w4_defs.specs.BatchRows.{row_text, rows_text};
-ghost use Rattle.w4_defs.specs.ToolOutputs.{batch_output, batch_text};
-ghost use Rattle.w4_commands.specs.LoadTools.{batch_loaded_view};
+ghost use Rattle.w4_defs.specs.ToolOutputs.{
+  batch_files,
+  batch_output,
+  batch_text,
+  listed_files,
+  listed_names,
+  names_in,
+};
+ghost use Rattle.w4_commands.specs.Batch.{batch_loaded_view};
 ghost use Rattle.w4_commands.specs.Forms.{batch_view};
-ghost use Rattle.w4_commands.specs.Load.{cart_view};
 
 use crate::forms::BatchNames;
-use crate::load_tools::{BatchLoaded, load_batch};
-use crate::workers::Workers;
+use crate::lines_refusal::list_refusal;
+use crate::load::{load_font, read_file};
 use std::alloc::Global;
 use std::thread::Threads;
 use w4_answers::state_line::add_halt;
@@ -25,8 +31,18 @@ use w4_cart::CartFile;
 use w4_defs::batch::BatchRow;
 use w4_defs::{Halt, OutOfMemory, Refusal};
 use w4_devices::text_parts::{add_hexadecimal, add_number, add_words};
+use w4_font::Font;
 use w4_house::House;
-use w4_segments::{Gate, Resources, batch};
+use w4_script::{MOST_LIST_BYTES, read_names};
+use w4_segments::{Gate, Resources, Workers, batch};
+
+/// The files of a batch, without the cart: the bytes of the listed files are in the order of the names.
+#[derive(Drop)]
+pub struct BatchLoaded {
+    pub font: Font,
+    pub names: Vec<String>,
+    pub recordings: Vec<Vec<u8>>,
+}
 
 /// The result of a recording that was run.
 #[derive(Clone, Copy)]
@@ -39,19 +55,79 @@ struct Outcome {
 
 /// `batch CART FONT LIST WORKERS`.
 #[tactic(auto, unfolding(w4_defs::specs::ToolOutputs::batch_output))]
-pub fn run_list<R: Threads + Sync, H: House, G: Gate + Sync>(
+pub fn run_batch<R: Threads + Sync, H: House, G: Gate + Sync>(
     resources: &Resources<'_, R, G>,
     house: &mut H,
     file: &CartFile,
     names: BatchNames<'_>,
 ) -> Result<(), Refusal>
-    requires meaning { RunsHaveMeaning file.now.cart }
     ensures ends { EndsDone (H.world house.old) (H.world house.new) result
         (MakesOf (λ files. batch_output (batch_view names.entry) (cart_view file.now) files)) }
     ensures err { LeavesErr (H.world house.old) (H.world house.new) }
 {
     let loaded = load_batch(resources.alloc, house, names)?;
     write_batch(resources, house, file, &loaded, names.workers)
+}
+
+/// Reads what a batch is made of.
+#[tactic(auto, unfolding(w4_defs::specs::ToolOutputs::batch_files))]
+fn load_batch<H: House>(
+    alloc: Global,
+    house: &mut H,
+    names: BatchNames<'_>,
+) -> Result<BatchLoaded, Refusal>
+    ensures gives { StepGives (H.world house.old) (H.world house.new) batch_loaded_view result
+        (ResultsIn (λ files. batch_files (batch_view names.entry) files)) }
+    ensures many { IfOk result (λ loaded. length loaded.recordings.items ≡ length loaded.names.items) }
+    ensures rest { LeavesReading (H.world house.old) (H.world house.new) }
+{
+    let font = load_font(alloc, house, names.font)?;
+    let listed = load_names(alloc, house, names.list)?;
+    let recordings = load_listed(alloc, house, listed.as_slice())?;
+    Ok(BatchLoaded {
+        font,
+        names: listed,
+        recordings,
+    })
+}
+
+#[tactic(auto, unfolding(w4_defs::specs::ToolOutputs::names_in))]
+fn load_names<H: House>(alloc: Global, house: &mut H, name: &str) -> Result<Vec<String>, Refusal>
+    ensures gives { StepGives (H.world house.old) (H.world house.new)
+        (λ names. map string_bytes names.items) result
+        (ResultsIn (λ files. names_in files name.now)) }
+    ensures rest { LeavesReading (H.world house.old) (H.world house.new) }
+{
+    let bytes = read_file(alloc, house, name, MOST_LIST_BYTES + 1)?;
+    judge_names(alloc, bytes.as_slice())
+}
+
+/// The names of a list.
+#[tactic(auto, unfolding(w4_defs::specs::ToolOutputs::listed_names))]
+fn judge_names(alloc: Global, bytes: &[u8]) -> Result<Vec<String>, Refusal>
+    ensures { GivesValue (λ names. map string_bytes names.items) result (listed_names bytes.now) }
+{
+    read_names(alloc, bytes).map_err(list_refusal)
+}
+
+/// Reads the listed files, in order.
+fn load_listed<H: House>(
+    alloc: Global,
+    house: &mut H,
+    names: &[String],
+) -> Result<Vec<Vec<u8>>, Refusal>
+    ensures gives { StepGives (H.world house.old) (H.world house.new)
+        (λ recordings. map (λ bytes. bytes.items) recordings.items) result
+        (ResultsIn (λ files. listed_files (map string_bytes names.now) files)) }
+    ensures many { IfOk result (λ recordings. length recordings.items ≡ length names.now) }
+    ensures rest { LeavesReading (H.world house.old) (H.world house.new) }
+{
+    let mut recordings = Vec::new(alloc);
+    for name in names {
+        let bytes = read_file(alloc, house, name.as_str(), w4_record::MOST_BYTES + 1)?;
+        recordings.push(bytes)?;
+    }
+    Ok(recordings)
 }
 
 /// Runs the recordings, and writes the line of each.
@@ -69,8 +145,7 @@ fn write_batch<R: Threads + Sync, H: House, G: Gate + Sync>(
 {
     let CartFile { cart, digest } = file;
     let items = loaded.recordings.as_slice();
-    let worker_count = workers.count as usize;
-    let rows = batch(resources, cart, &loaded.font, digest, items, worker_count)?;
+    let rows = batch(resources, cart, &loaded.font, digest, items, workers)?;
     write_rows(
         resources.alloc,
         house,

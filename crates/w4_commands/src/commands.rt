@@ -1,40 +1,39 @@
 //! The choice of a command, and the commands that write texts of one run. A command that names a cart is
 //! carried out over it once it is judged; `make` and `inputs` name none.
 
-ghost use Rattle.std.specs.Prelude.{◌≡◌, ◌+◌, ◌-◌, ◌≤◌, [], length, Ok, Some};
+ghost use Rattle.std.specs.Prelude.{◌≡◌, ◌+◌, ◌-◌, ◌≤◌, length};
 ghost use Rattle.std.specs.Option.{ForSome};
 ghost use Rattle.w4_defs.specs.Causes.{Ends, LeavesErr};
 ghost use Rattle.w4_defs.specs.Live.{Talk};
-ghost use Rattle.w4_defs.specs.Meaning.{RunsHaveMeaning};
-ghost use Rattle.w4_defs.specs.Output.{blank_output, checked, disk_output, images_output, place_texts_from, texts_output, written};
-ghost use Rattle.w4_defs.specs.Outputs.{OutputsBy, OutputsOn, OverCart};
+ghost use Rattle.w4_defs.specs.Output.{checked, place_texts_from, written};
+ghost use Rattle.w4_defs.specs.Outputs.{OutputsBy, OutputsOn};
 ghost use Rattle.w4_defs.specs.World.{LeavesWriting};
 ghost use Rattle.w4_commands.specs.Commands.{EndsDone, MakesOf, finished};
 ghost use Rattle.w4_answers.specs.Writing.{Written};
-ghost use Rattle.w4_commands.specs.Load.{cart_view, played_view};
+ghost use Rattle.w4_commands.specs.RunOutputs.{all_texts, places_output, whole_output, whole_text};
+ghost use Rattle.w4_commands.specs.Load.{cart_view, run_files_view};
 ghost use Rattle.w4_commands.specs.Forms.{command_view, form_view, run_view};
 
-use crate::batch::run_list;
+use crate::batch::run_batch;
 use crate::compare::run_compare;
 use crate::edit::run_edit;
-use crate::forms::{Command, Form, RunNames, cart_name};
-use crate::load::{Played, frame_count, load_cart, load_run, load_run_to};
-use crate::make::make_cart;
+use crate::forms::{Command, Form, RunNames, WholeText, cart_name};
+use crate::load::{RunFiles, frame_count, load_cart, load_run, load_run_to};
+use crate::make::run_make;
 use crate::net::run_net;
 use crate::place_text::{WantedTexts, write_places};
 use crate::places::Places;
 use crate::ram::run_ram;
-use crate::recordings::{run_blank, run_blank_disk, run_rebind, write_inputs};
+use crate::recordings::{run_blank, run_blank_disk, run_inputs, run_rebind};
 use crate::scene::Scene;
 use crate::serve::run_serve;
 use crate::stage::new_stage;
-use crate::units::run_units;
-use crate::wave::run_wave;
+use crate::units::write_units;
+use crate::wave::write_wave;
 use std::alloc::Global;
 use std::thread::Threads;
 use w4_answers::writing::write_bytes;
 use w4_cart::CartFile;
-use w4_console::laws::accepted_runs_have_meaning;
 use w4_defs::{Finish, PlaceText, Refusal};
 use w4_house::House;
 use w4_segments::{Gate, Resources};
@@ -51,10 +50,9 @@ pub fn run_form<R: Threads + Sync, H: House, G: Gate + Sync>(
 {
     let alloc = resources.alloc;
     match form {
-        Form::Make(number) => finish(make_cart(alloc, house, number)),
-        Form::Inputs(name) => finish(write_inputs(alloc, house, name)),
+        Form::Make(number) => finish(run_make(alloc, house, number)),
+        Form::Inputs(name) => finish(run_inputs(alloc, house, name)),
         Form::OnCart(command) => {
-            accepted_runs_have_meaning();
             let name = cart_name(&command);
             let file = load_cart(alloc, house, name)?;
             run_on_cart(resources, house, file, command)
@@ -72,14 +70,13 @@ fn finish(end: Result<(), Refusal>) -> Result<Finish, Refusal>
     }
 }
 
-/// Carries out a command with an accepted cart, whose runs have a meaning.
+/// Carries out a command over an accepted cart.
 fn run_on_cart<R: Threads + Sync, H: House, G: Gate + Sync>(
     resources: &Resources<'_, R, G>,
     house: &mut H,
     file: CartFile,
     command: Command<'_>,
 ) -> Result<Finish, Refusal>
-    requires meaning { RunsHaveMeaning file.cart }
     ensures ends { Ends (H.world house.old) (H.world house.new) result (λ files output. (talk : Talk)
         × OutputsOn (command_view command.entry) talk (cart_view file) files output) }
     ensures err { LeavesErr (H.world house.old) (H.world house.new) }
@@ -92,99 +89,109 @@ fn run_on_cart<R: Threads + Sync, H: House, G: Gate + Sync>(
             alloc, house, &file, budget, disk,
         )),
         Command::Rebind(_, recording) => finish(run_rebind(alloc, house, &file, recording)),
-        Command::Frames(names, places) => finish(run_frames(alloc, house, &file, names, places)),
-        Command::Tones(names) => finish(run_texts(alloc, house, &file, names, PlaceText::Schedule)),
-        Command::Trace(names) => finish(run_texts(alloc, house, &file, names, PlaceText::Traces)),
-        Command::Disk(names, place) => finish(run_disk(alloc, house, &file, names, place)),
-        Command::Units(names) => finish(run_units(alloc, house, &file, names)),
-        Command::Wave(names) => finish(run_wave(alloc, house, &file, names)),
+        Command::Frames(names, places) => {
+            finish(run_places(alloc, house, &file, names, PlaceText::Image, places))
+        }
+        Command::Disk(names, place) => {
+            let places = Places {
+                from: place,
+                to: place,
+            };
+            finish(run_places(alloc, house, &file, names, PlaceText::DiskBytes, places))
+        }
+        Command::Whole(names, text) => finish(run_whole(alloc, house, &file, names, text)),
         Command::Ram(names, query) => finish(run_ram(alloc, house, file, names, query)),
         Command::Edit(names) => finish(run_edit(resources, house, file, names)),
         Command::Serve(names) => finish(run_serve(resources, house, file, names)),
         Command::Compare(names) => run_compare(alloc, house, &file, names),
         Command::Net(names) => finish(run_net(alloc, house, file, names)),
-        Command::Batch(names) => finish(run_list(resources, house, &file, names)),
+        Command::Batch(names) => finish(run_batch(resources, house, &file, names)),
     }
 }
 
 /// `check CART`, for an accepted cart.
 fn run_check<H: House>(alloc: Global, house: &mut H) -> Result<(), Refusal>
-    ensures ends { EndsDone (H.world house.old) (H.world house.new) result (MakesOf (λ files. written checked)) }
+    ensures ends { EndsDone (H.world house.old) (H.world house.new) result
+        (MakesOf (λ files. written checked)) }
     ensures err { LeavesErr (H.world house.old) (H.world house.new) }
 {
     write_bytes(alloc, house, b"ok\n")
 }
 
-/// `frames CART REC FONT FROM TO`.
-#[tactic(auto, unfolding(w4_defs::specs::Output::images_output))]
-fn run_frames<H: House>(
+/// `frames CART REC FONT FROM TO` or `disk CART REC FONT PLACE`: texts of one kind, of these places.
+fn run_places<H: House>(
     alloc: Global,
     house: &mut H,
     file: &CartFile,
     names: RunNames<'_>,
+    text: PlaceText,
     places: Places,
 ) -> Result<(), Refusal>
-    requires meaning { RunsHaveMeaning file.now.cart }
-    ensures ends { EndsDone (H.world house.old) (H.world house.new) result
-        (MakesOf (λ files.
-        images_output (run_view names.entry) places.from places.to (cart_view file.now) files)) }
+    ensures ends { EndsDone (H.world house.old) (H.world house.new) result (MakesOf
+        (places_output text (run_view names.entry) places.from places.to (cart_view file.now))) }
     ensures err { LeavesErr (H.world house.old) (H.world house.new) }
 {
     let (from, to) = (places.from as usize, places.to as usize);
     let run = load_run_to(alloc, house, &file.digest, names, places.to)?;
-    let wanted = WantedTexts {
-        text: PlaceText::Image,
-        from,
-        to,
-    };
-    write_run(alloc, house, &file.cart, &run, wanted)
+    write_run(
+        alloc,
+        house,
+        &file.cart,
+        &run,
+        WantedTexts { text, from, to },
+    )
 }
 
-/// `tones CART REC FONT` or `trace CART REC FONT`.
-#[tactic(auto, unfolding(w4_defs::specs::Output::texts_output))]
-fn run_texts<H: House>(
+/// `tones CART REC FONT`, `trace ..`, `units ..` or `wave ..`: what is written of a whole run.
+fn run_whole<H: House>(
     alloc: Global,
     house: &mut H,
     file: &CartFile,
     names: RunNames<'_>,
-    wanted: PlaceText,
+    text: WholeText,
 ) -> Result<(), Refusal>
-    requires meaning { RunsHaveMeaning file.now.cart }
     ensures ends { EndsDone (H.world house.old) (H.world house.new) result
-        (MakesOf (λ files. texts_output wanted (run_view names.entry) (cart_view file.now) files)) }
+        (MakesOf (whole_output text (run_view names.entry) (cart_view file.now))) }
     ensures err { LeavesErr (H.world house.old) (H.world house.new) }
 {
     let run = load_run(alloc, house, &file.digest, names)?;
-    let n = frame_count(&run);
-    let wanted = WantedTexts {
-        text: wanted,
-        from: 0,
-        to: n,
-    };
-    write_run(alloc, house, &file.cart, &run, wanted)
+    write_whole(alloc, house, &file.cart, &run, text)
 }
 
-/// `disk CART REC FONT PLACE`.
-#[tactic(auto, unfolding(w4_defs::specs::Output::disk_output))]
-fn run_disk<H: House>(
+/// Writes what is written of a whole run.
+fn write_whole<H: House>(
     alloc: Global,
     house: &mut H,
-    file: &CartFile,
-    names: RunNames<'_>,
-    place: u32,
+    cart: &Cart,
+    run: &RunFiles,
+    text: WholeText,
 ) -> Result<(), Refusal>
-    requires meaning { RunsHaveMeaning file.now.cart }
-    ensures ends { EndsDone (H.world house.old) (H.world house.new) result
-        (MakesOf (λ files. disk_output (run_view names.entry) place (cart_view file.now) files)) }
-    ensures err { LeavesErr (H.world house.old) (H.world house.new) }
+    ensures out { ForSome (whole_text text cart.now (run_files_view run.now))
+        (λ text. Written (H.world house.old) (H.world house.new) result text) }
+    ensures rest { LeavesWriting (H.world house.old) (H.world house.new) }
 {
-    let run = load_run_to(alloc, house, &file.digest, names, place)?;
-    let wanted = WantedTexts {
-        text: PlaceText::DiskBytes,
-        from: place as usize,
-        to: place as usize,
-    };
-    write_run(alloc, house, &file.cart, &run, wanted)
+    match text {
+        WholeText::Tones => write_all(alloc, house, cart, run, PlaceText::Schedule),
+        WholeText::Trace => write_all(alloc, house, cart, run, PlaceText::Traces),
+        WholeText::Units => write_units(alloc, house, cart, run),
+        WholeText::Wave => write_wave(alloc, house, cart, run),
+    }
+}
+
+/// Writes the texts of all places.
+fn write_all<H: House>(
+    alloc: Global,
+    house: &mut H,
+    cart: &Cart,
+    run: &RunFiles,
+    text: PlaceText,
+) -> Result<(), Refusal>
+    ensures out { ForSome (all_texts text cart.now (run_files_view run.now))
+        (λ text. Written (H.world house.old) (H.world house.new) result text) }
+    ensures rest { LeavesWriting (H.world house.old) (H.world house.new) }
+{
+    let to = frame_count(run);
+    write_run(alloc, house, cart, run, WantedTexts { text, from: 0, to })
 }
 
 /// Writes texts of places of a run, and nothing else.
@@ -192,24 +199,19 @@ fn write_run<H: House>(
     alloc: Global,
     house: &mut H,
     cart: &Cart,
-    run: &Played,
+    run: &RunFiles,
     wanted: WantedTexts,
 ) -> Result<(), Refusal>
     requires order { wanted.from ≤ wanted.to }
     requires place { wanted.to ≤ length run.now.recording.frames }
-    ensures out { ForSome (place_texts_from wanted.text cart.now (played_view run.now) wanted.from
+    ensures out { ForSome (place_texts_from wanted.text cart.now (run_files_view run.now) wanted.from
         (wanted.to + 1 - wanted.from))
         (λ text. Written (H.world house.old) (H.world house.new) result text) }
     ensures rest { LeavesWriting (H.world house.old) (H.world house.new) }
 {
     let mut stage = new_stage(alloc, cart)?;
     let recording = &run.recording;
-    let scene = Scene {
-        cart,
-        font: &run.font,
-        disk: recording.disk.as_slice(),
-        budget: recording.budget,
-    };
+    let scene = Scene::of_recording(cart, &run.font, recording);
     let inputs = recording.frames.as_slice();
     write_places(alloc, house, &mut stage, &scene, inputs, wanted)
 }

@@ -1,19 +1,17 @@
 //! `compare`: two runs side by side.
 
-ghost use Rattle.std.specs.Prelude.{◌≡◌, ◌≤◌, IfOk, Some, length, min};
+ghost use Rattle.std.specs.Prelude.{◌≡◌, IfOk, Some, length, min};
 ghost use Rattle.std.specs.Option.{ForSome};
 ghost use Rattle.w4_defs.specs.Causes.{Ends, LeavesErr};
 ghost use Rattle.w4_defs.specs.Comparison.{compared};
-ghost use Rattle.w4_defs.specs.Meaning.{RunsHaveMeaning};
 ghost use Rattle.w4_defs.specs.Module.{WasmModule};
 ghost use Rattle.w4_defs.specs.Outputs.{OverCart};
 ghost use Rattle.w4_defs.specs.RecordingOutputs.{compare_files, compare_output, finish_of, side_of};
-ghost use Rattle.w4_defs.specs.State.{HasGlobals};
 ghost use Rattle.w4_defs.specs.World.{LeavesReading, LeavesWriting};
 ghost use Rattle.w4_commands.specs.Commands.{MakesOf};
 ghost use Rattle.w4_commands.specs.Load.{ResultsIn, StepGives, cart_view};
-ghost use Rattle.w4_commands.specs.Compare.{ComparedTo, WrittenTo, scene_side, two_view};
-ghost use Rattle.w4_commands.specs.Stage.{IsAtPlace};
+ghost use Rattle.w4_commands.specs.Compare.{ComparedTo, WrittenTo, two_view};
+ghost use Rattle.w4_commands.specs.Scene.{scene_side};
 ghost use Rattle.w4_commands.specs.Forms.{compare_view};
 
 use crate::differences::{Differences, differences_text, finish_of, no_differences, note_place};
@@ -24,7 +22,6 @@ use crate::stage::{Stage, new_stage, run_to, step};
 use std::alloc::Global;
 use w4_answers::writing::write_bytes;
 use w4_cart::CartFile;
-use w4_console::laws::accepted_runs_have_meaning;
 use w4_defs::{Finish, Input, OutOfMemory, Refusal};
 use w4_font::Font;
 use w4_house::House;
@@ -46,13 +43,11 @@ pub fn run_compare<H: House>(
     file: &CartFile,
     names: CompareNames<'_>,
 ) -> Result<Finish, Refusal>
-    requires meaning { RunsHaveMeaning file.now.cart }
     ensures ends { Ends (H.world house.old) (H.world house.new) result (OverCart names.entry.other_cart.now
         (λ other files output.
         compare_output (compare_view names.entry) (cart_view file.now) other files ≡ Some output)) }
     ensures err { LeavesErr (H.world house.old) (H.world house.new) }
 {
-    accepted_runs_have_meaning();
     let other = load_cart(alloc, house, names.other_cart)?;
     compare_carts(alloc, house, file, &other, names)
 }
@@ -65,8 +60,6 @@ fn compare_carts<H: House>(
     other: &CartFile,
     names: CompareNames<'_>,
 ) -> Result<Finish, Refusal>
-    requires meaning { RunsHaveMeaning file.now.cart }
-    requires other_meaning { RunsHaveMeaning other.now.cart }
     ensures ends { Ends (H.world house.old) (H.world house.new) result (MakesOf (λ files.
         compare_output (compare_view names.entry) (cart_view file.now) (cart_view other.now) files)) }
     ensures err { LeavesErr (H.world house.old) (H.world house.new) }
@@ -84,10 +77,11 @@ fn load_compare<H: House>(
     other_digest: &[u8; 32],
     names: CompareNames<'_>,
 ) -> Result<TwoLoaded, Refusal>
-    ensures gives { (code other_code : WasmModule) → StepGives (H.world house.old) (H.world house.new) two_view
-        result (ResultsIn (λ files. compare_files (compare_view names.entry)
-        (record { code = code; digest = digest.now }) (record { code = other_code; digest = other_digest.now })
-        files)) }
+    ensures gives { (code other_code : WasmModule)
+        → StepGives (H.world house.old) (H.world house.new) two_view result
+        (ResultsIn (λ files. compare_files (compare_view names.entry)
+        (record { code = code; digest = digest.now })
+        (record { code = other_code; digest = other_digest.now }) files)) }
     ensures rest { LeavesReading (H.world house.old) (H.world house.new) }
 {
     let first = load_recording(alloc, house, digest, names.recording)?;
@@ -113,8 +107,8 @@ fn write_comparison<H: House>(
         (λ lines. WrittenTo (H.world house.old) (H.world house.new) result lines.text (finish_of lines)) }
     ensures rest { LeavesWriting (H.world house.old) (H.world house.new) }
 {
-    let scene = scene_of(cart, &loaded.first, &loaded.font);
-    let other_scene = scene_of(other_cart, &loaded.second, &loaded.font);
+    let scene = Scene::of_recording(cart, &loaded.font, &loaded.first);
+    let other_scene = Scene::of_recording(other_cart, &loaded.font, &loaded.second);
     let (inputs, other_inputs) = (
         loaded.first.frames.as_slice(),
         loaded.second.frames.as_slice(),
@@ -126,21 +120,6 @@ fn write_comparison<H: House>(
     Ok(finish_of(&found, n, m))
 }
 
-/// What a run of a recording reads.
-fn scene_of<'a>(cart: &'a Cart, recording: &'a Recording, font: &'a Font) -> Scene<'a>
-    ensures side { scene_side result recording.now.frames
-        ≡ side_of cart.now (record { recording = recording.now; font = font.now }) }
-    ensures short { length result.disk.now ≤ 1024 }
-    ensures some { 1 ≤ result.budget }
-{
-    Scene {
-        cart,
-        font,
-        disk: recording.disk.as_slice(),
-        budget: recording.budget,
-    }
-}
-
 /// Runs both side by side, each frame once, with a console for each.
 fn compare_runs(
     alloc: Global,
@@ -149,15 +128,12 @@ fn compare_runs(
     other_scene: &Scene<'_>,
     other_inputs: &[Input],
 ) -> Result<Differences, OutOfMemory>
-    requires disk { length scene.now.disk.now ≤ 1024 }
-    requires budget { 1 ≤ scene.now.budget }
-    requires other_disk { length other_scene.now.disk.now ≤ 1024 }
-    requires other_budget { 1 ≤ other_scene.now.budget }
     ensures { IfOk result (λ found. ComparedTo (scene_side scene.now inputs.now)
-        (scene_side other_scene.now other_inputs.now) (min (length inputs.now) (length other_inputs.now)) found) }
+        (scene_side other_scene.now other_inputs.now)
+        (min (length inputs.now) (length other_inputs.now)) found) }
 {
-    let mut one = new_stage(alloc, scene.cart)?;
-    let mut other = new_stage(alloc, other_scene.cart)?;
+    let mut one = new_stage(alloc, scene.setup.cart)?;
+    let mut other = new_stage(alloc, other_scene.setup.cart)?;
     run_to(&mut one, scene, inputs, 0);
     run_to(&mut other, other_scene, other_inputs, 0);
     let mut found = no_differences();

@@ -1,6 +1,6 @@
 //! The first places at which two runs differ.
 
-ghost use Rattle.std.specs.Prelude.{◌≡◌, ◌↔◌, ◌∷◌, ◌++◌, [], IfOk, IsTrue, None, OnOk, codes, length};
+ghost use Rattle.std.specs.Prelude.{◌≡◌, ◌↔◌, ◌∷◌, ◌++◌, [], IfOk, IsTrue, None, OnOk};
 ghost use Rattle.std.specs.Str.{bytes_eq};
 ghost use Rattle.w4_defs.specs.Comparison.{compared_by, respect_line};
 ghost use Rattle.w4_defs.specs.FrameTexts.{numbered, schedule_text, trace_text};

@@ -1,18 +1,20 @@
 //! An edit: the answers to its orders, and then the file of the edited recording.
 
-ghost use Rattle.std.specs.Prelude.{◌≡◌, ◌<◌};
 ghost use Rattle.std.specs.Option.{ForSome};
 ghost use Rattle.w4_defs.specs.Recording.{encoding};
-ghost use Rattle.w4_defs.specs.Meaning.{RunsHaveMeaning};
-ghost use Rattle.w4_defs.specs.Output.{edit_answers, edit_output, edited_recording};
+ghost use Rattle.w4_defs.specs.Output.{edit_answers, edit_files, edit_output, edited_recording, orders_of, script_in};
 ghost use Rattle.w4_defs.specs.Causes.{LeavesErr};
-ghost use Rattle.w4_commands.specs.Edit.{Carried};
+ghost use Rattle.w4_defs.specs.World.{LeavesReading};
+ghost use Rattle.w4_commands.specs.Edit.{Carried, loaded_view};
 ghost use Rattle.w4_commands.specs.Commands.{EndsDone, MakesOf};
-ghost use Rattle.w4_commands.specs.Load.{cart_view, loaded_view};
+ghost use Rattle.w4_commands.specs.Load.{ResultsIn, StepGives, GivesValue, cart_view};
+ghost use Rattle.w4_segments.specs.Counting.{IsBlankOf};
 ghost use Rattle.w4_commands.specs.Forms.{edit_view};
 
 use crate::forms::EditNames;
-use crate::load::{Loaded, load_edit};
+use crate::lines_refusal::script_refusal;
+use crate::load::{RunFiles, load_run, read_file};
+use std::alloc::Global;
 use std::marker::Brand;
 use std::sync::ledger::{Blank, Ledger};
 use std::thread::Threads;
@@ -20,10 +22,18 @@ use w4_answers::desk::{Desk, new_desk};
 use w4_answers::saving::save_recording;
 use w4_answers::script_answers::answer_all;
 use w4_cart::CartFile;
-use w4_defs::Refusal;
+use w4_defs::{Order, Refusal};
 use w4_house::House;
+use w4_script::read_script;
 use w4_segments::{Gate, Resources};
 use wasm_register::Cart;
+
+/// The files of an edit, without the cart.
+#[derive(Drop)]
+pub struct Loaded {
+    pub run: RunFiles,
+    pub orders: Vec<Order>,
+}
 
 /// `edit CART REC FONT SCRIPT OUT`.
 #[tactic(auto, unfolding(w4_defs::specs::Output::edit_output))]
@@ -33,7 +43,6 @@ pub fn run_edit<R: Threads + Sync, H: House, G: Gate + Sync>(
     file: CartFile,
     names: EditNames<'_>,
 ) -> Result<(), Refusal>
-    requires meaning { RunsHaveMeaning file.cart }
     ensures ends { EndsDone (H.world house.old) (H.world house.new) result
         (MakesOf (λ files. edit_output (edit_view names.entry) (cart_view file) files)) }
     ensures err { LeavesErr (H.world house.old) (H.world house.new) }
@@ -42,8 +51,43 @@ pub fn run_edit<R: Threads + Sync, H: House, G: Gate + Sync>(
     carry_out::<Brand, R, H, G>(resources, house, file.cart, loaded, names, Blank::new(1))
 }
 
+/// Reads what an edit over the cart with this digest is made of.
+#[tactic(auto, unfolding(w4_defs::specs::Output::edit_files))]
+fn load_edit<H: House>(
+    alloc: Global,
+    house: &mut H,
+    digest: &[u8; 32],
+    names: EditNames<'_>,
+) -> Result<Loaded, Refusal>
+    ensures gives { StepGives (H.world house.old) (H.world house.new) loaded_view result
+        (ResultsIn (λ files. edit_files digest.now (edit_view names.entry) files)) }
+    ensures rest { LeavesReading (H.world house.old) (H.world house.new) }
+{
+    let run = load_run(alloc, house, digest, names.run)?;
+    let orders = load_orders(alloc, house, names.script)?;
+    Ok(Loaded { run, orders })
+}
+
+#[tactic(auto, unfolding(w4_defs::specs::Output::script_in))]
+fn load_orders<H: House>(alloc: Global, house: &mut H, name: &str) -> Result<Vec<Order>, Refusal>
+    ensures gives { StepGives (H.world house.old) (H.world house.new) (λ orders. orders.items) result
+        (ResultsIn (λ files. script_in files name.now)) }
+    ensures rest { LeavesReading (H.world house.old) (H.world house.new) }
+{
+    let bytes = read_file(alloc, house, name, w4_script::MOST_BYTES + 1)?;
+    judge_script(alloc, bytes.as_slice())
+}
+
+/// The orders of a script.
+#[tactic(auto, unfolding(w4_defs::specs::Output::orders_of))]
+fn judge_script(alloc: Global, bytes: &[u8]) -> Result<Vec<Order>, Refusal>
+    ensures { GivesValue (λ orders. orders.items) result (orders_of bytes.now) }
+{
+    read_script(alloc, bytes).map_err(script_refusal)
+}
+
 /// Opens the recording, answers all orders, and saves the edited recording. The frames that are run have a
-/// count of their own.
+/// counter of their own.
 fn carry_out<L: Ledger, R: Threads + Sync, H: House, G: Gate + Sync>(
     resources: &Resources<'_, R, G>,
     house: &mut H,
@@ -52,9 +96,7 @@ fn carry_out<L: Ledger, R: Threads + Sync, H: House, G: Gate + Sync>(
     names: EditNames<'_>,
     blank: Blank,
 ) -> Result<(), Refusal>
-    requires name { blank.name ≡ L.name }
-    requires parts { blank.parts ≡ L.parts }
-    requires some { 0 < L.parts }
+    requires { IsBlankOf L.name L.parts blank }
     ensures carried { ForSome (edit_answers cart (loaded_view loaded)).out
         (λ out. Carried (H.world house.old) (H.world house.new) result out names.entry.out.now
         (encoding 2 (edited_recording cart (loaded_view loaded)))) }

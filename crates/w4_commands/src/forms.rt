@@ -17,18 +17,15 @@ ghost use Rattle.w4_defs.specs.Commands.{
   rebind_form,
   run_words,
   serve_form,
-  tones_form,
-  trace_form,
-  units_form,
-  wave_form,
 };
 ghost use Rattle.w4_defs.specs.Outputs.{cart_word};
 ghost use Rattle.w4_commands.specs.Forms.{command_view, form_view, run_view};
+ghost use Rattle.w4_commands.specs.RunOutputs.{whole_form};
 
 use crate::budget::Budget;
 use crate::places::Places;
-use crate::workers::Workers;
 use w4_script::number_of;
+use w4_segments::{MOST_WORKERS, Workers};
 
 /// The names of the three files of a run.
 #[derive(Clone, Copy)]
@@ -81,6 +78,19 @@ pub struct CompareNames<'a> {
     pub font: &'a str,
 }
 
+/// What is written of a whole run, from place 0 to its last.
+#[derive(Clone, Copy)]
+pub enum WholeText {
+    /// The tones of each place.
+    Tones,
+    /// The trace lines of each place.
+    Trace,
+    /// The units of the reset and of each frame.
+    Units,
+    /// The sound, as a WAV file.
+    Wave,
+}
+
 /// What is done with a cart.
 #[derive(Clone, Copy)]
 pub enum Command<'a> {
@@ -94,16 +104,10 @@ pub enum Command<'a> {
     Rebind(&'a str, &'a str),
     /// `frames CART REC FONT FROM TO`
     Frames(RunNames<'a>, Places),
-    /// `tones CART REC FONT`
-    Tones(RunNames<'a>),
-    /// `trace CART REC FONT`
-    Trace(RunNames<'a>),
+    /// `tones CART REC FONT`, `trace CART REC FONT`, `units CART REC FONT` or `wave CART REC FONT`
+    Whole(RunNames<'a>, WholeText),
     /// `disk CART REC FONT PLACE`
     Disk(RunNames<'a>, u32),
-    /// `units CART REC FONT`
-    Units(RunNames<'a>),
-    /// `wave CART REC FONT`
-    Wave(RunNames<'a>),
     /// `ram CART REC FONT QUERY`
     Ram(RunNames<'a>, &'a str),
     /// `edit CART REC FONT SCRIPT OUT`
@@ -139,11 +143,8 @@ pub fn cart_name<'a>(command: &Command<'a>) -> &'a str
         Command::BlankDisk(cart, _, _) => cart,
         Command::Rebind(cart, _) => cart,
         Command::Frames(names, _) => names.cart,
-        Command::Tones(names) => names.cart,
-        Command::Trace(names) => names.cart,
+        Command::Whole(names, _) => names.cart,
         Command::Disk(names, _) => names.cart,
-        Command::Units(names) => names.cart,
-        Command::Wave(names) => names.cart,
         Command::Ram(names, _) => names.cart,
         Command::Edit(names) => names.run.cart,
         Command::Serve(names) => names.run.cart,
@@ -212,22 +213,14 @@ fn frames_form(words: &[String]) -> Option<Form<'_>>
     Some(Form::OnCart(Command::Frames(run_names(cart, recording, font), Places { from, to })))
 }
 
-fn tones_form(words: &[String]) -> Option<Form<'_>>
-    ensures { option_map form_view result ≡ tones_form (map string_bytes words.now) }
+/// The form of a command that is named for what is written of a whole run.
+fn whole_form(words: &[String], text: WholeText) -> Option<Form<'_>>
+    ensures { option_map form_view result ≡ whole_form text (map string_bytes words.now) }
 {
     let [cart, recording, font] = words else {
         return None;
     };
-    Some(Form::OnCart(Command::Tones(run_names(cart, recording, font))))
-}
-
-fn trace_form(words: &[String]) -> Option<Form<'_>>
-    ensures { option_map form_view result ≡ trace_form (map string_bytes words.now) }
-{
-    let [cart, recording, font] = words else {
-        return None;
-    };
-    Some(Form::OnCart(Command::Trace(run_names(cart, recording, font))))
+    Some(Form::OnCart(Command::Whole(run_names(cart, recording, font), text)))
 }
 
 #[tactic(auto, unfolding(w4_defs::specs::Commands::disk_form))]
@@ -293,15 +286,6 @@ fn ram_form(words: &[String]) -> Option<Form<'_>>
     Some(Form::OnCart(Command::Ram(run_names(cart, recording, font), query.as_str())))
 }
 
-fn wave_form(words: &[String]) -> Option<Form<'_>>
-    ensures { option_map form_view result ≡ wave_form (map string_bytes words.now) }
-{
-    let [cart, recording, font] = words else {
-        return None;
-    };
-    Some(Form::OnCart(Command::Wave(run_names(cart, recording, font))))
-}
-
 #[tactic(auto, unfolding(w4_defs::specs::Commands::batch_form))]
 fn batch_form(words: &[String]) -> Option<Form<'_>>
     ensures { option_map form_view result ≡ batch_form (map string_bytes words.now) }
@@ -309,8 +293,8 @@ fn batch_form(words: &[String]) -> Option<Form<'_>>
     let [cart, font, list, workers] = words else {
         return None;
     };
-    let count = number_of(workers.as_bytes())?;
-    if count < 1 || count > 16 {
+    let count = number_of(workers.as_bytes())? as usize;
+    if count < 1 || count > MOST_WORKERS {
         return None;
     }
     Some(Form::OnCart(Command::Batch(BatchNames {
@@ -331,15 +315,6 @@ fn serve_form(words: &[String]) -> Option<Form<'_>>
         run: run_names(cart, recording, font),
         out: out.as_str(),
     })))
-}
-
-fn units_form(words: &[String]) -> Option<Form<'_>>
-    ensures { option_map form_view result ≡ units_form (map string_bytes words.now) }
-{
-    let [cart, recording, font] = words else {
-        return None;
-    };
-    Some(Form::OnCart(Command::Units(run_names(cart, recording, font))))
 }
 
 fn compare_form(words: &[String]) -> Option<Form<'_>>
@@ -387,17 +362,17 @@ pub fn form_of_words(words: &[String]) -> Option<Form<'_>>
         "check" => check_form(rest),
         "blank" => blank_form(rest),
         "frames" => frames_form(rest),
-        "tones" => tones_form(rest),
-        "trace" => trace_form(rest),
+        "tones" => whole_form(rest, WholeText::Tones),
+        "trace" => whole_form(rest, WholeText::Trace),
         "disk" => disk_form(rest),
         "edit" => edit_form(rest),
         "make" => make_form(rest),
         "net" => net_form(rest),
         "ram" => ram_form(rest),
-        "wave" => wave_form(rest),
+        "wave" => whole_form(rest, WholeText::Wave),
         "batch" => batch_form(rest),
         "serve" => serve_form(rest),
-        "units" => units_form(rest),
+        "units" => whole_form(rest, WholeText::Units),
         "compare" => compare_form(rest),
         "rebind" => rebind_form(rest),
         "inputs" => inputs_form(rest),

@@ -10,9 +10,8 @@ mod compare;
 mod differences;
 mod edit;
 pub mod forms;
-mod lines_status;
+mod lines_refusal;
 mod load;
-mod load_tools;
 mod make;
 mod net;
 mod place_text;
@@ -26,7 +25,6 @@ pub mod status_line;
 mod summary;
 mod units;
 mod wave;
-pub mod workers;
 
 pub use commands::run_form;
 pub use forms::{Command, Form, form_of_words};

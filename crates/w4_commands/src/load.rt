@@ -1,61 +1,41 @@
 //! Files, each judged before the next is read. Nothing is written.
 
-ghost use Rattle.std.specs.Prelude.{◌≡◌, ◌+◌, ◌≤◌, ℕ, List, length, Result, Ok, Err, IfOk};
-ghost use Rattle.std.specs.Option.{ForSome};
-ghost use Rattle.w4_defs.specs.Cart.{IsCart};
+ghost use Rattle.std.specs.Prelude.{◌≡◌, ◌≤◌, length, IfOk};
 ghost use Rattle.w4_defs.specs.World.{LeavesReading};
 ghost use Rattle.w4_defs.specs.Output.{
   CartIn,
+  any_recording,
   cart_recording,
-  edit_files,
   font_in,
   font_of,
-  script_in,
-  orders_of,
   reading,
   recording_in,
   run_files,
   run_files_to,
 };
-ghost use Rattle.w4_commands.specs.Load.{
-  GivesValue,
-  ResultsIn,
-  StepGives,
-  cart_view,
-  loaded_view,
-  played_view,
-};
-ghost use Rattle.w4_commands.specs.Forms.{edit_view, run_view};
+ghost use Rattle.w4_commands.specs.Load.{GivesValue, ResultsIn, StepGives, cart_view, run_files_view};
+ghost use Rattle.w4_commands.specs.Forms.{run_view};
 
-use crate::forms::{EditNames, RunNames};
-use crate::lines_status::{LinesFile, lines_status};
+use crate::forms::RunNames;
 use std::alloc::Global;
 use w4_cart::{CartFile, CartRefusal, accept_file};
-use w4_defs::{Order, RecordingKind, Refusal};
+use w4_defs::{RecordingKind, Refusal};
 use w4_font::{FONT_BYTES, Font, FontLength};
 use w4_house::{House, HouseFault};
 use w4_record::{Recording, RecordingRefusal, read_recording};
-use w4_script::read_script;
 
 /// The files of a run, without the cart.
 #[derive(Drop)]
-pub struct Played {
+pub struct RunFiles {
     pub recording: Recording,
     pub font: Font,
 }
 
 /// How many frames the recording has.
-pub fn frame_count(run: &Played) -> usize
+pub fn frame_count(run: &RunFiles) -> usize
     ensures { result ≡ length run.now.recording.frames }
 {
     run.recording.frames.len()
-}
-
-/// The files of an edit, without the cart.
-#[derive(Drop)]
-pub struct Loaded {
-    pub run: Played,
-    pub orders: Vec<Order>,
 }
 
 /// The first `most` bytes of a file, or all.
@@ -81,7 +61,6 @@ pub fn read_file<H: House>(
 pub fn load_cart<H: House>(alloc: Global, house: &mut H, name: &str) -> Result<CartFile, Refusal>
     ensures gives { StepGives (H.world house.old) (H.world house.new) cart_view result
         (λ files cart. CartIn name.now files cart) }
-    ensures cart { IfOk result (λ file. (bytes : List ℕ) × IsCart bytes file.cart) }
     ensures rest { LeavesReading (H.world house.old) (H.world house.new) }
 {
     let bytes = read_file(alloc, house, name, w4_cart::MOST_BYTES + 1)?;
@@ -92,18 +71,23 @@ pub fn load_cart<H: House>(alloc: Global, house: &mut H, name: &str) -> Result<C
     }
 }
 
+/// The recording that the bytes encode, of any cart.
+pub fn judge_any(alloc: Global, bytes: &[u8]) -> Result<Recording, Refusal>
+    ensures { GivesValue (λ recording. recording) result (any_recording bytes.now) }
+{
+    match read_recording(alloc, bytes) {
+        Ok(recording) => Ok(recording),
+        Err(RecordingRefusal::BadRecording) => Err(Refusal::RecordingRefused(RecordingKind::Bad)),
+        Err(RecordingRefusal::OutOfMemory) => Err(Refusal::OutOfMemory),
+    }
+}
+
 /// The recording that the bytes encode, which has to be of the cart with this digest.
 #[tactic(auto, unfolding(w4_defs::specs::Output::cart_recording))]
 fn judge_recording(alloc: Global, bytes: &[u8], digest: &[u8; 32]) -> Result<Recording, Refusal>
     ensures { GivesValue (λ recording. recording) result (cart_recording digest.now bytes.now) }
 {
-    let recording = match read_recording(alloc, bytes) {
-        Ok(recording) => recording,
-        Err(RecordingRefusal::BadRecording) => {
-            return Err(Refusal::RecordingRefused(RecordingKind::Bad));
-        }
-        Err(RecordingRefusal::OutOfMemory) => return Err(Refusal::OutOfMemory),
-    };
+    let recording = judge_any(alloc, bytes)?;
     if recording.digest != *digest {
         return Err(Refusal::RecordingRefused(RecordingKind::WrongCart));
     }
@@ -117,17 +101,6 @@ fn judge_font(bytes: &[u8]) -> Result<Font, Refusal>
     match Font::new(bytes) {
         Ok(font) => Ok(font),
         Err(FontLength) => Err(Refusal::FontRefused),
-    }
-}
-
-/// The orders of a script.
-#[tactic(auto, unfolding(w4_defs::specs::Output::orders_of))]
-fn judge_script(alloc: Global, bytes: &[u8]) -> Result<Vec<Order>, Refusal>
-    ensures { GivesValue (λ orders. orders.items) result (orders_of bytes.now) }
-{
-    match read_script(alloc, bytes) {
-        Ok(orders) => Ok(orders),
-        Err(refusal) => Err(lines_status(LinesFile::Script, refusal)),
     }
 }
 
@@ -156,16 +129,6 @@ pub fn load_font<H: House>(alloc: Global, house: &mut H, name: &str) -> Result<F
     judge_font(bytes.as_slice())
 }
 
-#[tactic(auto, unfolding(w4_defs::specs::Output::script_in))]
-fn load_orders<H: House>(alloc: Global, house: &mut H, name: &str) -> Result<Vec<Order>, Refusal>
-    ensures gives { StepGives (H.world house.old) (H.world house.new) (λ orders. orders.items) result
-        (ResultsIn (λ files. script_in files name.now)) }
-    ensures rest { LeavesReading (H.world house.old) (H.world house.new) }
-{
-    let bytes = read_file(alloc, house, name, w4_script::MOST_BYTES + 1)?;
-    judge_script(alloc, bytes.as_slice())
-}
-
 /// Reads what a run of the cart with this digest is made of.
 #[tactic(auto, unfolding(w4_defs::specs::Output::run_files))]
 pub fn load_run<H: House>(
@@ -173,14 +136,14 @@ pub fn load_run<H: House>(
     house: &mut H,
     digest: &[u8; 32],
     names: RunNames<'_>,
-) -> Result<Played, Refusal>
-    ensures gives { StepGives (H.world house.old) (H.world house.new) played_view result
+) -> Result<RunFiles, Refusal>
+    ensures gives { StepGives (H.world house.old) (H.world house.new) run_files_view result
         (ResultsIn (λ files. run_files digest.now (run_view names.entry) files)) }
     ensures rest { LeavesReading (H.world house.old) (H.world house.new) }
 {
     let recording = load_recording(alloc, house, digest, names.recording)?;
     let font = load_font(alloc, house, names.font)?;
-    Ok(Played { recording, font })
+    Ok(RunFiles { recording, font })
 }
 
 /// Reads what a run of the cart with this digest is made of, which has to have this place.
@@ -191,8 +154,8 @@ pub fn load_run_to<H: House>(
     digest: &[u8; 32],
     names: RunNames<'_>,
     place: u32,
-) -> Result<Played, Refusal>
-    ensures gives { StepGives (H.world house.old) (H.world house.new) played_view result
+) -> Result<RunFiles, Refusal>
+    ensures gives { StepGives (H.world house.old) (H.world house.new) run_files_view result
         (ResultsIn (λ files. run_files_to digest.now (run_view names.entry) place files)) }
     ensures place { IfOk result (λ run. place ≤ length run.recording.frames) }
     ensures rest { LeavesReading (H.world house.old) (H.world house.new) }
@@ -203,21 +166,4 @@ pub fn load_run_to<H: House>(
         return Err(Refusal::FrameRefused { number: place, n });
     }
     Ok(run)
-}
-
-/// Reads what an edit over the cart with this digest is made of.
-#[tactic(auto, unfolding(w4_defs::specs::Output::edit_files))]
-pub fn load_edit<H: House>(
-    alloc: Global,
-    house: &mut H,
-    digest: &[u8; 32],
-    names: EditNames<'_>,
-) -> Result<Loaded, Refusal>
-    ensures gives { StepGives (H.world house.old) (H.world house.new) loaded_view result
-        (ResultsIn (λ files. edit_files digest.now (edit_view names.entry) files)) }
-    ensures rest { LeavesReading (H.world house.old) (H.world house.new) }
-{
-    let run = load_run(alloc, house, digest, names.run)?;
-    let orders = load_orders(alloc, house, names.script)?;
-    Ok(Loaded { run, orders })
 }

@@ -19,6 +19,7 @@ use crate::summary::{Summary, summary_text};
 use std::alloc::Global;
 use w4_answers::writing::write_bytes;
 use w4_cart::{CartRefusal, accept};
+use w4_console::Setup;
 use w4_console::laws::accepted_runs_have_meaning;
 use w4_defs::tool_laws::generator_laws;
 use w4_defs::{OutOfMemory, Refusal};
@@ -31,7 +32,7 @@ use wasm_write::laws::made_modules_are_carts;
 use wasm_write::{MADE_FRAMES, Made, Maker};
 
 /// `make NUMBER`.
-pub fn make_cart<H: House>(alloc: Global, house: &mut H, number: u32) -> Result<(), Refusal>
+pub fn run_make<H: House>(alloc: Global, house: &mut H, number: u32) -> Result<(), Refusal>
     ensures ends { EndsDone (H.world house.old) (H.world house.new) result
         (MakesOf (λ files. make_output number)) }
     ensures err { LeavesErr (H.world house.old) (H.world house.new) }
@@ -95,12 +96,12 @@ fn lines_of(alloc: Global, number: u32, made: &Made) -> Result<Vec<u8>, OutOfMem
     let cart = accept_made(alloc, bytes, number)?;
     let font = zero_font();
     let mut stage = new_stage(alloc, &cart)?;
-    let scene = Scene {
+    let setup = Setup {
         cart: &cart,
         font: &font,
-        disk: &[],
         budget: made.budget,
     };
+    let scene = Scene { setup, disk: &[] };
     run_to(
         &mut stage,
         &scene,

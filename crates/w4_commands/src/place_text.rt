@@ -67,9 +67,7 @@ pub fn write_places<H: House>(
 ) -> Result<(), Refusal>
     requires order { wanted.from ≤ wanted.to }
     requires place { wanted.to ≤ length inputs.now }
-    requires disk { length scene.now.disk.now ≤ 1024 }
-    requires budget { 1 ≤ scene.now.budget }
-    requires globals { HasGlobals scene.now.cart.now stage.old.console }
+    requires globals { HasGlobals scene.now.setup.cart.now stage.old.console }
     ensures out { ForSome (place_texts (λ place.
         place_text as_it_stands wanted.text place
         (run (scene_setup scene.now) scene.now.disk.now inputs.now place))

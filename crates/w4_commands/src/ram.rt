@@ -1,24 +1,24 @@
 //! `ram`: values and searches of memory, over the places of a recording.
 
-ghost use Rattle.std.specs.Prelude.{◌≡◌, ◌<◌, All, OnOk, length};
+ghost use Rattle.std.specs.Prelude.{◌<◌, All, IfOk, OnOk, length};
 ghost use Rattle.std.specs.Option.{ForSome};
-ghost use Rattle.w4_defs.specs.Meaning.{RunsHaveMeaning};
-ghost use Rattle.w4_defs.specs.World.{LeavesWriting};
+ghost use Rattle.w4_defs.specs.World.{LeavesReading, LeavesWriting};
 ghost use Rattle.w4_defs.specs.declared.inspect.QueryLine.TheVariants.{Ask as Request};
 ghost use Rattle.w4_script.specs.Query.{IsQueryLine, IsRequest};
 ghost use Rattle.w4_defs.specs.Causes.{LeavesErr};
 ghost use Rattle.w4_commands.specs.Commands.{EndsDone, MakesOf};
+ghost use Rattle.w4_commands.specs.Load.{ResultsIn, StepGives, GivesValue, cart_view};
 ghost use Rattle.w4_answers.specs.Writing.{Written};
 ghost use Rattle.w4_answers.specs.HeldPages.{AreHeld};
 ghost use Rattle.w4_answers.specs.RamAnswers.{GivesQueryAnswer, query_answer, query_answers};
-ghost use Rattle.w4_defs.specs.ToolOutputs.{ram_output, ram_text};
-ghost use Rattle.w4_commands.specs.Load.{cart_view};
-ghost use Rattle.w4_commands.specs.LoadTools.{ram_loaded_view};
+ghost use Rattle.w4_defs.specs.ToolOutputs.{query_in, query_lines, ram_files, ram_output, ram_text};
+ghost use Rattle.w4_segments.specs.Counting.{IsBlankOf};
+ghost use Rattle.w4_commands.specs.Ram.{ram_loaded_view};
 ghost use Rattle.w4_commands.specs.Forms.{run_view};
 
 use crate::forms::RunNames;
-use crate::load::Played;
-use crate::load_tools::{RamLoaded, load_ram};
+use crate::lines_refusal::script_refusal;
+use crate::load::{RunFiles, load_run, read_file};
 use std::alloc::Global;
 use std::marker::Brand;
 use std::sync::ledger::{Blank, Ledger};
@@ -33,7 +33,15 @@ use w4_defs::{Order, Refusal, Steps};
 use w4_editor::Editor;
 use w4_house::House;
 use w4_inspect::{PlacePages, Search};
+use w4_script::read_query;
 use wasm_register::Cart;
+
+/// What a query is answered over, and its lines.
+#[derive(Drop)]
+pub struct RamLoaded {
+    pub run: RunFiles,
+    pub lines: Vec<QueryLine>,
+}
 
 /// An editor with its count, the search that stands, and the pages that are held for the next line.
 #[derive(Drop)]
@@ -52,13 +60,51 @@ pub fn run_ram<H: House>(
     names: RunNames<'_>,
     query: &str,
 ) -> Result<(), Refusal>
-    requires meaning { RunsHaveMeaning file.cart }
     ensures ends { EndsDone (H.world house.old) (H.world house.new) result
         (MakesOf (λ files. ram_output (run_view names.entry) query.now (cart_view file) files)) }
     ensures err { LeavesErr (H.world house.old) (H.world house.new) }
 {
     let loaded = load_ram(alloc, house, &file.digest, names, query)?;
     answer_query::<Brand, H>(alloc, house, file.cart, loaded, Blank::new(1))
+}
+
+/// Reads what a query over a run of the cart with this digest is made of.
+#[tactic(auto, unfolding(w4_defs::specs::ToolOutputs::ram_files))]
+fn load_ram<H: House>(
+    alloc: Global,
+    house: &mut H,
+    digest: &[u8; 32],
+    names: RunNames<'_>,
+    query: &str,
+) -> Result<RamLoaded, Refusal>
+    ensures gives { StepGives (H.world house.old) (H.world house.new) ram_loaded_view result
+        (ResultsIn (λ files. ram_files digest.now (run_view names.entry) query.now files)) }
+    ensures fit { IfOk result (λ loaded. All IsQueryLine loaded.lines.items) }
+    ensures rest { LeavesReading (H.world house.old) (H.world house.new) }
+{
+    let run = load_run(alloc, house, digest, names)?;
+    let lines = load_query(alloc, house, query)?;
+    Ok(RamLoaded { run, lines })
+}
+
+#[tactic(auto, unfolding(w4_defs::specs::ToolOutputs::query_in))]
+fn load_query<H: House>(alloc: Global, house: &mut H, name: &str) -> Result<Vec<QueryLine>, Refusal>
+    ensures gives { StepGives (H.world house.old) (H.world house.new) (λ lines. lines.items) result
+        (ResultsIn (λ files. query_in files name.now)) }
+    ensures fit { IfOk result (λ lines. All IsQueryLine lines.items) }
+    ensures rest { LeavesReading (H.world house.old) (H.world house.new) }
+{
+    let bytes = read_file(alloc, house, name, w4_script::MOST_BYTES + 1)?;
+    judge_query(alloc, bytes.as_slice())
+}
+
+/// The lines of a query.
+#[tactic(auto, unfolding(w4_defs::specs::ToolOutputs::query_lines))]
+fn judge_query(alloc: Global, bytes: &[u8]) -> Result<Vec<QueryLine>, Refusal>
+    ensures lines { GivesValue (λ lines. lines.items) result (query_lines bytes.now) }
+    ensures fit { IfOk result (λ lines. All IsQueryLine lines.items) }
+{
+    read_query(alloc, bytes).map_err(script_refusal)
 }
 
 /// Opens the recording, and answers all lines of the query. The frames that are run for them have a count of
@@ -71,15 +117,13 @@ fn answer_query<L: Ledger, H: House>(
     blank: Blank,
 ) -> Result<(), Refusal>
     requires ranges { All IsQueryLine loaded.lines.items }
-    requires name { blank.name ≡ L.name }
-    requires parts { blank.parts ≡ L.parts }
-    requires some { 0 < L.parts }
+    requires blank { IsBlankOf L.name L.parts blank }
     ensures out { ForSome (ram_text cart (ram_loaded_view loaded))
         (λ text. Written (H.world house.old) (H.world house.new) result text) }
     ensures rest { LeavesWriting (H.world house.old) (H.world house.new) }
 {
     let RamLoaded { run, lines } = loaded;
-    let Played { recording, font } = run;
+    let RunFiles { recording, font } = run;
     let editor = Editor::new(alloc, cart, font, recording)?;
     let steps: Steps<L> = Steps::new(blank);
     let mut desk: QueryDesk<L> = QueryDesk {

@@ -2,7 +2,7 @@
 
 ghost use Rattle.std.specs.Prelude.{[], ◌∷◌, ◌++◌, ◌≤◌, ◌≡◌, IfOk, codes, length};
 ghost use Rattle.w4_defs.specs.Causes.{LeavesErr};
-ghost use Rattle.w4_defs.specs.Output.{any_recording, blank_output, blank_recording};
+ghost use Rattle.w4_defs.specs.Output.{blank_output, blank_recording};
 ghost use Rattle.w4_defs.specs.Recording.{encoding};
 ghost use Rattle.w4_defs.specs.RecordingOutputs.{
   any_recording_in,
@@ -21,14 +21,14 @@ ghost use Rattle.w4_commands.specs.Load.{ResultsIn, StepGives, GivesValue, cart_
 ghost use Rattle.w4_answers.specs.Writing.{Written};
 
 use crate::budget::Budget;
-use crate::load::read_file;
+use crate::load::{judge_any, read_file};
 use std::alloc::Global;
 use w4_answers::inputs_text::{add_budget, add_disk, add_input_line};
 use w4_answers::writing::write_bytes;
 use w4_cart::CartFile;
 use w4_defs::{Input, OutOfMemory, RecordingKind, Refusal};
 use w4_house::House;
-use w4_record::{MOST_DISK_BYTES, Recording, RecordingRefusal, read_recording, write_recording};
+use w4_record::{MOST_DISK_BYTES, Recording, write_recording};
 
 /// `blank CART BUDGET`: the recording of this cart with this budget, no disk and no frames.
 pub fn run_blank<H: House>(
@@ -101,17 +101,6 @@ fn load_disk<H: House>(alloc: Global, house: &mut H, name: &str) -> Result<Vec<u
     judge_disk(bytes)
 }
 
-/// The recording that the bytes encode, of any cart.
-fn judge_any(alloc: Global, bytes: &[u8]) -> Result<Recording, Refusal>
-    ensures { GivesValue (λ recording. recording) result (any_recording bytes.now) }
-{
-    match read_recording(alloc, bytes) {
-        Ok(recording) => Ok(recording),
-        Err(RecordingRefusal::BadRecording) => Err(Refusal::RecordingRefused(RecordingKind::Bad)),
-        Err(RecordingRefusal::OutOfMemory) => Err(Refusal::OutOfMemory),
-    }
-}
-
 #[tactic(auto, unfolding(w4_defs::specs::RecordingOutputs::any_recording_in))]
 fn load_any<H: House>(alloc: Global, house: &mut H, name: &str) -> Result<Recording, Refusal>
     ensures gives { StepGives (H.world house.old) (H.world house.new) (λ recording. recording) result
@@ -162,7 +151,7 @@ fn write_rebound<H: House>(
 
 /// `inputs REC`: a recording as text.
 #[tactic(auto, unfolding(w4_defs::specs::RecordingOutputs::inputs_output))]
-pub fn write_inputs<H: House>(alloc: Global, house: &mut H, recording: &str) -> Result<(), Refusal>
+pub fn run_inputs<H: House>(alloc: Global, house: &mut H, recording: &str) -> Result<(), Refusal>
     ensures ends { EndsDone (H.world house.old) (H.world house.new) result
         (ResultsIn (λ files. inputs_output recording.now files)) }
     ensures err { LeavesErr (H.world house.old) (H.world house.new) }

@@ -1,7 +1,7 @@
 //! `serve`: a live session. Orders come one a line from standard input, and the answer of a line is written
 //! before the next one is asked for.
 
-ghost use Rattle.std.specs.Prelude.{◌≡◌, ◌<◌, ◌∷◌, [], IfErr, IfOk, None, option_map};
+ghost use Rattle.std.specs.Prelude.{◌≡◌, ◌∷◌, [], IfErr, IfOk, None, option_map};
 ghost use Rattle.w4_defs.specs.Causes.{LeavesErr};
 ghost use Rattle.w4_defs.specs.Endings.{manner_of};
 ghost use Rattle.w4_defs.specs.Live.{Opened, Talk, first_live_session, serve_output};
@@ -21,11 +21,12 @@ ghost use Rattle.w4_commands.specs.Serve.{
   opened_view,
 };
 ghost use Rattle.w4_answers.specs.LiveAnswer.{LeavesServing, Sits};
+ghost use Rattle.w4_segments.specs.Counting.{IsBlankOf};
 ghost use Rattle.w4_commands.specs.Load.{cart_view};
 ghost use Rattle.w4_commands.specs.Forms.{serve_view};
 
 use crate::forms::ServeNames;
-use crate::load::{Played, load_run};
+use crate::load::{RunFiles, load_run};
 use std::alloc::Global;
 use std::marker::Brand;
 use std::sync::ledger::{Blank, Ledger};
@@ -37,7 +38,6 @@ use w4_cart::CartFile;
 use w4_defs::Refusal;
 use w4_house::{House, HouseFault};
 use w4_segments::{Gate, Resources};
-use wasm_register::Cart;
 
 /// `serve CART REC FONT OUT`.
 #[tactic(auto, unfolding(w4_defs::specs::Live::serve_output))]
@@ -47,13 +47,12 @@ pub fn run_serve<R: Threads + Sync, H: House, G: Gate + Sync>(
     file: CartFile,
     names: ServeNames<'_>,
 ) -> Result<(), Refusal>
-    requires meaning { RunsHaveMeaning file.cart }
     ensures ends { EndsDone (H.world house.old) (H.world house.new) result (λ files output. (talk : Talk)
         × (serve_output (serve_view names.entry) talk (cart_view file) files ≡ Some output)) }
     ensures err { LeavesErr (H.world house.old) (H.world house.new) }
 {
     let run = load_run(resources.alloc, house, &file.digest, names.run)?;
-    serve_run::<Brand, R, H, G>(resources, house, file.cart, run, names, Blank::new(1))
+    serve_run::<Brand, R, H, G>(resources, house, file, run, names, Blank::new(1))
 }
 
 /// A session on a recording that was read. However its lines end, the recording left goes to the file. The
@@ -61,21 +60,18 @@ pub fn run_serve<R: Threads + Sync, H: House, G: Gate + Sync>(
 fn serve_run<L: Ledger, R: Threads + Sync, H: House, G: Gate + Sync>(
     resources: &Resources<'_, R, G>,
     house: &mut H,
-    cart: Cart,
-    run: Played,
+    file: CartFile,
+    run: RunFiles,
     names: ServeNames<'_>,
     blank: Blank,
 ) -> Result<(), Refusal>
-    requires meaning { RunsHaveMeaning cart }
-    requires name { blank.name ≡ L.name }
-    requires parts { blank.parts ≡ L.parts }
-    requires some { 0 < L.parts }
+    requires { IsBlankOf L.name L.parts blank }
     ensures ends { EndsDone (H.world house.old) (H.world house.new) result
-        (ServedStep (opened_view cart run names.entry.out.now)) }
+        (ServedStep (opened_view file.cart run names.entry.out.now)) }
     ensures err { LeavesErr (H.world house.old) (H.world house.new) }
 {
     let alloc = resources.alloc;
-    let mut desk: Desk<L> = new_desk(alloc, cart, run.font, run.recording, blank)?;
+    let mut desk: Desk<L> = new_desk(alloc, file.cart, run.font, run.recording, blank)?;
     match answer_lines(resources, house, &mut desk, names.out) {
         Ok(()) => save_recording(alloc, house, &desk, names.out),
         Err(why) => rescue(alloc, house, &desk, names.out, why),

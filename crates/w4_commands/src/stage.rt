@@ -2,24 +2,21 @@
 
 ghost use Rattle.std.specs.Prelude.{◌≡◌, ◌+◌, ◌≤◌, ◌<◌, Some, length, IfOk};
 ghost use Rattle.w4_defs.specs.State.{HasGlobals};
-ghost use Rattle.w4_defs.specs.Frame.{frame};
 ghost use Rattle.w4_commands.specs.Stage.{IsAtPlace, stage_moment};
 ghost use Rattle.w4_commands.specs.Scene.{scene_setup};
 ghost use Rattle.w4_defs.specs.FrameTexts.{schedule_text, trace_text};
 ghost use Rattle.w4_defs.specs.Image.{image};
 ghost use Rattle.w4_defs.specs.MadeSummary.{lit_pixels};
-ghost use Rattle.w4_console.specs.Taken.{FrameTakes, TellsUnits, taken_of};
+ghost use Rattle.w4_console.specs.Taken.{TellsUnits, taken_of};
 ghost use Rattle.w4_defs.specs.Units.{start_units};
 ghost use Rattle.w4_defs.specs.Sound.{after_frame, rendered};
 
 use crate::scene::Scene;
 use crate::summary::lit_pixels;
 use std::alloc::Global;
-use std::marker::Brand;
-use std::sync::ledger::{Blank, Ledger};
-use w4_console::{Console, FrameTaken, Taken};
+use w4_console::{Console, FrameTaken, Setup, Taken};
 use w4_defs::console_laws::runs_in_parts;
-use w4_defs::{Halt, Input, OutOfMemory, Steps};
+use w4_defs::{Halt, Input, OutOfMemory};
 use w4_devices::{FrameRecord, schedule_text, trace_text};
 use w4_image::{IMAGE_LEN, ppm_into};
 use w4_map::State;
@@ -50,49 +47,15 @@ pub fn new_stage(alloc: Global, cart: &Cart) -> Result<Stage, OutOfMemory>
 
 /// Starts the run with a reset, and returns what the reset took of the budget.
 pub fn begin_run(stage: &mut Stage, scene: &Scene<'_>, inputs: &[Input]) -> Taken
-    requires disk { length scene.now.disk.now ≤ 1024 }
-    requires budget { 1 ≤ scene.now.budget }
-    requires globals { HasGlobals scene.now.cart.now stage.old.console }
+    requires { HasGlobals scene.now.setup.cart.now stage.old.console }
     ensures place { IsAtPlace scene.now inputs.now 0 stage.new }
     ensures taken { start_units (scene_setup scene.now) scene.now.disk.now ≡ Some (taken_of result) }
 {
+    let Setup { cart, font, budget } = scene.setup;
     let frame_record = &mut stage.frame_record;
-    stage.console.reset(
-        scene.cart,
-        scene.font,
-        scene.disk,
-        scene.budget,
-        frame_record,
-    )
-}
-
-/// One frame, under a count of its own, and what it took of the budget.
-fn play_frame<L: Ledger>(
-    stage: &mut Stage,
-    scene: &Scene<'_>,
-    input: &Input,
-    blank: Blank,
-) -> FrameTaken
-    requires name { blank.name ≡ L.name }
-    requires parts { blank.parts ≡ L.parts }
-    requires some { 0 < L.parts }
-    requires budget { 1 ≤ scene.now.budget }
-    requires globals { HasGlobals scene.now.cart.now stage.old.console }
-    ensures frame { frame (scene_setup scene.now) stage.old.console input.now
-        ≡ Some (stage_moment stage.new) }
-    ensures globals { HasGlobals scene.now.cart.now stage.new.console }
-    ensures taken { FrameTakes (scene_setup scene.now) stage.old.console input.now result }
-{
-    let mut steps: Steps<L> = Steps::new(blank);
-    let frame_record = &mut stage.frame_record;
-    stage.console.frame(
-        scene.cart,
-        scene.font,
-        input,
-        scene.budget,
-        frame_record,
-        &mut steps,
-    )
+    stage
+        .console
+        .reset(cart, font, scene.disk, budget, frame_record)
 }
 
 /// Goes on to the next place, and tells what the frame took of the budget.
@@ -103,19 +66,19 @@ pub fn step_units(
     place: usize,
 ) -> FrameTaken
     requires place { place < length inputs.now }
-    requires budget { 1 ≤ scene.now.budget }
     requires here { IsAtPlace scene.now inputs.now place stage.old }
     ensures place { IsAtPlace scene.now inputs.now (place + 1) stage.new }
     ensures taken { TellsUnits (scene_setup scene.now) scene.now.disk.now inputs.now place result }
 {
     runs_in_parts();
-    play_frame::<Brand>(stage, scene, &inputs[place], Blank::new(1))
+    stage
+        .console
+        .step(&scene.setup, &inputs[place], &mut stage.frame_record)
 }
 
 /// Goes on to the next place.
 pub fn step(stage: &mut Stage, scene: &Scene<'_>, inputs: &[Input], place: usize)
     requires place { place < length inputs.now }
-    requires budget { 1 ≤ scene.now.budget }
     requires here { IsAtPlace scene.now inputs.now place stage.old }
     ensures { IsAtPlace scene.now inputs.now (place + 1) stage.new }
 {
@@ -125,9 +88,7 @@ pub fn step(stage: &mut Stage, scene: &Scene<'_>, inputs: &[Input], place: usize
 /// Runs from a reset up to a place, in as many frames as its number.
 pub fn run_to(stage: &mut Stage, scene: &Scene<'_>, inputs: &[Input], place: usize)
     requires place { place ≤ length inputs.now }
-    requires disk { length scene.now.disk.now ≤ 1024 }
-    requires budget { 1 ≤ scene.now.budget }
-    requires globals { HasGlobals scene.now.cart.now stage.old.console }
+    requires globals { HasGlobals scene.now.setup.cart.now stage.old.console }
     ensures { IsAtPlace scene.now inputs.now place stage.new }
 {
     begin_run(stage, scene, inputs);

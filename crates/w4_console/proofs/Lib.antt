@@ -3,5 +3,6 @@ mod CallLaws
 mod FrameLaws
 mod StartLaws
 mod PageLaws
+pub mod PlayingLaws
 mod MeaningLaws
 pub mod TakenLaws

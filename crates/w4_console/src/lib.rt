@@ -8,11 +8,13 @@ pub mod console;
 mod frames;
 pub mod laws;
 mod page;
-mod setup;
+pub mod playing;
+pub mod setup;
 mod start;
 pub mod taken;
 pub mod units_text;
 
 pub use console::Console;
+pub use setup::Setup;
 pub use taken::{FrameTaken, Taken};
 pub use units_text::{start_line, units_line};

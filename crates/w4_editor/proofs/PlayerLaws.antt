@@ -1,10 +1,9 @@
--- Laws of playing: one input more, and the state at a place from an entry that is linked.
-use Rattle.std.proofs.Common.{◌≡◌, ℕ, suc, ◌+◌, ◌-◌, ◌<◌, ◌≤◌, List, [], ◌∷◌, length, take, get_or, Option}
+-- Laws of playing: the state at a place from an entry that is linked.
+use Rattle.std.proofs.Common.{◌≡◌, ℕ, suc, ◌+◌, ◌-◌, ◌<◌, ◌≤◌, List, [], ◌∷◌, length, get_or, Option}
 use Rattle.std.proofs.Common.{Some, None, refl, sym, ap, ◌∙◌, subst, arith}
 use Rattle.std.specs.Option.{option_and_then, option_map, unwrap_or}
 use Rattle.std.proofs.lemmas.Option.{slice_get-get_or}
 use Rattle.std.specs.List.{slice_range}
-use Rattle.std.proofs.lemmas.List.{take_more}
 use Rattle.w4_defs.specs.declared.console.Input.{Input}
 use Rattle.w4_defs.specs.declared.value.Val.{Val}
 use Rattle.w4_defs.specs.Module.{WasmModule}
@@ -13,21 +12,9 @@ use Rattle.w4_defs.specs.State.{State, Moment, HasGlobals}
 use Rattle.w4_defs.specs.Reset.{Setup}
 use Rattle.w4_defs.specs.Frame.{frame}
 use Rattle.w4_defs.specs.Run.{fold, run, run_state}
-use Rattle.w4_defs.proofs.RunLaws.{folds_in_parts, runs_between, runs_on}
+use Rattle.w4_defs.proofs.RunLaws.{runs_between, runs_on}
 use Rattle.w4_editor.specs.Player.{Player, setup_of, in_state}
 use Rattle.w4_editor.specs.Showing.{MovesOn}
-
--- a run of one input more
-pub fold_more : (setup : Setup) (state now : State) (next : Moment) (inputs : List Input) (i : ℕ) (d : Input)
-    → i < length inputs → fold setup state (take i inputs) ≡ Some now
-    → frame setup now (get_or inputs i d) ≡ Some next
-    → fold setup state (take (i + 1) inputs) ≡ Some next.state
-fold_more setup state now next inputs i d lt before one =
-    let last : List Input = get_or inputs i d ∷ [] in
-    ap (fold setup state) (take_more inputs i d lt)
-    ∙ folds_in_parts setup state (take i inputs) last
-    ∙ ap (option_and_then (λ s. fold setup s last)) before
-    ∙ ap (option_and_then (λ (m : Moment). Some m.state)) one
 
 -- the inputs between two places of a run lead from the one state to the other
 pub links_run : (setup : Setup) (disk : List ℕ) (inputs : List Input) (a b : ℕ) (s t : State) → a ≤ b

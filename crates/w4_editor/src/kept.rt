@@ -1,6 +1,6 @@
 //! One entry of a kept list: a kept place with its state and its link.
 
-ghost use Rattle.std.specs.Prelude.{◌≡◌, ◌+◌, ◌-◌, ◌<◌, ◌≤◌, ◌↔◌, false, true, IfOk, IsTrue, length, nat_lt};
+ghost use Rattle.std.specs.Prelude.{◌≡◌, ◌+◌, ◌-◌, ◌<◌, false, true, IfOk};
 ghost use Rattle.w4_defs.specs.KeptList.{kept_entries};
 ghost use Rattle.w4_defs.specs.Session.{moved_down, moved_up};
 

@@ -4,7 +4,6 @@ ghost use Rattle.std.specs.Prelude.{◌≡◌, ◌≢◌, ℕ, ◌+◌, ◌-◌,
 ghost use Rattle.std.specs.Prelude.{OnErr, OnOk, Some, length};
 ghost use Rattle.w4_defs.specs.KeptList.{computed, kept_entries, last_up_to, relinked_at, replaced_at};
 ghost use Rattle.w4_defs.specs.KeptList.{state_at};
-ghost use Rattle.w4_defs.specs.State.{HasGlobals};
 ghost use Rattle.w4_defs.specs.Run.{run_state};
 ghost use Rattle.w4_defs.specs.Session.{keep_refusal, place_refusal, with_list};
 ghost use Rattle.w4_defs.specs.declared.editing.EditRefusal.TheVariants.{NoFrame, OutOfMemory as NoMemory};

@@ -1,7 +1,7 @@
 //! Bringing a kept list up to date.
 
-ghost use Rattle.std.specs.Prelude.{◌≡◌, ℕ, ◌+◌, ◌-◌, ◌<◌, ◌≤◌, true, IsOk, OnErr, OnOk, length, Some};
-ghost use Rattle.w4_defs.specs.KeptList.{IsSettled, SamePlaces, computed, doubtful, kept_entry_at, linked_at};
+ghost use Rattle.std.specs.Prelude.{◌≡◌, ◌+◌, ◌-◌, ◌<◌, true, IsOk, OnErr, OnOk, length, Some};
+ghost use Rattle.w4_defs.specs.KeptList.{IsSettled, SamePlaces, computed, doubtful, linked_at};
 ghost use Rattle.w4_defs.specs.KeptList.{place_at, HasTrueLinks};
 ghost use Rattle.w4_defs.specs.FramesRun.{RunsAtMost};
 ghost use Rattle.w4_defs.specs.State.{HasGlobals};

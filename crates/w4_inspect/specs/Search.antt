@@ -1,4 +1,4 @@
--- What a search holds of its width and its addresses, and what it has left after any number of narrowings.
+-- What a search holds of its addresses, and what it has left after any number of narrowings.
 use Rattle.std.specs.Prelude.{ℕ, ◌+◌, ◌≤◌, List, ◌≡◌, map, fold, Option, Some, option_map, option_and_then}
 use Rattle.std.specs.List.{All}
 use Rattle.std.specs.Option.{ForSome}
@@ -8,15 +8,10 @@ use Rattle.w4_defs.specs.AllThere.{all_some}
 use Rattle.w4_defs.specs.Search.{Search, Step, begin, narrow, remaining}
 use Rattle.w4_editor.specs.Editor.{Editing}
 use Rattle.w4_inspect.specs.PlacePages.{page_at}
-use Rattle.w4_inspect.specs.Values.{IsWidth}
 
 -- all bytes of a value at each of these addresses lie in the page
 abbrev pub AreWithin : ℕ → List ℕ → Type 0
 AreWithin width addresses = All (λ address. address + width ≤ 65536) addresses
-
-pub record IsSearch (width : ℕ) (candidates : List ℕ) : Type 0 where
-  pub width_is : IsWidth width
-  pub within : AreWithin width candidates
 
 -- a call of `narrow` that was accepted: the editor as it was then, the place and the test
 pub record Narrowing : Type 0 where

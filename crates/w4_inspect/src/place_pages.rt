@@ -9,11 +9,12 @@ ghost use Rattle.w4_editor.specs.Playing.{IsShown, KeepsRecording};
 ghost use Rattle.w4_inspect.specs.PlacePages.{page_at, AreOf, outside_refusal};
 ghost use Rattle.w4_inspect.specs.Refusal.{IsRefusal};
 ghost use Rattle.w4_inspect.specs.Watching.{IsWatched, watched};
-ghost use Rattle.w4_inspect.specs.Values.{IsInPage, IsWidth};
+ghost use Rattle.w4_inspect.specs.Values.{IsWidth};
 
 use crate::refusal::RamRefusal;
 use crate::search::copy_of;
-use crate::watching::{PAGE_LEN, ValueBytes, value_of};
+use crate::values::{PageValue, Width, value_in};
+use crate::watching::{PAGE_LEN, Places};
 use std::alloc::Global;
 use std::marker::Model;
 use std::sync::ledger::Ledger;
@@ -64,7 +65,7 @@ impl PlacePages {
         let mut pages = Vec::with_capacity(alloc, b - a + 1)?;
         let first = shown_page(alloc, editor, a, steps)?;
         pages.push(first)?;
-        add_pages(alloc, editor, a, b, &mut pages, steps)?;
+        add_pages(alloc, editor, Places { a, b }, &mut pages, steps)?;
         Ok(PlacePages { a, b, pages })
     }
 
@@ -88,46 +89,44 @@ impl PlacePages {
         if address as usize + width as usize > PAGE_LEN {
             return Err(RamRefusal::Outside);
         }
-        let what = ValueBytes { address, width };
+        let width = Width::of(width);
+        let what = PageValue { address, width };
         let values = values_in(alloc, self.pages.as_slice(), what)?;
         Ok(values)
     }
 }
 
 /// The value in each page.
-fn values_in(alloc: Global, pages: &[Page], what: ValueBytes) -> Result<Vec<u32>, OutOfMemory>
-    requires { IsInPage what.address what.width }
-    ensures { IfOk result (λ values.
-        values.items ≡ map (λ page. number_at page what.address what.width) pages.now) }
+fn values_in(alloc: Global, pages: &[Page], what: PageValue) -> Result<Vec<u32>, OutOfMemory>
+    ensures { IfOk result (λ values. values.items
+        ≡ map (λ page. number_at page what.address what.width.bytes) pages.now) }
 {
     let mut values = Vec::with_capacity(alloc, pages.len())?;
     for page in pages {
-        values.push(value_of(page.bytes(), what))?;
+        values.push(value_in(page.bytes(), what))?;
     }
     Ok(values)
 }
 
-/// Adds the pages at the places after `a`, which is shown, up to `b`.
+/// Adds the pages at the places after the first, which is shown.
 fn add_pages<L: Ledger>(
     alloc: Global,
     editor: &mut Editor,
-    a: usize,
-    b: usize,
+    places: Places,
     pages: &mut Vec<Page>,
     steps: &mut Steps<L>,
 ) -> Result<(), OutOfMemory>
-    requires at { editor.old.at ≡ Some a }
-    requires order { a ≤ b }
-    requires place { b ≤ length editor.old.session.current.inputs }
-    requires first { all_some (map (page_at editor.old) (range_with_len a 1)) ≡ Some pages.old.items }
-    ensures pages { OnOk result (all_some (map (page_at editor.old) (range_with_len a (b + 1 - a)))
+    requires at { editor.old.at ≡ Some places.a }
+    requires place { places.b ≤ length editor.old.session.current.inputs }
+    requires first { all_some (map (page_at editor.old) (range_with_len places.a 1)) ≡ Some pages.old.items }
+    ensures pages { OnOk result (all_some (map (page_at editor.old) (range_with_len places.a (places.b + 1 - places.a)))
         ≡ Some pages.new.items) }
-    ensures same { OnOk result (editor.new ≡ with_session editor.old editor.old.session (Some b)) }
-    ensures ticks { OnOk result (steps.new ≡ steps.old + (b - a)) }
+    ensures same { OnOk result (editor.new ≡ with_session editor.old editor.old.session (Some places.b)) }
+    ensures ticks { OnOk result (steps.new ≡ steps.old + (places.b - places.a)) }
     ensures err { OnErr result (KeepsRecording editor.old editor.new) }
 {
     let mut frame_record = FrameRecord::new();
-    for p in a..b {
+    for p in places.a..places.b {
         let page = next_page(alloc, editor, &mut frame_record, p, steps)?;
         pages.push(page)?;
     }

@@ -3,9 +3,8 @@
 ghost use Rattle.std.specs.Prelude.{◌≡◌, ◌≤◌, filter, IfOk, length, take};
 ghost use Rattle.w4_defs.specs.Search.{addresses, begin, test_holds_at, narrow};
 ghost use Rattle.w4_inspect.specs.Search.{AreWithin};
-ghost use Rattle.w4_inspect.specs.Values.{IsWidth};
 
-use crate::values::{test_holds, value_at};
+use crate::values::{PageValue, Width, test_holds, value_in};
 use std::alloc::Global;
 use std::marker::Model;
 use w4_defs::inspect::Test;
@@ -16,24 +15,24 @@ use wasm_page::Page;
 /// of the last call that was accepted, and the addresses that are left, in rising order.
 #[derive(Drop)]
 pub struct Search {
-    width: u32,
+    width: Width,
     page: Page,
     candidates: Vec<u32>,
 }
 
 impl Model for Search {
     ghost use Rattle.w4_defs.specs.Search.{Search};
-    ghost use Rattle.w4_inspect.specs.Search.{IsSearch};
+    ghost use Rattle.w4_inspect.specs.Search.{AreWithin};
 
     ghost Value = { Search };
 
     ghost view = { λ s. record {
-      width = s.width;
+      width = s.width.bytes;
       page = s.page;
       candidates = s.candidates.items;
     } };
 
-    ghost invariant = { λ s. IsSearch s.width s.candidates.items };
+    ghost invariant = { λ s. AreWithin s.width.bytes s.candidates.items };
 }
 
 impl Search {
@@ -45,9 +44,12 @@ impl Search {
     }
 
     /// A search that begins with this page.
-    pub(crate) fn begin(alloc: Global, width: u32, page: &PageBytes) -> Result<Search, OutOfMemory>
-        requires { IsWidth width }
-        ensures { IfOk result (λ search. search ≡ begin width page.now) }
+    pub(crate) fn begin(
+        alloc: Global,
+        width: Width,
+        page: &PageBytes,
+    ) -> Result<Search, OutOfMemory>
+        ensures { IfOk result (λ search. search ≡ begin width.bytes page.now) }
     {
         Ok(Search {
             width,
@@ -76,21 +78,19 @@ pub(crate) fn copy_of(alloc: Global, bytes: &PageBytes) -> Result<Page, OutOfMem
 }
 
 /// All addresses at which that many bytes lie in the page.
-fn addresses(alloc: Global, width: u32) -> Result<Vec<u32>, OutOfMemory>
-    requires { IsWidth width }
-    ensures value { IfOk result (λ all. all.items ≡ addresses width) }
-    ensures within { IfOk result (λ all. AreWithin width all.items) }
+fn addresses(alloc: Global, width: Width) -> Result<Vec<u32>, OutOfMemory>
+    ensures value { IfOk result (λ all. all.items ≡ addresses width.bytes) }
+    ensures within { IfOk result (λ all. AreWithin width.bytes all.items) }
 {
-    let all = (0..65_537 - width).collect(alloc)?;
+    let all = (0..65_537 - width.bytes).collect(alloc)?;
     Ok(all)
 }
 
 /// Keeps the addresses at which the test holds.
-fn retain(candidates: &mut Vec<u32>, width: u32, test: Test, page: &PageBytes, last: &PageBytes)
-    requires width { IsWidth width }
-    requires within { AreWithin width candidates.old.items }
-    ensures { candidates.new.items
-        ≡ filter (test_holds_at width test page.now last.now) candidates.old.items }
+fn retain(candidates: &mut Vec<u32>, width: Width, test: Test, page: &PageBytes, last: &PageBytes)
+    requires { AreWithin width.bytes candidates.old.items }
+    ensures { candidates.new.items ≡ filter (test_holds_at width.bytes test page.now last.now)
+        candidates.old.items }
 {
     let kept = keep_first(candidates.as_mut_slice(), width, test, page, last);
     candidates.truncate(kept);
@@ -99,22 +99,22 @@ fn retain(candidates: &mut Vec<u32>, width: u32, test: Test, page: &PageBytes, l
 /// Moves the addresses at which the test holds to the front, in their order, and gives how many they are.
 fn keep_first(
     candidates: &mut [u32],
-    width: u32,
+    width: Width,
     test: Test,
     page: &PageBytes,
     last: &PageBytes,
 ) -> usize
-    requires width { IsWidth width }
-    requires within { AreWithin width candidates.old }
+    requires { AreWithin width.bytes candidates.old }
     ensures kept { take result candidates.new
-        ≡ filter (test_holds_at width test page.now last.now) candidates.old }
+        ≡ filter (test_holds_at width.bytes test page.now last.now) candidates.old }
     ensures few { result ≤ length candidates.old }
 {
     let mut kept = 0;
     for i in 0..candidates.len() {
         let address = candidates[i];
-        let new = value_at(page, address, width);
-        let old = value_at(last, address, width);
+        let what = PageValue { address, width };
+        let new = value_in(page, what);
+        let old = value_in(last, what);
         if test_holds(test, new, old) {
             candidates[kept] = address;
             kept += 1;

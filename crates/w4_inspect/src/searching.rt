@@ -10,6 +10,7 @@ ghost use Rattle.w4_inspect.specs.declared.refusal.RamRefusal.TheVariants.{OutOf
 
 use crate::refusal::RamRefusal;
 use crate::search::Search;
+use crate::values::Width;
 use std::alloc::Global;
 use std::sync::ledger::Ledger;
 use w4_defs::inspect::Test;
@@ -40,7 +41,7 @@ impl Search {
         if p > last_place(editor) {
             return Err(RamRefusal::NoFrame);
         }
-        let search = begin_at(alloc, editor, width, p, steps)?;
+        let search = begin_at(alloc, editor, Width::of(width), p, steps)?;
         Ok(search)
     }
 
@@ -76,13 +77,13 @@ impl Search {
 fn begin_at<L: Ledger>(
     alloc: Global,
     editor: &mut Editor,
-    width: u32,
+    width: Width,
     p: usize,
     steps: &mut Steps<L>,
 ) -> Result<Search, OutOfMemory>
-    requires width { IsWidth width }
-    requires place { p ≤ length editor.old.session.current.inputs }
-    ensures begun { IfOk result (λ search. option_map (begin width) (page_at editor.old p) ≡ Some search) }
+    requires { p ≤ length editor.old.session.current.inputs }
+    ensures begun { IfOk result (λ search. option_map (begin width.bytes) (page_at editor.old p)
+        ≡ Some search) }
     ensures shown { OnOk result (IsShown p steps.old steps.new editor.old editor.new) }
     ensures err { OnErr result (KeepsRecording editor.old editor.new) }
 {

@@ -1,12 +1,36 @@
 //! The value at an address of a page, and the tests on two values.
 
-ghost use Rattle.std.specs.Prelude.{◌≡◌, ◌+◌, ◌≤◌};
+ghost use Rattle.std.specs.Prelude.{◌≡◌, ◌+◌, ◌≤◌, ◌||◌, ◌==◌, true};
 ghost use Rattle.w4_defs.specs.Bytes.{number_at};
 ghost use Rattle.w4_defs.specs.Search.{test_holds};
 ghost use Rattle.w4_inspect.specs.Values.{IsWidth};
 
 use w4_defs::PageBytes;
 use w4_defs::inspect::Test;
+
+/// How many bytes a value has: 1, 2 or 4.
+#[derive(Clone, Copy)]
+pub(crate) struct Width {
+    pub bytes: u32,
+    pub ghost known: { (bytes == 1 || bytes == 2 || bytes == 4) ≡ true },
+}
+
+/// A value in the page: where its bytes begin, and how many they are.
+#[derive(Clone, Copy)]
+pub(crate) struct PageValue {
+    pub address: u32,
+    pub width: Width,
+    pub ghost within: { address + width.bytes ≤ 65536 },
+}
+
+impl Width {
+    pub(crate) fn of(bytes: u32) -> Width
+        requires { IsWidth bytes }
+        ensures { result.bytes ≡ bytes }
+    {
+        Width { bytes }
+    }
+}
 
 fn half(page: &PageBytes, at: usize) -> u32
     requires { at + 2 ≤ 65536 }
@@ -22,14 +46,12 @@ fn word(page: &PageBytes, at: usize) -> u32
     u32::from_le_bytes([page[at], page[at + 1], page[at + 2], page[at + 3]])
 }
 
-/// The number in `width` bytes from the address on, the lowest first.
-pub fn value_at(page: &PageBytes, address: u32, width: u32) -> u32
-    requires width { IsWidth width }
-    requires within { address + width ≤ 65536 }
-    ensures { result ≡ number_at page.now address width }
+/// The number in the bytes of a value, the lowest first.
+pub(crate) fn value_in(page: &PageBytes, what: PageValue) -> u32
+    ensures { result ≡ number_at page.now what.address what.width.bytes }
 {
-    let at = address as usize;
-    match width {
+    let at = what.address as usize;
+    match what.width.bytes {
         1 => u32::from(page[at]),
         2 => half(page, at),
         _ => word(page, at),

@@ -55,11 +55,12 @@ mixed_digit digit mask index hd hi (inr e) =
     let second : bit_and index 0 ≡ 0 = and_zero_r index in
     rw (e, first, second) (or_zero_r digit)
 
-pub masked_digit : (byte mask fill index k : ℕ) → mask < 256 → index < 4 → k < 4
+pub masked_digit : (byte mask fill index k : ℕ) → mask < 256 → k < 4
     → fill / 4 ^ k % 4 ≡ index → (mask / 4 ^ k % 4 ≡ 3) ⊎ (mask / 4 ^ k % 4 ≡ 0)
     → bit_or (bit_and byte (255 - mask)) (bit_and fill mask) / 4 ^ k % 4
     ≡ (if mask / 4 ^ k % 4 == 3 then index else byte / 4 ^ k % 4)
-masked_digit byte mask fill index k small hi hk is_filled each =
+masked_digit byte mask fill index k small hk is_filled each =
+    let hi : index < 4 = omega arith in
     rw (
       or_digit (bit_and byte (255 - mask)) (bit_and fill mask) k hk,
       and_digit byte (255 - mask) k hk,

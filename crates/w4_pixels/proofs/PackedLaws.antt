@@ -16,35 +16,33 @@ use Rattle.w4_pixels.specs.Clipping.{clipped}
 use Rattle.w4_pixels.proofs.ClippingLaws.{union}
 use Rattle.w4_pixels.specs.Packed.{Chooses, bytes_painter, masked_painter, dot_painter, one_of_four, quad_painter, zero_painter}
 
-chosen_index : (test : Bool) (index digit : ℕ) → index < 4 → digit < 4
-    → cond test index digit ≡ unwrap_or (only_if test (Some index)) digit % 4
-chosen_index true index digit h g = omega arith
-chosen_index false index digit h g = omega arith
+chosen_index : (test : Bool) (index digit new : ℕ) → new < 4 → new ≡ cond test index digit
+    → new ≡ unwrap_or (only_if test (Some index)) digit % 4
+chosen_index true index digit new h e = omega arith
+chosen_index false index digit new h e = omega arith
 
 -- the pixels of a byte that a mask chooses
-pub mask_digit : (page : List ℕ) (q row mask index k digit : ℕ) → index < 4 → k < 4
+pub mask_digit : (page : List ℕ) (q row mask index k digit : ℕ) → digit < 4 → k < 4
     → digit ≡ (if mask / 4 ^ k % 4 == 3 then index else get_or page (160 + (40 * row + q)) 0 / 4 ^ k % 4)
     → digit ≡ painted_pixel page (masked_painter q row mask (Some index)) (4 * q + k) row
-mask_digit page q row mask index k digit hi hk e =
+mask_digit page q row mask index k digit hd hk e =
     let byte_is : (160 * row + (4 * q + k)) / 4 ≡ 40 * row + q = omega arith in
     let which : (4 * q + k) % 4 ≡ k = omega arith in
     let here : ((4 * q + k) / 4 == q) ≡ true = grind (arith, nat_tests) in
     let line : (row == row) ≡ true = grind (arith, nat_tests) in
     rw (byte_is, which, here, line)
-    (e ∙ chosen_index (mask / 4 ^ k % 4 == 3) index (get_or page (160 + (40 * row + q)) 0 / 4 ^ k % 4) hi
-    (omega arith))
+    (chosen_index (mask / 4 ^ k % 4 == 3) index (get_or page (160 + (40 * row + q)) 0 / 4 ^ k % 4) digit hd e)
 
 -- one pixel of a byte
-pub dot_digit : (page : List ℕ) (u v k index digit : ℕ) → u < 160 → index < 4 → k < 4
+pub dot_digit : (page : List ℕ) (u v k index digit : ℕ) → u < 160 → digit < 4 → k < 4
     → digit ≡ (if k == u % 4 then index else get_or page (160 + (40 * v + u / 4)) 0 / 4 ^ k % 4)
     → digit ≡ painted_pixel page (dot_painter u v (Some index)) (4 * (u / 4) + k) v
-dot_digit page u v k index digit hu hi hk e =
+dot_digit page u v k index digit hu hd hk e =
     let byte_is : (160 * v + (4 * (u / 4) + k)) / 4 ≡ 40 * v + u / 4 = omega arith in
     let which : (4 * (u / 4) + k) % 4 ≡ k = omega arith in
     let test : (4 * (u / 4) + k == u && v == v) ≡ (k == u % 4) = grind (arith, nat_tests) in
     rw (byte_is, which, test)
-    (e ∙ chosen_index (k == u % 4) index (get_or page (160 + (40 * v + u / 4)) 0 / 4 ^ k % 4) hi (omega
-    arith))
+    (chosen_index (k == u % 4) index (get_or page (160 + (40 * v + u / 4)) 0 / 4 ^ k % 4) digit hd e)
 
 -- the pixels of a byte, each by itself
 pub quad_digit : (page : List ℕ) (q row k digit : ℕ) (first second third fourth : Option ℕ) → k < 4
@@ -162,12 +160,14 @@ filled_digit page new first end row byte index x y he hi digits inside outside h
 
 pub bytes_filled : (page filled : List ℕ) (first end row byte index a k n : ℕ) → first ≤ end → end ≤ 40
     → row < 160
-    → index < 4 → byte < 256 → a ≡ 160 + 40 * row + first → n ≡ 160 + 40 * row + end → a + k ≡ n
+    → byte < 256 → a ≡ 160 + 40 * row + first → n ≡ 160 + 40 * row + end → a + k ≡ n
     → length page ≡ 65536 → ((i : ℕ) → get_or page i 0 < 256)
     → ((j : ℕ) → j < 4 → byte / 4 ^ j % 4 ≡ index)
     → filled ≡ replicate (length (mid_of a k page)) byte
     → put_mid a k page filled ≡ paint page (bytes_painter first end row (Some index))
-bytes_filled page filled first end row byte index a k n order he hrow hi hb ea en ek len small digits all =
+bytes_filled page filled first end row byte index a k n order he hrow hb ea en ek len small digits all =
+    let first_digit = digits 0 (omega arith) in
+    let hi : index < 4 = omega arith in
     let new = put_mid a k page filled in
     let e : filled ≡ replicate k byte = all ∙ ap (λ m. replicate m byte) (mid_size page a k (omega arith)) in
     let size : length filled ≡ k = ap length e ∙ length-replicate {A = ℕ} k byte in

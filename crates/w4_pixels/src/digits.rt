@@ -3,6 +3,8 @@
 ghost use Rattle.std.specs.Prelude.{◌/◌, ◌%◌, ◌<◌, ◌==◌, ◌≡◌, ◌≤◌, ◌^◌, ℕ, if◌then◌else◌};
 ghost use Rattle.w4_pixels.specs.Packed.{Chooses, IsMask};
 
+use crate::colour::PaletteIndex;
+
 /// The k-th digit of a byte.
 pub fn digit(byte: u8, k: u32) -> u8
     requires { k < 4 }
@@ -12,9 +14,8 @@ pub fn digit(byte: u8, k: u32) -> u8
 }
 
 /// The byte with the palette index as its k-th digit.
-pub fn with_digit(byte: u8, k: u32, index: u8) -> u8
-    requires digit { k < 4 }
-    requires index { index < 4 }
+pub fn with_digit(byte: u8, k: u32, index: PaletteIndex) -> u8
+    requires { k < 4 }
     ensures { (j : ℕ) → j < 4
         → result / 4 ^ j % 4 ≡ (if j == k then index else byte / 4 ^ j % 4) }
 {
@@ -41,9 +42,8 @@ pub fn span_mask(low: usize, high: usize) -> u8
 }
 
 /// The byte with the palette index as each digit that is 3 in the mask.
-pub fn masked(byte: u8, mask: u8, index: u8) -> u8
-    requires mask { IsMask mask }
-    requires index { index < 4 }
+pub fn masked(byte: u8, mask: u8, index: PaletteIndex) -> u8
+    requires { IsMask mask }
     ensures { (k : ℕ) → k < 4
         → result / 4 ^ k % 4 ≡ (if mask / 4 ^ k % 4 == 3 then index else byte / 4 ^ k % 4) }
 {
@@ -51,9 +51,8 @@ pub fn masked(byte: u8, mask: u8, index: u8) -> u8
 }
 
 /// A byte of four times the same digit.
-pub(crate) fn filled(index: u8) -> u8
-    requires { index < 4 }
+pub(crate) fn filled(index: PaletteIndex) -> u8
     ensures { (k : ℕ) → k < 4 → result / 4 ^ k % 4 ≡ index }
 {
-    85 * index
+    85 * index.number()
 }

@@ -1,13 +1,15 @@
 //! Single pixels.
 
-ghost use Rattle.std.specs.Prelude.{◌+◌, ◌/◌, ◌%◌, ◌<◌, ◌≡◌, ◌≤◌, ◌^◌, Some};
+ghost use Rattle.std.specs.Prelude.{◌+◌, ◌/◌, ◌%◌, ◌<◌, ◌≡◌, Some};
 ghost use Rattle.w4_defs.specs.Framebuffer.{paint, pixel};
 ghost use Rattle.w4_defs.specs.Shapes.{point_painter};
 ghost use Rattle.w4_pixels.specs.Clipping.{clipped};
 ghost use Rattle.w4_pixels.specs.Packed.{dot_painter};
 
+use crate::colour::PaletteIndex;
 use crate::digits::{digit, with_digit};
 use crate::runs::fill;
+use crate::screen::ScreenPart;
 use w4_defs::PageBytes;
 
 /// The palette index, 0 to 3, of the pixel at column `x` and row `y`.
@@ -21,8 +23,7 @@ pub fn pixel(page: &PageBytes, x: u32, y: u32) -> u8
 }
 
 /// Paints the pixel at (x, y), where that is on the screen.
-pub fn point(page: &mut PageBytes, x: i64, y: i64, index: u8)
-    requires { index < 4 }
+pub fn point(page: &mut PageBytes, x: i64, y: i64, index: PaletteIndex)
     ensures { page.new ≡ paint page.old (point_painter x y (Some index)) }
 {
     if 0 <= x && x < 160 && 0 <= y && y < 160 {
@@ -31,31 +32,31 @@ pub fn point(page: &mut PageBytes, x: i64, y: i64, index: u8)
 }
 
 /// Paints the pixel at column `u` and row `v` of the screen.
-pub(crate) fn put_dot(page: &mut PageBytes, u: usize, v: usize, index: u8)
+pub(crate) fn put_dot(page: &mut PageBytes, u: usize, v: usize, index: PaletteIndex)
     requires column { u < 160 }
     requires row { v < 160 }
-    requires index { index < 4 }
     ensures { page.new ≡ paint page.old (dot_painter u v (Some index)) }
 {
     put_pixel(page, 160 * v + u, index);
 }
 
 /// Paints the pixel of number `n`, counted in rows from the top.
-pub fn put_pixel(page: &mut PageBytes, n: usize, index: u8)
-    requires number { n < 25600 }
-    requires index { index < 4 }
+pub fn put_pixel(page: &mut PageBytes, n: usize, index: PaletteIndex)
+    requires { n < 25600 }
     ensures { page.new ≡ paint page.old (dot_painter (n % 160) (n / 160) (Some index)) }
 {
     let at = 160 + n / 4;
     page[at] = with_digit(page[at], (n % 4) as u32, index);
 }
 
-/// Paints the pixels of column `u` of the screen from row `top` up to `bottom`, which is left out.
-pub fn column(page: &mut PageBytes, u: usize, top: usize, bottom: usize, index: u8)
-    requires column { u < 160 }
-    requires rows { bottom ≤ 160 }
-    requires index { index < 4 }
-    ensures { page.new ≡ paint page.old (clipped (λ a b. Some index) u (u + 1) top bottom) }
+/// Paints the pixels of column `u` of the screen in some of its rows.
+pub fn column(page: &mut PageBytes, u: usize, rows: ScreenPart, index: PaletteIndex)
+    requires { u < 160 }
+    ensures { page.new ≡ paint page.old (clipped (λ a b. Some index) u (u + 1) rows.first rows.end) }
 {
-    fill(page, u, u + 1, top, bottom, index);
+    let columns = ScreenPart {
+        first: u,
+        end: u + 1,
+    };
+    fill(page, columns, rows, index);
 }

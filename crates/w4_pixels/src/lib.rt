@@ -9,8 +9,8 @@ pub mod quads;
 pub mod runs;
 pub mod screen;
 
-pub use colour::entry_of;
+pub use colour::{PaletteIndex, entry_of};
 pub use dots::{column, pixel, point, put_pixel};
 pub use quads::{Quad, put_quad};
 pub use runs::{clear, fill, span};
-pub use screen::{on_screen, screen_part};
+pub use screen::{RowByte, ScreenPart, on_screen, part_between, screen_part};

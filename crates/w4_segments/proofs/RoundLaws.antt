@@ -18,7 +18,7 @@ use Rattle.w4_editor.proofs.SettlingLaws.{relinked_computed, replaced_computed}
 use Rattle.w4_segments.specs.declared.worker.Task.{Task}
 use Rattle.w4_segments.specs.declared.worker.Worker.{Worker}
 use Rattle.w4_segments.specs.Filming.{KeepsShown}
-use Rattle.w4_segments.specs.Rounds.{entries_of, IsSegment, IsDealt, AreRising, AreDealt, AreComputed, LinksNext, CanTake, IsTaken, LengthensFront, CanPlay, HasPlayed}
+use Rattle.w4_segments.specs.Rounds.{entries_of, IsSegment, IsDealt, AreRising, AreDealt, AreComputed, LinksNext, IsTaken, LengthensFront, CanPlay, HasPlayed}
 use Rattle.w4_segments.specs.Worker.{HasCartTypes, EachDid}
 use Rattle.w4_segments.proofs.WorkerLaws.{up_to_here, all_changed, changed_here, unchanged}
 

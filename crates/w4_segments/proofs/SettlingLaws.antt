@@ -1,6 +1,6 @@
 -- What the rounds leave, and what a settling after them leaves.
-use Rattle.std.proofs.Common.{◌≡◌, ◌≢◌, ℕ, ◌+◌, ◌-◌, ◌≤◌, Bool, false, ◌&&◌, List, length, refl, sym, ap, ◌∙◌, arith}
-use Rattle.std.specs.Prelude.{IsOk, OnOk, Result, Ok, Err}
+use Rattle.std.proofs.Common.{◌≡◌, ◌≢◌, ℕ, ◌+◌, ◌-◌, ◌≤◌, Bool, false, ◌&&◌, List, length, sym, ap, ◌∙◌, arith}
+use Rattle.std.specs.Prelude.{OnOk, Result, Ok, Err}
 use Rattle.std.proofs.lemmas.List.{get_or_past}
 use Rattle.w4_defs.specs.KeptList.{Entry, IsSettled, SamePlaces, kept_entry_at, linked_at, nowhere, state_at}
 use Rattle.w4_defs.specs.SameState.{same_state}

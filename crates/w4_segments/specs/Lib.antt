@@ -5,3 +5,4 @@ pub mod Pieces
 pub mod FilmPieces
 pub mod Settling
 pub mod Batching
+pub mod Counting

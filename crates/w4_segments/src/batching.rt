@@ -10,6 +10,7 @@ ghost use Rattle.w4_segments.specs.Batching.{AreDealtOut, AreOfWorkers, AreRows,
 use crate::gate::Gate;
 use crate::playing::play;
 use crate::resources::Resources;
+use crate::workers::Workers;
 use std::alloc::Global;
 use std::thread;
 use std::thread::Threads;
@@ -32,7 +33,7 @@ struct BatchFiles<'a> {
     items: &'a [Vec<u8>],
 }
 
-/// The row of each item, in the items' order, by 1 to 16 workers. An item that is run passes the gate with
+/// The row of each item, in the items' order, by this many workers. An item that is run passes the gate with
 /// its number before its reset. Errors: OutOfMemory.
 pub fn batch<R: Threads + Sync, G: Gate + Sync>(
     resources: &Resources<'_, R, G>,
@@ -40,14 +41,12 @@ pub fn batch<R: Threads + Sync, G: Gate + Sync>(
     font: &Font,
     digest: &[u8; 32],
     items: &[Vec<u8>],
-    workers: usize,
+    workers: Workers,
 ) -> Result<Vec<BatchRow>, OutOfMemory>
-    requires some { 1 ≤ workers }
-    requires few { workers ≤ 16 }
     ensures { IfOk result (λ rows. map Some rows.items
         ≡ file_rows sha256 cart.now font.now digest.now (map bytes_of items.now)) }
 {
-    let worker_count = items.len().min(workers);
+    let worker_count = items.len().min(workers.count);
     let files = BatchFiles {
         cart,
         digest,

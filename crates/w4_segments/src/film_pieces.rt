@@ -4,6 +4,7 @@ ghost use Rattle.std.specs.Prelude.{◌≡◌, ◌≢◌, ℕ, ◌+◌, ◌-◌,
 ghost use Rattle.w4_defs.specs.AllThere.{joined};
 ghost use Rattle.w4_defs.specs.Image.{image};
 ghost use Rattle.w4_defs.specs.KeptList.{place_at};
+ghost use Rattle.w4_segments.specs.Counting.{IsBlankOf};
 ghost use Rattle.w4_segments.specs.FilmPieces.{
   IsFilming,
   HasNext,
@@ -26,6 +27,7 @@ use crate::pieces::film_all;
 use crate::resources::Resources;
 use crate::rounds::{is_consistent, settle_rounds, unlinked};
 use crate::worker::{Task, Worker, new_workers};
+use crate::workers::Workers;
 use std::alloc::Global;
 use std::marker::Brand;
 use std::sync::ledger::{Blank, Ledger};
@@ -56,7 +58,7 @@ pub struct FilmPieces {
 }
 
 impl FilmPieces {
-    /// Begins the film of places `a` to `b` of the recording as it is, by 1 to 16 workers. It is cut into
+    /// Begins the film of places `a` to `b` of the recording as it is, by this many workers. It is cut into
     /// pieces at the kept places above `a` and up to `b`, which are brought up to date first. Errors, in this
     /// order: NoFrame if there is no place `b`; FilmTooLong if there would be more than 600 images;
     /// OutOfMemory, and then kept states and links may be newer.
@@ -66,11 +68,9 @@ impl FilmPieces {
         editor: &mut Editor,
         a: usize,
         b: usize,
-        workers: usize,
+        workers: Workers,
     ) -> Result<FilmPieces, FilmRefusal>
-        requires order { a ≤ b }
-        requires some { 1 ≤ workers }
-        requires few { workers ≤ 16 }
+        requires { a ≤ b }
         ensures filming { IfOk result (λ film. IsFilming film editor.new) }
         ensures images { IfOk result (λ film. images_left film editor.new ≡ film_images editor.old a b) }
         ensures refused { IfErr result (IsFilmRefusal (film_refusal a b editor.old.session.current.inputs)) }
@@ -187,23 +187,21 @@ fn begin_there<R: Threads + Sync, L: Ledger>(
     editor: &mut Editor,
     a: usize,
     b: usize,
-    workers: usize,
+    workers: Workers,
     blank: Blank,
 ) -> Result<FilmPieces, OutOfMemory>
     requires order { a ≤ b }
     requires there { b ≤ length editor.old.session.current.inputs }
-    requires some { 1 ≤ workers }
-    requires few { workers ≤ 16 }
-    requires name { blank.name ≡ L.name }
-    requires parts { blank.parts ≡ L.parts }
-    requires shares { 0 < L.parts }
+    requires blank { IsBlankOf L.name L.parts blank }
     ensures filming { IfOk result (λ film. IsFilming film editor.new) }
     ensures images { IfOk result (λ film. images_left film editor.new ≡ film_images editor.old a b) }
     ensures keeps { KeepsShown editor.old editor.new }
 {
     is_consistent(editor);
     let (first, last) = (last_up_to(editor, a), last_up_to(editor, b));
-    let worker_count = (last + 1 - first).max(unlinked(editor, last)).min(workers);
+    let worker_count = (last + 1 - first)
+        .max(unlinked(editor, last))
+        .min(workers.count);
     let mut worker_list = new_workers(resources.alloc, editor.cart(), worker_count)?;
     let mut rounds = Steps::<L>::new(blank);
     settle_rounds(

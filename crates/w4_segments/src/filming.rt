@@ -10,12 +10,13 @@ ghost use Rattle.w4_defs.specs.declared.film_refusal.FilmRefusal.TheVariants.{Ou
 use crate::film_pieces::FilmPieces;
 use crate::gate::Gate;
 use crate::resources::Resources;
+use crate::workers::Workers;
 use std::thread::Threads;
 use w4_defs::{FilmRefusal, OutOfMemory};
 use w4_editor::Editor;
 use w4_image::{IMAGE_LEN, Screen, screen_into};
 
-/// The images of places `a` to `b` of the recording as it is, one after another, by 1 to 16 workers:
+/// The images of places `a` to `b` of the recording as it is, one after another, by this many workers:
 /// `FilmPieces` in one list. Errors, in this order: NoFrame if there is no place `b`; FilmTooLong if there
 /// would be more than 600 images; OutOfMemory, and then kept states and links may be newer.
 pub fn film<R: Threads + Sync, G: Gate + Sync>(
@@ -23,11 +24,9 @@ pub fn film<R: Threads + Sync, G: Gate + Sync>(
     editor: &mut Editor,
     a: usize,
     b: usize,
-    workers: usize,
+    workers: Workers,
 ) -> Result<Vec<u8>, FilmRefusal>
-    requires order { a ≤ b }
-    requires some { 1 ≤ workers }
-    requires few { workers ≤ 16 }
+    requires { a ≤ b }
     ensures images { IfOk result (λ film. film_images editor.old a b ≡ Some film.items) }
     ensures refused { IfErr result (IsFilmRefusal (film_refusal a b editor.old.session.current.inputs)) }
     ensures accepted { OnOk result (film_refusal a b editor.old.session.current.inputs ≡ None) }

@@ -13,6 +13,7 @@ pub mod resources;
 mod rounds;
 pub mod settling;
 mod worker;
+pub mod workers;
 
 pub use batching::batch;
 pub use film_pieces::FilmPieces;
@@ -22,3 +23,4 @@ pub use resources::Resources;
 pub use settling::{settle_wide, settle_wide_counted};
 pub use w4_defs::FilmRefusal;
 pub use w4_defs::batch::BatchRow;
+pub use workers::{MOST_WORKERS, Workers};

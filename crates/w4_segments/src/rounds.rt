@@ -1,7 +1,7 @@
 //! Rounds of settling. A round runs segments that aren't linked side by side, each from the state that is
 //! kept before it, and the calling thread alone compares what came of them with what is kept.
 
-ghost use Rattle.std.specs.Prelude.{◌≡◌, ◌≢◌, ℕ, ◌+◌, ◌-◌, ◌<◌, ◌≤◌, ◌↔◌, All, IfOk, IsFalse, IsTrue, None, OnOk, Some, length, slice_index_or, true};
+ghost use Rattle.std.specs.Prelude.{◌≡◌, ℕ, ◌+◌, ◌-◌, ◌<◌, ◌≤◌, All, IfOk, IsFalse, IsTrue, None, OnOk, Some, length, slice_index_or, true};
 ghost use Rattle.w4_defs.specs.Board.{console_setup};
 ghost use Rattle.w4_defs.specs.KeptList.{IsDraft, computed, linked_at};
 ghost use Rattle.w4_defs.specs.FramesRun.{RunsAtMost};

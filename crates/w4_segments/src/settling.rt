@@ -1,9 +1,10 @@
 //! Settling by many workers.
 
-ghost use Rattle.std.specs.Prelude.{◌≡◌, ◌-◌, ◌<◌, ◌≤◌, ◌⊎◌, IsOk, None, OnErr, OnOk, length};
+ghost use Rattle.std.specs.Prelude.{◌≡◌, ◌-◌, ◌<◌, ◌⊎◌, IsOk, None, OnErr, OnOk, length};
 ghost use Rattle.w4_defs.specs.FramesRun.{RunsAtMost};
 ghost use Rattle.w4_editor.specs.Settling.{AreLinked};
 ghost use Rattle.w4_editor.specs.Playing.{KeepsRecording};
+ghost use Rattle.w4_segments.specs.Counting.{IsBlankOf};
 ghost use Rattle.w4_segments.specs.Filming.{KeepsShown};
 ghost use Rattle.w4_segments.specs.Settling.{AreAllLinked, IsPartlySettled, IsSettledWide};
 
@@ -11,6 +12,7 @@ use crate::gate::Gate;
 use crate::resources::Resources;
 use crate::rounds::{is_consistent, settle_rounds, unlinked};
 use crate::worker::new_workers;
+use crate::workers::Workers;
 use std::alloc::Global;
 use std::marker::Brand;
 use std::sync::ledger::{Blank, Ledger};
@@ -18,17 +20,15 @@ use std::thread::Threads;
 use w4_defs::{OutOfMemory, Steps};
 use w4_editor::Editor;
 
-/// Brings all kept places up to date, as `Editor::settle` does, by 1 to 16 workers; a piece of a round is one
-/// segment that isn't linked. No place is shown then. Takes no memory where they are linked. Errors:
+/// Brings all kept places up to date, as `Editor::settle` does, by this many workers; a piece of a round is
+/// one segment that isn't linked. No place is shown then. Takes no memory where they are linked. Errors:
 /// OutOfMemory, and then kept states and links may be newer, and the place that was shown still is, or none
 /// is.
 pub fn settle_wide<R: Threads + Sync, G: Gate + Sync>(
     resources: &Resources<'_, R, G>,
     editor: &mut Editor,
-    workers: usize,
+    workers: Workers,
 ) -> Result<(), OutOfMemory>
-    requires some { 1 ≤ workers }
-    requires few { workers ≤ 16 }
     ensures ok { OnOk result (IsSettledWide editor.old editor.new) }
     ensures err { OnErr result (IsPartlySettled editor.old editor.new) }
     ensures linked { AreAllLinked editor.old → IsOk result }
@@ -40,14 +40,10 @@ pub fn settle_wide<R: Threads + Sync, G: Gate + Sync>(
 fn settle_alone<R: Threads + Sync, G: Gate + Sync, L: Ledger>(
     resources: &Resources<'_, R, G>,
     editor: &mut Editor,
-    workers: usize,
+    workers: Workers,
     blank: Blank,
 ) -> Result<(), OutOfMemory>
-    requires some { 1 ≤ workers }
-    requires few { workers ≤ 16 }
-    requires name { blank.name ≡ L.name }
-    requires parts { blank.parts ≡ L.parts }
-    requires shares { 0 < L.parts }
+    requires { IsBlankOf L.name L.parts blank }
     ensures ok { OnOk result (IsSettledWide editor.old editor.new) }
     ensures err { OnErr result (IsPartlySettled editor.old editor.new) }
     ensures linked { AreAllLinked editor.old → IsOk result }
@@ -60,11 +56,9 @@ fn settle_alone<R: Threads + Sync, G: Gate + Sync, L: Ledger>(
 pub fn settle_wide_counted<R: Threads + Sync, G: Gate + Sync, L: Ledger>(
     resources: &Resources<'_, R, G>,
     editor: &mut Editor,
-    workers: usize,
+    workers: Workers,
     rounds: &mut Steps<L>,
 ) -> Result<(), OutOfMemory>
-    requires some { 1 ≤ workers }
-    requires few { workers ≤ 16 }
     ensures ok { OnOk result (IsSettledWide editor.old editor.new) }
     ensures err { OnErr result (IsPartlySettled editor.old editor.new) }
     ensures linked { AreAllLinked editor.old → IsOk result }
@@ -80,11 +74,9 @@ pub fn settle_wide_counted<R: Threads + Sync, G: Gate + Sync, L: Ledger>(
 fn settle_by_rounds<R: Threads + Sync, G: Gate + Sync, L: Ledger>(
     resources: &Resources<'_, R, G>,
     editor: &mut Editor,
-    workers: usize,
+    workers: Workers,
     rounds: &mut Steps<L>,
 ) -> Result<(), OutOfMemory>
-    requires some { 1 ≤ workers }
-    requires few { workers ≤ 16 }
     ensures ok { OnOk result (IsSettledWide editor.old editor.new) }
     ensures err { OnErr result (KeepsRecording editor.old editor.new) }
     ensures at { OnErr result ((editor.new.at ≡ editor.old.at) ⊎ (editor.new.at ≡ None)) }
@@ -100,10 +92,9 @@ fn settle_by_rounds<R: Threads + Sync, G: Gate + Sync, L: Ledger>(
 fn link_all<R: Threads + Sync, G: Gate + Sync, L: Ledger>(
     resources: &Resources<'_, R, G>,
     editor: &mut Editor,
-    workers: usize,
+    workers: Workers,
     rounds: &mut Steps<L>,
 ) -> Result<(), OutOfMemory>
-    requires some { 1 ≤ workers }
     ensures linked { OnOk result (AreLinked (length editor.old.session.current.kept - 1)
         editor.new.session.current.kept) }
     ensures keeps { KeepsShown editor.old editor.new }
@@ -116,7 +107,7 @@ fn link_all<R: Threads + Sync, G: Gate + Sync, L: Ledger>(
     if owed == 0 {
         return Ok(());
     }
-    let mut worker_list = new_workers(resources.alloc, editor.cart(), owed.min(workers))?;
+    let mut worker_list = new_workers(resources.alloc, editor.cart(), owed.min(workers.count))?;
     settle_rounds(resources, editor, last, worker_list.as_mut_slice(), rounds)
 }
 
@@ -131,9 +122,7 @@ fn last_entry(editor: &Editor) -> usize
 
 /// Settles under a counter of its own. If all is linked it runs no frame.
 fn settle<L: Ledger>(alloc: Global, editor: &mut Editor, blank: Blank) -> Result<(), OutOfMemory>
-    requires name { blank.name ≡ L.name }
-    requires parts { blank.parts ≡ L.parts }
-    requires some { 0 < L.parts }
+    requires { IsBlankOf L.name L.parts blank }
     ensures ok { OnOk result (IsSettledWide editor.old editor.new) }
     ensures err { OnErr result (KeepsRecording editor.old editor.new) }
     ensures at { OnErr result (editor.new.at ≡ None) }

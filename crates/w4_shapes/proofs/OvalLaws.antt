@@ -6,9 +6,8 @@ use Rattle.std.proofs.lemmas.Bool.{cases_lt}
 use Rattle.std.proofs.lemmas.Bool.Decides.{nat_tests}
 use Rattle.std.proofs.lemmas.Int.{ints}
 use Rattle.w4_defs.specs.Shapes.{aside}
-use Rattle.w4_shapes.specs.OvalCells.{OnScreen, reaches}
-use Rattle.w4_shapes.specs.declared.ovals.Cells.{Cells}
-use Rattle.w4_shapes.specs.declared.ovals.Columns.{Columns}
+use Rattle.w4_shapes.specs.OvalCells.{reaches}
+use Rattle.w4_shapes.specs.declared.oval_cells.Columns.{Columns}
 
 squares : (a b : ℕ) → a ≤ b → a * a ≤ b * b
 squares a b h =
@@ -35,39 +34,43 @@ right_aside x w s t h right = omega (arith, ints)
 
 -- ---- columns of the left half
 
-pub left_outside : (cells : Cells) (columns : Columns) (s k limit : ℕ) → OnScreen cells columns
-    → columns.left ≤ s → s ≤ k → k < columns.middle
-    → reaches cells limit k ≡ false → reaches cells limit s ≡ false
-left_outside cells columns s k limit on first h half e =
+pub left_outside : (columns : Columns) (s k limit : ℕ) → columns.left ≤ s → s ≤ k → k < columns.middle
+    → reaches columns.cells limit k ≡ false → reaches columns.cells limit s ≡ false
+left_outside columns s k limit first h half e =
+    let cells = columns.cells in
     further (aside ((pos k -ℤ pos 1) -ℤ cells.x) cells.w) (aside ((pos s -ℤ pos 1) -ℤ cells.x) cells.w)
     limit
-    (left_aside cells.x cells.w s k h ((on.halves k (omega arith) (omega (arith, on.high_end))).0 half)) e
+    (left_aside cells.x cells.w s k h ((columns.halves k (omega arith) (omega (arith, columns.high_end))).0
+    half)) e
 
-pub left_within : (cells : Cells) (columns : Columns) (s k limit : ℕ) → OnScreen cells columns
-    → columns.left ≤ s → s ≤ k → k < columns.middle
-    → reaches cells limit s ≡ true → reaches cells limit k ≡ true
-left_within cells columns s k limit on first h half e =
+pub left_within : (columns : Columns) (s k limit : ℕ) → columns.left ≤ s → s ≤ k → k < columns.middle
+    → reaches columns.cells limit s ≡ true → reaches columns.cells limit k ≡ true
+left_within columns s k limit first h half e =
+    let cells = columns.cells in
     nearer (aside ((pos k -ℤ pos 1) -ℤ cells.x) cells.w) (aside ((pos s -ℤ pos 1) -ℤ cells.x) cells.w)
     limit
-    (left_aside cells.x cells.w s k h ((on.halves k (omega arith) (omega (arith, on.high_end))).0 half)) e
+    (left_aside cells.x cells.w s k h ((columns.halves k (omega arith) (omega (arith, columns.high_end))).0
+    half)) e
 
 -- ---- columns of the right half
 
-pub right_outside : (cells : Cells) (columns : Columns) (s k limit : ℕ) → OnScreen cells columns
-    → columns.middle ≤ s → s ≤ k → k < columns.right + 2
-    → reaches cells limit s ≡ false → reaches cells limit k ≡ false
-right_outside cells columns s k limit on first h half e =
+pub right_outside : (columns : Columns) (s k limit : ℕ) → columns.middle ≤ s → s ≤ k → k < columns.right + 2
+    → reaches columns.cells limit s ≡ false → reaches columns.cells limit k ≡ false
+right_outside columns s k limit first h half e =
+    let cells = columns.cells in
     further (aside ((pos s -ℤ pos 1) -ℤ cells.x) cells.w) (aside ((pos k -ℤ pos 1) -ℤ cells.x) cells.w)
     limit
-    (right_aside cells.x cells.w s k h ((on.halves s (omega (arith, on.low)) (omega arith)).1 first)) e
+    (right_aside cells.x cells.w s k h ((columns.halves s (omega (arith, columns.low)) (omega arith)).1
+    first)) e
 
-pub right_within : (cells : Cells) (columns : Columns) (s k limit : ℕ) → OnScreen cells columns
-    → columns.middle ≤ s → s ≤ k → k < columns.right + 2
-    → reaches cells limit k ≡ true → reaches cells limit s ≡ true
-right_within cells columns s k limit on first h half e =
+pub right_within : (columns : Columns) (s k limit : ℕ) → columns.middle ≤ s → s ≤ k → k < columns.right + 2
+    → reaches columns.cells limit k ≡ true → reaches columns.cells limit s ≡ true
+right_within columns s k limit first h half e =
+    let cells = columns.cells in
     nearer (aside ((pos s -ℤ pos 1) -ℤ cells.x) cells.w) (aside ((pos k -ℤ pos 1) -ℤ cells.x) cells.w)
     limit
-    (right_aside cells.x cells.w s k h ((on.halves s (omega (arith, on.low)) (omega arith)).1 first)) e
+    (right_aside cells.x cells.w s k h ((columns.halves s (omega (arith, columns.low)) (omega arith)).1
+    first)) e
 
 -- ---- the limit of a row
 

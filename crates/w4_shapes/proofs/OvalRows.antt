@@ -11,9 +11,8 @@ use Rattle.w4_defs.specs.Shapes.{only_if, is_edge, is_inside, is_within, oval_in
 use Rattle.w4_defs.proofs.PaintLaws.{paint-paint, paint_step}
 use Rattle.w4_pixels.specs.Clipping.{clipped}
 use Rattle.w4_shapes.specs.OvalCells.{Spans, extent_painter, has, is_inner, painter_of}
-use Rattle.w4_shapes.specs.declared.ovals.Cells.{Cells}
-use Rattle.w4_shapes.specs.declared.ovals.Columns.{Columns}
-use Rattle.w4_shapes.specs.declared.ovals.Extent.{Extent}
+use Rattle.w4_shapes.specs.declared.oval_cells.Columns.{Columns}
+use Rattle.w4_shapes.specs.declared.oval_cells.Extent.{Extent}
 use Rattle.w4_shapes.proofs.CellTests.{both, first_fails, gone, is_cell, passes, second_fails}
 
 -- columns counted from one left of the screen
@@ -83,20 +82,21 @@ row_test v true = grind (arith, nat_tests)
 row_test v false = refl
 
 -- a pixel of the row, in one of its columns
-column_pixel : (cells : Cells) (columns : Columns) (v : ℕ) (above here below whole inner : Extent) (u : ℕ)
+column_pixel : (columns : Columns) (v : ℕ) (above here below whole inner : Extent) (u : ℕ)
     → columns.left ≤ u → u < columns.right
-    → Spans cells columns v above → Spans cells columns (v + 1) here → Spans cells columns (v + 2) below
+    → Spans columns v above → Spans columns (v + 1) here → Spans columns (v + 2) below
     → whole.first ≡ max here.first (columns.left + 1) → whole.end ≡ min here.end (columns.right + 1)
     → min whole.first whole.end ≤ inner.first → inner.first ≤ inner.end → inner.end ≤ whole.end
     → ((k : ℕ) → whole.first ≤ k + 1 → k + 1 < whole.end → has inner (k + 1) ≡ is_inner above here below k)
-    → (second first : Option ℕ) (i j : ℤ) → i ≡ (pos u -ℤ cells.x) → j ≡ (pos v -ℤ cells.y)
+    → (second first : Option ℕ) (i j : ℤ) → i ≡ (pos u -ℤ columns.cells.x) → j ≡ (pos v -ℤ columns.cells.y)
     → option_or (extent_painter inner.end whole.end v (option_or (only_if true second) first) u v)
     (option_or (extent_painter inner.first inner.end v (option_or (only_if false second) first) u v)
     (extent_painter whole.first inner.first v (option_or (only_if true second) first) u v))
-    ≡ only_if (is_within cells.w cells.h i j)
-    (option_or (only_if (is_edge cells.w cells.h i j) second) first)
-column_pixel cells columns v above here below whole inner u left right sa sh sb wf we low order high same
+    ≡ only_if (is_within columns.cells.w columns.cells.h i j)
+    (option_or (only_if (is_edge columns.cells.w columns.cells.h i j) second) first)
+column_pixel columns v above here below whole inner u left right sa sh sb wf we low order high same
     second first i j ei ej =
+    let cells = columns.cells in
     let w = cells.w in
     let h = cells.h in
     let mine : is_within w h i j ≡ has here (u + 1) =
@@ -154,22 +154,25 @@ between : (first end n : ℕ) → first ≤ n → n < end → (nat_le first n &&
 between first end n from to = grind (arith, nat_tests)
 
 -- the row's three spans are the oval's row
-pub row_pixel : (cells : Cells) (columns : Columns) (v : ℕ) (above here below whole inner : Extent) (u b : ℕ)
-    → cells.x ≤ℤ pos columns.left → pos columns.right ≤ℤ (cells.x +ℤ pos cells.w)
-    → cells.y ≤ℤ pos v → pos (v + 1) ≤ℤ (cells.y +ℤ pos cells.h)
-    → Spans cells columns v above → Spans cells columns (v + 1) here → Spans cells columns (v + 2) below
+pub row_pixel : (columns : Columns) (v : ℕ) (above here below whole inner : Extent) (u b : ℕ)
+    → columns.cells.x ≤ℤ pos columns.left → pos columns.right ≤ℤ (columns.cells.x +ℤ pos columns.cells.w)
+    → columns.cells.y ≤ℤ pos v → pos (v + 1) ≤ℤ (columns.cells.y +ℤ pos columns.cells.h)
+    → Spans columns v above → Spans columns (v + 1) here → Spans columns (v + 2) below
     → whole.first ≡ max here.first (columns.left + 1) → whole.end ≡ min here.end (columns.right + 1)
     → min whole.first whole.end ≤ inner.first → inner.first ≤ inner.end → inner.end ≤ whole.end
     → ((k : ℕ) → whole.first ≤ k + 1 → k + 1 < whole.end → has inner (k + 1) ≡ is_inner above here below k)
     → (edge inside : Option ℕ)
-    → edge ≡ option_or (only_if true (palette_index cells.colors 2)) (palette_index cells.colors 1)
-    → inside ≡ option_or (only_if false (palette_index cells.colors 2)) (palette_index cells.colors 1)
+    → edge ≡ option_or (only_if true (palette_index columns.cells.colors 2)) (palette_index
+    columns.cells.colors 1)
+    → inside ≡ option_or (only_if false (palette_index columns.cells.colors 2)) (palette_index
+    columns.cells.colors 1)
     → option_or (extent_painter inner.end whole.end v edge u b)
     (option_or (extent_painter inner.first inner.end v inside u b)
     (extent_painter whole.first inner.first v edge u b))
-    ≡ clipped (painter_of cells) columns.left columns.right v (v + 1) u b
-row_pixel cells columns v above here below whole inner u b left right top bottom sa sh sb wf we low order high
+    ≡ clipped (painter_of columns.cells) columns.left columns.right v (v + 1) u b
+row_pixel columns v above here below whole inner u b left right top bottom sa sh sb wf we low order high
     same edge inside ee ei =
+    let cells = columns.cells in
     let first : Bool = (nat_le whole.first (u + 1) && nat_lt (u + 1) inner.first) && b == v in
     let second : Bool = (nat_le inner.first (u + 1) && nat_lt (u + 1) inner.end) && b == v in
     let third : Bool = (nat_le inner.end (u + 1) && nat_lt (u + 1) whole.end) && b == v in
@@ -204,7 +207,7 @@ row_pixel cells columns v above here below whole inner u b left right top bottom
               let painted : option_or (only_if third edge)
               (option_or (only_if second inside) (only_if first edge))
               ≡ oval_index cells.colors cells.w cells.h (pos u -ℤ cells.x) (pos b -ℤ cells.y) =
-              rw (ee, ei, e) (column_pixel cells columns v above here below whole inner u from to sa sh sb wf
+              rw (ee, ei, e) (column_pixel columns v above here below whole inner u from to sa sh sb wf
               we low
               order high same (palette_index cells.colors 2) (palette_index cells.colors 1)
               (pos u -ℤ cells.x) (pos v -ℤ cells.y) refl refl) in

@@ -3,9 +3,9 @@
 use Rattle.std.specs.Prelude.{◌≡◌, ◌<◌, ◌≤◌, ◌+◌, ◌*◌, ◌/◌, ℕ, pos, ◌+ℤ◌, ◌-ℤ◌, ◌<ℤ◌, ◌≤ℤ◌, Bool, ◌&&◌, ◌==◌, nat_le, nat_lt, Option}
 use Rattle.w4_defs.specs.Framebuffer.{Painter}
 use Rattle.w4_defs.specs.Shapes.{only_if, aside, is_within, oval_painter}
-use Rattle.w4_shapes.specs.declared.ovals.Cells.{Cells}
-use Rattle.w4_shapes.specs.declared.ovals.Columns.{Columns}
-use Rattle.w4_shapes.specs.declared.ovals.Extent.{Extent}
+use Rattle.w4_shapes.specs.declared.oval_cells.Cells.{Cells}
+use Rattle.w4_shapes.specs.declared.oval_cells.Columns.{Columns}
+use Rattle.w4_shapes.specs.declared.oval_cells.Extent.{Extent}
 
 abbrev pub painter_of : Cells → Painter
 painter_of cells = oval_painter cells.colors cells.x cells.y (pos cells.w) (pos cells.h)
@@ -26,9 +26,9 @@ has extent s = nat_le extent.first s && nat_lt s extent.end
 
 -- of the columns of the screen that have cells, and those beside them, the cells of row t that are within
 -- the oval are those of the extent
-abbrev pub Spans : Cells → Columns → ℕ → Extent → Type 0
-Spans cells columns t extent =
-    (s : ℕ) → columns.left ≤ s → s < columns.right + 2 → within_at cells s t ≡ has extent s
+abbrev pub Spans : Columns → ℕ → Extent → Type 0
+Spans columns t extent =
+    (s : ℕ) → columns.left ≤ s → s < columns.right + 2 → within_at columns.cells s t ≡ has extent s
 
 -- the extent has both ends among those columns, one in each half of the oval
 abbrev pub Around : Columns → Extent → Type 0
@@ -41,19 +41,6 @@ abbrev pub Halves : Cells → ℕ → ℕ → ℕ → Type 0
 Halves cells left right middle = (s : ℕ) → left ≤ s → s < right + 2 →
     (s < middle → pos s ≤ℤ (cells.x +ℤ pos (cells.w / 2)))
     × (middle ≤ s → (cells.x +ℤ pos (cells.w / 2)) <ℤ pos s)
-
--- the columns are some of the screen's, and cells of the oval
-pub record OnScreen (cells : Cells) (columns : Columns) : Type 0 where
-  pub wide : cells.w < 2147483648
-  pub high : cells.h < 2147483648
-  pub tall : 0 < cells.h
-  pub some : columns.left < columns.right
-  pub end : columns.right ≤ 160
-  pub first_cell : cells.x ≤ℤ pos columns.left
-  pub last_cell : pos columns.right ≤ℤ (cells.x +ℤ pos cells.w)
-  pub low : columns.left ≤ columns.middle
-  pub high_end : columns.middle ≤ columns.right + 2
-  pub halves : Halves cells columns.left columns.right columns.middle
 
 -- the pixels of a row of the screen in the columns from `first` up to `end`
 abbrev pub extent_painter : ℕ → ℕ → ℕ → Option ℕ → Painter

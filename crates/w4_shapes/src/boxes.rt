@@ -1,12 +1,11 @@
 //! Horizontal and vertical lines and rectangles, by the boxes of the screen that they cover.
 
-ghost use Rattle.std.specs.Option.{ForSome};
 ghost use Rattle.std.specs.Prelude.{◌<◌, ◌<ℤ◌, ◌≡◌, Some};
 ghost use Rattle.w4_defs.specs.Framebuffer.{paint};
 ghost use Rattle.w4_defs.specs.Shapes.{box_painter, column_painter, hline_painter, outline_painter, rect_painter, vline_painter};
 
 use w4_defs::PageBytes;
-use w4_pixels::{column, entry_of, on_screen};
+use w4_pixels::{PaletteIndex, column, entry_of, part_between};
 
 /// Paints `len` pixels in colour 1 from (x, y) to the right; none where `len` is below 1.
 pub fn hline(page: &mut PageBytes, colors: u16, x: i32, y: i32, len: i32)
@@ -38,19 +37,24 @@ pub fn rect(page: &mut PageBytes, colors: u16, x: i32, y: i32, w: i32, h: i32)
 }
 
 /// Paints the columns from `left` up to `right` of the rows from `top` up to `bottom`.
-fn fill(page: &mut PageBytes, left: i64, right: i64, top: i64, bottom: i64, index: Option<u8>)
-    requires { ForSome index (λ e. e < 4) }
+fn fill(
+    page: &mut PageBytes,
+    left: i64,
+    right: i64,
+    top: i64,
+    bottom: i64,
+    index: Option<PaletteIndex>,
+)
     ensures { page.new ≡ paint page.old (box_painter left right top bottom index) }
 {
     if let Some(index) = index {
-        let (first, end) = (on_screen(left), on_screen(right));
-        w4_pixels::fill(page, first, end, on_screen(top), on_screen(bottom), index);
+        let (columns, rows) = (part_between(left, right), part_between(top, bottom));
+        w4_pixels::fill(page, columns, rows, index);
     }
 }
 
 /// Paints the rows from `top` up to `bottom` of column `x`.
-fn fill_column(page: &mut PageBytes, x: i64, top: i64, bottom: i64, index: Option<u8>)
-    requires { ForSome index (λ e. e < 4) }
+fn fill_column(page: &mut PageBytes, x: i64, top: i64, bottom: i64, index: Option<PaletteIndex>)
     ensures { page.new ≡ paint page.old (column_painter x top bottom index) }
 {
     if let Some(index) = index {
@@ -58,24 +62,31 @@ fn fill_column(page: &mut PageBytes, x: i64, top: i64, bottom: i64, index: Optio
     }
 }
 
-fn put_column(page: &mut PageBytes, x: i64, top: i64, bottom: i64, index: u8)
-    requires { index < 4 }
+fn put_column(page: &mut PageBytes, x: i64, top: i64, bottom: i64, index: PaletteIndex)
     ensures { page.new ≡ paint page.old (column_painter x top bottom (Some index)) }
 {
     if 0 <= x && x < 160 {
-        column(page, x as usize, on_screen(top), on_screen(bottom), index);
+        column(page, x as usize, part_between(top, bottom), index);
     }
 }
 
 /// Paints the first and last columns and rows of a box of cells.
-fn outline(page: &mut PageBytes, left: i64, right: i64, top: i64, bottom: i64, index: Option<u8>)
-    requires small { ForSome index (λ e. e < 4) }
+fn outline(
+    page: &mut PageBytes,
+    left: i64,
+    right: i64,
+    top: i64,
+    bottom: i64,
+    index: Option<PaletteIndex>,
+)
     requires wide { left <ℤ right }
     requires high { top <ℤ bottom }
     ensures { page.new ≡ paint page.old (outline_painter left right top bottom index) }
 {
-    fill(page, left, right, top, top + 1, index);
-    fill(page, left, right, bottom - 1, bottom, index);
-    fill(page, left, left + 1, top, bottom, index);
-    fill(page, right - 1, right, top, bottom, index);
+    if let Some(index) = index {
+        fill(page, left, right, top, top + 1, Some(index));
+        fill(page, left, right, bottom - 1, bottom, Some(index));
+        fill(page, left, left + 1, top, bottom, Some(index));
+        fill(page, right - 1, right, top, bottom, Some(index));
+    }
 }

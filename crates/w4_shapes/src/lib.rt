@@ -5,6 +5,7 @@
 
 pub mod boxes;
 pub mod lines;
+mod oval_cells;
 pub mod ovals;
 mod steps;
 

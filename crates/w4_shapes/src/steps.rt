@@ -25,9 +25,7 @@ pub(crate) fn line_steps(x1: i32, y1: i32, x2: i32, y2: i32) -> (u64, u64)
 }
 
 /// The steps after which the axis from `a` to `b` is on the screen, by its own distance and the other axis's.
-fn axis_steps(a: i32, b: i32, own: u64, other: u64) -> (u64, u64)
-    requires own { own < 4294967296 }
-    requires other { other < 4294967296 }
+fn axis_steps(a: i32, b: i32, own: u32, other: u32) -> (u64, u64)
     ensures bound { result.1 ≤ max own other + 1 }
     ensures few { other ≤ own → result.1 ≤ result.0 + 160 }
     ensures on { (t : ℕ) → result.0 ≤ t → t < result.1 → OnAxis (toward a b (moved own other t)) }
@@ -59,28 +57,23 @@ fn first_move(a: i32, b: i32) -> i64
 
 /// The first step after which an axis that moves at each step has moved so far; one past the last where
 /// none is.
-fn far_step(far: i64, last: u64) -> u64
-    requires low { negsuc 4294967296 ≤ℤ far }
-    requires high { far ≤ℤ pos 4294967456 }
-    requires last { last < 4294967296 }
+fn far_step(far: i64, last: u32) -> u64
     ensures bound { result ≤ last + 1 }
     ensures value { (t : ℕ) → t ≤ last → (t < result → pos t <ℤ far) × (result ≤ t → far ≤ℤ pos t) }
     ensures few { (n : ℕ) → far ≤ℤ pos n → result ≤ n }
 {
-    far.clamp(0, last as i64 + 1) as u64
+    far.clamp(0, i64::from(last) + 1) as u64
 }
 
 /// The first step after which the axis of the lesser distance `less` has moved so far; one past the last, of
 /// `most`, where none is.
-fn reach(far: i64, less: u64, most: u64) -> u64
-    requires low { negsuc 4294967296 ≤ℤ far }
-    requires high { far ≤ℤ pos 4294967456 }
-    requires less { less < most }
-    requires most { most < 4294967296 }
+fn reach(far: i64, less: u32, most: u32) -> u64
+    requires { less < most }
     ensures bound { result ≤ most + 1 }
     ensures before { (t : ℕ) → t < result → t ≤ most → pos (minor_step t less most) <ℤ far }
     ensures from { (t : ℕ) → result ≤ t → t ≤ most → far ≤ℤ pos (minor_step t less most) }
 {
+    let (less, most) = (u64::from(less), u64::from(most));
     if far <= 0 {
         0
     } else if less < far as u64 {

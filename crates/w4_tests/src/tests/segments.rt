@@ -17,7 +17,7 @@ use w4_editor::Editor;
 use w4_font::Font;
 use w4_image::IMAGE_LEN;
 use w4_record::Recording;
-use w4_segments::{BatchRow, Gate, Resources, batch, film, settle_wide};
+use w4_segments::{BatchRow, Gate, Resources, Workers, batch, film, settle_wide};
 use wasm_register::Cart;
 
 /// A recording of one frame of zeros, on the cart whose digest is 32 bytes of 7.
@@ -64,7 +64,7 @@ fn check_film<R: Threads + Sync + Abort>(
         alloc,
         gate: &gate,
     };
-    let film = film(&resources, editor, 0, 2, 2)?;
+    let film = film(&resources, editor, 0, 2, Workers { count: 2 })?;
     assert_eq!(rt; film.len(), 3 * IMAGE_LEN);
     assert!(rt; gate.saw());
     Ok(())
@@ -95,7 +95,7 @@ fn check_settling<R: Threads + Sync + Abort>(
         alloc,
         gate: &gate,
     };
-    settle_wide(&resources, editor, 2)?;
+    settle_wide(&resources, editor, Workers { count: 2 })?;
     assert!(rt; gate.saw());
     Ok(())
 }
@@ -129,7 +129,14 @@ fn check_batch<R: Threads + Sync + Abort>(
         alloc,
         gate: &gate,
     };
-    let rows = batch(&resources, cart, font, &[7; 32], items, 2)?;
+    let rows = batch(
+        &resources,
+        cart,
+        font,
+        &[7; 32],
+        items,
+        Workers { count: 2 },
+    )?;
     let ran = BatchRow::Ran {
         frames: 1,
         halt: Halt::Running,

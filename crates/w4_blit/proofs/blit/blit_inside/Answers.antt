@@ -13,8 +13,8 @@ pub returns-then-len-le256 : goal.returns-then-len-le256
 returns-then-len-le256 c =
     let page = c.args.page.now in
     let sprite = c.args.sprite.now in
-    let first = c.framebuffer_read-kept_from.result.0 in
-    let len = c.framebuffer_read-kept_from.result.1 in
+    let first = c.framebuffer_read-first.result.0 in
+    let len = c.framebuffer_read-first.result.1 in
     let same : take len c.few_bytes-copy.result ≡ slice_range page first (first + len) =
     sym (from_the_first c.few_bytes-copy.result len) ∙ c.few_bytes-copy.ensures in
     let put : c.blit_rows.new.page
@@ -27,14 +27,14 @@ returns-then-len-le256 c =
     c.args.y)) same
     ∙ paint_ext page _ _ c.told-page (λ u v hu hv.
     kept_blit page sprite first len c.args.x c.args.y u v c.told-page
-    c.framebuffer_read-kept_from.ensures.reach)
+    c.framebuffer_read-first.ensures.reach)
 
 pub returns-else-len-le256 : goal.returns-else-len-le256
 returns-else-len-le256 c =
     let page = c.args.page.now in
     let sprite = c.args.sprite.now in
-    let first = c.framebuffer_read-kept_from.result.0 in
-    let len = c.framebuffer_read-kept_from.result.1 in
+    let first = c.framebuffer_read-first.result.0 in
+    let len = c.framebuffer_read-first.result.1 in
     let same : take len c.many_bytes-copy.result ≡ slice_range page first (first + len) =
     sym (from_the_first c.many_bytes-copy.result len) ∙ c.many_bytes-copy.ensures in
     let put : c.blit_rows-else-len-le256.new.page
@@ -47,4 +47,4 @@ returns-else-len-le256 c =
     c.args.y)) same
     ∙ paint_ext page _ _ c.told-page (λ u v hu hv.
     kept_blit page sprite first len c.args.x c.args.y u v c.told-page
-    c.framebuffer_read-kept_from.ensures.reach)
+    c.framebuffer_read-first.ensures.reach)

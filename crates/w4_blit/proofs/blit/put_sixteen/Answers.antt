@@ -6,7 +6,7 @@ use Rattle.w4_defs.specs.Colours.{palette_index}
 use Rattle.w4_defs.specs.Shapes.{natural}
 use Rattle.w4_defs.proofs.PaintLaws.{paint_ext}
 use Rattle.w4_pixels.specs.Clipping.{clipped}
-use Rattle.w4_blit.specs.FramebufferCopy.{with_copied_bytes}
+use Rattle.w4_blit.specs.FramebufferCopy.{with_kept}
 use Rattle.w4_blit.specs.Strips.{HasValue}
 use Rattle.w4_blit.specs.Walks.{walk_painter, walked}
 use Rattle.w4_blit.proofs.StripLaws.{strip_clipped}
@@ -15,20 +15,20 @@ use Rattle.w4_blit.proofs.blit.put_sixteen.Goals as goal
 
 pub returns : goal.returns
 returns c =
-    let row = c.args.here.row in
+    let row = c.args.here.run.row in
     let q = c.args.here.q in
     let left = c.max-left.result in
     let right = c.min-right.result in
-    let from_left : left ≡ max row.left (4 * q) = c.max-left.ensures in
-    let to_right : right ≡ min row.right (4 * q + 16) = c.min-right.ensures in
-    let page = with_copied_bytes c.args.page.now c.args.kept_from c.args.copy.now in
-    let sprite = c.args.sprite.now in
+    let from_left : left ≡ max row.columns.first (4 * q) = c.max-left.ensures in
+    let to_right : right ≡ min row.columns.end (4 * q + 16) = c.min-right.ensures in
+    let page = with_kept c.args.page.now c.args.drawn.now.kept in
+    let sprite = c.args.drawn.now.sprite.now in
     let x : to_z w32 (of_z w32 row.x) ≡ row.x = search rules in
     let n = c.distance.result in
     let first : n ≡ natural (pos left -ℤ row.x) =
-    c.distance.ensures.value ∙ ap (λ z. natural (pos left -ℤ z)) x in
-    let behind : row.x ≤ℤ pos left = omega (arith, ints, c.requires.from) in
-    let to : (pos right -ℤ row.x) ≤ℤ pos row.walk.count = omega (arith, ints, c.requires.to) in
+    c.distance.ensures ∙ ap (λ z. natural (pos left -ℤ z)) x in
+    let behind : row.x ≤ℤ pos left = omega (arith, ints, c.args.here.run.from) in
+    let to : (pos right -ℤ row.x) ≤ℤ pos row.walk.count = omega (arith, ints, c.args.here.run.to) in
     let some : left < right = omega arith in
     let cells = cells_left row.x left right n row.walk.count some behind to first in
     let f = walk_painter page sprite row.walk row.x in
@@ -51,10 +51,11 @@ returns c =
     let hk : k < 16 = omega arith in
     let has : HasValue bits k value =
     subst (λ (j : ℕ). HasValue bits j value) at
-    (c.cell_bits-bits.ensures.values d (omega arith) (omega (arith, cells))) in
+    (c.cell_bits-bits.ensures d (omega arith) (omega (arith, cells))) in
     c.part_of-strip.ensures.inside k (omega arith) (omega arith)
-    ∙ c.painted_by.ensures.values k value hk (few_values page sprite (walked row.walk (n + d))) has
-    ∙ ink_index c.args.inks.now sprite.colors k value c.requires.inks hk small
+    ∙ c.painted_by.ensures k value hk (few_values page sprite (walked row.walk (n + d))) has
+    ∙ ink_index c.args.drawn.now.inks k value hk small
+    ∙ ap (λ (n : ℕ). palette_index n (value + 1)) c.args.drawn.now.colors
     ∙ ap (λ (m : ℕ). palette_index sprite.colors (source_value page sprite (walked row.walk m) + 1))
     (sym cell)))
     (λ k hk out. elim out [
@@ -62,4 +63,4 @@ returns c =
       | inr past ↦ c.part_of-strip.ensures.outside k hk (inr (omega arith))
     ])
     ∙ ap (λ (m : ℕ). clipped f m right row.v (row.v + 1) a b) from_left
-    ∙ ap (λ (m : ℕ). clipped f (max row.left (4 * q)) m row.v (row.v + 1) a b) to_right)
+    ∙ ap (λ (m : ℕ). clipped f (max row.columns.first (4 * q)) m row.v (row.v + 1) a b) to_right)

@@ -1,11 +1,11 @@
 use Rattle.std.proofs.Common.{◌≡◌, ◌+◌, ◌*◌, get_or, ◌∙◌, ap}
-use Rattle.w4_blit.specs.FramebufferCopy.{with_copied_bytes}
+use Rattle.w4_blit.specs.FramebufferCopy.{page_of}
 use Rattle.w4_blit.proofs.CodeLaws.{unit_at}
 use Rattle.w4_blit.proofs.codes.code_at.Goals as goal
 
 pub returns-in-Utf16 : goal.returns-in-Utf16
 returns-in-Utf16 c =
-    let page = with_copied_bytes c.args.page.now c.args.first c.args.copy_bytes.now in
+    let page = page_of c.args.source in
     let ptr : c.from-in-Utf16.result ≡ c.in-Utf16.ptr = c.from-in-Utf16.ensures in
     let within = rw c.in-Utf16.is at c.requires.there in
     rw (c.in-Utf16.is, c.from-in-Utf16-2.ensures, c.from-in-Utf16-3.ensures)

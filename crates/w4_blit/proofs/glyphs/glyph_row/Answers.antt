@@ -8,7 +8,8 @@ use Rattle.w4_blit.proofs.glyphs.glyph_row.Goals as goal
 
 pub returns : goal.returns
 returns c =
-    let g = c.args.glyph in
+    let g = c.args.part.glyph in
+    let colors = c.args.inks.now.colors in
     let font = c.args.font.now in
     let y : to_z w64 (of_z w64 g.y) ≡ g.y = search rules in
     let x : to_z w64 (of_z w64 g.x) ≡ g.x = search rules in
@@ -21,5 +22,6 @@ returns c =
     c.byte.ensures ∙ ap (λ (n : ℕ). get_or font (n + c.offset.result) 0) first
     ∙ ap (λ (n : ℕ). get_or font (8 * (g.code - 32) + n) 0) below in
     put ∙ paint_ext c.args.page.now _ _ c.told-page
-    (λ a b ha hb. row_of_glyph font g.colors g.code c.byte.result (palette_index g.colors 1)
-    (palette_index g.colors 2) g.x g.y c.args.area.left c.args.area.right c.args.v a b bits refl refl)
+    (λ a b ha hb. row_of_glyph font colors g.code c.byte.result (palette_index colors 1)
+    (palette_index colors 2) g.x g.y c.args.part.columns.first c.args.part.columns.end c.args.v a b bits refl
+    refl)

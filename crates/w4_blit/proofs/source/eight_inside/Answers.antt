@@ -7,7 +7,10 @@ returns-then-has_eight c = λ i hi.
     let a = c.args in
     let there = c.has_eight.ensures c.if-has_eight.true in
     let at = a.at + (7 - i) in
-    let byte : a.at - a.kept_from + (7 - i) ≡ at - a.kept_from = omega (arith, there) in
-    c.eight_there.ensures i hi ∙ ap (λ (j : ℕ). get_or a.copy.now j 0) byte
-    ∙ sym (kept_inside a.page.now a.kept_from a.copy.now at (omega (arith, there)) (omega (arith, there))
+    let byte : a.at - a.source.kept.first + (7 - i) ≡ at - a.source.kept.first = omega (arith, there) in
+    c.eight_there.ensures i hi ∙ ap (λ (j : ℕ). get_or a.source.kept.bytes.now j 0) byte
+    ∙ sym (kept_inside a.source.page.now a.source.kept.first a.source.kept.bytes.now at (omega (
+      arith,
+      there,
+    )) (omega (arith, there))
     (omega (arith, there)))

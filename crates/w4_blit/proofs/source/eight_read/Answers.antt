@@ -1,11 +1,11 @@
 use Rattle.std.proofs.Common.{◌≡◌, ℕ, ◌+◌, ◌-◌, get_or, ◌∙◌, ap, arith}
-use Rattle.w4_blit.specs.FramebufferCopy.{with_copied_bytes}
+use Rattle.w4_blit.specs.FramebufferCopy.{page_of}
 use Rattle.w4_blit.proofs.ByteLaws.{eight_numbers}
 use Rattle.w4_blit.proofs.source.eight_read.Goals as goal
 
 pub returns : goal.returns
 returns c = λ i hi.
-    let page = with_copied_bytes c.args.page.now c.args.kept_from c.args.copy.now in
+    let page = page_of c.args.source in
     let get : ℕ → ℕ = λ j. get_or page (c.args.at + j) 0 in
     eight_numbers get c.four_read-first.result c.four_read.result i c.four_read.ensures.bound hi
     c.four_read-first.ensures.bytes

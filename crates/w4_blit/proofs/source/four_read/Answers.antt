@@ -1,11 +1,11 @@
 use Rattle.std.proofs.Common.{◌≡◌, ℕ, ◌+◌, ◌-◌, [], ◌∷◌, get_or, ◌∙◌, ap, arith}
 use Rattle.w4_defs.proofs.PaintLaws.{below_four}
-use Rattle.w4_blit.specs.FramebufferCopy.{with_copied_bytes}
+use Rattle.w4_blit.specs.FramebufferCopy.{page_of}
 use Rattle.w4_blit.proofs.source.four_read.Goals as goal
 
 pub returns-clause-bytes : goal.returns-clause-bytes
 returns-clause-bytes c = λ i hi.
-    let page = with_copied_bytes c.args.page.now c.args.kept_from c.args.copy.now in
+    let page = page_of c.args.source in
     let at = c.args.at in
     let start : at ≡ at + 0 = omega arith in
     let P : ℕ → Type 0 = λ i. get_or (c.byte_at-4.result ∷ c.byte_at-3.result ∷ c.byte_at-2.result

@@ -27,7 +27,7 @@ returns c =
     (c.from-d.ensures ∙ ap (λ (j : ℕ). get_or page j 0) (omega arith)) i hi in
     word_written page row q c.chosen-word.result at (at + 1) (at + 2) (at + 3) (c.chosen-word.result % 256)
     strip
-    c.told-page c.fits-page c.requires.row c.requires.column c.requires.mask (omega arith) (omega arith)
+    c.told-page c.fits-page c.requires.row c.requires.column c.args.strip.given (omega arith) (omega arith)
     (omega arith) (omega arith) (omega arith)
     (λ k hk none. c.chosen-word.ensures.word k hk none ∙ four_bytes a b d e ha hb hd he k
     ∙ ap (λ (n : ℕ). n / 4 ^ (k % 4) % 4) (byte (k / 4) (omega arith)))

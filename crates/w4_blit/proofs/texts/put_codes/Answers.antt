@@ -5,7 +5,7 @@ use Rattle.std.specs.Option.{option_or}
 use Rattle.w4_defs.specs.Framebuffer.{Painter, over, paint}
 use Rattle.w4_defs.specs.Text.{codes_painter, glyph_painter, text_codes}
 use Rattle.w4_defs.proofs.PaintLaws.{paint_off, paint-paint, paint_step, length-paint}
-use Rattle.w4_blit.specs.FramebufferCopy.{with_copied_bytes}
+use Rattle.w4_blit.specs.FramebufferCopy.{with_kept}
 use Rattle.w4_blit.proofs.FramebufferCopyLaws.{with_copied_bytes-paint}
 use Rattle.w4_blit.proofs.TextLaws.{below_screen, code_first, either_below}
 use Rattle.w4_blit.proofs.texts.put_codes.Goals as goal
@@ -26,7 +26,7 @@ loop-k-init c =
 pub returns-then-pen-ge-SCREEN_END : goal.returns-then-pen-ge-SCREEN_END
 returns-then-pen-ge-SCREEN_END c =
     let placed = c.args.placed in
-    let page = with_copied_bytes c.args.page.now c.args.first c.args.copy_bytes.now in
+    let page = with_kept c.args.page.now c.args.kept in
     let codes = drop c.loop-k.k (text_codes page placed.source) in
     let pen = c.loop-k.pen in
     let rest = c.loop-k.invariant.rest in
@@ -39,17 +39,21 @@ returns-then-pen-ge-SCREEN_END c =
     ∙ ap (λ (p : List ℕ). paint p nothing) (sym painted)
     ∙ rest
 
+pub invariant_of-code_at : goal.invariant_of-code_at
+invariant_of-code_at c =
+    let f : Painter = c.loop-k.invariant.painted.0 in
+    record { whole = ap length c.loop-k.invariant.painted.1 ∙ length-paint c.args.page.now f ∙ c.told-page }
+
 pub code_at-code-requires : goal.code_at-code-requires
 code_at-code-requires c =
     let placed = c.args.placed in
-    let first = c.args.first in
-    let copy_bytes = c.args.copy_bytes.now in
+    let kept = c.args.kept in
     let f : Painter = c.loop-k.invariant.painted.0 in
     let painted : c.loop-k.page ≡ paint c.args.page.now f = c.loop-k.invariant.painted.1 in
-    let same : with_copied_bytes c.loop-k.page first copy_bytes
-    ≡ with_copied_bytes c.args.page.now first copy_bytes =
-    ap (λ (p : List ℕ). with_copied_bytes p first copy_bytes) painted
-    ∙ with_copied_bytes-paint c.args.page.now first copy_bytes f in
+    let same : with_kept c.loop-k.page kept
+    ≡ with_kept c.args.page.now kept =
+    ap (λ (p : List ℕ). with_kept p kept) painted
+    ∙ with_copied_bytes-paint c.args.page.now kept.first kept.bytes.now f in
     record {
       there = rw same (omega (arith, c.requires));
       small = omega (arith, placed.few);
@@ -58,9 +62,8 @@ code_at-code-requires c =
 pub loop-k-preserved : goal.loop-k-preserved
 loop-k-preserved c =
     let placed = c.args.placed in
-    let first = c.args.first in
-    let copy_bytes = c.args.copy_bytes.now in
-    let page = with_copied_bytes c.args.page.now first copy_bytes in
+    let kept = c.args.kept in
+    let page = with_kept c.args.page.now kept in
     let codes = text_codes page placed.source in
     let font = c.args.font.now in
     let k = c.loop-k.k in
@@ -70,9 +73,9 @@ loop-k-preserved c =
     let moved_x = simp (same_x) at c.moved-pen.ensures.column in
     let f : Painter = c.loop-k.invariant.painted.0 in
     let painted : c.loop-k.page ≡ paint c.args.page.now f = c.loop-k.invariant.painted.1 in
-    let same : with_copied_bytes c.loop-k.page first copy_bytes ≡ page =
-    ap (λ (p : List ℕ). with_copied_bytes p first copy_bytes) painted
-    ∙ with_copied_bytes-paint c.args.page.now first copy_bytes f in
+    let same : with_kept c.loop-k.page kept ≡ page =
+    ap (λ (p : List ℕ). with_kept p kept) painted
+    ∙ with_copied_bytes-paint c.args.page.now kept.first kept.bytes.now f in
     let count : placed.count ≡ length codes = c.requires in
     let code : c.code_at-code.result ≡ get_or codes k 0 = c.code_at-code.ensures
     ∙ ap (λ (p : List ℕ). get_or (text_codes p placed.source) k 0) same in
@@ -84,7 +87,7 @@ loop-k-preserved c =
     let glyph : Painter = glyph_painter font placed.colors c.code_at-code.result pen.x pen.y in
     let column : to_z w64 (of_z w64 pen.x) ≡ pen.x = omega (arith, ints) in
     let row : to_z w64 (of_z w64 pen.y) ≡ pen.y = omega (arith, ints) in
-    let put = simp (column, row) at c.put_glyph.ensures in
+    let put = simp (column, row, c.inks_of-inks.ensures) at c.put_glyph.ensures in
     record {
       rest = rw (put, moved_x, c.moved-pen.ensures.row)
           (code_first c.loop-k.page font placed.colors c.code_at-code.result left pen.x pen.y
@@ -108,7 +111,7 @@ loop-k-preserved c =
 pub returns : goal.returns
 returns c =
     let placed = c.args.placed in
-    let page = with_copied_bytes c.args.page.now c.args.first c.args.copy_bytes.now in
+    let page = with_kept c.args.page.now c.args.kept in
     let codes = text_codes page placed.source in
     let none : drop c.loop-k.k codes ≡ [] =
     drop_all c.loop-k.k codes (omega (arith, c.requires)) in

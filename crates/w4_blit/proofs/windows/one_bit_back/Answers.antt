@@ -1,17 +1,10 @@
-use Rattle.std.proofs.Common.{◌-◌, ◌<◌, ◌∙◌, inl, arith}
-use Rattle.w4_blit.proofs.StripLaws.{bit_mask, zero_digit}
+use Rattle.std.proofs.Common.{◌-◌, ◌<◌, ◌∙◌, arith}
 use Rattle.w4_blit.proofs.WindowLaws.{high_of_one, low_of_one}
 use Rattle.w4_blit.proofs.windows.one_bit_back.Goals as goal
 
-pub returns-clause-values : goal.returns-clause-values
-returns-clause-values c = λ k hk.
+pub returns : goal.returns
+returns c = λ k hk.
     let there : 15 - k < 16 = omega arith in (
       c.reversed.ensures k hk ∙ c.spread_window.ensures (15 - k) there ∙ low_of_one _,
       high_of_one _ k,
     )
-
-pub returns-clause-masks : goal.returns-clause-masks
-returns-clause-masks c = (
-  λ k hk. bit_mask _ _ (c.reversed.ensures k hk ∙ c.spread_window.ensures (15 - k) (omega arith)),
-  λ k hk. inl (zero_digit k),
-)

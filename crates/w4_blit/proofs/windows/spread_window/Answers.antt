@@ -1,16 +1,18 @@
-use Rattle.std.proofs.Common.{◌≡◌, ℕ, ◌+◌, ◌-◌, ◌*◌, ◌/◌, ◌%◌, ◌^◌, get_or, refl, ◌∙◌, ap, arith}
-use Rattle.w4_blit.specs.FramebufferCopy.{with_copied_bytes}
+use Rattle.std.proofs.Common.{◌≡◌, ℕ, ◌+◌, ◌-◌, ◌*◌, ◌/◌, ◌%◌, ◌^◌, get_or, ◌∙◌, ap, arith}
+use Rattle.w4_blit.specs.FramebufferCopy.{page_of}
 use Rattle.w4_blit.proofs.WindowLaws.{of_words}
 use Rattle.w4_blit.proofs.windows.spread_window.Goals as goal
 
 pub returns : goal.returns
 returns c = λ k hk.
-    let page = with_copied_bytes c.args.page.now c.args.kept_from c.args.copy.now in
-    let at = c.args.ptr + c.args.pixel / 8 in
+    let page = page_of c.args.source in
+    let at = c.from.result + c.args.pixel / 8 in
+    let from_ptr : at ≡ c.args.ptr + c.args.pixel / 8 = omega (arith, c.from.ensures) in
     let start : at + 0 ≡ at = omega arith in
     let bytes = c.eight_from-word.ensures in
     c.wide_digits_from.ensures k hk
-    ∙ of_words page c.args.ptr c.args.pixel at k c.spread-a.result c.spread-b.result c.spread-c.result refl hk
+    ∙ of_words page c.args.ptr c.args.pixel at k c.spread-a.result c.spread-b.result c.spread-c.result
+    from_ptr hk
     (λ m hm. c.spread-a.ensures m hm ∙ ap (λ (n : ℕ). 3 * (n / 2 ^ (7 - m) % 2))
     (c.byte_of.ensures ∙ bytes 7 (omega arith) ∙ ap (λ (j : ℕ). get_or page j 0) start))
     (λ m hm. c.spread-b.ensures m hm ∙ ap (λ (n : ℕ). 3 * (n / 2 ^ (7 - m) % 2))

@@ -4,7 +4,7 @@ use Rattle.w4_defs.specs.declared.batch.BatchRow.{BatchRow}
 use Rattle.w4_defs.specs.Batch.{file_rows}
 use Rattle.w4_defs.specs.BatchRows.{rows_text}
 use Rattle.w4_defs.specs.ToolOutputs.{batch_text}
-use Rattle.w4_commands.specs.LoadTools.{batch_loaded_view}
+use Rattle.w4_commands.specs.Batch.{batch_loaded_view}
 use Rattle.w4_commands.specs.Load.{cart_view}
 use Rattle.w4_answers.specs.Writing.{Written}
 use Rattle.w4_answers.proofs.WritingLaws.{there_as}

@@ -7,7 +7,7 @@ use Rattle.w4_answers.specs.Writing.{AppendsOut, StopsWriting}
 use Rattle.w4_house.proofs.WorldLaws.{writing_none, writing_then}
 use Rattle.w4_defs.specs.Endings.{manner_of}
 use Rattle.w4_defs.specs.BatchRows.{row_text, rows_text}
-use Rattle.w4_commands.proofs.LoadToolLaws.{named_item, past_all_names, within_all}
+use Rattle.w4_commands.proofs.BatchListLaws.{named_item, past_all_names, within_all}
 use Rattle.w4_answers.proofs.WritingLaws.{there_begins, there_begun}
 use Rattle.w4_commands.proofs.BatchLaws.{lines_from, rows-more, rows-all, rows-stop}
 use Rattle.w4_commands.proofs.batch.write_rows.Goals as goal

@@ -9,20 +9,14 @@ use Rattle.w4_commands.proofs.commands.run_form.Goals as goal
 
 pub returns-in-Make-clause-ends : goal.returns-in-Make-clause-ends
 returns-in-Make-clause-ends g c = rw (c.in-Make.is, c.finish.ensures)
-    (by_any (g.H.House.world c.args.house.now) (g.H.House.world c.make_cart.new.house) c.make_cart.result
-    (MakesOf (λ files. make_output c.in-Make.number)) c.make_cart.ensures.ends)
+    (by_any (g.H.House.world c.args.house.now) (g.H.House.world c.run_make.new.house) c.run_make.result
+    (MakesOf (λ files. make_output c.in-Make.number)) c.run_make.ensures.ends)
 
 pub returns-in-Inputs-clause-ends : goal.returns-in-Inputs-clause-ends
 returns-in-Inputs-clause-ends g c = rw (c.in-Inputs.is, c.finish-in-Inputs.ensures)
-    (by_any (g.H.House.world c.args.house.now) (g.H.House.world c.write_inputs.new.house)
-    c.write_inputs.result
-    (ResultsIn (λ files. inputs_output c.in-Inputs.name.now files)) c.write_inputs.ensures.ends)
-
-pub run_on_cart-requires-clause-meaning : goal.run_on_cart-requires-clause-meaning
-run_on_cart-requires-clause-meaning g c =
-    let is = c.in_ok-file-in-OnCart.ensures.cart in
-    let meaning = c.accepted_runs_have_meaning.ensures is.0 c.in_ok-file-in-OnCart.file.cart is.1 in
-    λ _ _. meaning.runs
+    (by_any (g.H.House.world c.args.house.now) (g.H.House.world c.run_inputs.new.house)
+    c.run_inputs.result
+    (ResultsIn (λ files. inputs_output c.in-Inputs.name.now files)) c.run_inputs.ensures.ends)
 
 pub returns-in_ok-file-in-OnCart-clause-ends : goal.returns-in_ok-file-in-OnCart-clause-ends
 returns-in_ok-file-in-OnCart-clause-ends g c =

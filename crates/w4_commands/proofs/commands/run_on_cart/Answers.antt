@@ -1,13 +1,14 @@
-use Rattle.std.proofs.Common.{◌≡◌, Some}
+use Rattle.std.proofs.Common.{◌≡◌, ◌+◌, ◌-◌, Some, arith, subst}
 use Rattle.w4_defs.specs.declared.place_text.PlaceText.TheVariants as wanted
-use Rattle.w4_defs.specs.Output.{blank_output, checked, disk_output, edit_output, images_output, texts_output, written}
+use Rattle.w4_defs.specs.Output.{blank_output, checked, disk_output, edit_output, images_output, place_texts_from, printing, run_files_to, written}
 use Rattle.w4_defs.specs.Outputs.{OverCart}
-use Rattle.w4_defs.specs.RecordingOutputs.{blank_disk_output, compare_output, rebind_output, units_output}
-use Rattle.w4_defs.specs.ToolOutputs.{batch_output, net_output, ram_output, wave_output}
-use Rattle.w4_commands.specs.Commands.{MakesOf}
+use Rattle.w4_defs.specs.RecordingOutputs.{blank_disk_output, compare_output, rebind_output}
+use Rattle.w4_defs.specs.ToolOutputs.{batch_output, net_output, ram_output}
+use Rattle.w4_commands.specs.Commands.{EndsDone, MakesOf}
 use Rattle.w4_commands.specs.Load.{ResultsIn, cart_view}
 use Rattle.w4_commands.specs.Forms.{batch_view, compare_view, edit_view, net_view, run_view}
 use Rattle.w4_commands.proofs.CommandLaws.{any_talk, by_any}
+use Rattle.w4_commands.proofs.WholeTextLaws.{whole_ended}
 use Rattle.w4_commands.proofs.commands.run_on_cart.Goals as goal
 
 pub returns-in-Check-clause-ends : goal.returns-in-Check-clause-ends
@@ -31,34 +32,33 @@ returns-in-Rebind-clause-ends g c = rw (c.in-Rebind.is, c.finish-in-Rebind.ensur
     (ResultsIn (λ files. rebind_output c.in-Rebind.recording.now (cart_view c.args.file) files)) c.run_rebind.ensures.ends)
 
 pub returns-in-Frames-clause-ends : goal.returns-in-Frames-clause-ends
+unfolding images_output
 returns-in-Frames-clause-ends g c = rw (c.in-Frames.is, c.finish-in-Frames.ensures)
-    (by_any (g.H.House.world c.args.house.now) (g.H.House.world c.run_frames.new.house) c.run_frames.result
-    (MakesOf (λ files. images_output (run_view c.in-Frames.names) c.in-Frames.places.from c.in-Frames.places.to (cart_view c.args.file) files)) c.run_frames.ensures.ends)
-
-pub returns-in-Tones-clause-ends : goal.returns-in-Tones-clause-ends
-returns-in-Tones-clause-ends g c = rw (c.in-Tones.is, c.finish-in-Tones.ensures)
-    (by_any (g.H.House.world c.args.house.now) (g.H.House.world c.run_texts.new.house) c.run_texts.result
-    (MakesOf (λ files. texts_output wanted.Schedule (run_view c.in-Tones.names) (cart_view c.args.file) files)) c.run_texts.ensures.ends)
-
-pub returns-in-Trace-clause-ends : goal.returns-in-Trace-clause-ends
-returns-in-Trace-clause-ends g c = rw (c.in-Trace.is, c.finish-in-Trace.ensures)
-    (by_any (g.H.House.world c.args.house.now) (g.H.House.world c.run_texts-in-Trace.new.house) c.run_texts-in-Trace.result
-    (MakesOf (λ files. texts_output wanted.Traces (run_view c.in-Trace.names) (cart_view c.args.file) files)) c.run_texts-in-Trace.ensures.ends)
+    (by_any (g.H.House.world c.args.house.now) (g.H.House.world c.run_places.new.house) c.run_places.result
+    (MakesOf (λ files. images_output (run_view c.in-Frames.names) c.in-Frames.places.from c.in-Frames.places.to (cart_view c.args.file) files)) c.run_places.ensures.ends)
 
 pub returns-in-Disk-clause-ends : goal.returns-in-Disk-clause-ends
-returns-in-Disk-clause-ends g c = rw (c.in-Disk.is, c.finish-in-Disk.ensures)
-    (by_any (g.H.House.world c.args.house.now) (g.H.House.world c.run_disk.new.house) c.run_disk.result
-    (MakesOf (λ files. disk_output (run_view c.in-Disk.names) c.in-Disk.place (cart_view c.args.file) files)) c.run_disk.ensures.ends)
+unfolding disk_output
+returns-in-Disk-clause-ends g c =
+    let old = g.H.House.world c.args.house.now in
+    let new = g.H.House.world c.run_places-in-Disk.new.house in
+    let words = run_view c.in-Disk.names in
+    let cart = cart_view c.args.file in
+    let place = c.in-Disk.place in
+    let one : place + 1 - place ≡ 1 = omega arith in
+    rw (c.in-Disk.is, c.finish-in-Disk.ensures)
+    (by_any old new c.run_places-in-Disk.result (MakesOf (λ files. disk_output words place cart files))
+    (subst (λ count. EndsDone old new c.run_places-in-Disk.result (MakesOf (λ files.
+    printing (run_files_to cart.digest words place files)
+    (λ p. place_texts_from wanted.DiskBytes cart.code p place count)))) one c.run_places-in-Disk.ensures.ends))
 
-pub returns-in-Units-clause-ends : goal.returns-in-Units-clause-ends
-returns-in-Units-clause-ends g c = rw (c.in-Units.is, c.finish-in-Units.ensures)
-    (by_any (g.H.House.world c.args.house.now) (g.H.House.world c.run_units.new.house) c.run_units.result
-    (MakesOf (λ files. units_output (run_view c.in-Units.names) (cart_view c.args.file) files)) c.run_units.ensures.ends)
-
-pub returns-in-Wave-clause-ends : goal.returns-in-Wave-clause-ends
-returns-in-Wave-clause-ends g c = rw (c.in-Wave.is, c.finish-in-Wave.ensures)
-    (by_any (g.H.House.world c.args.house.now) (g.H.House.world c.run_wave.new.house) c.run_wave.result
-    (MakesOf (λ files. wave_output (run_view c.in-Wave.names) (cart_view c.args.file) files)) c.run_wave.ensures.ends)
+pub returns-in-Whole-clause-ends : goal.returns-in-Whole-clause-ends
+returns-in-Whole-clause-ends g c =
+    let old = g.H.House.world c.args.house.now in
+    let new = g.H.House.world c.run_whole.new.house in
+    rw (c.in-Whole.is, c.finish-in-Whole.ensures)
+    (whole_ended old new c.run_whole.result c.in-Whole.text (run_view c.in-Whole.names) (cart_view c.args.file)
+    c.run_whole.ensures.ends)
 
 pub returns-in-Ram-clause-ends : goal.returns-in-Ram-clause-ends
 returns-in-Ram-clause-ends g c = rw (c.in-Ram.is, c.finish-in-Ram.ensures)
@@ -77,8 +77,8 @@ returns-in-Net-clause-ends g c = rw (c.in-Net.is, c.finish-in-Net.ensures)
 
 pub returns-in-Batch-clause-ends : goal.returns-in-Batch-clause-ends
 returns-in-Batch-clause-ends g c = rw (c.in-Batch.is, c.finish-in-Batch.ensures)
-    (by_any (g.H.House.world c.args.house.now) (g.H.House.world c.run_list.new.house) c.run_list.result
-    (MakesOf (λ files. batch_output (batch_view c.in-Batch.names) (cart_view c.args.file) files)) c.run_list.ensures.ends)
+    (by_any (g.H.House.world c.args.house.now) (g.H.House.world c.run_batch.new.house) c.run_batch.result
+    (MakesOf (λ files. batch_output (batch_view c.in-Batch.names) (cart_view c.args.file) files)) c.run_batch.ensures.ends)
 
 pub returns-in-Serve-clause-ends : goal.returns-in-Serve-clause-ends
 returns-in-Serve-clause-ends g c = rw (c.in-Serve.is, c.finish-in-Serve.ensures) c.run_serve.ensures.ends

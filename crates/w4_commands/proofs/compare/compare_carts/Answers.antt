@@ -14,7 +14,7 @@ returns-clause-ends g c =
     ends_sides (g.H.House.world c.args.house.now) (g.H.House.world c.load_compare.new.house)
     (g.H.House.world c.write_comparison.new.house) c.in_ok-loaded.ensures.rest c.write_comparison.ensures.rest
     (compare_view c.args.names) one other (two_view c.in_ok-loaded.loaded)
-    (c.in_ok-loaded.ensures.gives one.code other.code) c.requires.meaning c.requires.other_meaning
+    (c.in_ok-loaded.ensures.gives one.code other.code) c.args.file.now.meaning c.args.other.now.meaning
     c.write_comparison.result c.write_comparison.ensures.out
 
 pub returns-in_err-loaded-clause-ends : goal.returns-in_err-loaded-clause-ends

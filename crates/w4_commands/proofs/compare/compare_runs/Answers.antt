@@ -1,6 +1,7 @@
 use Rattle.std.proofs.Common.{◌≡◌, ◌+◌, ℕ, length, subst, arith}
 use Rattle.std.specs.Prelude.{min}
-use Rattle.w4_commands.specs.Compare.{ComparedTo, scene_side}
+use Rattle.w4_commands.specs.Compare.{ComparedTo}
+use Rattle.w4_commands.specs.Scene.{scene_side}
 use Rattle.w4_commands.proofs.CompareLaws.{places_begin, places_go_on, stands_still}
 use Rattle.w4_commands.proofs.compare.compare_runs.Goals as goal
 

@@ -1,7 +1,8 @@
 -- The runs were compared up to the place where both stages stand.
 use Rattle.std.proofs.Common.{◌≤◌}
 use Rattle.std.specs.Prelude.{length, min}
-use Rattle.w4_commands.specs.Compare.{ComparedTo, scene_side}
+use Rattle.w4_commands.specs.Compare.{ComparedTo}
+use Rattle.w4_commands.specs.Scene.{scene_side}
 use Rattle.w4_commands.specs.Stage.{IsAtPlace}
 use Rattle.w4_commands.proofs.compare.compare_runs.Given as goal
 

@@ -6,12 +6,6 @@ use Rattle.w4_commands.specs.Forms.{compare_view}
 use Rattle.w4_commands.proofs.CommandLaws.{ends_judged, ends_unjudged}
 use Rattle.w4_commands.proofs.compare.run_compare.Goals as goal
 
-pub compare_carts-requires-clause-other_meaning : goal.compare_carts-requires-clause-other_meaning
-compare_carts-requires-clause-other_meaning g c =
-    let is = c.in_ok-other.ensures.cart in
-    let meaning = c.accepted_runs_have_meaning.ensures is.0 c.in_ok-other.other.cart is.1 in
-    λ font budget. meaning.runs font budget
-
 pub returns-clause-ends : goal.returns-clause-ends
 returns-clause-ends g c =
     ends_judged (g.H.House.world c.args.house.now) (g.H.House.world c.load_cart.new.house)

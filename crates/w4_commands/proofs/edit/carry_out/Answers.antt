@@ -5,9 +5,8 @@ use Rattle.w4_defs.specs.Endings.{manner_of}
 use Rattle.w4_defs.specs.KeptList.{state_at}
 use Rattle.w4_defs.specs.Recording.{Recording, encoding}
 use Rattle.w4_editor.specs.Editor.{current_recording}
-use Rattle.w4_commands.specs.Edit.{Carried}
+use Rattle.w4_commands.specs.Edit.{Carried, loaded_view}
 use Rattle.w4_answers.specs.ScriptAnswers.{answers_by, recording_by}
-use Rattle.w4_commands.specs.Load.{loaded_view}
 use Rattle.w4_house.proofs.WorldLaws.{reading_none, writing_none}
 use Rattle.w4_answers.proofs.WritingLaws.{front_does, out_none}
 use Rattle.w4_commands.proofs.EditLaws.{carried_saved, carries_stopped, opened_carried, recording_left}

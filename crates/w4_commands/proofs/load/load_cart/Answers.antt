@@ -25,6 +25,3 @@ returns-in-Err-Kind-clause-gives g c =
     c.in-Err-Kind.kind c.in_ok-bytes.ensures.gives
     (rw (← c.as_slice.ensures.value)
     (c.in-Err-Kind.ensures.refused c.in-Err-Kind.kind (rw c.in-Err-Kind.field-0-is refl)))
-
-pub returns-in-Ok-clause-cart : goal.returns-in-Ok-clause-cart
-returns-in-Ok-clause-cart g c = (c.as_slice.result.now, c.in-Ok.ensures.cart)

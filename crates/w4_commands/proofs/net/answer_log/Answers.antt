@@ -5,7 +5,7 @@ use Rattle.w4_editor.specs.Editor.{editing_setup}
 use Rattle.w4_defs.specs.LogAnswers.{net_answers}
 use Rattle.w4_answers.specs.NetAnswers.{net_session}
 use Rattle.w4_defs.specs.ToolOutputs.{net_text}
-use Rattle.w4_commands.specs.LoadTools.{net_loaded_view}
+use Rattle.w4_commands.specs.Net.{net_loaded_view}
 use Rattle.w4_answers.specs.Writing.{Written}
 use Rattle.w4_answers.proofs.WritingLaws.{there_as}
 use Rattle.w4_answers.proofs.NetAnswerLaws.{netplay_begins, blank_as}

@@ -1,7 +1,7 @@
 use Rattle.std.proofs.lemmas.Result.{err_from_is_err_and}
 use Rattle.w4_defs.specs.ToolOutputs.{net_files, net_output, net_text}
 use Rattle.w4_defs.proofs.OutputsThereLaws.{net_text_there}
-use Rattle.w4_commands.specs.LoadTools.{net_loaded_view}
+use Rattle.w4_commands.specs.Net.{net_loaded_view}
 use Rattle.w4_commands.specs.Forms.{net_view}
 use Rattle.w4_commands.proofs.CommandLaws.{ends_unprinted, ends_printed}
 use Rattle.w4_commands.proofs.net.run_net.Goals as goal
@@ -20,4 +20,4 @@ unfolding net_output
 returns-clause-ends g c =
     ends_printed (g.H.House.world c.args.house.now) (g.H.House.world c.load_net.new.house)
     (g.H.House.world c.answer_log.new.house) (λ files. net_files (net_view c.args.names) files) (net_loaded_view c.in_ok-loaded.loaded) (λ l. net_text c.args.file.cart c.args.names.budget.units l) c.in_ok-loaded.ensures.rest
-    c.answer_log.ensures.rest c.in_ok-loaded.ensures.gives (net_text_there c.args.file.cart c.requires.meaning c.args.names.budget.units (net_loaded_view c.in_ok-loaded.loaded)) c.answer_log.result c.answer_log.ensures.out
+    c.answer_log.ensures.rest c.in_ok-loaded.ensures.gives (net_text_there c.args.file.cart c.args.file.meaning c.args.names.budget.units (net_loaded_view c.in_ok-loaded.loaded)) c.answer_log.result c.answer_log.ensures.out

@@ -5,7 +5,7 @@ use Rattle.w4_editor.specs.Editor.{Editing}
 use Rattle.w4_answers.proofs.WritingLaws.{out_none, there_as}
 use Rattle.w4_answers.specs.RamAnswers.{query_answers}
 use Rattle.w4_defs.specs.ToolOutputs.{ram_text}
-use Rattle.w4_commands.specs.LoadTools.{ram_loaded_view}
+use Rattle.w4_commands.specs.Ram.{ram_loaded_view}
 use Rattle.w4_answers.specs.Writing.{Written}
 use Rattle.w4_commands.proofs.ram.answer_query.Goals as goal
 

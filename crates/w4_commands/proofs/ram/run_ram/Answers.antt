@@ -1,7 +1,7 @@
 use Rattle.std.proofs.lemmas.Result.{err_from_is_err_and}
 use Rattle.w4_defs.specs.ToolOutputs.{ram_files, ram_output, ram_text}
 use Rattle.w4_defs.proofs.OutputsThereLaws.{ram_text_there}
-use Rattle.w4_commands.specs.LoadTools.{ram_loaded_view}
+use Rattle.w4_commands.specs.Ram.{ram_loaded_view}
 use Rattle.w4_commands.specs.Forms.{run_view}
 use Rattle.w4_commands.proofs.CommandLaws.{ends_unprinted, ends_printed}
 use Rattle.w4_commands.proofs.ram.run_ram.Goals as goal
@@ -20,4 +20,4 @@ unfolding ram_output
 returns-clause-ends g c =
     ends_printed (g.H.House.world c.args.house.now) (g.H.House.world c.load_ram.new.house)
     (g.H.House.world c.answer_query.new.house) (λ files. ram_files c.args.file.digest (run_view c.args.names) c.args.query.now files) (ram_loaded_view c.in_ok-loaded.loaded) (λ l. ram_text c.args.file.cart l) c.in_ok-loaded.ensures.rest
-    c.answer_query.ensures.rest c.in_ok-loaded.ensures.gives (ram_text_there c.args.file.cart c.requires.meaning (ram_loaded_view c.in_ok-loaded.loaded)) c.answer_query.result c.answer_query.ensures.out
+    c.answer_query.ensures.rest c.in_ok-loaded.ensures.gives (ram_text_there c.args.file.cart c.args.file.meaning (ram_loaded_view c.in_ok-loaded.loaded)) c.answer_query.result c.answer_query.ensures.out

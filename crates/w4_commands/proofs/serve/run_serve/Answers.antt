@@ -1,5 +1,5 @@
 use Rattle.std.proofs.lemmas.Result.{err_from_is_err_and}
-use Rattle.w4_commands.specs.Load.{cart_view, played_view}
+use Rattle.w4_commands.specs.Load.{cart_view, run_files_view}
 use Rattle.w4_commands.specs.Forms.{serve_view}
 use Rattle.w4_commands.proofs.ServeLaws.{serve_made, serve_unread}
 use Rattle.w4_commands.proofs.serve.run_serve.Goals as goal
@@ -8,7 +8,7 @@ pub returns-clause-ends : goal.returns-clause-ends
 returns-clause-ends g c =
     serve_made (g.H.House.world c.args.house.now) (g.H.House.world c.load_run.new.house)
     (g.H.House.world c.serve_run.new.house) (serve_view c.args.names) (cart_view c.args.file)
-    (played_view c.in_ok-run.run') c.in_ok-run.ensures.rest c.in_ok-run.ensures.gives c.serve_run.result
+    (run_files_view c.in_ok-run.run') c.in_ok-run.ensures.rest c.in_ok-run.ensures.gives c.serve_run.result
     c.serve_run.ensures.ends
 
 pub returns-in_err-run-clause-ends : goal.returns-in_err-run-clause-ends

@@ -10,7 +10,7 @@ use Rattle.w4_inspect.proofs.place_pages.add_pages.Goals as goal
 pub loop-p-init : goal.loop-p-init
 loop-p-init g c =
     let e = c.args.editor.now in
-    let a = c.args.a in
+    let a = c.args.places.a in
     let count : a + 1 - a ≡ 1 = omega arith in (
       ap (λ n. all_some (map (page_at e) (range_with_len a n))) count ∙ c.requires.first,
       ap (λ at. with_session e e.session at) c.requires.at,
@@ -23,7 +23,7 @@ loop-p-preserved g c =
     let p = c.loop-p.p in
     let next = c.next_page in
     let so_far = c.loop-p.invariant in (
-      one_more_page (page_at e) c.loop-p.pages.items c.push.new.self.items c.in_ok-page.page c.args.a p
+      one_more_page (page_at e) c.loop-p.pages.items c.push.new.self.items c.in_ok-page.page c.args.places.a p
           c.loop-p.auto.p so_far.0 c.in_ok-push.ensures.items
           (moved_page e c.loop-p.editor (Some p) c.in_ok-page.page (p + 1) so_far.1
           c.in_ok-page.ensures.page),

@@ -6,19 +6,17 @@ use Rattle.w4_inspect.proofs.SearchLaws.{next_is_within}
 use Rattle.w4_inspect.proofs.search.keep_first.Goals as goal
 use Rattle.w4_inspect.proofs.search.keep_first.Goals.{then-test_holds, else-test_holds}
 
-pub value_at-new-requires-clause-within : goal.value_at-new-requires-clause-within
-value_at-new-requires-clause-within c =
-    next_is_within c.args.width 0 c.loop-i.invariant c.loop-i-test.true c.requires.within
-
-pub value_at-old-requires-clause-within : goal.value_at-old-requires-clause-within
-value_at-old-requires-clause-within c =
-    next_is_within c.args.width 0 c.loop-i.invariant c.loop-i-test.true c.requires.within
+pub invariant_of-what : goal.invariant_of-what
+invariant_of-what c = record {
+  within = next_is_within c.args.width.bytes 0 c.loop-i.invariant c.loop-i-test.true c.requires;
+}
 
 pub loop-i-preserved : goal.loop-i-preserved
 loop-i-preserved c =
-    let held : c.test_holds.result ≡ test_holds_at c.args.width c.args.test c.args.page.now c.args.last.now
+    let held : c.test_holds.result ≡ test_holds_at c.args.width.bytes c.args.test c.args.page.now
+    c.args.last.now
     (get_or c.loop-i.candidates c.loop-i.i 0) =
-    rw (c.test_holds.ensures, c.value_at-new.ensures, c.value_at-old.ensures) refl in
+    rw (c.test_holds.ensures, c.value_in-new.ensures, c.value_in-old.ensures) refl in
     let address = get_or c.loop-i.candidates c.loop-i.i 0 in
     let there : c.loop-i.i < length c.loop-i.candidates =
     omega (arith, c.loop-i-test.true, c.loop-i.invariant.long) in

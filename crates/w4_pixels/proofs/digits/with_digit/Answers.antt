@@ -3,8 +3,8 @@ use Rattle.std.specs.Prelude.{◌==◌, if◌then◌else◌}
 use Rattle.w4_pixels.proofs.DigitLaws.{chosen_digit, three_or_none}
 use Rattle.w4_pixels.proofs.digits.with_digit.Goals as goal
 
-pub masked-requires-clause-mask : goal.masked-requires-clause-mask
-masked-requires-clause-mask c = λ j hj. three_or_none (j == c.args.k) _ (c.digit_mask.ensures j hj)
+pub masked-requires : goal.masked-requires
+masked-requires c = λ j hj. three_or_none (j == c.args.k) _ (c.digit_mask.ensures j hj)
 
 pub returns : goal.returns
 returns c = λ j hj.

@@ -9,9 +9,10 @@ pub returns : goal.returns
 returns c =
     let a = c.args in
     let quad = a.quad in
-    set_paint a.page.now (quad_painter a.q a.row quad.first quad.second quad.third quad.fourth)
-    a.row a.q c.joined.result c.told-page
+    rw c.address-at.ensures (set_paint a.page.now (quad_painter a.byte.q a.byte.row quad.first quad.second
+    quad.third quad.fourth)
+    a.byte.row a.byte.q c.joined.result c.told-page
     (omega arith) (omega arith) (omega arith) c.fits-page
-    (λ k hk. quad_digit a.page.now a.q a.row k _ quad.first quad.second quad.third quad.fourth hk
-    (c.joined.ensures k hk))
-    (λ u v hu hv away. grind (arith, nat_tests))
+    (λ k hk. quad_digit a.page.now a.byte.q a.byte.row k _ quad.first quad.second quad.third quad.fourth hk
+    (rw c.address-at.ensures at c.joined.ensures k hk))
+    (λ u v hu hv away. grind (arith, nat_tests)))

@@ -6,6 +6,6 @@ use Rattle.w4_pixels.proofs.runs.fill_narrow.Given as goal
 abbrev pub invariant-loop-row : goal.invariant-loop-row
 invariant-loop-row l = record {
   painted : l.page ≡ paint l.initial.page
-      (clipped (λ a b. Some l.index) l.columns.first l.columns.end l.fn.rows.top l.row);
-  within : l.row ≤ max l.fn.rows.top l.fn.rows.bottom;
+      (clipped (λ a b. Some l.index) l.columns.first l.columns.end l.fn.rows.first l.row);
+  within : l.row ≤ max l.fn.rows.first l.fn.rows.end;
 }

@@ -11,7 +11,7 @@ loop-row-init c =
     let rows = c.args.rows in
     record {
       painted = paint_off c.args.page.now _ c.told-page c.fits-page
-          (λ a b ha hb. boxed_no_row f columns.first columns.end rows.top rows.top a b (omega arith));
+          (λ a b ha hb. boxed_no_row f columns.first columns.end rows.first rows.first a b (omega arith));
       within = omega arith;
     }
 
@@ -24,7 +24,7 @@ loop-row-preserved c =
       painted = rw (c.put_row.ensures, c.loop-row.invariant.painted)
           (paint_step c.args.page.now _ _ _ c.told-page
           (λ a b ha hb.
-          row_more f columns.first columns.end rows.top c.loop-row.row a b c.loop-row.auto.row));
+          row_more f columns.first columns.end rows.first c.loop-row.row a b c.loop-row.auto.row));
       within = omega arith;
     }
 
@@ -34,5 +34,5 @@ returns c =
     let columns = c.args.columns in
     let rows = c.args.rows in
     c.loop-row.invariant.painted ∙ paint_ext c.args.page.now _ _ c.told-page
-    (λ a b ha hb. boxed_down f columns.first columns.end rows.top rows.bottom c.loop-row.row a b
+    (λ a b ha hb. boxed_down f columns.first columns.end rows.first rows.end c.loop-row.row a b
     c.loop-row-test.false c.loop-row.invariant.within)

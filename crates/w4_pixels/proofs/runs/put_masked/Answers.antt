@@ -8,8 +8,11 @@ use Rattle.w4_pixels.proofs.runs.put_masked.Goals as goal
 pub returns : goal.returns
 returns c =
     let a = c.args in
-    set_paint a.page.now (masked_painter a.q a.row a.mask (Some a.index)) a.row a.q c.masked.result
+    rw c.address-at.ensures (set_paint a.page.now (masked_painter a.byte.q a.byte.row a.mask (Some a.index))
+    a.byte.row a.byte.q
+    c.masked.result
     c.told-page
     (omega arith) (omega arith) (omega arith) c.fits-page
-    (λ k hk. mask_digit a.page.now a.q a.row a.mask a.index k _ c.requires.index hk (c.masked.ensures k hk))
-    (λ u v hu hv away. grind (arith, nat_tests))
+    (λ k hk. mask_digit a.page.now a.byte.q a.byte.row a.mask a.index k _ (omega arith) hk (rw
+    c.address-at.ensures at c.masked.ensures k hk))
+    (λ u v hu hv away. grind (arith, nat_tests)))

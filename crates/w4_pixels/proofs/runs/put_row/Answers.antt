@@ -12,5 +12,5 @@ returns c =
       paint-paint a.page.now _ _ c.told-page,
     )
     (paint_step a.page.now _ _ _ c.told-page (λ u v hu hv.
-    wide_row a.columns.first a.columns.end a.row a.left a.right a.index u v
-    c.requires.wide c.requires.left c.requires.right))
+    wide_row a.columns.first a.columns.end a.row a.columns.left a.columns.right a.index u v
+    a.columns.wide a.columns.left_chosen a.columns.right_chosen))

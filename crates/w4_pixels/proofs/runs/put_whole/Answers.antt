@@ -7,6 +7,6 @@ returns c =
     let a = c.args in
     bytes_filled a.page.now c.fill.new.self a.first a.end a.row c.filled.result a.index
     (160 + 40 * a.row + a.first) _ (160 + 40 * a.row + a.end) c.requires.order c.requires.end c.requires.row
-    c.requires.index (omega arith) (omega arith) (omega arith) (omega arith) c.told-page c.fits-page
+    (omega arith) (omega arith) (omega arith) (omega arith) c.told-page c.fits-page
     c.filled.ensures
     (c.fill.ensures.after (λ y same. same))

@@ -9,10 +9,10 @@ use Rattle.w4_pixels.proofs.runs.span.Goals.{else-y-ge0-via-then-y-ge0+else-y-lt
 
 pub returns-then-y-lt160 : goal.returns-then-y-lt160
 returns-then-y-lt160 c = c.fill.ensures ∙ paint_ext c.args.page.now _ _ c.told-page (λ u v hu hv.
-    span_row c.args.x0 c.args.x1 c.args.y c.on_screen.result c.on_screen-then-y-lt160.result _ u v
+    span_row c.args.x0 c.args.x1 c.args.y c.part_between.result.first c.part_between.result.end _ u v
     (Some c.args.index)
-    (c.on_screen.ensures.same u hu ∙ ap (λ z. int_le z (pos u)) (to_z-of_z w64 c.args.x0 c.ranges.x0))
-    (c.on_screen-then-y-lt160.ensures.same u hu
+    (c.part_between.ensures.first u hu ∙ ap (λ z. int_le z (pos u)) (to_z-of_z w64 c.args.x0 c.ranges.x0))
+    (c.part_between.ensures.end u hu
     ∙ ap (λ z. int_le z (pos u)) (to_z-of_z w64 c.args.x1 c.ranges.x1))
     (omega (arith, ints)))
 

@@ -13,10 +13,12 @@ returns-in-Some c =
     let f : Painter = λ u v. Some c.in-Some.index in
     c.fill.ensures ∙ rw c.in-Some.is (paint_ext a.page.now _ _ c.told-page (λ u v hu hv.
     boxed_all f a.left a.right a.top a.bottom _ _ _ _ u v
-    (c.on_screen-first.ensures.same u hu ∙ ap (λ z. int_le z (pos u)) (to_z-of_z w64 a.left c.ranges.left))
-    (c.on_screen-end.ensures.same u hu ∙ ap (λ z. int_le z (pos u)) (to_z-of_z w64 a.right c.ranges.right))
-    (c.on_screen.ensures.same v hv ∙ ap (λ z. int_le z (pos v)) (to_z-of_z w64 a.top c.ranges.top))
-    (c.on_screen-in-Some.ensures.same v hv
+    (c.part_between-columns.ensures.first u hu ∙ ap (λ z. int_le z (pos u)) (to_z-of_z w64 a.left
+    c.ranges.left))
+    (c.part_between-columns.ensures.end u hu ∙ ap (λ z. int_le z (pos u)) (to_z-of_z w64 a.right
+    c.ranges.right))
+    (c.part_between-rows.ensures.first v hv ∙ ap (λ z. int_le z (pos v)) (to_z-of_z w64 a.top c.ranges.top))
+    (c.part_between-rows.ensures.end v hv
     ∙ ap (λ z. int_le z (pos v)) (to_z-of_z w64 a.bottom c.ranges.bottom))))
 
 pub returns-in_default : goal.returns-in_default

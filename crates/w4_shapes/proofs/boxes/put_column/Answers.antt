@@ -11,10 +11,10 @@ pub returns-then-x-lt160 : goal.returns-then-x-lt160
 returns-then-x-lt160 c =
     let a = c.args in
     c.column.ensures ∙ paint_ext a.page.now _ _ c.told-page (λ u v hu hv.
-    column_all a.x a.top a.bottom _ c.on_screen.result c.on_screen-then-x-lt160.result u v (Some a.index)
+    column_all a.x a.top a.bottom _ c.part_between.result.first c.part_between.result.end u v (Some a.index)
     (omega (arith, ints))
-    (c.on_screen.ensures.same v hv ∙ ap (λ z. int_le z (pos v)) (to_z-of_z w64 a.top c.ranges.top))
-    (c.on_screen-then-x-lt160.ensures.same v hv
+    (c.part_between.ensures.first v hv ∙ ap (λ z. int_le z (pos v)) (to_z-of_z w64 a.top c.ranges.top))
+    (c.part_between.ensures.end v hv
     ∙ ap (λ z. int_le z (pos v)) (to_z-of_z w64 a.bottom c.ranges.bottom)))
 
 pub returns-else-x-ge0 : goal.returns-else-x-ge0

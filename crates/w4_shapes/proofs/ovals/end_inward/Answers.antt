@@ -9,8 +9,8 @@ pub returns-then-within-clause-same : goal.returns-then-within-clause-same
 returns-then-within-clause-same c = λ s low high. elim (cases_lt s (c.args.from - c.loop-step.step)) [
   | inl before ↦ (
       let here : nat_lt s (c.args.from - c.loop-step.step) ≡ true = grind (arith, nat_tests) in
-      right_within c.args.cells c.args.columns s
-      (c.args.from - c.loop-step.step - 1) c.args.limit c.requires.on_screen
+      right_within c.args.columns s
+      (c.args.from - c.loop-step.step - 1) c.args.limit
       low (omega arith) (omega arith) (sym c.within.ensures ∙ c.if-within.true)
       ∙ sym here)
   | inr after ↦ (
@@ -20,8 +20,8 @@ returns-then-within-clause-same c = λ s low high. elim (cases_lt s (c.args.from
 
 pub loop-step-preserved : goal.loop-step-preserved
 loop-step-preserved c = λ s low high.
-    right_outside c.args.cells c.args.columns
-    (c.args.from - c.loop-step.step - 1) s c.args.limit c.requires.on_screen
+    right_outside c.args.columns
+    (c.args.from - c.loop-step.step - 1) s c.args.limit
     (omega arith) (omega arith) high (sym c.within.ensures ∙ c.if-within.false)
 
 pub returns-clause-same : goal.returns-clause-same

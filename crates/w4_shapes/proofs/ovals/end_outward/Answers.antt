@@ -4,5 +4,5 @@ use Rattle.w4_shapes.proofs.ovals.end_outward.Goals as goal
 
 pub returns-then-not-within-clause-outside : goal.returns-then-not-within-clause-outside
 returns-then-not-within-clause-outside c = λ s low high.
-    right_outside c.args.cells c.args.columns c.loop-s.s s c.args.limit
-    c.requires.on_screen (omega arith) low high (sym c.within.ensures ∙ c.if-not-within.true)
+    right_outside c.args.columns c.loop-s.s s c.args.limit
+    (omega arith) low high (sym c.within.ensures ∙ c.if-not-within.true)

@@ -12,7 +12,7 @@ returns-then-within-clause-same c = λ s low high. elim (cases_lt s c.loop-s.s) 
       c.loop-s.invariant s low before ∙ sym bare)
   | inr after ↦ (
       let here : nat_le c.loop-s.s s ≡ true = grind (arith, nat_tests) in
-      left_within c.args.cells c.args.columns c.loop-s.s s c.args.limit c.requires.on_screen
+      left_within c.args.columns c.loop-s.s s c.args.limit
       (omega arith) after high
       (sym c.within.ensures ∙ c.if-within.true)
       ∙ sym here)
@@ -20,7 +20,7 @@ returns-then-within-clause-same c = λ s low high. elim (cases_lt s c.loop-s.s) 
 
 pub loop-s-preserved : goal.loop-s-preserved
 loop-s-preserved c = λ s low high.
-    left_outside c.args.cells c.args.columns s c.loop-s.s c.args.limit c.requires.on_screen low (omega arith)
+    left_outside c.args.columns s c.loop-s.s c.args.limit low (omega arith)
     c.loop-s-test.true (sym c.within.ensures ∙ c.if-within.false)
 
 pub returns-clause-same : goal.returns-clause-same

@@ -6,11 +6,11 @@ returns c =
     let a = c.args in
     rw (c.put_span-3.ensures, c.put_span-2.ensures, c.put_span.ensures)
     (three_painted a.page.now _ _ _ _ c.told-page (λ u b hu hb.
-    row_pixel a.cells a.columns a.v a.rows.above a.rows.here a.rows.below
+    row_pixel a.rows.columns a.rows.v a.rows.above a.rows.here a.rows.below
     c.on_screen-whole.result c.inner_part-inner.result u b
-    c.requires.on_screen.first_cell c.requires.on_screen.last_cell c.requires.first_cell c.requires.last_cell
-    c.requires.above c.requires.here c.requires.below c.on_screen-whole.ensures.first
+    a.rows.columns.first_cell a.rows.columns.last_cell a.rows.first_cell a.rows.last_cell
+    a.rows.spans_above a.rows.spans_here a.rows.spans_below c.on_screen-whole.ensures.first
     c.on_screen-whole.ensures.end
     c.inner_part-inner.ensures.low c.inner_part-inner.ensures.order c.inner_part-inner.ensures.high
-    c.inner_part-inner.ensures.same c.index_of-edge.result c.index_of.result c.index_of-edge.ensures.value
-    c.index_of.ensures.value))
+    c.inner_part-inner.ensures.same c.index_of-edge.result c.index_of-inside.result c.index_of-edge.ensures
+    c.index_of-inside.ensures))

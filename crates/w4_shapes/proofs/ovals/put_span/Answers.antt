@@ -9,12 +9,13 @@ use Rattle.w4_shapes.proofs.ovals.put_span.Goals as goal
 pub returns-in-Some : goal.returns-in-Some
 returns-in-Some c =
     let a = c.args in
-    let first : to_z w64 (of_z w64 (to_z w64 a.first -ℤ pos 1))
-    ≡ pos a.first -ℤ pos 1 = omega (arith, ints) in
-    let end : to_z w64 (of_z w64 (to_z w64 a.end -ℤ pos 1)) ≡ pos a.end -ℤ pos 1 = omega (arith, ints) in
+    let first : to_z w64 (of_z w64 (to_z w64 a.extent.first -ℤ pos 1))
+    ≡ pos a.extent.first -ℤ pos 1 = omega (arith, ints) in
+    let end : to_z w64 (of_z w64 (to_z w64 a.extent.end -ℤ pos 1)) ≡ pos a.extent.end -ℤ pos 1 = omega
+    (arith, ints) in
     let row : to_z w64 a.v ≡ pos a.v = omega (arith, ints) in
     rw (c.span.ensures, first, end, row, c.in-Some.is) (paint_ext a.page.now _ _ c.told-page (λ u v hu hv.
-    span_extent a.first a.end a.v u v (Some c.in-Some.index)))
+    span_extent a.extent.first a.extent.end a.v u v (Some c.in-Some.index)))
 
 pub returns-in_default : goal.returns-in_default
 returns-in_default c =

@@ -16,15 +16,6 @@ returns c = λ s.
     let far : c.aside-far.result ≡ aside ((pos a.t -ℤ pos 1) -ℤ cells.y) cells.h =
     rw (c.aside-far.ensures.value, y, t, before, j) refl in
     let near : ℕ = aside ((pos s -ℤ pos 1) -ℤ cells.x) cells.w in
-    let w : c.from-2.result ≡ cells.w = c.from-2.ensures in
-    let h : c.from-3.result ≡ cells.h = c.from-3.ensures in
     sym (c.limit_at.ensures (near * near)
-    ∙ ap (λ k. nat_le (near * near * (c.from-3.result * c.from-3.result) + k * k
-    * (c.from-2.result * c.from-2.result))
-    (c.from-2.result * c.from-2.result * (c.from-3.result * c.from-3.result))) far
-    ∙ ap (λ k. nat_le (near * near * (c.from-3.result * c.from-3.result)
-    + aside ((pos a.t -ℤ pos 1) -ℤ cells.y) cells.h * aside ((pos a.t -ℤ pos 1) -ℤ cells.y) cells.h * (k * k))
-    (k * k * (c.from-3.result * c.from-3.result))) w
-    ∙ ap (λ k. nat_le (near * near * (k * k)
-    + aside ((pos a.t -ℤ pos 1) -ℤ cells.y) cells.h * aside ((pos a.t -ℤ pos 1) -ℤ cells.y) cells.h
-    * (cells.w * cells.w)) (cells.w * cells.w * (k * k))) h)
+    ∙ ap (λ k. nat_le (near * near * (cells.h * cells.h) + k * k * (cells.w * cells.w))
+    (cells.w * cells.w * (cells.h * cells.h))) far)

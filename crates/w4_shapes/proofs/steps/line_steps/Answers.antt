@@ -10,9 +10,9 @@ pub returns-clause-on : goal.returns-clause-on
 returns-clause-on c = λ t low high.
     let a = c.args in
     let wide : c.distance-wide.result ≡ apart a.x1 a.x2 =
-    simp (to_z-of_z w32 a.x1 c.ranges.x1, to_z-of_z w32 a.x2 c.ranges.x2) at c.distance-wide.ensures.value in
+    simp (to_z-of_z w32 a.x1 c.ranges.x1, to_z-of_z w32 a.x2 c.ranges.x2) at c.distance-wide.ensures in
     let tall : c.distance-high.result ≡ apart a.y1 a.y2 =
-    simp (to_z-of_z w32 a.y1 c.ranges.y1, to_z-of_z w32 a.y2 c.ranges.y2) at c.distance-high.ensures.value in
+    simp (to_z-of_z w32 a.y1 c.ranges.y1, to_z-of_z w32 a.y2 c.ranges.y2) at c.distance-high.ensures in
     let column : OnAxis (toward a.x1 a.x2 (moved c.distance-wide.result c.distance-high.result t)) =
     simp (to_z-of_z w32 a.x1 c.ranges.x1, to_z-of_z w32 a.x2 c.ranges.x2) at
     (c.axis_steps-columns.ensures.on t (omega arith) (omega arith)) in
@@ -27,9 +27,9 @@ pub returns-clause-off : goal.returns-clause-off
 returns-clause-off c = λ t u v hu hv out ht.
     let a = c.args in
     let wide : c.distance-wide.result ≡ apart a.x1 a.x2 =
-    simp (to_z-of_z w32 a.x1 c.ranges.x1, to_z-of_z w32 a.x2 c.ranges.x2) at c.distance-wide.ensures.value in
+    simp (to_z-of_z w32 a.x1 c.ranges.x1, to_z-of_z w32 a.x2 c.ranges.x2) at c.distance-wide.ensures in
     let tall : c.distance-high.result ≡ apart a.y1 a.y2 =
-    simp (to_z-of_z w32 a.y1 c.ranges.y1, to_z-of_z w32 a.y2 c.ranges.y2) at c.distance-high.ensures.value in
+    simp (to_z-of_z w32 a.y1 c.ranges.y1, to_z-of_z w32 a.y2 c.ranges.y2) at c.distance-high.ensures in
     let last : t < max c.distance-wide.result c.distance-high.result + 1 = omega arith in
     let last_row : t < max c.distance-high.result c.distance-wide.result + 1 = omega arith in
     let column : (t < c.axis_steps-columns.result.0) ⊎ (c.axis_steps-columns.result.1 ≤ t)

@@ -1,7 +1,8 @@
 use Rattle.std.proofs.Common.{arith}
 use Rattle.w4_console.specs.Calls.{moment}
 use Rattle.w4_editor.specs.Player.{setup_of}
-use Rattle.w4_editor.proofs.PlayerLaws.{fold_more, frame_as_first, still_in_state}
+use Rattle.w4_console.proofs.PlayingLaws.{fold_more}
+use Rattle.w4_editor.proofs.PlayerLaws.{frame_as_first, still_in_state}
 use Rattle.w4_editor.proofs.player.Player.run.Goals as goal
 
 pub loop-input-preserved : goal.loop-input-preserved

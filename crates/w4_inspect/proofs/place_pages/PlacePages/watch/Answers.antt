@@ -13,4 +13,4 @@ returns-clause-values c = λ e of.
     (range_with_len read.first (read.last + 1 - read.first)) read.pages of.are
     ∙ ap (λ (pages : ReadPages). Some (map value pages.pages)) (sym c.self.view_is)
     ∙ ap (λ (pages : List (List ℕ)). Some (map value pages)) (sym c.as_slice.ensures.value)
-    ∙ ap Some (sym c.in_ok-values.ensures)
+    ∙ ap Some (sym (simp (c.of-width.ensures) at c.in_ok-values.ensures))

@@ -1,0 +1,67 @@
+//! Playing by a setup, for whoever counts no frames: each frame is played under a counter of its own.
+
+ghost use Rattle.std.specs.Prelude.{◌≡◌, ◌<◌, Some};
+ghost use Rattle.w4_console.specs.Calls.{moment, setup_of};
+ghost use Rattle.w4_console.specs.Taken.{FrameTakes};
+ghost use Rattle.w4_defs.specs.Frame.{frame};
+ghost use Rattle.w4_defs.specs.Run.{fold};
+ghost use Rattle.w4_defs.specs.State.{HasGlobals};
+
+use crate::console::Console;
+use crate::setup::Setup;
+use crate::taken::FrameTaken;
+use std::marker::Brand;
+use std::sync::ledger::{Blank, Ledger};
+use w4_defs::{Input, Steps};
+use w4_devices::FrameRecord;
+
+impl Console {
+    /// Plays one frame. `frame_record` gets the frame's tones and lines, and the sounds before the channels
+    /// age. What the frame took of its budget, and the start that its input may ask for.
+    pub fn step(
+        &mut self,
+        setup: &Setup<'_>,
+        input: &Input,
+        frame_record: &mut FrameRecord,
+    ) -> FrameTaken
+        requires { HasGlobals setup.now.cart.now self.old }
+        ensures frame { frame (setup_of setup.now) self.old input.now ≡ Some (moment self.new frame_record.new) }
+        ensures taken { FrameTakes (setup_of setup.now) self.old input.now result }
+        ensures globals { HasGlobals setup.now.cart.now self.new }
+    {
+        self.step_alone::<Brand>(setup, input, frame_record, Blank::new(1))
+    }
+
+    /// Plays these frames, one after another.
+    pub fn play(&mut self, setup: &Setup<'_>, inputs: &[Input])
+        requires { HasGlobals setup.now.cart.now self.old }
+        ensures fold { fold (setup_of setup.now) self.old inputs.now ≡ Some self.new }
+        ensures globals { HasGlobals setup.now.cart.now self.new }
+    {
+        let mut frame_record = FrameRecord::new();
+        for input in inputs {
+            self.step(setup, input, &mut frame_record);
+        }
+    }
+
+    /// The frame under the counter that a blank becomes.
+    fn step_alone<L: Ledger>(
+        &mut self,
+        setup: &Setup<'_>,
+        input: &Input,
+        frame_record: &mut FrameRecord,
+        blank: Blank,
+    ) -> FrameTaken
+        requires globals { HasGlobals setup.now.cart.now self.old }
+        requires name { blank.name ≡ L.name }
+        requires parts { blank.parts ≡ L.parts }
+        requires some { 0 < L.parts }
+        ensures frame { frame (setup_of setup.now) self.old input.now ≡ Some (moment self.new frame_record.new) }
+        ensures taken { FrameTakes (setup_of setup.now) self.old input.now result }
+        ensures globals { HasGlobals setup.now.cart.now self.new }
+    {
+        let mut steps = Steps::<L>::new(blank);
+        let Setup { cart, font, budget } = *setup;
+        self.frame(cart, font, input, budget, frame_record, &mut steps)
+    }
+}
