@@ -79,7 +79,7 @@ first_made lead begin place ticks_first ticks_after first new from same few =
 pub run_on : (lead begin last place ticks_first ticks_now ticks_after : ℕ) (first now new : Editing)
     → begin ≤ place → place < last → HasRun lead begin last place ticks_first ticks_now first now
     → IsMade lead place ticks_now ticks_after now new
-    → (begin < place → StepsOn place ticks_now ticks_after now new)
+    → StepsOn place ticks_now ticks_after now new
     → HasRun lead begin last (place + 1) ticks_first ticks_after first new
 run_on lead begin last place ticks_first ticks_now ticks_after first now new from below (inl none) made steps =
     elim made.shown [
@@ -106,7 +106,7 @@ run_on lead begin last place ticks_first ticks_now ticks_after first now new fro
           let here : place ≡ place + 1 - 1 = omega arith in
           let past = some.0 in
           let few = some.3 in
-          let step = steps past (omega (arith, past)) some.2 in
+          let step = steps (omega (arith, past)) some.2 in
           let one = step.0 in
           inr (
             omega (arith, past),

@@ -1,12 +1,13 @@
 -- An editor's session of places, and what its runs have in common, from one call to the next.
-use Rattle.std.proofs.Common.{◌≡◌, ℕ, ◌-◌, ◌≤◌, Some, inl, inr, List, [], ◌++◌, length, Option, refl, sym, ap, ◌∙◌, arith, subst}
-use Rattle.std.specs.Prelude.{Result, Ok, Err, OnOk}
+use Rattle.std.proofs.Common.{◌≡◌, ℕ, Some, List, [], ◌++◌, Option, refl, sym, ap, ◌∙◌, subst}
+use Rattle.std.specs.Prelude.{Result, Ok, Err, OnErr, OnOk}
 use Rattle.std.specs.Option.{ForSome}
 use Rattle.std.proofs.lemmas.List.{append-nil}
 use Rattle.w4_defs.specs.declared.console.Input.{Input}
+use Rattle.w4_defs.specs.Run.{run_state}
 use Rattle.w4_defs.specs.Session.{Session}
 use Rattle.w4_editor.specs.Editor.{Editing, current_recording, editing_setup, with_session, KeepsRest, place_session}
-use Rattle.w4_editor.specs.Playing.{KeepsRecording, IsAtEnd}
+use Rattle.w4_editor.specs.Playing.{IsShown, KeepsRecording}
 use Rattle.w4_defs.specs.World.{Event, World, wrote}
 use Rattle.w4_answers.specs.Writing.{AppendsOut, Written, StopsWriting}
 use Rattle.w4_defs.specs.declared.place_text.PlaceText.{PlaceText}
@@ -18,7 +19,7 @@ use Rattle.w4_answers.specs.ScriptAnswers.{IsAnswered, GivesAnswer, LeavesRecord
 use Rattle.w4_defs.specs.Endings.{Manner, ReadFailed, InputFailed, WriteFailed, MemoryRefused, Refused, manner_of}
 use Rattle.w4_defs.specs.declared.status.Refusal.{Refusal}
 use Rattle.w4_answers.proofs.WritingLaws.{there_as, there_is}
-use Rattle.w4_editor.proofs.EditorPlaceLaws.{rest_then, same_session}
+use Rattle.w4_editor.proofs.EditorPlaceLaws.{rest_then, same_recording, same_session}
 
 -- ---- cart, font, digest, budget and disk
 
@@ -32,6 +33,14 @@ same_disk old new rest = ap (λ (e : Editing). e.disk) rest
 
 pub only_shows : (old new : Editing) → KeepsRecording old new → OnlyShows old new
 only_shows old new keeps = record { session = same_session old new keeps; rest = keeps.same }
+
+-- whether the place is shown or memory ran out before
+pub gone_recording : {X E : Type 0} (result : Result X E) (p ticks_before ticks_after : ℕ) (old new : Editing)
+    → OnOk result (IsShown p ticks_before ticks_after old new) → OnErr result (KeepsRecording old new)
+    → current_recording new ≡ current_recording old
+gone_recording (Ok x) p ticks_before ticks_after old new shown keeps =
+    same_recording old new shown.recording
+gone_recording (Err e) p ticks_before ticks_after old new shown keeps = same_recording old new keeps
 
 -- the same session, at another place
 pub shows_at : (old new : Editing) (at : Option ℕ) → new ≡ with_session old old.session at
@@ -74,6 +83,14 @@ leaves_kept InputFailed old new same = same
 leaves_kept WriteFailed old new same = same
 leaves_kept MemoryRefused old new same = same
 leaves_kept (Refused refusal) old new same = same
+
+-- the state at a place is the same
+pub same_state : (old new : Editing) (p : ℕ) → OnlyShows old new
+    → run_state (editing_setup new) new.disk new.session.current.inputs p
+    ≡ run_state (editing_setup old) old.disk old.session.current.inputs p
+same_state old new p shows =
+    λ i. run_state (same_editing_setup old new shows.rest i) (same_disk old new shows.rest i)
+    (same_inputs old new shows i) p
 
 -- what is told of a place is the same
 pub same_text : (form : PieceForm) (old new : Editing) (wanted : PlaceText) (p : ℕ) → OnlyShows old new
@@ -128,11 +145,3 @@ some_place a b e = cc
 
 pub same_place : (at : Option ℕ) (a b : ℕ) → at ≡ Some a → at ≡ Some b → a ≡ b
 same_place at a b one other = some_place a b (sym one ∙ other)
-
--- the place before one of the recording isn't its last
-pub not_at_end : (e : Editing) (p : ℕ) → 1 ≤ p → p ≤ length e.session.current.inputs
-    → e.at ≡ Some (p - 1) → IsAtEnd e → ⊥
-not_at_end e p some within at (inl none) = cc
-not_at_end e p some within at (inr end) =
-    let same = same_place e.at (p - 1) (length e.session.current.inputs) at end in
-    omega (arith, same, some, within)

@@ -522,14 +522,14 @@ own_gives (Err why) before after o s old new search x sits written session shows
     )
 
 pub own_order : (x : LiveOrder) → ((y : Order) → x ≢ live.Script y) → ((y : Ask) → x ≢ live.Query y)
-    → x ≢ live.Save → IsOwn x
-own_order (live.Script y) script query save = absurd (script y refl)
-own_order (live.Query y) script query save = absurd (query y refl)
-own_order (live.PageAt p) script query save = tt
-own_order (live.GlobalsAt p) script query save = tt
-own_order (live.Inputs a b) script query save = tt
-own_order (live.Units a b) script query save = tt
-own_order live.Save script query save = absurd (save refl)
+    → asks_save (Asks x) ≡ false → IsOwn x
+own_order (live.Script y) script query other = absurd (script y refl)
+own_order (live.Query y) script query other = absurd (query y refl)
+own_order (live.PageAt p) script query other = tt
+own_order (live.GlobalsAt p) script query other = tt
+own_order (live.Inputs a b) script query other = tt
+own_order (live.Units a b) script query other = tt
+own_order live.Save script query other = let save : true ≡ false = other in cc
 
 -- what has no pieces, and what has one
 pub nothing_gives : (world : World) (o : Opened) (s : LiveSession) (e : Editing) (search : Option Search)

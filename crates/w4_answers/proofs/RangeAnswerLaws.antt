@@ -15,13 +15,16 @@ use Rattle.w4_editor.specs.Editor.{Editing, editing_setup, place_session}
 use Rattle.w4_defs.specs.World.{World}
 use Rattle.w4_defs.specs.declared.place_text.PlaceText.{PlaceText}
 use Rattle.w4_defs.specs.PlaceTexts.{PieceForm, as_it_stands, moment_text, place_text}
-use Rattle.w4_defs.specs.declared.place_text.PlaceText.TheVariants.{Schedule, Traces, DiskBytes}
+use Rattle.w4_defs.specs.declared.place_text.PlaceText.TheVariants.{DiskBytes}
 use Rattle.w4_defs.proofs.OptionLaws.{some_same}
 use Rattle.w4_defs.proofs.TextsOfStates.{state_of}
 use Rattle.w4_defs.specs.ScriptAnswers.{if_place, range_text, no_frame}
 use Rattle.w4_defs.specs.Answers.{answer_text}
 use Rattle.w4_answers.specs.ScriptAnswers.{GivesAnswer}
 use Rattle.w4_answers.specs.Desk.{text_by}
+use Rattle.w4_answers.specs.RecordText.{record_text, text_of_place}
+use Rattle.w4_answers.specs.declared.record_text.RecordText.{RecordText}
+use Rattle.w4_answers.specs.declared.record_text.RecordText.TheVariants as wanted
 use Rattle.w4_defs.specs.declared.status.Refusal.{Refusal}
 use Rattle.w4_editor.proofs.KeepEveryLaws.{places_from}
 use Rattle.w4_answers.proofs.PlaceTextLaws.{text-alone}
@@ -36,17 +39,14 @@ disk_of_state form p None s e = absurd cc
 abbrev pub record_in : Option Moment → Option FrameRecord
 record_in m = option_map (λ (moment : Moment). moment.frame_record) m
 
-pub schedule_of_record : (p : ℕ) (m : Option Moment) (r : FrameRecord) → record_in m ≡ Some r
-    → place_text as_it_stands Schedule p m ≡ Some (schedule_text p r)
-schedule_of_record p (Some moment) r e =
+pub text_of_record : (text : RecordText) (p : ℕ) (m : Option Moment) (r : FrameRecord)
+    → record_in m ≡ Some r
+    → place_text as_it_stands (text_of_place text) p m ≡ Some (record_text text p r)
+text_of_record wanted.Schedule p (Some moment) r e =
     ap (λ (x : FrameRecord). Some (schedule_text p x)) (some_same moment.frame_record r e)
-schedule_of_record p None r e = absurd cc
-
-pub traces_of_record : (p : ℕ) (m : Option Moment) (r : FrameRecord) → record_in m ≡ Some r
-    → place_text as_it_stands Traces p m ≡ Some (trace_text p r)
-traces_of_record p (Some moment) r e =
+text_of_record wanted.Traces p (Some moment) r e =
     ap (λ (x : FrameRecord). Some (trace_text p x)) (some_same moment.frame_record r e)
-traces_of_record p None r e = absurd cc
+text_of_record text p None r e = absurd cc
 
 same_record : (m : Option Moment) (r : FrameRecord) → record_in m ≡ Some r
     → record_in (option_and_then (λ moment. Some moment) m) ≡ Some r

@@ -2,6 +2,7 @@
 pub mod OwnAnswer
 pub mod UnitsAnswer
 pub mod Desk
+pub mod RecordText
 pub mod ScriptAnswers
 pub mod FilmAnswer
 pub mod ChangeAnswer

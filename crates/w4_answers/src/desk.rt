@@ -1,7 +1,6 @@
 //! An editor, with the buffers for its answers.
 
 ghost use Rattle.std.specs.Prelude.{◌≡◌, ◌+◌, ◌-◌, ◌<◌, ◌≤◌, ◌↔◌, IfOk, IsTrue, OnOk, Some, length, option_map};
-ghost use Rattle.w4_defs.specs.FrameTexts.{schedule_text, trace_text};
 ghost use Rattle.w4_defs.specs.KeptList.{state_at};
 ghost use Rattle.w4_defs.specs.PlaceTexts.{as_it_stands};
 ghost use Rattle.w4_defs.specs.Run.{run};
@@ -9,16 +8,18 @@ ghost use Rattle.w4_defs.specs.State.{Moment};
 ghost use Rattle.w4_devices.specs.Records.{record_of};
 ghost use Rattle.w4_editor.specs.Editor.{current_recording, editing_setup, new_editing};
 ghost use Rattle.w4_console.specs.Taken.{TellsUnits};
-ghost use Rattle.w4_segments.specs.Counting.{IsBlankOf};
+ghost use Rattle.w4_console.specs.Counting.{IsBlankOf};
 ghost use Rattle.w4_answers.specs.Desk.{IsMade, RunsOn, StepsOn, OnlyShows, text_by};
-ghost use Rattle.w4_defs.specs.declared.place_text.PlaceText.TheVariants.{Image, Schedule, Traces};
+ghost use Rattle.w4_answers.specs.RecordText.{text_of_place};
+ghost use Rattle.w4_defs.specs.declared.place_text.PlaceText.TheVariants.{Image};
 
 use crate::counted_editor::CountedEditor;
+use crate::record_text::{RecordText, record_text};
 use std::alloc::Global;
 use std::sync::ledger::{Blank, Ledger};
 use w4_console::FrameTaken;
-use w4_defs::{Halt, OutOfMemory, PlaceText, Steps};
-use w4_devices::{FrameRecord, schedule_text, trace_text};
+use w4_defs::{OutOfMemory, Steps};
+use w4_devices::FrameRecord;
 use w4_editor::Editor;
 use w4_font::Font;
 use w4_image::{IMAGE_LEN, ppm_into};
@@ -55,210 +56,6 @@ pub fn new_desk<L: Ledger>(
     })
 }
 
-/// Whether the place before this one is shown.
-fn is_next(editor: &Editor, place: usize) -> bool
-    ensures { IsTrue result ↔ ((1 ≤ place) × (editor.now.at ≡ Some (place - 1))) }
-{
-    match editor.at() {
-        Some(shown) => shown < place && place - shown == 1,
-        None => false,
-    }
-}
-
-/// Shows a place.
-fn go_to<L: Ledger>(
-    alloc: Global,
-    counted: &mut CountedEditor<L>,
-    place: usize,
-) -> Result<(), OutOfMemory>
-    requires place { place ≤ length counted.old.editor.session.current.inputs }
-    ensures shows { OnOk result (OnlyShows counted.old.editor counted.new.editor) }
-    ensures recording { current_recording counted.new.editor ≡ current_recording counted.old.editor }
-    ensures at { OnOk result (counted.new.editor.at ≡ Some place) }
-    ensures frames_run { OnOk result (RunsOn place 0 counted.old.steps counted.new.steps
-        counted.old.editor counted.new.editor) }
-{
-    match counted.editor.show(alloc, place, &mut counted.steps) {
-        Ok(_) => Ok(()),
-        Err(_) => Err(OutOfMemory),
-    }
-}
-
-/// Shows the place before one after the first, unless it is shown.
-fn go_before<L: Ledger>(
-    alloc: Global,
-    counted: &mut CountedEditor<L>,
-    place: usize,
-) -> Result<(), OutOfMemory>
-    requires place { place - 1 ≤ length counted.old.editor.session.current.inputs }
-    ensures shows { OnOk result (OnlyShows counted.old.editor counted.new.editor) }
-    ensures recording { current_recording counted.new.editor ≡ current_recording counted.old.editor }
-    ensures at { OnOk result (counted.new.editor.at ≡ Some (place - 1)) }
-    ensures frames_run { OnOk result (RunsOn (place - 1) 0 counted.old.steps counted.new.steps
-        counted.old.editor counted.new.editor) }
-    ensures stays { OnOk result (1 ≤ place → counted.old.editor.at ≡ Some (place - 1)
-        → (counted.new.steps ≡ counted.old.steps) × (counted.new.editor ≡ counted.old.editor)) }
-{
-    if is_next(&counted.editor, place) {
-        return Ok(());
-    }
-    go_to(alloc, counted, place.saturating_sub(1))
-}
-
-/// Shows a place, and makes its image.
-fn show_image<L: Ledger>(
-    alloc: Global,
-    counted: &mut CountedEditor<L>,
-    image: &mut [u8; IMAGE_LEN],
-    place: usize,
-) -> Result<(), OutOfMemory>
-    requires place { place ≤ length counted.old.editor.session.current.inputs }
-    ensures shows { OnOk result (OnlyShows counted.old.editor counted.new.editor) }
-    ensures recording { current_recording counted.new.editor ≡ current_recording counted.old.editor }
-    ensures image { OnOk result (text_by as_it_stands counted.old.editor Image place ≡ Some image.new) }
-    ensures made { OnOk result (IsMade 0 place counted.old.steps counted.new.steps
-        counted.old.editor counted.new.editor) }
-{
-    match counted.editor.show(alloc, place, &mut counted.steps) {
-        Ok(state) => {
-            ppm_into(state, image);
-            Ok(())
-        }
-        Err(_) => Err(OutOfMemory),
-    }
-}
-
-/// Runs the one frame to a place from the one before it, which is shown, and makes its image.
-fn step_image<L: Ledger>(
-    counted: &mut CountedEditor<L>,
-    frame_record: &mut FrameRecord,
-    image: &mut [u8; IMAGE_LEN],
-    place: usize,
-)
-    requires some { 1 ≤ place }
-    requires place { place ≤ length counted.old.editor.session.current.inputs }
-    requires at { counted.old.editor.at ≡ Some (place - 1) }
-    ensures shows { OnlyShows counted.old.editor counted.new.editor }
-    ensures recording { current_recording counted.new.editor ≡ current_recording counted.old.editor }
-    ensures image { text_by as_it_stands counted.old.editor Image place ≡ Some image.new }
-    ensures at { counted.new.editor.at ≡ Some place }
-    ensures ticks { counted.new.steps ≡ counted.old.steps + 1 }
-    ensures kept { counted.new.editor.session ≡ counted.old.editor.session }
-{
-    match counted.editor.step(frame_record, &mut counted.steps) {
-        Ok(state) => ppm_into(state, image),
-        Err(_) => unreachable!(),
-    }
-}
-
-/// Runs the one frame to a place from the one before it, which is shown, and makes its record.
-fn step_record<L: Ledger>(
-    counted: &mut CountedEditor<L>,
-    frame_record: &mut FrameRecord,
-    place: usize,
-)
-    requires some { 1 ≤ place }
-    requires place { place ≤ length counted.old.editor.session.current.inputs }
-    requires at { counted.old.editor.at ≡ Some (place - 1) }
-    ensures shows { OnlyShows counted.old.editor counted.new.editor }
-    ensures recording { current_recording counted.new.editor ≡ current_recording counted.old.editor }
-    ensures frame_record { option_map (λ (moment : Moment). moment.frame_record)
-        (run (editing_setup counted.old.editor) counted.old.editor.disk
-        counted.old.editor.session.current.inputs place)
-        ≡ Some (record_of frame_record.new) }
-    ensures at { counted.new.editor.at ≡ Some place }
-    ensures ticks { counted.new.steps ≡ counted.old.steps + 1 }
-    ensures kept { counted.new.editor.session ≡ counted.old.editor.session }
-{
-    match counted.editor.step(frame_record, &mut counted.steps) {
-        Ok(_) => {}
-        Err(_) => unreachable!(),
-    }
-}
-
-/// Makes the image of a place, by one frame if the place before it is shown.
-pub fn make_image<L: Ledger>(
-    alloc: Global,
-    desk: &mut Desk<L>,
-    place: usize,
-) -> Result<(), OutOfMemory>
-    requires place { place ≤ length desk.old.counted.editor.session.current.inputs }
-    ensures shows { OnOk result (OnlyShows desk.old.counted.editor desk.new.counted.editor) }
-    ensures recording { current_recording desk.new.counted.editor
-        ≡ current_recording desk.old.counted.editor }
-    ensures image { OnOk result (text_by as_it_stands desk.old.counted.editor Image place
-        ≡ Some desk.new.image.value) }
-    ensures made { OnOk result (IsMade 0 place desk.old.counted.steps desk.new.counted.steps
-        desk.old.counted.editor desk.new.counted.editor) }
-    ensures steps { OnOk result (StepsOn place desk.old.counted.steps desk.new.counted.steps
-        desk.old.counted.editor desk.new.counted.editor) }
-{
-    let Desk {
-        counted,
-        frame_record,
-        image,
-    } = desk;
-    if is_next(&counted.editor, place) {
-        step_image(counted, frame_record, image, place);
-        return Ok(());
-    }
-    show_image(alloc, counted, image, place)
-}
-
-/// The image that was made last.
-pub fn made_image<L: Ledger>(desk: &Desk<L>) -> &[u8]
-    ensures { result.now ≡ desk.now.image.value }
-{
-    desk.image.as_slice()
-}
-
-/// Makes the record of the frame that leads to a place after the first.
-fn make_record<L: Ledger>(
-    alloc: Global,
-    desk: &mut Desk<L>,
-    place: usize,
-) -> Result<(), OutOfMemory>
-    requires some { 1 ≤ place }
-    requires place { place ≤ length desk.old.counted.editor.session.current.inputs }
-    ensures shows { OnOk result (OnlyShows desk.old.counted.editor desk.new.counted.editor) }
-    ensures recording { current_recording desk.new.counted.editor
-        ≡ current_recording desk.old.counted.editor }
-    ensures frame_record { OnOk result (option_map (λ (moment : Moment). moment.frame_record)
-        (run (editing_setup desk.old.counted.editor) desk.old.counted.editor.disk
-        desk.old.counted.editor.session.current.inputs place)
-        ≡ Some (record_of desk.new.frame_record)) }
-    ensures made { OnOk result (IsMade 1 place desk.old.counted.steps desk.new.counted.steps
-        desk.old.counted.editor desk.new.counted.editor) }
-    ensures steps { OnOk result (StepsOn place desk.old.counted.steps desk.new.counted.steps
-        desk.old.counted.editor desk.new.counted.editor) }
-{
-    go_before(alloc, &mut desk.counted, place)?;
-    step_record(&mut desk.counted, &mut desk.frame_record, place);
-    Ok(())
-}
-
-/// Runs the one frame from a place, which is shown, and tells what it took of the budget.
-fn step_taken<L: Ledger>(
-    counted: &mut CountedEditor<L>,
-    frame_record: &mut FrameRecord,
-    place: usize,
-) -> FrameTaken
-    requires place { place < length counted.old.editor.session.current.inputs }
-    requires at { counted.old.editor.at ≡ Some place }
-    ensures shows { OnlyShows counted.old.editor counted.new.editor }
-    ensures recording { current_recording counted.new.editor ≡ current_recording counted.old.editor }
-    ensures taken { TellsUnits (editing_setup counted.old.editor) counted.old.editor.disk
-        counted.old.editor.session.current.inputs place result }
-    ensures at { counted.new.editor.at ≡ Some (place + 1) }
-    ensures ticks { counted.new.steps ≡ counted.old.steps + 1 }
-    ensures kept { counted.new.editor.session ≡ counted.old.editor.session }
-{
-    match counted.editor.step_units(frame_record, &mut counted.steps) {
-        Ok(taken) => taken,
-        Err(_) => unreachable!(),
-    }
-}
-
 /// Whether a place is shown.
 fn is_shown(editor: &Editor, place: usize) -> bool
     ensures { IsTrue result ↔ (editor.now.at ≡ Some place) }
@@ -267,6 +64,13 @@ fn is_shown(editor: &Editor, place: usize) -> bool
         Some(shown) => shown == place,
         None => false,
     }
+}
+
+/// Whether the place before this one is shown.
+fn is_next(editor: &Editor, place: usize) -> bool
+    ensures { IsTrue result ↔ ((1 ≤ place) × (editor.now.at ≡ Some (place - 1))) }
+{
+    place > 0 && is_shown(editor, place - 1)
 }
 
 /// Shows a place, unless it is shown.
@@ -287,10 +91,85 @@ fn go_unless_shown<L: Ledger>(
     if is_shown(&counted.editor, place) {
         return Ok(());
     }
-    go_to(alloc, counted, place)
+    counted.editor.go_to(alloc, place, &mut counted.steps)
 }
 
-/// What the frame from a place takes of the budget; the place after it is shown then.
+/// Runs the one frame from a place, which is shown, and makes its record. What it took of the budget.
+fn step_from<L: Ledger>(
+    counted: &mut CountedEditor<L>,
+    frame_record: &mut FrameRecord,
+    place: usize,
+) -> FrameTaken
+    requires place { place < length counted.old.editor.session.current.inputs }
+    requires at { counted.old.editor.at ≡ Some place }
+    ensures shows { OnlyShows counted.old.editor counted.new.editor }
+    ensures recording { current_recording counted.new.editor ≡ current_recording counted.old.editor }
+    ensures frame_record { option_map (λ (moment : Moment). moment.frame_record)
+        (run (editing_setup counted.old.editor) counted.old.editor.disk
+        counted.old.editor.session.current.inputs (place + 1))
+        ≡ Some (record_of frame_record.new) }
+    ensures taken { TellsUnits (editing_setup counted.old.editor) counted.old.editor.disk
+        counted.old.editor.session.current.inputs place result }
+    ensures at { counted.new.editor.at ≡ Some (place + 1) }
+    ensures ticks { counted.new.steps ≡ counted.old.steps + 1 }
+    ensures kept { counted.new.editor.session ≡ counted.old.editor.session }
+{
+    match counted.editor.step_units(frame_record, &mut counted.steps) {
+        Ok(taken) => taken,
+        Err(_) => unreachable!(),
+    }
+}
+
+/// Shows a place, by one frame if the place before it is shown.
+pub fn go_on<L: Ledger>(alloc: Global, desk: &mut Desk<L>, place: usize) -> Result<(), OutOfMemory>
+    requires place { place ≤ length desk.old.counted.editor.session.current.inputs }
+    ensures shows { OnOk result (OnlyShows desk.old.counted.editor desk.new.counted.editor) }
+    ensures recording { current_recording desk.new.counted.editor
+        ≡ current_recording desk.old.counted.editor }
+    ensures at { OnOk result (desk.new.counted.editor.at ≡ Some place) }
+    ensures made { OnOk result (IsMade 0 place desk.old.counted.steps desk.new.counted.steps
+        desk.old.counted.editor desk.new.counted.editor) }
+    ensures steps { OnOk result (StepsOn place desk.old.counted.steps desk.new.counted.steps
+        desk.old.counted.editor desk.new.counted.editor) }
+{
+    let counted = &mut desk.counted;
+    if is_next(&counted.editor, place) {
+        step_from(counted, &mut desk.frame_record, place - 1);
+        return Ok(());
+    }
+    counted.editor.go_to(alloc, place, &mut counted.steps)
+}
+
+/// Makes the image of a place, which is shown then.
+pub fn make_image<L: Ledger>(
+    alloc: Global,
+    desk: &mut Desk<L>,
+    place: usize,
+) -> Result<(), OutOfMemory>
+    requires place { place ≤ length desk.old.counted.editor.session.current.inputs }
+    ensures shows { OnOk result (OnlyShows desk.old.counted.editor desk.new.counted.editor) }
+    ensures recording { current_recording desk.new.counted.editor
+        ≡ current_recording desk.old.counted.editor }
+    ensures image { OnOk result (text_by as_it_stands desk.old.counted.editor Image place
+        ≡ Some desk.new.image.value) }
+    ensures made { OnOk result (IsMade 0 place desk.old.counted.steps desk.new.counted.steps
+        desk.old.counted.editor desk.new.counted.editor) }
+    ensures steps { OnOk result (StepsOn place desk.old.counted.steps desk.new.counted.steps
+        desk.old.counted.editor desk.new.counted.editor) }
+{
+    go_on(alloc, desk, place)?;
+    ppm_into(desk.counted.editor.state(), &mut desk.image);
+    Ok(())
+}
+
+/// The image that was made last.
+pub fn made_image<L: Ledger>(desk: &Desk<L>) -> &[u8]
+    ensures { result.now ≡ desk.now.image.value }
+{
+    desk.image.as_slice()
+}
+
+/// Makes the record of the frame from a place; the place after it is shown then. What it took of the budget.
 pub fn frame_taken<L: Ledger>(
     alloc: Global,
     desk: &mut Desk<L>,
@@ -300,6 +179,10 @@ pub fn frame_taken<L: Ledger>(
     ensures shows { OnOk result (OnlyShows desk.old.counted.editor desk.new.counted.editor) }
     ensures recording { current_recording desk.new.counted.editor
         ≡ current_recording desk.old.counted.editor }
+    ensures frame_record { OnOk result (option_map (λ (moment : Moment). moment.frame_record)
+        (run (editing_setup desk.old.counted.editor) desk.old.counted.editor.disk
+        desk.old.counted.editor.session.current.inputs (place + 1))
+        ≡ Some (record_of desk.new.frame_record)) }
     ensures taken { IfOk result (λ taken. TellsUnits (editing_setup desk.old.counted.editor)
         desk.old.counted.editor.disk
         desk.old.counted.editor.session.current.inputs place taken) }
@@ -309,59 +192,30 @@ pub fn frame_taken<L: Ledger>(
         desk.old.counted.editor desk.new.counted.editor) }
 {
     go_unless_shown(alloc, &mut desk.counted, place)?;
-    Ok(step_taken(&mut desk.counted, &mut desk.frame_record, place))
+    Ok(step_from(&mut desk.counted, &mut desk.frame_record, place))
 }
 
-/// The schedule of the frame that leads to a place; at place 0 it is the reset's.
-pub fn schedule<L: Ledger>(
+/// A text of the frame that leads to a place; at place 0 it is the reset's.
+pub fn frame_text<L: Ledger>(
     alloc: Global,
     desk: &mut Desk<L>,
+    wanted: RecordText,
     place: usize,
 ) -> Result<Vec<u8>, OutOfMemory>
     requires place { place ≤ length desk.old.counted.editor.session.current.inputs }
     ensures shows { OnOk result (OnlyShows desk.old.counted.editor desk.new.counted.editor) }
     ensures recording { current_recording desk.new.counted.editor
         ≡ current_recording desk.old.counted.editor }
-    ensures text { IfOk result (λ text. text_by as_it_stands desk.old.counted.editor Schedule place
-        ≡ Some text.items) }
+    ensures text { IfOk result (λ text. text_by as_it_stands desk.old.counted.editor (text_of_place wanted)
+        place ≡ Some text.items) }
     ensures made { OnOk result (IsMade 1 place desk.old.counted.steps desk.new.counted.steps
         desk.old.counted.editor desk.new.counted.editor) }
     ensures steps { OnOk result (StepsOn place desk.old.counted.steps desk.new.counted.steps
         desk.old.counted.editor desk.new.counted.editor) }
 {
-    let mut text = Vec::new(alloc);
     if place == 0 {
-        schedule_text(alloc, place, desk.counted.editor.reset_frame(), &mut text)?;
-        return Ok(text);
+        return record_text(alloc, wanted, place, desk.counted.editor.reset_frame());
     }
-    make_record(alloc, desk, place)?;
-    schedule_text(alloc, place, &desk.frame_record, &mut text)?;
-    Ok(text)
-}
-
-/// The trace lines of the frame that leads to a place; at place 0 they are the reset's.
-pub fn traces<L: Ledger>(
-    alloc: Global,
-    desk: &mut Desk<L>,
-    place: usize,
-) -> Result<Vec<u8>, OutOfMemory>
-    requires place { place ≤ length desk.old.counted.editor.session.current.inputs }
-    ensures shows { OnOk result (OnlyShows desk.old.counted.editor desk.new.counted.editor) }
-    ensures recording { current_recording desk.new.counted.editor
-        ≡ current_recording desk.old.counted.editor }
-    ensures text { IfOk result (λ text. text_by as_it_stands desk.old.counted.editor Traces place
-        ≡ Some text.items) }
-    ensures made { OnOk result (IsMade 1 place desk.old.counted.steps desk.new.counted.steps
-        desk.old.counted.editor desk.new.counted.editor) }
-    ensures steps { OnOk result (StepsOn place desk.old.counted.steps desk.new.counted.steps
-        desk.old.counted.editor desk.new.counted.editor) }
-{
-    let mut text = Vec::new(alloc);
-    if place == 0 {
-        trace_text(alloc, place, desk.counted.editor.reset_frame(), &mut text)?;
-        return Ok(text);
-    }
-    make_record(alloc, desk, place)?;
-    trace_text(alloc, place, &desk.frame_record, &mut text)?;
-    Ok(text)
+    frame_taken(alloc, desk, place - 1)?;
+    record_text(alloc, wanted, place, &desk.frame_record)
 }

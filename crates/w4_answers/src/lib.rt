@@ -14,6 +14,7 @@ pub mod net_answers;
 mod own_answer;
 pub mod ram_answers;
 mod range_answer;
+pub mod record_text;
 mod refusal;
 pub mod saving;
 pub mod script_answers;

@@ -1,6 +1,6 @@
 //! The answer of one line of a live session.
 
-ghost use Rattle.std.specs.Prelude.{◌≡◌, ◌++◌};
+ghost use Rattle.std.specs.Prelude.{◌≡◌, ◌++◌, false};
 ghost use Rattle.w4_defs.specs.Live.{LiveSession, Opened, answer_end, recording_left, refused_save};
 ghost use Rattle.w4_defs.specs.Meaning.{RunsHaveMeaning};
 ghost use Rattle.w4_defs.specs.World.{LeavesWriting};
@@ -68,7 +68,7 @@ fn is_save(asked: &Asked) -> bool
     }
 }
 
-/// Writes the pieces of an answer; `save` has none here.
+/// Writes the pieces of an answer to anything but `save`.
 fn answer_pieces<L: Ledger, R: Threads + Sync, H: House, G: Gate + Sync>(
     resources: &Resources<'_, R, G>,
     house: &mut H,
@@ -76,7 +76,8 @@ fn answer_pieces<L: Ledger, R: Threads + Sync, H: House, G: Gate + Sync>(
     search: &mut Option<Search>,
     asked: &Asked,
 ) -> Result<(), Refusal>
-    requires { IsAsked asked.now }
+    requires asked { IsAsked asked.now }
+    requires other { asks_save (asked_view asked.now) ≡ false }
     ensures gives { (o : Opened) (s : LiveSession) → Sits o s desk.old.counted.editor search.old
         → GivesPieces (H.world house.old) (H.world house.new) result o s
         (asked_answer o s (asked_view asked.now)) desk.new.counted.editor search.new }
@@ -93,7 +94,6 @@ fn answer_pieces<L: Ledger, R: Threads + Sync, H: House, G: Gate + Sync>(
             LiveOrder::Query { ask } => {
                 answer_line::<Framed, L, H>(alloc, house, &mut desk.counted, search, &ask)
             }
-            LiveOrder::Save => Ok(()),
             _ => answer_own::<Framed, L, H>(alloc, house, desk, &live),
         },
     }

@@ -5,12 +5,12 @@ ghost use Rattle.std.specs.Option.{ForSome};
 ghost use Rattle.w4_defs.specs.FrameTexts.{spaced};
 ghost use Rattle.w4_defs.specs.InputsText.{input_lines};
 ghost use Rattle.w4_defs.specs.Live.{LiveSession, globals_text, live_answer, val_number};
-ghost use Rattle.w4_defs.specs.Run.{run_page, run_state};
+ghost use Rattle.w4_defs.specs.Run.{run_state};
 ghost use Rattle.w4_defs.specs.ScriptAnswers.{if_place, no_frame};
 ghost use Rattle.w4_defs.specs.State.{State};
 ghost use Rattle.w4_defs.specs.World.{LeavesWriting};
 ghost use Rattle.w4_editor.specs.Editor.{current_recording, editing_setup, place_session};
-ghost use Rattle.w4_answers.specs.OwnAnswer.{OwnWithin, IsOwn};
+ghost use Rattle.w4_answers.specs.OwnAnswer.{OwnWithin, IsOwn, part_of};
 ghost use Rattle.w4_answers.specs.Desk.{RunsOn, OnlyShows};
 ghost use Rattle.w4_answers.specs.Writing.{Written};
 
@@ -36,14 +36,14 @@ pub fn answer_own<S: Shape, L: Ledger, H: House>(
     desk: &mut Desk<L>,
     order: &LiveOrder,
 ) -> Result<(), Refusal>
-    ensures out { (s : LiveSession) → place_session desk.old.counted.editor ≡ s.session → IsOwn order.now
+    requires { IsOwn order.now }
+    ensures out { (s : LiveSession) → place_session desk.old.counted.editor ≡ s.session
         → ForSome (live_answer S.form (editing_setup desk.old.counted.editor) desk.old.counted.editor.disk s
         order.now).out
         (λ out. Written (H.world house.old) (H.world house.new) result out) }
-    ensures session { (s : LiveSession) → IsOwn order.now
-        → (live_answer S.form (editing_setup desk.old.counted.editor) desk.old.counted.editor.disk s
-        order.now).session ≡ s }
-    ensures shows { OnOk result (IsOwn order.now → OnlyShows desk.old.counted.editor desk.new.counted.editor) }
+    ensures session { (s : LiveSession) → (live_answer S.form (editing_setup desk.old.counted.editor)
+        desk.old.counted.editor.disk s order.now).session ≡ s }
+    ensures shows { OnOk result (OnlyShows desk.old.counted.editor desk.new.counted.editor) }
     ensures recording { current_recording desk.new.counted.editor
         ≡ current_recording desk.old.counted.editor }
     ensures rest { LeavesWriting (H.world house.old) (H.world house.new) }
@@ -51,17 +51,17 @@ pub fn answer_own<S: Shape, L: Ledger, H: House>(
         desk.old.counted.editor desk.new.counted.editor) }
 {
     match order {
-        LiveOrder::PageAt { p } => answer_page::<S, L, H>(alloc, house, &mut desk.counted, *p),
+        LiveOrder::PageAt { p } => {
+            answer_part::<S, L, H>(alloc, house, &mut desk.counted, StatePart::Page, *p)
+        }
         LiveOrder::GlobalsAt { p } => {
-            answer_globals::<S, L, H>(alloc, house, &mut desk.counted, *p)
+            answer_part::<S, L, H>(alloc, house, &mut desk.counted, StatePart::Globals, *p)
         }
         LiveOrder::Inputs { a, b } => {
             answer_inputs::<S, H>(alloc, house, &desk.counted.editor, *a, *b)
         }
         LiveOrder::Units { a, b } => answer_units::<S, L, H>(alloc, house, desk, *a, *b),
-        LiveOrder::Script { .. } | LiveOrder::Query { .. } | LiveOrder::Save => Err(
-            Refusal::OutOfMemory,
-        ),
+        LiveOrder::Script { .. } | LiveOrder::Query { .. } | LiveOrder::Save => unreachable!(),
     }
 }
 
@@ -73,54 +73,23 @@ fn refuse_place<S: Shape, H: House>(alloc: Global, house: &mut H) -> Result<(), 
     S::write(alloc, house, b"refused no frame\n")
 }
 
-/// The page at a place, or that there is no such place.
-fn answer_page<S: Shape, L: Ledger, H: House>(
+/// What a live session is told of the state at a place.
+#[derive(Clone, Copy)]
+pub enum StatePart {
+    Page,
+    Globals,
+}
+
+/// A part of the state at a place, or that there is no such place.
+fn answer_part<S: Shape, L: Ledger, H: House>(
     alloc: Global,
     house: &mut H,
     counted: &mut CountedEditor<L>,
-    p: u32,
-) -> Result<(), Refusal>
-    ensures out { ForSome (if_place S.form (place_session counted.old.editor) p (option_map S.form
-        (run_page (editing_setup counted.old.editor) counted.old.editor.disk
-        counted.old.editor.session.current.inputs p)))
-        (λ out. Written (H.world house.old) (H.world house.new) result out) }
-    ensures shows { OnOk result (OnlyShows counted.old.editor counted.new.editor) }
-    ensures recording { current_recording counted.new.editor ≡ current_recording counted.old.editor }
-    ensures rest { LeavesWriting (H.world house.old) (H.world house.new) }
-    ensures frames_run { OnOk result (RunsOn p 0 counted.old.steps counted.new.steps
-        counted.old.editor counted.new.editor) }
-{
-    let place = p as usize;
-    if place > last_place(&counted.editor) {
-        return refuse_place::<S, H>(alloc, house);
-    }
-    match counted.editor.show(alloc, place, &mut counted.steps) {
-        Ok(state) => write_page::<S, H>(alloc, house, state),
-        Err(_) => Err(Refusal::OutOfMemory),
-    }
-}
-
-/// Writes the page of a state.
-fn write_page<S: Shape, H: House>(
-    alloc: Global,
-    house: &mut H,
-    state: &State,
-) -> Result<(), Refusal>
-    ensures out { Written (H.world house.old) (H.world house.new) result (S.form state.now.page) }
-    ensures rest { LeavesWriting (H.world house.old) (H.world house.new) }
-{
-    S::write(alloc, house, state.page.bytes().as_slice())
-}
-
-/// The globals at a place, or that there is no such place.
-fn answer_globals<S: Shape, L: Ledger, H: House>(
-    alloc: Global,
-    house: &mut H,
-    counted: &mut CountedEditor<L>,
+    part: StatePart,
     p: u32,
 ) -> Result<(), Refusal>
     ensures out { ForSome (if_place S.form (place_session counted.old.editor) p
-        (option_map (λ (state : State). S.form (globals_text state.globals))
+        (option_map (λ (state : State). S.form (part_of part state))
         (run_state (editing_setup counted.old.editor) counted.old.editor.disk
         counted.old.editor.session.current.inputs p)))
         (λ out. Written (H.world house.old) (H.world house.new) result out) }
@@ -134,24 +103,27 @@ fn answer_globals<S: Shape, L: Ledger, H: House>(
     if place > last_place(&counted.editor) {
         return refuse_place::<S, H>(alloc, house);
     }
-    match counted.editor.show(alloc, place, &mut counted.steps) {
-        Ok(state) => write_globals::<S, H>(alloc, house, state),
-        Err(_) => Err(Refusal::OutOfMemory),
-    }
+    counted.editor.go_to(alloc, place, &mut counted.steps)?;
+    write_part::<S, H>(alloc, house, counted.editor.state(), part)
 }
 
-/// Writes the globals of a state.
-fn write_globals<S: Shape, H: House>(
+/// Writes a part of a state.
+fn write_part<S: Shape, H: House>(
     alloc: Global,
     house: &mut H,
     state: &State,
+    part: StatePart,
 ) -> Result<(), Refusal>
-    ensures out { Written (H.world house.old) (H.world house.new) result
-        (S.form (globals_text state.now.globals)) }
+    ensures out { Written (H.world house.old) (H.world house.new) result (S.form (part_of part state.now)) }
     ensures rest { LeavesWriting (H.world house.old) (H.world house.new) }
 {
-    let text = globals_text(alloc, state.globals.as_slice())?;
-    S::write(alloc, house, text.as_slice())
+    match part {
+        StatePart::Page => S::write(alloc, house, state.page.bytes().as_slice()),
+        StatePart::Globals => {
+            let line = globals_text(alloc, state.globals.as_slice())?;
+            S::write(alloc, house, line.as_slice())
+        }
+    }
 }
 
 /// The line of a state's globals.

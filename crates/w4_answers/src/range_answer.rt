@@ -1,6 +1,6 @@
 //! The answers of orders that ask for texts of a range of places.
 
-ghost use Rattle.std.specs.Prelude.{◌≡◌, ◌≢◌, ◌+◌, ◌-◌, ◌≤◌, OnOk, length};
+ghost use Rattle.std.specs.Prelude.{◌≡◌, ◌+◌, ◌-◌, ◌≤◌, OnOk, length};
 ghost use Rattle.std.specs.Option.{ForSome};
 ghost use Rattle.w4_defs.specs.World.{LeavesWriting};
 ghost use Rattle.w4_defs.specs.ScriptAnswers.{if_place, range_text};
@@ -13,8 +13,8 @@ ghost use Rattle.w4_editor.specs.Editor.{place_session, current_recording, editi
 ghost use Rattle.w4_defs.specs.PlaceTexts.{place_texts};
 ghost use Rattle.w4_defs.specs.declared.place_text.PlaceText.TheVariants.{DiskBytes};
 
-use crate::counted_editor::CountedEditor;
-use crate::desk::{Desk, made_image, make_image, schedule, traces};
+use crate::desk::{Desk, frame_text, go_on, made_image, make_image};
+use crate::record_text::RecordText;
 use crate::refusal::refuse;
 use crate::shape::Shape;
 use std::alloc::Global;
@@ -22,10 +22,9 @@ use std::sync::ledger::Ledger;
 use w4_defs::{EditRefusal, PlaceText, Refusal};
 use w4_editor::places::last_place;
 use w4_house::House;
-use w4_map::State;
 
 /// The answer of an order that asks for a text of each place from one to another. It runs the frames that
-/// showing the first needs, and at most one for each place; of the bytes of disks this is said of a single one.
+/// showing the first needs, and at most one for each place.
 pub fn answer_range<S: Shape, L: Ledger, H: House>(
     alloc: Global,
     house: &mut H,
@@ -40,7 +39,7 @@ pub fn answer_range<S: Shape, L: Ledger, H: House>(
         (place_session desk.old.counted.editor) b (range_text S.form (editing_setup desk.old.counted.editor)
         desk.old.counted.editor.disk (place_session desk.old.counted.editor) wanted a b))) }
     ensures rest { LeavesWriting (H.world house.old) (H.world house.new) }
-    ensures frames_run { OnOk result ((wanted ≡ DiskBytes → b ≤ a) → RunsOn (a - lead_of wanted) (b + 1 - a)
+    ensures frames_run { OnOk result (RunsOn (a - lead_of wanted) (b + 1 - a)
         desk.old.counted.steps desk.new.counted.steps desk.old.counted.editor desk.new.counted.editor) }
 {
     if b as usize > last_place(&desk.counted.editor) {
@@ -65,7 +64,7 @@ fn write_all<S: Shape, L: Ledger, H: House>(
     ensures recording { current_recording desk.new.counted.editor
         ≡ current_recording desk.old.counted.editor }
     ensures rest { LeavesWriting (H.world house.old) (H.world house.new) }
-    ensures frames_run { OnOk result ((wanted ≡ DiskBytes → b ≤ a) → RunsOn (a - lead_of wanted) (b + 1 - a)
+    ensures frames_run { OnOk result (RunsOn (a - lead_of wanted) (b + 1 - a)
         desk.old.counted.steps desk.new.counted.steps desk.old.counted.editor desk.new.counted.editor) }
 {
     let end = b as usize + 1;
@@ -92,8 +91,8 @@ fn write_one<S: Shape, L: Ledger, H: House>(
     ensures rest { LeavesWriting (H.world house.old) (H.world house.new) }
     ensures made { OnOk result (IsMade (lead_of wanted) place desk.old.counted.steps desk.new.counted.steps
         desk.old.counted.editor desk.new.counted.editor) }
-    ensures steps { OnOk result (wanted ≢ DiskBytes → StepsOn place
-        desk.old.counted.steps desk.new.counted.steps desk.old.counted.editor desk.new.counted.editor) }
+    ensures steps { OnOk result (StepsOn place desk.old.counted.steps desk.new.counted.steps
+        desk.old.counted.editor desk.new.counted.editor) }
 {
     match wanted {
         PlaceText::Image => {
@@ -101,14 +100,14 @@ fn write_one<S: Shape, L: Ledger, H: House>(
             S::write(alloc, house, made_image(desk))
         }
         PlaceText::Schedule => {
-            let text = schedule(alloc, desk, place)?;
+            let text = frame_text(alloc, desk, RecordText::Schedule, place)?;
             S::write(alloc, house, text.as_slice())
         }
         PlaceText::Traces => {
-            let text = traces(alloc, desk, place)?;
+            let text = frame_text(alloc, desk, RecordText::Traces, place)?;
             S::write(alloc, house, text.as_slice())
         }
-        PlaceText::DiskBytes => write_disk::<S, L, H>(alloc, house, &mut desk.counted, place),
+        PlaceText::DiskBytes => write_disk::<S, L, H>(alloc, house, desk, place),
     }
 }
 
@@ -116,32 +115,21 @@ fn write_one<S: Shape, L: Ledger, H: House>(
 fn write_disk<S: Shape, L: Ledger, H: House>(
     alloc: Global,
     house: &mut H,
-    counted: &mut CountedEditor<L>,
+    desk: &mut Desk<L>,
     place: usize,
 ) -> Result<(), Refusal>
-    requires place { place ≤ length counted.old.editor.session.current.inputs }
-    ensures out { ForSome (text_by S.form counted.old.editor DiskBytes place)
+    requires place { place ≤ length desk.old.counted.editor.session.current.inputs }
+    ensures out { ForSome (text_by S.form desk.old.counted.editor DiskBytes place)
         (λ text. Written (H.world house.old) (H.world house.new) result text) }
-    ensures shows { OnOk result (OnlyShows counted.old.editor counted.new.editor) }
-    ensures recording { current_recording counted.new.editor ≡ current_recording counted.old.editor }
+    ensures shows { OnOk result (OnlyShows desk.old.counted.editor desk.new.counted.editor) }
+    ensures recording { current_recording desk.new.counted.editor
+        ≡ current_recording desk.old.counted.editor }
     ensures rest { LeavesWriting (H.world house.old) (H.world house.new) }
-    ensures made { OnOk result (IsMade 0 place counted.old.steps counted.new.steps
-        counted.old.editor counted.new.editor) }
+    ensures made { OnOk result (IsMade 0 place desk.old.counted.steps desk.new.counted.steps
+        desk.old.counted.editor desk.new.counted.editor) }
+    ensures steps { OnOk result (StepsOn place desk.old.counted.steps desk.new.counted.steps
+        desk.old.counted.editor desk.new.counted.editor) }
 {
-    match counted.editor.show(alloc, place, &mut counted.steps) {
-        Ok(state) => print_disk::<S, H>(alloc, house, state),
-        Err(_) => Err(Refusal::OutOfMemory),
-    }
-}
-
-/// Writes the bytes of a state's disk.
-fn print_disk<S: Shape, H: House>(
-    alloc: Global,
-    house: &mut H,
-    state: &State,
-) -> Result<(), Refusal>
-    ensures out { Written (H.world house.old) (H.world house.new) result (S.form state.now.disk) }
-    ensures rest { LeavesWriting (H.world house.old) (H.world house.new) }
-{
-    S::write(alloc, house, state.disk.bytes())
+    go_on(alloc, desk, place)?;
+    S::write(alloc, house, desk.counted.editor.state().disk.bytes())
 }

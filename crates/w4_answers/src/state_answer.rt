@@ -62,11 +62,10 @@ fn facts<L: Ledger>(
     ensures frames_run { OnOk result (RunsOn place 0 counted.old.steps counted.new.steps
         counted.old.editor counted.new.editor) }
 {
-    match counted.editor.show(alloc, place, &mut counted.steps) {
-        Ok(state) => Ok(Facts {
-            halt: state.halt,
-            disk_len: state.disk.bytes().len(),
-        }),
-        Err(_) => Err(OutOfMemory),
-    }
+    counted.editor.go_to(alloc, place, &mut counted.steps)?;
+    let state = counted.editor.state();
+    Ok(Facts {
+        halt: state.halt,
+        disk_len: state.disk.bytes().len(),
+    })
 }

@@ -1,4 +1,6 @@
 -- Arguments as the definitions see them.
+use Rattle.std.specs.Prelude.{ℕ, List, Option, Some, None, nat_le, option_and_then, if◌then◌else◌}
+use Rattle.w4_defs.specs.Lines.{number_of}
 use Rattle.w4_commands.specs.declared.forms.RunNames.{RunNames}
 use Rattle.w4_commands.specs.declared.forms.EditNames.{EditNames}
 use Rattle.w4_commands.specs.declared.forms.NetNames.{NetNames}
@@ -36,6 +38,13 @@ compare_view n = record {
   other_recording = n.other_recording.now;
   font = n.font.now;
 }
+
+-- the budget that a word says: a number of at least 1
+abbrev pub at_least_one : ℕ → Option ℕ
+at_least_one units = if nat_le 1 units then Some units else None
+
+abbrev pub budget_said : List ℕ → Option ℕ
+budget_said word = option_and_then at_least_one (number_of word)
 
 abbrev pub command_view : Command → Form
 command_view (command.Check cart) = Check cart.now

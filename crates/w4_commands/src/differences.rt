@@ -3,15 +3,18 @@
 ghost use Rattle.std.specs.Prelude.{◌≡◌, ◌↔◌, ◌∷◌, ◌++◌, [], IfOk, IsTrue, None, OnOk};
 ghost use Rattle.std.specs.Str.{bytes_eq};
 ghost use Rattle.w4_defs.specs.Comparison.{compared_by, respect_line};
-ghost use Rattle.w4_defs.specs.FrameTexts.{numbered, schedule_text, trace_text};
+ghost use Rattle.w4_defs.specs.FrameTexts.{numbered};
 ghost use Rattle.w4_defs.specs.Image.{image};
 ghost use Rattle.w4_defs.specs.RecordingOutputs.{finish_of};
 ghost use Rattle.w4_defs.specs.SameState.{same_state};
+ghost use Rattle.w4_answers.specs.RecordText.{record_text};
 ghost use Rattle.w4_commands.specs.Differences.{after_place, both_stages, if_differs, listed, noted};
 ghost use Rattle.w4_commands.specs.Stage.{stage_moment};
 
-use crate::stage::{Stage, disk, paint, painted, schedule, state, traces};
+use crate::stage::{Stage, disk, frame_text, paint, painted, state};
 use std::alloc::Global;
+use w4_answers::record_text::RecordText;
+use w4_answers::record_text::RecordText::{Schedule, Traces};
 use w4_defs::editing_laws::states_are_compared;
 use w4_defs::{Finish, OutOfMemory};
 use w4_devices::text_parts::{add_number, add_words};
@@ -60,8 +63,8 @@ pub fn note_place(
     ensures one { stage_moment one.new ≡ stage_moment one.old }
     ensures other { stage_moment other.new ≡ stage_moment other.old }
 {
-    note_tones(alloc, one, other, place, &mut found.tones)?;
-    note_traces(alloc, one, other, place, &mut found.traces)?;
+    note_text(alloc, one, other, Schedule, place, &mut found.tones)?;
+    note_text(alloc, one, other, Traces, place, &mut found.traces)?;
     note_state(one, other, place, &mut found.state);
     note_disk(one, other, place, &mut found.disk);
     note_image(one, other, place, &mut found.image);
@@ -134,41 +137,22 @@ fn same_images(one: &mut Stage, other: &mut Stage) -> bool
     painted(one) == painted(other)
 }
 
-/// Notes whether the schedules differ, unless they are noted to differ already.
-fn note_tones(
+/// Notes whether texts of the frames differ, unless they are noted to differ already.
+fn note_text(
     alloc: Global,
     one: &Stage,
     other: &Stage,
+    wanted: RecordText,
     place: usize,
     found: &mut Option<usize>,
 ) -> Result<(), OutOfMemory>
     ensures { OnOk result (found.new ≡ after_place found.old
-        (bytes_eq (schedule_text place (stage_moment one.now).frame_record)
-        (schedule_text place (stage_moment other.now).frame_record)) place) }
+        (bytes_eq (record_text wanted place (stage_moment one.now).frame_record)
+        (record_text wanted place (stage_moment other.now).frame_record)) place) }
 {
     if found.is_none() {
-        let text = schedule(alloc, one, place)?;
-        let other_text = schedule(alloc, other, place)?;
-        *found = if_differs(text.as_slice() == other_text.as_slice(), place);
-    }
-    Ok(())
-}
-
-/// Notes whether the trace lines differ, unless they are noted to differ already.
-fn note_traces(
-    alloc: Global,
-    one: &Stage,
-    other: &Stage,
-    place: usize,
-    found: &mut Option<usize>,
-) -> Result<(), OutOfMemory>
-    ensures { OnOk result (found.new ≡ after_place found.old
-        (bytes_eq (trace_text place (stage_moment one.now).frame_record)
-        (trace_text place (stage_moment other.now).frame_record)) place) }
-{
-    if found.is_none() {
-        let text = traces(alloc, one, place)?;
-        let other_text = traces(alloc, other, place)?;
+        let text = frame_text(alloc, one, wanted, place)?;
+        let other_text = frame_text(alloc, other, wanted, place)?;
         *found = if_differs(text.as_slice() == other_text.as_slice(), place);
     }
     Ok(())

@@ -8,7 +8,7 @@ ghost use Rattle.w4_defs.specs.World.{LeavesReading};
 ghost use Rattle.w4_commands.specs.Edit.{Carried, loaded_view};
 ghost use Rattle.w4_commands.specs.Commands.{EndsDone, MakesOf};
 ghost use Rattle.w4_commands.specs.Load.{ResultsIn, StepGives, GivesValue, cart_view};
-ghost use Rattle.w4_segments.specs.Counting.{IsBlankOf};
+ghost use Rattle.w4_console.specs.Counting.{IsBlankOf};
 ghost use Rattle.w4_commands.specs.Forms.{edit_view};
 
 use crate::forms::EditNames;

@@ -19,7 +19,7 @@ ghost use Rattle.w4_defs.specs.Commands.{
   serve_form,
 };
 ghost use Rattle.w4_defs.specs.Outputs.{cart_word};
-ghost use Rattle.w4_commands.specs.Forms.{command_view, form_view, run_view};
+ghost use Rattle.w4_commands.specs.Forms.{budget_said, command_view, form_view, run_view};
 ghost use Rattle.w4_commands.specs.RunOutputs.{whole_form};
 
 use crate::budget::Budget;
@@ -166,6 +166,17 @@ fn run_names<'a>(cart: &'a String, recording: &'a String, font: &'a String) -> R
     }
 }
 
+/// The budget that a word says: at least one unit.
+fn budget_of(word: &String) -> Option<Budget>
+    ensures { option_map (λ budget. budget.units) result ≡ budget_said (string_bytes word.now) }
+{
+    let units = number_of(word.as_bytes())?;
+    if units < 1 {
+        return None;
+    }
+    Some(Budget { units })
+}
+
 fn check_form(words: &[String]) -> Option<Form<'_>>
     ensures { option_map form_view result ≡ check_form (map string_bytes words.now) }
 {
@@ -181,18 +192,12 @@ fn blank_form(words: &[String]) -> Option<Form<'_>>
 {
     match words {
         [cart, budget] => {
-            let units = number_of(budget.as_bytes())?;
-            if units < 1 {
-                return None;
-            }
-            Some(Form::OnCart(Command::Blank(cart.as_str(), Budget { units })))
+            let budget = budget_of(budget)?;
+            Some(Form::OnCart(Command::Blank(cart.as_str(), budget)))
         }
         [cart, budget, disk] => {
-            let units = number_of(budget.as_bytes())?;
-            if units < 1 {
-                return None;
-            }
-            Some(Form::OnCart(Command::BlankDisk(cart.as_str(), Budget { units }, disk.as_str())))
+            let budget = budget_of(budget)?;
+            Some(Form::OnCart(Command::BlankDisk(cart.as_str(), budget, disk.as_str())))
         }
         _ => None,
     }
@@ -265,14 +270,11 @@ fn net_form(words: &[String]) -> Option<Form<'_>>
     let [cart, font, budget, log] = words else {
         return None;
     };
-    let units = number_of(budget.as_bytes())?;
-    if units < 1 {
-        return None;
-    }
+    let budget = budget_of(budget)?;
     Some(Form::OnCart(Command::Net(NetNames {
         cart: cart.as_str(),
         font: font.as_str(),
-        budget: Budget { units },
+        budget,
         log: log.as_str(),
     })))
 }

@@ -11,7 +11,7 @@ ghost use Rattle.w4_answers.specs.Writing.{Written};
 ghost use Rattle.w4_defs.specs.LogAnswers.{net_answers};
 ghost use Rattle.w4_answers.specs.NetAnswers.{net_session};
 ghost use Rattle.w4_defs.specs.ToolOutputs.{log_in, log_orders, net_files, net_output, net_text};
-ghost use Rattle.w4_segments.specs.Counting.{IsBlankOf};
+ghost use Rattle.w4_console.specs.Counting.{IsBlankOf};
 ghost use Rattle.w4_commands.specs.Net.{net_loaded_view};
 ghost use Rattle.w4_commands.specs.Forms.{net_view};
 

@@ -11,8 +11,9 @@ ghost use Rattle.w4_commands.specs.Stage.{stage_moment};
 ghost use Rattle.w4_defs.specs.PlaceTexts.{as_it_stands, moment_text, place_text, place_texts};
 
 use crate::scene::Scene;
-use crate::stage::{Stage, disk, paint, painted, run_to, schedule, step, traces};
+use crate::stage::{Stage, disk, frame_text, paint, painted, run_to, step};
 use std::alloc::Global;
+use w4_answers::record_text::RecordText;
 use w4_answers::writing::write_bytes;
 use w4_defs::{Input, PlaceText, Refusal};
 use w4_house::House;
@@ -45,11 +46,11 @@ pub fn write_place<H: House>(
             write_bytes(alloc, house, painted(stage))
         }
         PlaceText::Schedule => {
-            let text = schedule(alloc, stage, place)?;
+            let text = frame_text(alloc, stage, RecordText::Schedule, place)?;
             write_bytes(alloc, house, text.as_slice())
         }
         PlaceText::Traces => {
-            let text = traces(alloc, stage, place)?;
+            let text = frame_text(alloc, stage, RecordText::Traces, place)?;
             write_bytes(alloc, house, text.as_slice())
         }
         PlaceText::DiskBytes => write_bytes(alloc, house, disk(stage)),

@@ -12,7 +12,7 @@ ghost use Rattle.w4_answers.specs.Writing.{Written};
 ghost use Rattle.w4_answers.specs.HeldPages.{AreHeld};
 ghost use Rattle.w4_answers.specs.RamAnswers.{GivesQueryAnswer, query_answer, query_answers};
 ghost use Rattle.w4_defs.specs.ToolOutputs.{query_in, query_lines, ram_files, ram_output, ram_text};
-ghost use Rattle.w4_segments.specs.Counting.{IsBlankOf};
+ghost use Rattle.w4_console.specs.Counting.{IsBlankOf};
 ghost use Rattle.w4_commands.specs.Ram.{ram_loaded_view};
 ghost use Rattle.w4_commands.specs.Forms.{run_view};
 

@@ -21,7 +21,7 @@ ghost use Rattle.w4_commands.specs.Serve.{
   opened_view,
 };
 ghost use Rattle.w4_answers.specs.LiveAnswer.{LeavesServing, Sits};
-ghost use Rattle.w4_segments.specs.Counting.{IsBlankOf};
+ghost use Rattle.w4_console.specs.Counting.{IsBlankOf};
 ghost use Rattle.w4_commands.specs.Load.{cart_view};
 ghost use Rattle.w4_commands.specs.Forms.{serve_view};
 

@@ -4,7 +4,7 @@ ghost use Rattle.std.specs.Prelude.{◌≡◌, ◌+◌, ◌≤◌, ◌<◌, Some
 ghost use Rattle.w4_defs.specs.State.{HasGlobals};
 ghost use Rattle.w4_commands.specs.Stage.{IsAtPlace, stage_moment};
 ghost use Rattle.w4_commands.specs.Scene.{scene_setup};
-ghost use Rattle.w4_defs.specs.FrameTexts.{schedule_text, trace_text};
+ghost use Rattle.w4_answers.specs.RecordText.{record_text};
 ghost use Rattle.w4_defs.specs.Image.{image};
 ghost use Rattle.w4_defs.specs.MadeSummary.{lit_pixels};
 ghost use Rattle.w4_console.specs.Taken.{TellsUnits, taken_of};
@@ -14,10 +14,11 @@ ghost use Rattle.w4_defs.specs.Sound.{after_frame, rendered};
 use crate::scene::Scene;
 use crate::summary::lit_pixels;
 use std::alloc::Global;
+use w4_answers::record_text::{RecordText, record_text};
 use w4_console::{Console, FrameTaken, Setup, Taken};
 use w4_defs::console_laws::runs_in_parts;
 use w4_defs::{Halt, Input, OutOfMemory};
-use w4_devices::{FrameRecord, schedule_text, trace_text};
+use w4_devices::FrameRecord;
 use w4_image::{IMAGE_LEN, ppm_into};
 use w4_map::State;
 use w4_wave::{FRAME_LEN, Wave};
@@ -141,22 +142,17 @@ pub fn lit(stage: &Stage) -> u32
     lit_pixels(stage.console.state().page.bytes())
 }
 
-/// The schedule of the frame that led to this place.
-pub fn schedule(alloc: Global, stage: &Stage, place: usize) -> Result<Vec<u8>, OutOfMemory>
-    ensures { IfOk result (λ text. text.items ≡ schedule_text place (stage_moment stage.now).frame_record) }
+/// A text of the frame that led to this place.
+pub fn frame_text(
+    alloc: Global,
+    stage: &Stage,
+    wanted: RecordText,
+    place: usize,
+) -> Result<Vec<u8>, OutOfMemory>
+    ensures { IfOk result (λ text. text.items
+        ≡ record_text wanted place (stage_moment stage.now).frame_record) }
 {
-    let mut text = Vec::new(alloc);
-    schedule_text(alloc, place, &stage.frame_record, &mut text)?;
-    Ok(text)
-}
-
-/// The trace lines of the frame that led to this place.
-pub fn traces(alloc: Global, stage: &Stage, place: usize) -> Result<Vec<u8>, OutOfMemory>
-    ensures { IfOk result (λ text. text.items ≡ trace_text place (stage_moment stage.now).frame_record) }
-{
-    let mut text = Vec::new(alloc);
-    trace_text(alloc, place, &stage.frame_record, &mut text)?;
-    Ok(text)
+    record_text(alloc, wanted, place, &stage.frame_record)
 }
 
 /// Renders the sound of the frame that led to this place.

@@ -2,3 +2,4 @@
 pub mod Console
 pub mod Taken
 pub mod Calls
+pub mod Counting

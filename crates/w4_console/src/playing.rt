@@ -1,7 +1,8 @@
 //! Playing by a setup, for whoever counts no frames: each frame is played under a counter of its own.
 
-ghost use Rattle.std.specs.Prelude.{◌≡◌, ◌<◌, Some};
+ghost use Rattle.std.specs.Prelude.{◌≡◌, Some};
 ghost use Rattle.w4_console.specs.Calls.{moment, setup_of};
+ghost use Rattle.w4_console.specs.Counting.{IsBlankOf};
 ghost use Rattle.w4_console.specs.Taken.{FrameTakes};
 ghost use Rattle.w4_defs.specs.Frame.{frame};
 ghost use Rattle.w4_defs.specs.Run.{fold};
@@ -53,9 +54,7 @@ impl Console {
         blank: Blank,
     ) -> FrameTaken
         requires globals { HasGlobals setup.now.cart.now self.old }
-        requires name { blank.name ≡ L.name }
-        requires parts { blank.parts ≡ L.parts }
-        requires some { 0 < L.parts }
+        requires blank { IsBlankOf L.name L.parts blank }
         ensures frame { frame (setup_of setup.now) self.old input.now ≡ Some (moment self.new frame_record.new) }
         ensures taken { FrameTakes (setup_of setup.now) self.old input.now result }
         ensures globals { HasGlobals setup.now.cart.now self.new }

@@ -1,7 +1,8 @@
 //! A console with its cart and its font, under one budget.
 
-ghost use Rattle.std.specs.Prelude.{◌≡◌, ◌+◌, ◌<◌, ◌≤◌, IfOk, length, option_map, Some};
+ghost use Rattle.std.specs.Prelude.{◌≡◌, ◌+◌, ◌≤◌, IfOk, length, option_map, Some};
 ghost use Rattle.w4_console.specs.Calls.{moment};
+ghost use Rattle.w4_console.specs.Counting.{IsBlankOf};
 ghost use Rattle.w4_console.specs.Taken.{FrameTakes};
 ghost use Rattle.w4_defs.specs.Frame.{frame};
 ghost use Rattle.w4_defs.specs.State.{HasGlobals};
@@ -190,9 +191,7 @@ fn captured<L: Ledger>(
     state: &State,
     blank: Blank,
 ) -> Result<(Snap, u32), OutOfMemory>
-    requires name { blank.name ≡ L.name }
-    requires parts { blank.parts ≡ L.parts }
-    requires some { 0 < L.parts }
+    requires { IsBlankOf L.name L.parts blank }
     ensures state { IfOk result (λ r. r.0 ≡ state.now) }
     ensures copied { IfOk result (λ r. r.1
         ≡ copied_chunks (option_map (λ s. s.now) before.entry) state.now) }

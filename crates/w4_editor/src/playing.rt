@@ -73,8 +73,9 @@ impl Editor {
         Ok(self.state())
     }
 
-    /// Goes to a place that is there. Errors: OutOfMemory, and then no place is shown.
-    fn go_to<L: Ledger>(
+    /// Shows a place that is there, as `show` does. Errors: OutOfMemory, and then no place is shown, kept
+    /// states and links may be newer, and recording, history and kept places are unchanged.
+    pub fn go_to<L: Ledger>(
         &mut self,
         alloc: Global,
         p: usize,
@@ -135,8 +136,8 @@ impl Editor {
         Ok(())
     }
 
-    /// The state at the place that is shown.
-    fn state(&self) -> &State
+    /// The state at the place that is shown; where none is, a state of which nothing is said.
+    pub fn state(&self) -> &State
         ensures { (p : ℕ) → self.now.at ≡ Some p
             → run_state (editing_setup self.now) self.now.disk self.now.session.current.inputs p
             ≡ Some result.now }

@@ -145,10 +145,8 @@ fn shown_page<L: Ledger>(
     ensures shown { OnOk result (IsShown p steps.old steps.new editor.old editor.new) }
     ensures err { OnErr result (KeepsRecording editor.old editor.new) }
 {
-    match editor.show(alloc, p, steps) {
-        Ok(state) => copy_of(alloc, state.page.bytes()),
-        Err(_) => Err(OutOfMemory),
-    }
+    editor.go_to(alloc, p, steps)?;
+    copy_of(alloc, editor.state().page.bytes())
 }
 
 /// Goes on to the place after `p`, which is shown, and copies the page there.

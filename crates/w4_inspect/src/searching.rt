@@ -87,10 +87,8 @@ fn begin_at<L: Ledger>(
     ensures shown { OnOk result (IsShown p steps.old steps.new editor.old editor.new) }
     ensures err { OnErr result (KeepsRecording editor.old editor.new) }
 {
-    match editor.show(alloc, p, steps) {
-        Ok(state) => Search::begin(alloc, width, state.page.bytes()),
-        Err(_) => Err(OutOfMemory),
-    }
+    editor.go_to(alloc, p, steps)?;
+    Search::begin(alloc, width, editor.state().page.bytes())
 }
 
 /// Narrows a search at a place that is there.
@@ -109,11 +107,7 @@ fn narrow_at<L: Ledger>(
     ensures same { OnErr result (search.new ≡ search.old) }
     ensures err { OnErr result (KeepsRecording editor.old editor.new) }
 {
-    match editor.show(alloc, p, steps) {
-        Ok(state) => {
-            search.keep(state.page.bytes(), test);
-            Ok(())
-        }
-        Err(_) => Err(OutOfMemory),
-    }
+    editor.go_to(alloc, p, steps)?;
+    search.keep(editor.state().page.bytes(), test);
+    Ok(())
 }

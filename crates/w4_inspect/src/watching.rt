@@ -133,10 +133,8 @@ fn shown_value<L: Ledger>(
     ensures shown { OnOk result (IsShown p steps.old steps.new editor.old editor.new) }
     ensures err { OnErr result (KeepsRecording editor.old editor.new) }
 {
-    match editor.show(alloc, p, steps) {
-        Ok(state) => Ok(value_in(state.page.bytes(), what)),
-        Err(_) => Err(OutOfMemory),
-    }
+    editor.go_to(alloc, p, steps)?;
+    Ok(value_in(editor.state().page.bytes(), what))
 }
 
 /// Goes on to the place after `p`, which is shown, and reads the value there.

@@ -5,4 +5,3 @@ pub mod Pieces
 pub mod FilmPieces
 pub mod Settling
 pub mod Batching
-pub mod Counting

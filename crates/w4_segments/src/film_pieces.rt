@@ -4,7 +4,7 @@ ghost use Rattle.std.specs.Prelude.{◌≡◌, ◌≢◌, ℕ, ◌+◌, ◌-◌,
 ghost use Rattle.w4_defs.specs.AllThere.{joined};
 ghost use Rattle.w4_defs.specs.Image.{image};
 ghost use Rattle.w4_defs.specs.KeptList.{place_at};
-ghost use Rattle.w4_segments.specs.Counting.{IsBlankOf};
+ghost use Rattle.w4_console.specs.Counting.{IsBlankOf};
 ghost use Rattle.w4_segments.specs.FilmPieces.{
   IsFilming,
   HasNext,

@@ -4,7 +4,7 @@ ghost use Rattle.std.specs.Prelude.{◌≡◌, ◌-◌, ◌<◌, ◌⊎◌, IsOk
 ghost use Rattle.w4_defs.specs.FramesRun.{RunsAtMost};
 ghost use Rattle.w4_editor.specs.Settling.{AreLinked};
 ghost use Rattle.w4_editor.specs.Playing.{KeepsRecording};
-ghost use Rattle.w4_segments.specs.Counting.{IsBlankOf};
+ghost use Rattle.w4_console.specs.Counting.{IsBlankOf};
 ghost use Rattle.w4_segments.specs.Filming.{KeepsShown};
 ghost use Rattle.w4_segments.specs.Settling.{AreAllLinked, IsPartlySettled, IsSettledWide};
 

@@ -1,6 +1,7 @@
 //! The console itself, between the bytes of a cart and the state that frames leave.
 
-ghost use Rattle.std.specs.Prelude.{◌≡◌, ◌<◌, IfOk};
+ghost use Rattle.std.specs.Prelude.{IfOk};
+ghost use Rattle.w4_console.specs.Counting.{IsBlankOf};
 ghost use Rattle.w4_defs.specs.State.{HasGlobals};
 
 use crate::carts::{cart, font};
@@ -54,9 +55,7 @@ fn pad(first: u8, reset: bool) -> Input {
 
 /// One frame, under a count of its own.
 fn counted<L: Ledger>(console: &mut Console, cart: &Cart, font: &Font, input: &Input, blank: Blank)
-    requires name { blank.name ≡ L.name }
-    requires parts { blank.parts ≡ L.parts }
-    requires some { 0 < L.parts }
+    requires blank { IsBlankOf L.name L.parts blank }
     requires globals { HasGlobals cart.now console.old }
     ensures globals { HasGlobals cart.now console.new }
 {

@@ -1,6 +1,6 @@
 //! The editor, of which no clause says that the calls which take memory succeed where there is enough of it.
 
-ghost use Rattle.std.specs.Prelude.{◌≡◌, ◌<◌};
+ghost use Rattle.w4_console.specs.Counting.{IsBlankOf};
 
 use crate::carts::{IDLE, cart, font, pad};
 use std::alloc::Global;
@@ -54,9 +54,7 @@ fn set_and_settle<L: Ledger>(
 }
 
 fn call_each<L: Ledger>(alloc: Global, editor: &mut Editor, blank: Blank) -> Result<(), EditRefusal>
-    requires name { blank.name ≡ L.name }
-    requires parts { blank.parts ≡ L.parts }
-    requires some { 0 < L.parts }
+    requires { IsBlankOf L.name L.parts blank }
 {
     let steps = &mut Steps::<L>::new(blank);
     edit(alloc, editor)?;

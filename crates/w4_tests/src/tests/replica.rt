@@ -1,6 +1,6 @@
 //! Rollback, of which no clause says that with ample memory the calls succeed.
 
-ghost use Rattle.std.specs.Prelude.{◌≡◌, ◌<◌};
+ghost use Rattle.w4_console.specs.Counting.{IsBlankOf};
 
 use crate::carts::{PAINTING, cart, font};
 use std::alloc::Global;
@@ -43,9 +43,7 @@ fn packet(frame: u32, pad: u8) -> Packet {
 /// Two frames pass, and place 2 is kept. Then the pad of frame 0 comes, that of frame 1, and another of
 /// frame 0.
 fn late_pads<L: Ledger>(alloc: Global, replica: &mut Replica, blank: Blank) -> [Option<u8>; 3]
-    requires name { blank.name ≡ L.name }
-    requires parts { blank.parts ≡ L.parts }
-    requires some { 0 < L.parts }
+    requires { IsBlankOf L.name L.parts blank }
 {
     let steps = &mut Steps::<L>::new(blank);
     let passed = replica.advance().is_ok() && replica.advance().is_ok();

@@ -1,7 +1,7 @@
 //! Watching and searching the memory, of which no clause says that with ample memory the calls succeed, over
 //! values that the inputs decide, and that lines are read as the rule on queries has them.
 
-ghost use Rattle.std.specs.Prelude.{◌≡◌, ◌<◌};
+ghost use Rattle.w4_console.specs.Counting.{IsBlankOf};
 
 use crate::carts::{PAINTING, cart, font, pad};
 use std::alloc::Global;
@@ -28,9 +28,7 @@ fn watches<L: Ledger>(
     editor: &mut Editor,
     blank: Blank,
 ) -> Result<(Vec<u32>, Option<RamRefusal>, Option<RamRefusal>), RamRefusal>
-    requires name { blank.name ≡ L.name }
-    requires parts { blank.parts ≡ L.parts }
-    requires some { 0 < L.parts }
+    requires { IsBlankOf L.name L.parts blank }
 {
     let steps = &mut Steps::<L>::new(blank);
     let past_the_end = ValueBytes {
@@ -65,9 +63,7 @@ fn searched<L: Ledger>(
     test: Test,
     blank: Blank,
 ) -> Result<Search, RamRefusal>
-    requires name { blank.name ≡ L.name }
-    requires parts { blank.parts ≡ L.parts }
-    requires some { 0 < L.parts }
+    requires { IsBlankOf L.name L.parts blank }
 {
     let steps = &mut Steps::<L>::new(blank);
     let mut search = Search::start(alloc, editor, 1, 1, steps)?;

@@ -1,7 +1,8 @@
 //! Work split over threads, of which no clause says that with ample memory the calls succeed, and that two
 //! pieces are under way at once.
 
-ghost use Rattle.std.specs.Prelude.{◌≡◌, ◌<◌, IfOk, vec_len};
+ghost use Rattle.std.specs.Prelude.{◌≡◌, IfOk, vec_len};
+ghost use Rattle.w4_console.specs.Counting.{IsBlankOf};
 
 use crate::carts::{IDLE, cart, font, pad};
 use crate::holder::Holder;
@@ -33,9 +34,7 @@ const BLANK_IMAGE: [u8; 32] = [
 
 /// An editor of two frames of zeros, whose places are all kept.
 fn editor<L: Ledger>(alloc: Global, blank: Blank) -> Result<Editor, Fail>
-    requires name { blank.name ≡ L.name }
-    requires parts { blank.parts ≡ L.parts }
-    requires some { 0 < L.parts }
+    requires { IsBlankOf L.name L.parts blank }
 {
     let recording = Recording::new([7; 32], 100_000, Vec::new(alloc), inputs(alloc)?);
     let mut editor = Editor::new(alloc, cart(alloc, &IDLE)?, font()?, recording)?;

@@ -2,7 +2,6 @@ use Rattle.std.specs.Prelude.{codes}
 use Rattle.w4_defs.specs.Live.{framed}
 use Rattle.w4_defs.specs.ScriptAnswers.{refused_line}
 use Rattle.w4_answers.proofs.LiveAnswerLaws.{nothing_gives, own_gives, own_order, piece_gives, query_gives, script_gives}
-use Rattle.w4_answers.proofs.ScriptAnswerLaws.{on_ok_map}
 use Rattle.w4_answers.proofs.live_answer.answer_pieces.Goals as goal
 
 pub returns-in-Nothing-clause-gives : goal.returns-in-Nothing-clause-gives
@@ -33,19 +32,15 @@ returns-in-Query-clause-gives g c = λ o s sits.
     c.answer_line.new.counted.editor
     c.args.search.now c.answer_line.new.search c.in-Query.ask sits c.answer_line.ensures.told)
 
-pub returns-in-Save-clause-gives : goal.returns-in-Save-clause-gives
-returns-in-Save-clause-gives g c = λ o s sits.
-    rw (c.in-Order.is, c.in-Save.is)
-    (nothing_gives (g.H.House.world c.args.house.now) o s c.args.desk.now.counted.editor c.args.search.now
-    sits)
+pub answer_own-requires : goal.answer_own-requires
+answer_own-requires g c =
+    own_order c.in-Order.live c.in_default.not-Script c.in_default.not-Query
+    (rw c.in-Order.is at c.requires.other)
 
 pub returns-in_default-clause-gives : goal.returns-in_default-clause-gives
 returns-in_default-clause-gives g c = λ o s sits.
-    let x = c.in-Order.live in
-    let own = own_order x c.in_default.not-Script c.in_default.not-Query c.in_default.not-Save in
     rw c.in-Order.is
     (own_gives c.answer_own.result (g.H.House.world c.args.house.now) (g.H.House.world c.answer_own.new.house)
-    o s c.args.desk.now.counted.editor c.answer_own.new.desk.counted.editor c.args.search.now x sits
-    (c.answer_own.ensures.out s sits.session own) (c.answer_own.ensures.session s own)
-    (on_ok_map c.answer_own.result (λ shows. shows own) c.answer_own.ensures.shows)
-    c.answer_own.ensures.recording)
+    o s c.args.desk.now.counted.editor c.answer_own.new.desk.counted.editor c.args.search.now
+    c.in-Order.live sits (c.answer_own.ensures.out s sits.session) (c.answer_own.ensures.session s)
+    c.answer_own.ensures.shows c.answer_own.ensures.recording)

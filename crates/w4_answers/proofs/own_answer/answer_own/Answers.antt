@@ -14,16 +14,17 @@ returns-in-Units-clause-out g c =
     let a = c.in-Units.a in
     let b = c.in-Units.b in
     let form = g.S.Shape.form in
-    rw c.in-Units.is (λ s same own. subst (λ (x : Session ℕ).
+    rw c.in-Units.is (λ s same. subst (λ (x : Session ℕ).
     ForSome (if_place form x b (place_texts (units_at form (editing_setup e) e.disk x.current.inputs) a (b - a)))
     (λ text. Written (g.H.House.world c.args.house.now) (g.H.House.world c.answer_units.new.house)
     c.answer_units.result text)) same c.answer_units.ensures.out)
 
 pub returns-in-PageAt-clause-frames_run : goal.returns-in-PageAt-clause-frames_run
-returns-in-PageAt-clause-frames_run g c = rw c.in-PageAt.is c.answer_page.ensures.frames_run
+returns-in-PageAt-clause-frames_run g c = rw c.in-PageAt.is c.answer_part.ensures.frames_run
 
 pub returns-in-GlobalsAt-clause-frames_run : goal.returns-in-GlobalsAt-clause-frames_run
-returns-in-GlobalsAt-clause-frames_run g c = rw c.in-GlobalsAt.is c.answer_globals.ensures.frames_run
+returns-in-GlobalsAt-clause-frames_run g c =
+    rw c.in-GlobalsAt.is c.answer_part-in-GlobalsAt.ensures.frames_run
 
 pub returns-in-Units-clause-frames_run : goal.returns-in-Units-clause-frames_run
 returns-in-Units-clause-frames_run g c = rw c.in-Units.is c.answer_units.ensures.frames_run

@@ -1,4 +1,4 @@
-use Rattle.std.proofs.Common.{◌+◌, ◌-◌, arith, sym, ◌∙◌}
+use Rattle.std.proofs.Common.{◌+◌, ◌-◌, sym, ◌∙◌}
 use Rattle.std.proofs.lemmas.Result.{err_from_is_err_and}
 use Rattle.w4_house.proofs.WorldLaws.{writing_then, writing_none}
 use Rattle.w4_answers.specs.Writing.{AppendsOut, StopsWriting}
@@ -19,7 +19,7 @@ loop-place-init g c =
       there_begins begin (place_texts (text_by g.S.Shape.form first c.args.wanted) c.args.a (c.args.b + 1 - c.args.a)),
       shows_none first,
       writing_none begin,
-      λ _. run_begins (lead_of c.args.wanted) c.args.a (c.args.b + 1) c.args.desk.now.counted.steps first,
+      run_begins (lead_of c.args.wanted) c.args.a (c.args.b + 1) c.args.desk.now.counted.steps first,
     )
 
 pub loop-place-preserved : goal.loop-place-preserved
@@ -40,14 +40,10 @@ loop-place-preserved g c =
           c.loop-place.invariant.0,
       shows_then first now next shows c.in_ok-write_one.ensures.shows,
       writing_then begin before after c.loop-place.invariant.2 c.in_ok-write_one.ensures.rest,
-      λ single. run_on (lead_of c.args.wanted) c.args.a (c.args.b + 1) at c.args.desk.now.counted.steps
+      run_on (lead_of c.args.wanted) c.args.a (c.args.b + 1) at c.args.desk.now.counted.steps
           c.loop-place.desk.counted.steps c.write_one.new.desk.counted.steps first now next
-          c.loop-place.auto.place c.loop-place-test.true (c.loop-place.invariant.3 single)
-          c.in_ok-write_one.ensures.made
-          (λ past. c.in_ok-write_one.ensures.steps (λ disk.
-          let alone = single disk in
-          let below = c.loop-place-test.true in
-          absurd (omega (arith, alone, past, below)))),
+          c.loop-place.auto.place c.loop-place-test.true c.loop-place.invariant.3
+          c.in_ok-write_one.ensures.made c.in_ok-write_one.ensures.steps,
     )
 
 pub returns-clause-out : goal.returns-clause-out
@@ -84,7 +80,7 @@ returns-in_err-write_one-clause-recording g c =
     ∙ shows_recording c.args.desk.now.counted.editor c.loop-place.desk.counted.editor c.loop-place.invariant.1
 
 pub returns-clause-frames_run : goal.returns-clause-frames_run
-returns-clause-frames_run g c single =
+returns-clause-frames_run g c =
     run_all (lead_of c.args.wanted) c.args.a (c.args.b + 1) c.loop-place.place c.args.desk.now.counted.steps
     c.loop-place.desk.counted.steps c.args.desk.now.counted.editor c.loop-place.desk.counted.editor
-    (c.loop-place.invariant.3 single)
+    c.loop-place.invariant.3

@@ -1,8 +1,7 @@
-use Rattle.std.proofs.Common.{◌≡◌, ◌+◌, ◌-◌, ◌≤◌}
+use Rattle.std.proofs.Common.{◌+◌, ◌-◌}
 use Rattle.w4_defs.specs.World.{LeavesWriting}
 use Rattle.w4_answers.specs.Desk.{OnlyShows, text_by}
 use Rattle.w4_defs.specs.PlaceTexts.{place_texts}
-use Rattle.w4_defs.specs.declared.place_text.PlaceText.TheVariants.{DiskBytes}
 use Rattle.w4_answers.specs.RangeAnswer.{lead_of}
 use Rattle.w4_answers.proofs.DeskLaws.{HasRun}
 use Rattle.w4_answers.proofs.WritingLaws.{OwesThere}
@@ -16,5 +15,5 @@ invariant-loop-place g l =
     (place_texts text l.place (l.b + 1 - l.place)) (place_texts text l.a (l.b + 1 - l.a))
     × OnlyShows l.fn.desk.counted.editor l.desk.counted.editor
     × LeavesWriting (g.H.House.world l.fn.house) (g.H.House.world l.house)
-    × ((l.wanted ≡ DiskBytes → l.b ≤ l.a) → HasRun (lead_of l.wanted) l.a (l.b + 1) l.place
-    l.fn.desk.counted.steps l.desk.counted.steps l.fn.desk.counted.editor l.desk.counted.editor)
+    × HasRun (lead_of l.wanted) l.a (l.b + 1) l.place
+    l.fn.desk.counted.steps l.desk.counted.steps l.fn.desk.counted.editor l.desk.counted.editor

@@ -1,48 +1,35 @@
-use Rattle.w4_defs.specs.Run.{run}
-use Rattle.w4_editor.specs.Editor.{editing_setup}
+use Rattle.std.proofs.Common.{List, ℕ, ap, subst, sym, ◌∙◌}
+use Rattle.w4_defs.specs.State.{State}
+use Rattle.w4_defs.specs.declared.place_text.PlaceText.TheVariants.{DiskBytes}
 use Rattle.w4_answers.specs.Writing.{Written}
 use Rattle.w4_answers.specs.Desk.{text_by}
-use Rattle.w4_defs.specs.declared.place_text.PlaceText.TheVariants.{DiskBytes}
 use Rattle.w4_answers.proofs.ScriptAnswerLaws.{on_ok}
 use Rattle.w4_answers.proofs.WritingLaws.{there_is}
-use Rattle.w4_answers.proofs.DeskSessionLaws.{only_shows}
-use Rattle.w4_answers.proofs.RangeAnswerLaws.{disk_of_state}
-use Rattle.w4_editor.proofs.EditorPlaceLaws.{same_recording}
-use Rattle.w4_answers.proofs.DeskLaws.{made_by_show}
+use Rattle.w4_answers.proofs.DeskSessionLaws.{same_text}
+use Rattle.w4_answers.proofs.RangeAnswerLaws.{disk_of_state, run_at}
 use Rattle.w4_answers.proofs.range_answer.write_disk.Goals as goal
 
-pub returns-in-Ok-clause-out : goal.returns-in-Ok-clause-out
-returns-in-Ok-clause-out g c =
-    let old = c.args.counted.now.editor in
+pub returns-clause-out : goal.returns-clause-out
+returns-clause-out g c =
+    let old = c.args.desk.now.counted.editor in
+    let new = c.go_on.new.desk.counted.editor in
     there_is
     (λ text.
-    Written (g.H.House.world c.args.house.now) (g.H.House.world c.print_disk.new.house) c.print_disk.result
-    text)
-    (text_by g.S.Shape.form old DiskBytes c.args.place) (g.S.Shape.form c.in-Ok.state.now.disk)
-    (disk_of_state g.S.Shape.form c.args.place
-    (run (editing_setup old) old.disk old.session.current.inputs c.args.place) c.in-Ok.state.now
-    c.in-Ok.ensures.state)
-    c.print_disk.ensures.out
+    Written (g.H.House.world c.args.house.now) (g.H.House.world c.write.new.house) c.write.result text)
+    (text_by g.S.Shape.form old DiskBytes c.args.place) (g.S.Shape.form c.state.result.now.disk)
+    (sym (same_text g.S.Shape.form old new DiskBytes c.args.place c.in_ok-go_on.ensures.shows)
+    ∙ disk_of_state g.S.Shape.form c.args.place (run_at new c.args.place) c.state.result.now
+    (c.state.ensures c.args.place c.in_ok-go_on.ensures.at))
+    (subst (λ (bytes : List ℕ).
+    Written (g.H.House.world c.args.house.now) (g.H.House.world c.write.new.house) c.write.result
+    (g.S.Shape.form bytes)) (c.bytes.ensures.bytes ∙ ap (λ (s : State). s.disk) c.behind-desk.view_is)
+    c.write.ensures.out)
 
-pub returns-in-Ok-clause-shows : goal.returns-in-Ok-clause-shows
-returns-in-Ok-clause-shows g c =
-    let shown = rw c.in-Ok.is at c.show.follows.holds-at-none.0 in
-    on_ok c.print_disk.result (only_shows c.args.counted.now.editor c.show.follows.lender-at-none
-    shown.recording)
+pub returns-clause-shows : goal.returns-clause-shows
+returns-clause-shows g c = on_ok c.write.result c.in_ok-go_on.ensures.shows
 
-pub returns-in-Ok-clause-recording : goal.returns-in-Ok-clause-recording
-returns-in-Ok-clause-recording g c =
-    let shown = rw c.in-Ok.is at c.show.follows.holds-at-none.0 in
-    same_recording c.args.counted.now.editor c.show.follows.lender-at-none shown.recording
+pub returns-clause-made : goal.returns-clause-made
+returns-clause-made g c = on_ok c.write.result c.in_ok-go_on.ensures.made
 
-pub returns-in-Err-clause-recording : goal.returns-in-Err-clause-recording
-returns-in-Err-clause-recording g c =
-    same_recording c.args.counted.now.editor c.show.follows.lender-at-none
-    (rw c.in-Err.is at c.show.follows.holds-at-none.1)
-
-pub returns-in-Ok-clause-made : goal.returns-in-Ok-clause-made
-returns-in-Ok-clause-made g c =
-    let shown = rw c.in-Ok.is at c.show.follows.holds-at-none.0 in
-    on_ok c.print_disk.result
-    (made_by_show c.args.place c.args.counted.now.steps c.show.new.steps c.args.counted.now.editor
-    c.show.follows.lender-at-none shown)
+pub returns-clause-steps : goal.returns-clause-steps
+returns-clause-steps g c = on_ok c.write.result c.in_ok-go_on.ensures.steps

@@ -62,15 +62,15 @@ returns-in-DiskBytes-clause-made g c = rw c.in-DiskBytes.is c.write_disk.ensures
 
 pub returns-in_ok-make_image-in-Image-clause-steps : goal.returns-in_ok-make_image-in-Image-clause-steps
 returns-in_ok-make_image-in-Image-clause-steps g c =
-    on_ok c.write.result (λ _. c.in_ok-make_image-in-Image.ensures.steps)
+    on_ok c.write.result c.in_ok-make_image-in-Image.ensures.steps
 
 pub returns-in_ok-text-in-Schedule-clause-steps : goal.returns-in_ok-text-in-Schedule-clause-steps
 returns-in_ok-text-in-Schedule-clause-steps g c =
-    on_ok c.write-in-Schedule.result (λ _. c.in_ok-text-in-Schedule.ensures.steps)
+    on_ok c.write-in-Schedule.result c.in_ok-text-in-Schedule.ensures.steps
 
 pub returns-in_ok-text-in-Traces-clause-steps : goal.returns-in_ok-text-in-Traces-clause-steps
 returns-in_ok-text-in-Traces-clause-steps g c =
-    on_ok c.write-in-Traces.result (λ _. c.in_ok-text-in-Traces.ensures.steps)
+    on_ok c.write-in-Traces.result c.in_ok-text-in-Traces.ensures.steps
 
 pub returns-in-DiskBytes-clause-steps : goal.returns-in-DiskBytes-clause-steps
-returns-in-DiskBytes-clause-steps g c = on_ok c.write_disk.result (λ other. absurd (other c.in-DiskBytes.is))
+returns-in-DiskBytes-clause-steps g c = c.write_disk.ensures.steps

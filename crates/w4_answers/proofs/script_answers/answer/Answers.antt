@@ -1,4 +1,4 @@
-use Rattle.std.proofs.Common.{arith, refl, sym, subst}
+use Rattle.std.proofs.Common.{refl, sym, subst}
 use Rattle.std.specs.Prelude.{ℕ}
 use Rattle.w4_defs.specs.Session.{Session}
 use Rattle.w4_editor.specs.Editor.{editing_setup, place_session}
@@ -57,8 +57,8 @@ pub returns-in-Show-clause-frames_run : goal.returns-in-Show-clause-frames_run
 returns-in-Show-clause-frames_run g c =
     rw c.in-Show.is
     (on_ok_map c.answer_range.result
-    (λ few. runs_one c.in-Show.p c.args.desk.now.counted.steps c.answer_range.new.desk.counted.steps
-    c.args.desk.now.counted.editor c.answer_range.new.desk.counted.editor (few (λ disk. absurd cc)))
+    (runs_one c.in-Show.p c.args.desk.now.counted.steps c.answer_range.new.desk.counted.steps
+    c.args.desk.now.counted.editor c.answer_range.new.desk.counted.editor)
     c.answer_range.ensures.frames_run)
 
 pub returns-in-Film-clause-frames_run : goal.returns-in-Film-clause-frames_run
@@ -66,22 +66,18 @@ returns-in-Film-clause-frames_run g c = rw c.in-Film.is (on_ok c.answer_film.res
 
 pub returns-in-Tones-clause-frames_run : goal.returns-in-Tones-clause-frames_run
 returns-in-Tones-clause-frames_run g c =
-    rw c.in-Tones.is
-    (on_ok_map c.answer_range-in-Tones.result (λ few. few (λ disk. absurd cc))
-    c.answer_range-in-Tones.ensures.frames_run)
+    rw c.in-Tones.is c.answer_range-in-Tones.ensures.frames_run
 
 pub returns-in-Traces-clause-frames_run : goal.returns-in-Traces-clause-frames_run
 returns-in-Traces-clause-frames_run g c =
-    rw c.in-Traces.is
-    (on_ok_map c.answer_range-in-Traces.result (λ few. few (λ disk. absurd cc))
-    c.answer_range-in-Traces.ensures.frames_run)
+    rw c.in-Traces.is c.answer_range-in-Traces.ensures.frames_run
 
 pub returns-in-DiskAt-clause-frames_run : goal.returns-in-DiskAt-clause-frames_run
 returns-in-DiskAt-clause-frames_run g c =
     rw c.in-DiskAt.is
     (on_ok_map c.answer_range-in-DiskAt.result
-    (λ few. runs_one c.in-DiskAt.p c.args.desk.now.counted.steps c.answer_range-in-DiskAt.new.desk.counted.steps
-    c.args.desk.now.counted.editor c.answer_range-in-DiskAt.new.desk.counted.editor (few (λ disk. omega arith)))
+    (runs_one c.in-DiskAt.p c.args.desk.now.counted.steps c.answer_range-in-DiskAt.new.desk.counted.steps
+    c.args.desk.now.counted.editor c.answer_range-in-DiskAt.new.desk.counted.editor)
     c.answer_range-in-DiskAt.ensures.frames_run)
 
 pub returns-in-StateAt-clause-frames_run : goal.returns-in-StateAt-clause-frames_run

@@ -46,7 +46,7 @@ loop-k-preserved g c =
           run_on 1 (c.args.a + 1) (c.args.b + 1) (at + 1) c.args.desk.now.counted.steps
           c.loop-k.desk.counted.steps c.write_units.new.desk.counted.steps first now next
           (omega (arith, from)) (omega (arith, below)) c.loop-k.invariant.3
-          c.in_ok-write_units.ensures.made (λ _. c.in_ok-write_units.ensures.steps)),
+          c.in_ok-write_units.ensures.made c.in_ok-write_units.ensures.steps),
     )
 
 pub returns-clause-out : goal.returns-clause-out
