@@ -303,6 +303,14 @@ pub held_refusal : (e : Editing) (read : ReadPages) (address width : ℕ) → Ar
 held_refusal e read address width of =
     rw (le-ltb (length e.session.current.inputs) read.last of.there) refl
 
+-- their places are there, so none of these is the cause
+pub place_not_refused : (address width : ℕ) (refusal : RamRefusal) → refusal ≡ NoFrame
+    → IsRefusal (outside_refusal address width) refusal → ⊥
+place_not_refused address width refusal same is =
+    let past = first_true false (nat_lt 65536 (address + width))
+    (subst (λ r. IsRefusal (outside_refusal address width) r) same is) in
+    cc
+
 -- the same watch of the editor before, at the places that the pages are of
 pub watched_before : {X : Type 0} (result : Result X Refusal) (before after : World) (old new : Editing)
     (read : ReadPages) (address width a b : ℕ) → OnlyShows old new → read.first ≡ a → read.last ≡ b

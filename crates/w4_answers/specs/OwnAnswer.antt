@@ -25,7 +25,7 @@ OwnWithin (live.Units a b) ticks_before ticks_after old new =
     RunsOn a (b - a) ticks_before ticks_after old new
 OwnWithin other ticks_before ticks_after old new = ticks_after ≡ ticks_before
 
--- what is told of a state
+-- the part of a state that an answer writes
 abbrev pub part_of : StatePart → State → List ℕ
 part_of part.Page state = state.page
 part_of part.Globals state = globals_text state.globals

@@ -107,6 +107,7 @@ fn answer_from_pages<H: House>(
             Plain::write(alloc, house, line.as_slice())
         }
         Err(RamRefusal::Outside) => Plain::write(alloc, house, b"refused outside\n"),
-        Err(_) => Err(Refusal::OutOfMemory),
+        Err(RamRefusal::OutOfMemory) => Err(Refusal::OutOfMemory),
+        Err(RamRefusal::NoFrame) => unreachable!(),
     }
 }

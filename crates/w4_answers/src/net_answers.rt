@@ -31,7 +31,7 @@ use std::alloc::Global;
 use std::sync::ledger::Ledger;
 use w4_defs::netplay::{NetOrder, Packet};
 use w4_defs::{OutOfMemory, Refusal, Steps};
-use w4_devices::text_parts::{add_number, add_words};
+use w4_devices::text_parts::add_numbered;
 use w4_house::House;
 use w4_image::{IMAGE_LEN, ppm_into};
 use w4_netplay::{NetRefusal, Replica};
@@ -88,10 +88,8 @@ fn conflict_line(alloc: Global, kept: u8, got: u8) -> Result<Vec<u8>, OutOfMemor
     ensures { IfOk result (λ line. line.items ≡ refused_line (net_words (NetRefusal.Conflict kept got))) }
 {
     let mut line = Vec::new(alloc);
-    add_words(&mut line, b"refused conflict")?;
-    add_number(&mut line, u64::from(kept))?;
-    add_number(&mut line, u64::from(got))?;
-    add_words(&mut line, b"\n")?;
+    let pads = [u64::from(kept), u64::from(got)];
+    add_numbered(&mut line, b"refused conflict", &pads)?;
     Ok(line)
 }
 

@@ -73,10 +73,12 @@ fn refuse_place<S: Shape, H: House>(alloc: Global, house: &mut H) -> Result<(), 
     S::write(alloc, house, b"refused no frame\n")
 }
 
-/// What a live session is told of the state at a place.
+/// The part of a state that an answer writes.
 #[derive(Clone, Copy)]
 pub enum StatePart {
+    /// The bytes of the page.
     Page,
+    /// The line of the globals.
     Globals,
 }
 

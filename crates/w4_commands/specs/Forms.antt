@@ -39,12 +39,12 @@ compare_view n = record {
   font = n.font.now;
 }
 
--- the budget that a word says: a number of at least 1
+-- the budget that an argument gives: a number of at least 1
 abbrev pub at_least_one : ℕ → Option ℕ
 at_least_one units = if nat_le 1 units then Some units else None
 
-abbrev pub budget_said : List ℕ → Option ℕ
-budget_said word = option_and_then at_least_one (number_of word)
+abbrev pub budget_given : List ℕ → Option ℕ
+budget_given word = option_and_then at_least_one (number_of word)
 
 abbrev pub command_view : Command → Form
 command_view (command.Check cart) = Check cart.now
@@ -57,11 +57,11 @@ command_view (command.Disk names place) = Disk (run_view names) place
 command_view (command.Ram names query) = Ram (run_view names) query.now
 command_view (command.Edit names) = Edit (edit_view names)
 command_view (command.Serve names) = Serve (serve_view names)
-command_view (command.Compare names) = Compare (compare_view names)
 command_view (command.Net names) = Net (net_view names)
 command_view (command.Batch names) = Batch (batch_view names)
 
 abbrev pub form_view : Named → Form
 form_view (named.Make number) = Make number
 form_view (named.Inputs recording) = Inputs recording.now
+form_view (named.Compare names) = Compare (compare_view names)
 form_view (named.OnCart given) = command_view given

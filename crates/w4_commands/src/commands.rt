@@ -1,5 +1,5 @@
-//! The choice of a command, and the commands that write texts of one run. A command that names a cart is
-//! carried out over it once it is judged; `make` and `inputs` name none.
+//! The choice of a command, and the commands that write texts of one run. A command that names one cart is
+//! carried out over it once it is judged; `make` and `inputs` name none, and `compare` names two.
 
 ghost use Rattle.std.specs.Prelude.{◌≡◌, ◌+◌, ◌-◌, ◌≤◌, length};
 ghost use Rattle.std.specs.Option.{ForSome};
@@ -52,10 +52,11 @@ pub fn run_form<R: Threads + Sync, H: House, G: Gate + Sync>(
     match form {
         Form::Make(number) => finish(run_make(alloc, house, number)),
         Form::Inputs(name) => finish(run_inputs(alloc, house, name)),
+        Form::Compare(names) => run_compare(alloc, house, names),
         Form::OnCart(command) => {
             let name = cart_name(&command);
             let file = load_cart(alloc, house, name)?;
-            run_on_cart(resources, house, file, command)
+            finish(run_on_cart(resources, house, file, command))
         }
     }
 }
@@ -76,36 +77,33 @@ fn run_on_cart<R: Threads + Sync, H: House, G: Gate + Sync>(
     house: &mut H,
     file: CartFile,
     command: Command<'_>,
-) -> Result<Finish, Refusal>
-    ensures ends { Ends (H.world house.old) (H.world house.new) result (λ files output. (talk : Talk)
+) -> Result<(), Refusal>
+    ensures ends { EndsDone (H.world house.old) (H.world house.new) result (λ files output. (talk : Talk)
         × OutputsOn (command_view command.entry) talk (cart_view file) files output) }
     ensures err { LeavesErr (H.world house.old) (H.world house.new) }
 {
     let alloc = resources.alloc;
     match command {
-        Command::Check(_) => finish(run_check(alloc, house)),
-        Command::Blank(_, budget) => finish(run_blank(alloc, house, &file, budget)),
-        Command::BlankDisk(_, budget, disk) => finish(run_blank_disk(
-            alloc, house, &file, budget, disk,
-        )),
-        Command::Rebind(_, recording) => finish(run_rebind(alloc, house, &file, recording)),
+        Command::Check(_) => run_check(alloc, house),
+        Command::Blank(_, budget) => run_blank(alloc, house, &file, budget),
+        Command::BlankDisk(_, budget, disk) => run_blank_disk(alloc, house, &file, budget, disk),
+        Command::Rebind(_, recording) => run_rebind(alloc, house, &file, recording),
         Command::Frames(names, places) => {
-            finish(run_places(alloc, house, &file, names, PlaceText::Image, places))
+            run_places(alloc, house, &file, names, PlaceText::Image, places)
         }
         Command::Disk(names, place) => {
             let places = Places {
                 from: place,
                 to: place,
             };
-            finish(run_places(alloc, house, &file, names, PlaceText::DiskBytes, places))
+            run_places(alloc, house, &file, names, PlaceText::DiskBytes, places)
         }
-        Command::Whole(names, text) => finish(run_whole(alloc, house, &file, names, text)),
-        Command::Ram(names, query) => finish(run_ram(alloc, house, file, names, query)),
-        Command::Edit(names) => finish(run_edit(resources, house, file, names)),
-        Command::Serve(names) => finish(run_serve(resources, house, file, names)),
-        Command::Compare(names) => run_compare(alloc, house, &file, names),
-        Command::Net(names) => finish(run_net(alloc, house, file, names)),
-        Command::Batch(names) => finish(run_batch(resources, house, &file, names)),
+        Command::Whole(names, text) => run_whole(alloc, house, &file, names, text),
+        Command::Ram(names, query) => run_ram(alloc, house, file, names, query),
+        Command::Edit(names) => run_edit(resources, house, file, names),
+        Command::Serve(names) => run_serve(resources, house, file, names),
+        Command::Net(names) => run_net(alloc, house, file, names),
+        Command::Batch(names) => run_batch(resources, house, &file, names),
     }
 }
 

@@ -5,7 +5,8 @@ ghost use Rattle.std.specs.Option.{ForSome};
 ghost use Rattle.w4_defs.specs.Causes.{Ends, LeavesErr};
 ghost use Rattle.w4_defs.specs.Comparison.{compared};
 ghost use Rattle.w4_defs.specs.Module.{WasmModule};
-ghost use Rattle.w4_defs.specs.Outputs.{OverCart};
+ghost use Rattle.w4_defs.specs.Commands.{Compare};
+ghost use Rattle.w4_defs.specs.Outputs.{OutputsBy, OverCart};
 ghost use Rattle.w4_defs.specs.RecordingOutputs.{compare_files, compare_output, finish_of, side_of};
 ghost use Rattle.w4_defs.specs.World.{LeavesReading, LeavesWriting};
 ghost use Rattle.w4_commands.specs.Commands.{MakesOf};
@@ -36,8 +37,22 @@ pub struct TwoLoaded {
     pub font: Font,
 }
 
-/// `compare CART REC CART2 REC2 FONT`, over the first cart.
+/// `compare CART REC CART2 REC2 FONT`.
 pub fn run_compare<H: House>(
+    alloc: Global,
+    house: &mut H,
+    names: CompareNames<'_>,
+) -> Result<Finish, Refusal>
+    ensures ends { Ends (H.world house.old) (H.world house.new) result
+        (OutputsBy (Compare (compare_view names.entry))) }
+    ensures err { LeavesErr (H.world house.old) (H.world house.new) }
+{
+    let file = load_cart(alloc, house, names.cart)?;
+    compare_first(alloc, house, &file, names)
+}
+
+/// The rest, with the first cart.
+fn compare_first<H: House>(
     alloc: Global,
     house: &mut H,
     file: &CartFile,

@@ -19,7 +19,7 @@ ghost use Rattle.w4_defs.specs.Commands.{
   serve_form,
 };
 ghost use Rattle.w4_defs.specs.Outputs.{cart_word};
-ghost use Rattle.w4_commands.specs.Forms.{budget_said, command_view, form_view, run_view};
+ghost use Rattle.w4_commands.specs.Forms.{budget_given, command_view, form_view, run_view};
 ghost use Rattle.w4_commands.specs.RunOutputs.{whole_form};
 
 use crate::budget::Budget;
@@ -91,7 +91,7 @@ pub enum WholeText {
     Wave,
 }
 
-/// What is done with a cart.
+/// What is done with one cart.
 #[derive(Clone, Copy)]
 pub enum Command<'a> {
     /// `check CART`
@@ -114,8 +114,6 @@ pub enum Command<'a> {
     Edit(EditNames<'a>),
     /// `serve CART REC FONT OUT`
     Serve(ServeNames<'a>),
-    /// `compare CART REC CART2 REC2 FONT`
-    Compare(CompareNames<'a>),
     /// `net CART FONT BUDGET LOG`
     Net(NetNames<'a>),
     /// `batch CART FONT LIST WORKERS`
@@ -129,7 +127,9 @@ pub enum Form<'a> {
     Make(u32),
     /// `inputs REC`
     Inputs(&'a str),
-    /// A command over a cart, which is judged first.
+    /// `compare CART REC CART2 REC2 FONT`
+    Compare(CompareNames<'a>),
+    /// A command over one cart, which is judged first.
     OnCart(Command<'a>),
 }
 
@@ -148,7 +148,6 @@ pub fn cart_name<'a>(command: &Command<'a>) -> &'a str
         Command::Ram(names, _) => names.cart,
         Command::Edit(names) => names.run.cart,
         Command::Serve(names) => names.run.cart,
-        Command::Compare(names) => names.cart,
         Command::Net(names) => names.cart,
         Command::Batch(names) => names.cart,
     }
@@ -166,9 +165,9 @@ fn run_names<'a>(cart: &'a String, recording: &'a String, font: &'a String) -> R
     }
 }
 
-/// The budget that a word says: at least one unit.
+/// The budget that an argument gives: at least one unit.
 fn budget_of(word: &String) -> Option<Budget>
-    ensures { option_map (λ budget. budget.units) result ≡ budget_said (string_bytes word.now) }
+    ensures { option_map (λ budget. budget.units) result ≡ budget_given (string_bytes word.now) }
 {
     let units = number_of(word.as_bytes())?;
     if units < 1 {
@@ -325,13 +324,13 @@ fn compare_form(words: &[String]) -> Option<Form<'_>>
     let [cart, recording, other_cart, other_recording, font] = words else {
         return None;
     };
-    Some(Form::OnCart(Command::Compare(CompareNames {
+    Some(Form::Compare(CompareNames {
         cart: cart.as_str(),
         recording: recording.as_str(),
         other_cart: other_cart.as_str(),
         other_recording: other_recording.as_str(),
         font: font.as_str(),
-    })))
+    }))
 }
 
 fn rebind_form(words: &[String]) -> Option<Form<'_>>

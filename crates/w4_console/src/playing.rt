@@ -1,6 +1,7 @@
-//! Playing by a setup, for whoever counts no frames: each frame is played under a counter of its own.
+//! Playing by a setup: one frame or many, under the caller's counter, or under one of its own where frames
+//! aren't counted.
 
-ghost use Rattle.std.specs.Prelude.{◌≡◌, Some};
+ghost use Rattle.std.specs.Prelude.{◌≡◌, ◌+◌, Some, length};
 ghost use Rattle.w4_console.specs.Calls.{moment, setup_of};
 ghost use Rattle.w4_console.specs.Counting.{IsBlankOf};
 ghost use Rattle.w4_console.specs.Taken.{FrameTakes};
@@ -39,9 +40,25 @@ impl Console {
         ensures fold { fold (setup_of setup.now) self.old inputs.now ≡ Some self.new }
         ensures globals { HasGlobals setup.now.cart.now self.new }
     {
+        self.play_alone::<Brand>(setup, inputs, Blank::new(1));
+    }
+
+    /// Plays these frames, one after another; each is one tick.
+    pub fn play_counted<L: Ledger>(
+        &mut self,
+        setup: &Setup<'_>,
+        inputs: &[Input],
+        steps: &mut Steps<L>,
+    )
+        requires { HasGlobals setup.now.cart.now self.old }
+        ensures fold { fold (setup_of setup.now) self.old inputs.now ≡ Some self.new }
+        ensures globals { HasGlobals setup.now.cart.now self.new }
+        ensures ticks { steps.new ≡ steps.old + length inputs.now }
+    {
+        let Setup { cart, font, budget } = *setup;
         let mut frame_record = FrameRecord::new();
         for input in inputs {
-            self.step(setup, input, &mut frame_record);
+            self.frame(cart, font, input, budget, &mut frame_record, steps);
         }
     }
 
@@ -62,5 +79,15 @@ impl Console {
         let mut steps = Steps::<L>::new(blank);
         let Setup { cart, font, budget } = *setup;
         self.frame(cart, font, input, budget, frame_record, &mut steps)
+    }
+
+    /// The frames under the counter that a blank becomes.
+    fn play_alone<L: Ledger>(&mut self, setup: &Setup<'_>, inputs: &[Input], blank: Blank)
+        requires globals { HasGlobals setup.now.cart.now self.old }
+        requires blank { IsBlankOf L.name L.parts blank }
+        ensures fold { fold (setup_of setup.now) self.old inputs.now ≡ Some self.new }
+        ensures globals { HasGlobals setup.now.cart.now self.new }
+    {
+        self.play_counted(setup, inputs, &mut Steps::<L>::new(blank));
     }
 }

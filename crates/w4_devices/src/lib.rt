@@ -21,6 +21,3 @@ pub use frame_record::FrameRecord;
 pub use texts::{schedule_text, trace_text};
 pub use tone_log::ToneLog;
 pub use trace_log::TraceLog;
-
-#[cfg(test)]
-mod tests;

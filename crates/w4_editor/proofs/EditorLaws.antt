@@ -17,7 +17,7 @@ use Rattle.w4_defs.specs.KeptList.{Entry, kept_entries, place_at, state_at, firs
 use Rattle.w4_defs.specs.KeptList.{IsConsistent, IsSettled}
 use Rattle.w4_defs.proofs.KeptListLaws.{linked_is_run}
 use Rattle.w4_devices.specs.declared.frame_record.FrameRecord.{FrameRecord as Record}
-use Rattle.w4_editor.specs.Player.{Player, setup_of, in_state}
+use Rattle.w4_editor.specs.Player.{Player, player_setup, in_state}
 use Rattle.w4_editor.specs.Settling.{AreLinked}
 use Rattle.w4_editor.specs.Showing.{copied_beside, linked_entry}
 use Rattle.w4_editor.specs.Editor.{Editing, IsEditor, IsShownAt, editing_setup, session_of}
@@ -92,13 +92,13 @@ view player r kept olds news place = record {
 module _ (player : Player) (r : Recording) (kept : List Entry) (olds news : Buffer (Draft Entry))
     (place : Option ℕ) (frame_record : Record)
     (e : IsEditor player r kept olds news place frame_record) where
-  pub is_consistent : IsConsistent (setup_of player) r.disk r.frames kept
+  pub is_consistent : IsConsistent (player_setup player) r.disk r.frames kept
   is_consistent = e.session.current.kept
 
   -- with another kept list, another state and another place
   pub stays : (next : Player) (new : List Entry) (at : Option ℕ) → next ≡ in_state player next.state
-      → IsConsistent (setup_of player) r.disk r.frames new
-      → IsShownAt (setup_of player) r.disk (session_of r new olds.items news.items) at next.state
+      → IsConsistent (player_setup player) r.disk r.frames new
+      → IsShownAt (player_setup player) r.disk (session_of r new olds.items news.items) at next.state
       → IsEditor next r new olds news at frame_record
   stays next new at same consistent shown = subst (λ (p : Player). IsEditor p r new olds news at frame_record)
       (sym same) (record {
@@ -118,14 +118,15 @@ module _ (player : Player) (r : Recording) (kept : List Entry) (olds news : Buff
   -- after a settling of all entries
   pub states_of_run : (old : List Entry) → IsSettled (length old - 1) old kept
       → (i : ℕ) → i < length kept
-      → run_state (setup_of player) r.disk r.frames (place_at kept i) ≡ Some (state_at kept i)
+      → run_state (player_setup player) r.disk r.frames (place_at kept i) ≡ Some (state_at kept i)
   states_of_run old settled i lt =
       let long = settled.same.many in
-      linked_is_run (setup_of player) r.disk r.frames kept i is_consistent lt
+      linked_is_run (player_setup player) r.disk r.frames kept i is_consistent lt
       (λ j le. settled.linked j (omega (arith, le, lt, long)))
 
   -- the place that is shown
-  pub run_here : (p : ℕ) → place ≡ Some p → run_state (setup_of player) r.disk r.frames p ≡ Some player.state
+  pub run_here : (p : ℕ) → place ≡ Some p
+      → run_state (player_setup player) r.disk r.frames p ≡ Some player.state
   run_here p at = (e.shown p at).1
 
   pub within_here : (p : ℕ) → place ≡ Some p → p ≤ length r.frames
@@ -134,10 +135,10 @@ module _ (player : Player) (r : Recording) (kept : List Entry) (olds news : Buff
   -- the state that is shown is kept
   pub put_consistent : (p : ℕ) → place ≡ Some p → is_kept kept_entries p kept ≡ false → length kept < 1024
       → AreLinked (last_up_to p kept) kept → HasGlobals player.cart player.state
-      → IsConsistent (setup_of player) r.disk r.frames
+      → IsConsistent (player_setup player) r.disk r.frames
       (with_kept kept_entries (linked_entry p player.state) kept)
   put_consistent p at fresh room linked globals =
-      keep_consistent (setup_of player) r.disk r.frames kept (linked_entry p player.state)
+      keep_consistent (player_setup player) r.disk r.frames kept (linked_entry p player.state)
       (record { within = within_here p at; globals = globals; run = run_here p at }) fresh room
       (λ i lt le. linked i (up_to_last p kept is_consistent.true_links.rising i lt le)) is_consistent
 
@@ -160,7 +161,7 @@ module _ (player : Player) (r : Recording) (kept : List Entry) (olds news : Buff
   pub is_stepped : (next : Player) → next ≡ in_state player next.state → (p : ℕ) → place ≡ Some p
       → p < length r.frames
       → (record_made : FrameRecord)
-      → option_map (λ (m : Moment). m.frame_record) (run (setup_of player) r.disk r.frames (p + 1))
+      → option_map (λ (m : Moment). m.frame_record) (run (player_setup player) r.disk r.frames (p + 1))
       ≡ Some record_made
       → IsStepped record_made (view player r kept olds news place) (view next r kept olds news (Some (p + 1)))
   is_stepped next same p at below record_made made_is = record {

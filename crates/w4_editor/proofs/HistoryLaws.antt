@@ -18,7 +18,7 @@ use Rattle.w4_defs.specs.State.{State, Moment, HasGlobals}
 use Rattle.w4_devices.specs.declared.frame_record.FrameRecord.{FrameRecord as Record}
 use Rattle.w4_devices.specs.Records.{record_of}
 use Rattle.w4_defs.specs.declared.console.Input.{Input}
-use Rattle.w4_editor.specs.Player.{Player, setup_of}
+use Rattle.w4_editor.specs.Player.{Player, player_setup}
 use Rattle.w4_editor.specs.Editor.{IsEditor}
 use Rattle.w4_editor.proofs.ChainLaws.{consistent_from}
 use Rattle.w4_editor.specs.Draft.{overwrite_draft}
@@ -39,7 +39,7 @@ module _ (player : Player) (r : Recording) (kept : List Entry) (olds news : Buff
     (place : Option ℕ) (frame_record : Record)
     (e : IsEditor player r kept olds news place frame_record) where
   abbrev good : Draft Entry → Type 0
-  good draft = IsDraft (setup_of player) r.disk draft
+  good draft = IsDraft (player_setup player) r.disk draft
 
   abbrev now : Draft Entry
   now = current_draft r kept
@@ -170,7 +170,7 @@ module _ (player : Player) (r : Recording) (kept : List Entry) (olds news : Buff
     (draft : Draft Entry)
     (inputs_are : inputs ≡ r.frames) (entries_are : entries ≡ kept) where
   abbrev is_good : Draft Entry → Type 0
-  is_good other = IsDraft (setup_of player) r.disk other
+  is_good other = IsDraft (player_setup player) r.disk other
 
   abbrev before : Draft Entry
   before = record { inputs = inputs; kept = entries }
@@ -184,7 +184,7 @@ module _ (player : Player) (r : Recording) (kept : List Entry) (olds news : Buff
       let long = length-set inputs k input in
       rw draft_is (record {
         few = omega (arith, few, long);
-        kept = set_consistent (setup_of player) r.disk inputs entries k input was_good.kept;
+        kept = set_consistent (player_setup player) r.disk inputs entries k input was_good.kept;
       })
 
   pub overwrite_is_good : (written : List Input) → k ≤ length inputs → k + length written ≤ 36000
@@ -194,7 +194,7 @@ module _ (player : Player) (r : Recording) (kept : List Entry) (olds news : Buff
       let long = length_overwritten k written inputs le in
       rw draft_is (record {
         few = omega (arith, few, room, long, le);
-        kept = overwrite_consistent (setup_of player) r.disk inputs entries k written le was_good.kept;
+        kept = overwrite_consistent (player_setup player) r.disk inputs entries k written le was_good.kept;
       })
 
   pub insert_is_good : (input : Input) → k ≤ length inputs → length inputs < 36000
@@ -203,7 +203,7 @@ module _ (player : Player) (r : Recording) (kept : List Entry) (olds news : Buff
       let long = length-insert inputs k input le in
       rw draft_is (record {
         few = omega (arith, room, long);
-        kept = insert_consistent (setup_of player) r.disk inputs entries k input le was_good.kept;
+        kept = insert_consistent (player_setup player) r.disk inputs entries k input le was_good.kept;
       })
 
   pub delete_is_good : k < length inputs → draft ≡ delete_draft kept_entries k before → is_good draft
@@ -212,7 +212,7 @@ module _ (player : Player) (r : Recording) (kept : List Entry) (olds news : Buff
       let long = length-remove inputs k lt in
       rw draft_is (record {
         few = omega (arith, few, long);
-        kept = delete_consistent (setup_of player) r.disk inputs entries k lt was_good.kept;
+        kept = delete_consistent (player_setup player) r.disk inputs entries k lt was_good.kept;
       })
 
   -- places are far from the end of their type
@@ -242,7 +242,7 @@ reset_is_shown setup disk inputs moment is p at =
 pub opens : (player : Player) (r : Recording) (kept : List Entry) (olds news : Buffer (Draft Entry))
     (frame_record : Record)
     → r.budget ≡ player.budget → length r.frames ≤ 36000 → HasGlobals player.cart player.state
-    → reset (setup_of player) r.disk ≡ Some (record {
+    → reset (player_setup player) r.disk ≡ Some (record {
       state = player.state;
       frame_record = record_of
           frame_record;
@@ -255,7 +255,7 @@ opens player r kept olds news frame_record budget few globals is kept_is olds_is
       session = record {
         current = record {
           few = few;
-          kept = consistent_from (setup_of player) r.disk r.frames (first_entry player.state) [] (record {
+          kept = consistent_from (player_setup player) r.disk r.frames (first_entry player.state) [] (record {
             place = refl;
             state = ap (option_map (λ (m : Moment). m.state)) is;
             linked = refl;
@@ -264,13 +264,13 @@ opens player r kept olds news frame_record budget few globals is kept_is olds_is
             chain = tt;
           });
         };
-        older = All-nil (IsDraft (setup_of player) r.disk);
-        newer = All-nil (IsDraft (setup_of player) r.disk);
+        older = All-nil (IsDraft (player_setup player) r.disk);
+        newer = All-nil (IsDraft (player_setup player) r.disk);
         few = omega arith;
       };
       room_older = refl;
       room_newer = refl;
       reset_frame = ap (option_map (λ (m : Moment). m.frame_record)) is;
-      shown = reset_is_shown (setup_of player) r.disk r.frames
+      shown = reset_is_shown (player_setup player) r.disk r.frames
           (record { state = player.state; frame_record = record_of frame_record }) is;
     })

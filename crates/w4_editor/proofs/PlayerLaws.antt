@@ -13,7 +13,7 @@ use Rattle.w4_defs.specs.Reset.{Setup}
 use Rattle.w4_defs.specs.Frame.{frame}
 use Rattle.w4_defs.specs.Run.{fold, run, run_state}
 use Rattle.w4_defs.proofs.RunLaws.{runs_between, runs_on}
-use Rattle.w4_editor.specs.Player.{Player, setup_of, in_state}
+use Rattle.w4_editor.specs.Player.{Player, player_setup, in_state}
 use Rattle.w4_editor.specs.Showing.{MovesOn}
 
 -- the inputs between two places of a run lead from the one state to the other
@@ -37,12 +37,7 @@ run_links setup disk inputs a b s t le here link =
     ∙ ap (option_and_then (λ state. fold setup state (slice_range inputs a b))) here
     ∙ link
 
--- a frame of a player that is in another state than at first
-pub frame_as_first : (first now : Player) (input : Input) (next : Moment) → now ≡ in_state first now.state
-    → frame (setup_of now) now.state input ≡ Some next → frame (setup_of first) now.state input ≡ Some next
-frame_as_first first now input next same e =
-    ap (λ (p : Player). frame (setup_of p) now.state input) (sym same) ∙ e
-
+-- a player that changes its state twice is the first in its last state
 pub still_in_state : (first now next : Player) → now ≡ in_state first now.state
     → next ≡ in_state now next.state
     → next ≡ in_state first next.state
@@ -59,8 +54,8 @@ globals_as_long cart one other a b =
     sym (types_as_many one.globals) ∙ ap length (a ∙ sym b) ∙ types_as_many other.globals
 
 -- a player in another state has the same setup
-pub same_setup : (first now : Player) → now ≡ in_state first now.state → setup_of now ≡ setup_of first
-same_setup first now same = ap (λ (p : Player). setup_of p) same
+pub same_setup : (first now : Player) → now ≡ in_state first now.state → player_setup now ≡ player_setup first
+same_setup first now same = ap (λ (p : Player). player_setup p) same
 
 pub same_cart : (first now : Player) (state : State) → now ≡ in_state first now.state
     → HasGlobals now.cart state

@@ -13,7 +13,7 @@ use Rattle.w4_defs.specs.State.{State, Moment}
 use Rattle.w4_defs.specs.KeptList.{Entry, IsSession, kept_entries}
 use Rattle.w4_devices.specs.declared.frame_record.FrameRecord.{FrameRecord as Record}
 use Rattle.w4_devices.specs.Records.{record_of}
-use Rattle.w4_editor.specs.Player.{Player, setup_of}
+use Rattle.w4_editor.specs.Player.{Player, player_setup}
 use Rattle.w4_defs.specs.declared.editing.EditRefusal.{EditRefusal}
 use Rattle.w4_defs.specs.declared.editing.EditRefusal.TheVariants.{OutOfMemory}
 
@@ -65,13 +65,14 @@ pub record IsEditor (player : Player) (recording : Recording) (kept : List Entry
     (olds news : Buffer (Draft Entry))
     (place : Option ℕ) (frame_record : Record) : Type 0 where
   pub budget : recording.budget ≡ player.budget
-  pub session : IsSession (setup_of player) recording.disk (session_of recording kept olds.items news.items)
+  pub session : IsSession (player_setup player) recording.disk
+      (session_of recording kept olds.items news.items)
   pub room_older : olds.capacity ≡ 32
   pub room_newer : news.capacity ≡ 32
   pub reset_frame : option_map (λ (moment : Moment). moment.frame_record)
-      (reset (setup_of player) recording.disk)
+      (reset (player_setup player) recording.disk)
       ≡ Some (record_of frame_record)
-  pub shown : IsShownAt (setup_of player) recording.disk
+  pub shown : IsShownAt (player_setup player) recording.disk
       (session_of recording kept olds.items news.items) place
       player.state
 

@@ -14,8 +14,8 @@ pub record Player : Type 0 where
   pub state : State
 
 -- all that its runs have in common
-abbrev pub setup_of : Player → Setup
-setup_of player = console_setup player.cart player.font player.budget
+abbrev pub player_setup : Player → Setup
+player_setup player = console_setup player.cart player.font player.budget
 
 -- the same player in another state
 abbrev pub in_state : Player → State → Player

@@ -1,6 +1,7 @@
 //! The editor: a recording with its history, its kept places and the place that is shown.
 
 ghost use Rattle.std.specs.Prelude.{◌≡◌, ◌<◌, Err, IfErr, IfOk, OnErr, OnOk, Ok, Some, length, option_map};
+ghost use Rattle.w4_console.specs.Calls.{setup_of};
 ghost use Rattle.w4_defs.specs.KeptList.{IsSession, kept_entries, linked_at, place_at, state_at};
 ghost use Rattle.w4_defs.specs.Reset.{reset};
 ghost use Rattle.w4_defs.specs.Session.{drop_kept};
@@ -15,6 +16,7 @@ use crate::player::Player;
 use circular_buffer::HeapCircularBuffer;
 use std::alloc::Global;
 use std::marker::Model;
+use w4_console::Setup;
 use w4_defs::{EditRefusal, OutOfMemory};
 use w4_devices::FrameRecord;
 use w4_font::Font;
@@ -131,6 +133,13 @@ impl Editor {
         ensures { result.now ≡ self.now.font }
     {
         self.player.font()
+    }
+
+    /// What its runs read and don't change.
+    pub fn setup(&self) -> Setup<'_>
+        ensures { setup_of result ≡ editing_setup self.now }
+    {
+        self.player.setup()
     }
 }
 

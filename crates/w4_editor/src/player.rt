@@ -1,21 +1,21 @@
 //! A console with its cart and its font, under one budget.
 
 ghost use Rattle.std.specs.Prelude.{◌≡◌, ◌+◌, ◌≤◌, IfOk, length, option_map, Some};
-ghost use Rattle.w4_console.specs.Calls.{moment};
+ghost use Rattle.w4_console.specs.Calls.{moment, setup_of};
 ghost use Rattle.w4_console.specs.Counting.{IsBlankOf};
 ghost use Rattle.w4_console.specs.Taken.{FrameTakes};
 ghost use Rattle.w4_defs.specs.Frame.{frame};
 ghost use Rattle.w4_defs.specs.State.{HasGlobals};
 ghost use Rattle.w4_defs.specs.Reset.{reset};
 ghost use Rattle.w4_defs.specs.Run.{fold};
-ghost use Rattle.w4_editor.specs.Player.{IsPlayer, in_state, setup_of};
+ghost use Rattle.w4_editor.specs.Player.{IsPlayer, in_state, player_setup};
 ghost use Rattle.w4_snap.specs.Chunks.{copied_chunks};
 
 use std::alloc::Global;
 use std::marker::{Brand, Model};
 use std::rc::Rc;
 use std::sync::ledger::{Blank, Ledger};
-use w4_console::{Console, FrameTaken};
+use w4_console::{Console, FrameTaken, Setup};
 use w4_defs::{Input, OutOfMemory, Steps};
 use w4_devices::FrameRecord;
 use w4_font::Font;
@@ -72,7 +72,8 @@ impl Player {
     /// Starts the cart with this disk.
     pub(crate) fn reset(&mut self, disk: &[u8], frame_record: &mut FrameRecord)
         requires { length disk.now ≤ 1024 }
-        ensures reset { reset (setup_of self.old) disk.now ≡ Some (moment self.new.state frame_record.new) }
+        ensures reset { reset (player_setup self.old) disk.now
+            ≡ Some (moment self.new.state frame_record.new) }
         ensures same { self.new ≡ in_state self.old self.new.state }
         ensures globals { HasGlobals self.new.cart self.new.state }
     {
@@ -87,9 +88,9 @@ impl Player {
         frame_record: &mut FrameRecord,
         steps: &mut Steps<L>,
     ) -> FrameTaken
-        ensures frame { frame (setup_of self.old) self.old.state input.now
+        ensures frame { frame (player_setup self.old) self.old.state input.now
             ≡ Some (moment self.new.state frame_record.new) }
-        ensures taken { FrameTakes (setup_of self.old) self.old.state input.now result }
+        ensures taken { FrameTakes (player_setup self.old) self.old.state input.now result }
         ensures same { self.new ≡ in_state self.old self.new.state }
         ensures globals { HasGlobals self.new.cart self.new.state }
         ensures ticks { steps.new ≡ steps.old + 1 }
@@ -106,16 +107,17 @@ impl Player {
 
     /// Plays these frames, one after another; each is one tick.
     pub(crate) fn run<L: Ledger>(&mut self, inputs: &[Input], steps: &mut Steps<L>)
-        requires globals { HasGlobals self.old.cart self.old.state }
-        ensures fold { fold (setup_of self.old) self.old.state inputs.now ≡ Some self.new.state }
+        ensures fold { fold (player_setup self.old) self.old.state inputs.now ≡ Some self.new.state }
         ensures same { self.new ≡ in_state self.old self.new.state }
         ensures globals { HasGlobals self.new.cart self.new.state }
         ensures ticks { steps.new ≡ steps.old + length inputs.now }
     {
-        let mut frame_record = FrameRecord::new();
-        for input in inputs {
-            self.frame(input, &mut frame_record, steps);
-        }
+        let setup = Setup {
+            cart: &self.cart,
+            font: &self.font,
+            budget: self.budget,
+        };
+        self.console.play_counted(&setup, inputs, steps);
     }
 
     /// Puts the state of a snapshot.
@@ -146,6 +148,17 @@ impl Player {
         ensures { result.now ≡ self.now.state }
     {
         self.console.state()
+    }
+
+    /// What its runs read and don't change.
+    pub(crate) fn setup(&self) -> Setup<'_>
+        ensures { setup_of result ≡ player_setup self.now }
+    {
+        Setup {
+            cart: &self.cart,
+            font: &self.font,
+            budget: self.budget,
+        }
     }
 
     /// The cart.

@@ -5,7 +5,7 @@ ghost use Rattle.w4_defs.specs.KeptList.{IsSettled, SamePlaces, computed, doubtf
 ghost use Rattle.w4_defs.specs.KeptList.{place_at, HasTrueLinks};
 ghost use Rattle.w4_defs.specs.FramesRun.{RunsAtMost};
 ghost use Rattle.w4_defs.specs.State.{HasGlobals};
-ghost use Rattle.w4_editor.specs.Player.{in_state, setup_of};
+ghost use Rattle.w4_editor.specs.Player.{in_state, player_setup};
 ghost use Rattle.w4_editor.specs.Settling.{AreLinked, IsComputed, StaysConsistent};
 
 use crate::kept::Kept;
@@ -24,8 +24,8 @@ fn compute<L: Ledger>(
     steps: &mut Steps<L>,
 )
     requires there { i + 1 < length kept.now }
-    requires kept { HasTrueLinks (setup_of player.old) inputs.now kept.now }
-    ensures computed { computed (setup_of player.old) inputs.now kept.now i ≡ Some player.new.state }
+    requires kept { HasTrueLinks (player_setup player.old) inputs.now kept.now }
+    ensures computed { computed (player_setup player.old) inputs.now kept.now i ≡ Some player.new.state }
     ensures same { player.new ≡ in_state player.old player.new.state }
     ensures globals { HasGlobals player.new.cart player.new.state }
     ensures ticks { steps.new ≡ steps.old + (place_at kept.now (i + 1) - place_at kept.now i) }
@@ -47,8 +47,8 @@ fn settle_one<L: Ledger>(
     steps: &mut Steps<L>,
 ) -> Result<(), OutOfMemory>
     requires there { i + 1 < length kept.old }
-    requires kept { HasTrueLinks (setup_of player.old) inputs.now kept.old }
-    ensures ok { OnOk result (IsComputed (setup_of player.old) inputs.now i kept.old kept.new) }
+    requires kept { HasTrueLinks (player_setup player.old) inputs.now kept.old }
+    ensures ok { OnOk result (IsComputed (player_setup player.old) inputs.now i kept.old kept.new) }
     ensures err { OnErr result (kept.new ≡ kept.old) }
     ensures same { player.new ≡ in_state player.old player.new.state }
     ensures ticks { steps.new ≡ steps.old + (place_at kept.old (i + 1) - place_at kept.old i) }
@@ -75,10 +75,10 @@ pub(crate) fn settle<L: Ledger>(
 ) -> Result<(), OutOfMemory>
     requires there { last < length kept.old }
     requires first { linked_at kept.old 0 ≡ true }
-    requires kept { HasTrueLinks (setup_of player.old) inputs.now kept.old }
-    ensures kept { HasTrueLinks (setup_of player.old) inputs.now kept.new }
+    requires kept { HasTrueLinks (player_setup player.old) inputs.now kept.old }
+    ensures kept { HasTrueLinks (player_setup player.old) inputs.now kept.new }
     ensures places { SamePlaces kept.old kept.new }
-    ensures consistent { StaysConsistent (setup_of player.old) inputs.now kept.old kept.new }
+    ensures consistent { StaysConsistent (player_setup player.old) inputs.now kept.old kept.new }
     ensures settled { OnOk result (IsSettled last kept.old kept.new) }
     ensures frames_run { OnOk result (RunsAtMost steps.old steps.new (doubtful kept.old kept.new last)) }
     ensures same { player.new ≡ in_state player.old player.new.state }

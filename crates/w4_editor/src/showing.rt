@@ -10,7 +10,7 @@ ghost use Rattle.w4_defs.specs.KeptList.{place_at, relinked_at, replaced_at, set
 ghost use Rattle.w4_defs.specs.FramesRun.{RunsAtMost};
 ghost use Rattle.w4_defs.specs.State.{HasGlobals};
 ghost use Rattle.w4_defs.specs.Session.{keep_refusal, with_kept};
-ghost use Rattle.w4_editor.specs.Player.{in_state, setup_of};
+ghost use Rattle.w4_editor.specs.Player.{in_state, player_setup};
 ghost use Rattle.w4_editor.specs.Settling.{AreLinked, StaysConsistent};
 ghost use Rattle.w4_editor.specs.Showing.{IsOfRun, MovesOn, ShowsFrom, TakesOn, copied_beside, linked_entry};
 
@@ -42,13 +42,13 @@ pub(crate) fn show<L: Ledger>(
     requires some { 0 < length kept.old.items }
     requires begin { place_at kept.old.items 0 ≡ 0 }
     requires first { linked_at kept.old.items 0 ≡ true }
-    requires kept { HasTrueLinks (setup_of player.old) recording.now.frames kept.old.items }
-    ensures consistent { StaysConsistent (setup_of player.old) recording.now.frames
+    requires kept { HasTrueLinks (player_setup player.old) recording.now.frames kept.old.items }
+    ensures consistent { StaysConsistent (player_setup player.old) recording.now.frames
         kept.old.items kept.new.items }
     ensures places { SamePlaces kept.old.items kept.new.items }
     ensures settled { OnOk result (IsSettled (last_up_to p kept.old.items) kept.old.items kept.new.items) }
     ensures state { OnOk result
-        (IsOfRun (setup_of player.old) recording.now.frames kept.old.items p player.new.state) }
+        (IsOfRun (player_setup player.old) recording.now.frames kept.old.items p player.new.state) }
     ensures frames_run { OnOk result
         (RunsAtMost steps.old steps.new (show_frames p kept.old.items kept.new.items)) }
     ensures same { player.new ≡ in_state player.old player.new.state }
@@ -68,8 +68,8 @@ pub(crate) fn settle_all<L: Ledger>(
 ) -> Result<(), OutOfMemory>
     requires some { 0 < length kept.old.items }
     requires first { linked_at kept.old.items 0 ≡ true }
-    requires kept { HasTrueLinks (setup_of player.old) recording.now.frames kept.old.items }
-    ensures consistent { StaysConsistent (setup_of player.old) recording.now.frames
+    requires kept { HasTrueLinks (player_setup player.old) recording.now.frames kept.old.items }
+    ensures consistent { StaysConsistent (player_setup player.old) recording.now.frames
         kept.old.items kept.new.items }
     ensures places { SamePlaces kept.old.items kept.new.items }
     ensures settled { OnOk result (IsSettled (length kept.old.items - 1) kept.old.items kept.new.items) }
@@ -96,11 +96,11 @@ fn show_place<L: Ledger>(
     requires some { 0 < length kept.old }
     requires begin { place_at kept.old 0 ≡ 0 }
     requires first { linked_at kept.old 0 ≡ true }
-    requires kept { HasTrueLinks (setup_of player.old) inputs.now kept.old }
-    ensures consistent { StaysConsistent (setup_of player.old) inputs.now kept.old kept.new }
+    requires kept { HasTrueLinks (player_setup player.old) inputs.now kept.old }
+    ensures consistent { StaysConsistent (player_setup player.old) inputs.now kept.old kept.new }
     ensures places { SamePlaces kept.old kept.new }
     ensures settled { OnOk result (IsSettled (last_up_to p kept.old) kept.old kept.new) }
-    ensures state { OnOk result (IsOfRun (setup_of player.old) inputs.now kept.old p player.new.state) }
+    ensures state { OnOk result (IsOfRun (player_setup player.old) inputs.now kept.old p player.new.state) }
     ensures frames_run { OnOk result (RunsAtMost steps.old steps.new (show_frames p kept.old kept.new)) }
     ensures same { player.new ≡ in_state player.old player.new.state }
     ensures linked { AreLinked (last_up_to p kept.old) kept.old → IsOk result }
@@ -145,8 +145,8 @@ fn run_from_entry<L: Ledger>(
     requires there { i < length kept.now }
     requires from { place_at kept.now i ≤ p }
     requires place { p ≤ length inputs.now }
-    requires kept { HasTrueLinks (setup_of player.old) inputs.now kept.now }
-    ensures state { ShowsFrom (setup_of player.old) inputs.now kept.now i p player.new.state }
+    requires kept { HasTrueLinks (player_setup player.old) inputs.now kept.now }
+    ensures state { ShowsFrom (player_setup player.old) inputs.now kept.now i p player.new.state }
     ensures same { player.new ≡ in_state player.old player.new.state }
     ensures ticks { steps.new ≡ steps.old + (p - place_at kept.now i) }
 {
@@ -164,9 +164,9 @@ pub(crate) fn move_on<L: Ledger>(
     steps: &mut Steps<L>,
 ) -> FrameTaken
     requires { p < length recording.now.frames }
-    ensures moment { MovesOn (setup_of player.old) recording.now.frames p
+    ensures moment { MovesOn (player_setup player.old) recording.now.frames p
         player.old.state (moment player.new.state frame_record.new) }
-    ensures taken { TakesOn (setup_of player.old) recording.now.frames p player.old.state result }
+    ensures taken { TakesOn (player_setup player.old) recording.now.frames p player.old.state result }
     ensures same { player.new ≡ in_state player.old player.new.state }
     ensures ticks { steps.new ≡ steps.old + 1 }
 {

@@ -9,6 +9,3 @@ mod drawing;
 mod weights;
 
 pub use board::Board;
-
-#[cfg(test)]
-mod tests;

@@ -4,6 +4,8 @@
 #![tactic(auto)]
 
 pub mod calls;
+#[cfg(test)]
+mod checks;
 mod event_log;
 mod input;
 mod line;

@@ -10,8 +10,6 @@ mod ranges;
 pub mod reading;
 pub mod recording;
 pub mod refusal;
-#[cfg(test)]
-mod tests;
 pub mod writing;
 
 pub use digest::digest_of;

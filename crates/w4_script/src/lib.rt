@@ -32,6 +32,3 @@ pub use query::read_query;
 pub use refusal::ScriptRefusal;
 pub use script::read_script;
 pub use w4_defs::Order;
-
-#[cfg(test)]
-mod tests;

@@ -1,5 +1,5 @@
 -- The row of a file by what it encodes, and the rows of a worker.
-use Rattle.std.proofs.Common.{◌≡◌, ◌≢◌, ℕ, ◌+◌, ◌*◌, ◌<◌, Bool, true, false, cond, not, List, [], ◌∷◌, ◌++◌, length, map, take, get_or, Option, option_map, Some, None, Result, Ok, Err, IfOk, inl, inr, refl, sym, ap, ◌∙◌, arith}
+use Rattle.std.proofs.Common.{◌≡◌, ◌≢◌, ℕ, ◌+◌, ◌-◌, ◌*◌, ◌<◌, Bool, true, false, cond, not, List, [], ◌∷◌, ◌++◌, length, map, take, get_or, Option, option_map, Some, None, Result, Ok, Err, IfOk, inl, inr, refl, sym, ap, ◌∙◌, arith}
 use Rattle.std.specs.Prelude.{Vec}
 use Rattle.std.specs.Option.{option_and_then}
 use Rattle.std.specs.List.{slice_range}
@@ -9,7 +9,7 @@ use Rattle.std.proofs.lemmas.Bool.{cases_lt}
 use Rattle.std.proofs.lemmas.List.{get_or-map, length-map, ext_get_or, get_or_push}
 use Rattle.std.proofs.lemmas.Slice.Eq.{bytes_eq-Decides}
 use Rattle.std.proofs.Math.ListN.{get_or-append}
-use Rattle.std.proofs.lemmas.List.{length-append}
+use Rattle.std.proofs.lemmas.List.{length-append, take_all}
 use Rattle.sha2.specs.Sha256.{sha256}
 use Rattle.w4_defs.specs.declared.batch.BatchRow.{BatchRow}
 use Rattle.w4_defs.specs.declared.batch.BatchRow.TheVariants.{Bad, WrongCart}
@@ -124,14 +124,16 @@ module _ (cart : WasmModule) (font digest : List ℕ) (items : List (Vec ℕ Glo
 pub run_is : (sha256 : List ℕ → List ℕ) (cart : WasmModule) (font : List ℕ) (r : Recording) (first : Moment)
     (last : State)
     → reset (console_setup cart font r.budget) r.disk ≡ Some first
-    → fold (console_setup cart font r.budget) first.state (slice_range r.frames 0 (length r.frames)) ≡ Some
-    last
+    → fold (console_setup cart font r.budget) first.state r.frames ≡ Some last
     → run_row sha256 cart font r ≡ Some (ran_row sha256 (length r.frames) last)
 run_is sha256 cart font r first last begins goes =
     let setup = console_setup cart font r.budget in
+    let whole : slice_range r.frames 0 (length r.frames) ≡ r.frames =
+    take_all (length r.frames - 0) r.frames (omega arith) in
     let start : run_state setup r.disk r.frames 0 ≡ Some first.state =
     ap (λ o. option_map (λ (m : Moment). m.state) (option_and_then (λ m. played_on setup m (take 0
     r.frames)) o))
     begins in
     ap (option_map (ran_row sha256 (length r.frames)))
-    (run_links setup r.disk r.frames 0 (length r.frames) first.state last (omega arith) start goes)
+    (run_links setup r.disk r.frames 0 (length r.frames) first.state last (omega arith) start
+    (ap (fold setup first.state) whole ∙ goes))

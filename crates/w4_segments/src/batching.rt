@@ -8,13 +8,12 @@ ghost use Rattle.w4_defs.specs.declared.batch.BatchRow.{BatchRow};
 ghost use Rattle.w4_segments.specs.Batching.{AreDealtOut, AreOfWorkers, AreRows, CoverAll, HasRows, bytes_of, item_row};
 
 use crate::gate::Gate;
-use crate::playing::play;
 use crate::resources::Resources;
 use crate::workers::Workers;
 use std::alloc::Global;
 use std::thread;
 use std::thread::Threads;
-use w4_console::Console;
+use w4_console::{Console, Setup};
 use w4_defs::OutOfMemory;
 use w4_defs::batch::BatchRow;
 use w4_devices::FrameRecord;
@@ -154,17 +153,22 @@ fn run_recording(
     ensures types { HasGlobals cart.now worker.new.console }
 {
     let console = &mut worker.console;
-    let frames = recording.frames.as_slice().len();
+    let budget = recording.budget;
+    let inputs = recording.frames.as_slice();
     let mut frame_record = FrameRecord::new();
     console.reset(
         cart,
         font,
         recording.disk.as_slice(),
-        recording.budget,
+        budget,
         &mut frame_record,
     );
-    play(console, cart, font, recording, 0, frames);
-    ran(frames as u32, console.state(), &mut worker.image_bytes)
+    console.play(&Setup { cart, font, budget }, inputs);
+    ran(
+        inputs.len() as u32,
+        console.state(),
+        &mut worker.image_bytes,
+    )
 }
 
 /// The row of a run that ended in this state.

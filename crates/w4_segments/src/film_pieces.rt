@@ -154,14 +154,7 @@ impl FilmPieces {
             self.end,
             worker_list,
         )?;
-        film_all(
-            rt,
-            gate,
-            editor.cart(),
-            editor.font(),
-            editor.recording(),
-            worker_list,
-        );
+        film_all(rt, gate, &editor.setup(), editor.recording(), worker_list);
         self.filmed += worker_list.len();
         Ok(())
     }

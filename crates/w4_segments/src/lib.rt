@@ -8,7 +8,6 @@ pub mod film_pieces;
 pub mod filming;
 pub mod gate;
 mod pieces;
-mod playing;
 pub mod resources;
 mod rounds;
 pub mod settling;

@@ -2,10 +2,10 @@
 //! kept before it, and the calling thread alone compares what came of them with what is kept.
 
 ghost use Rattle.std.specs.Prelude.{◌≡◌, ℕ, ◌+◌, ◌-◌, ◌<◌, ◌≤◌, All, IfOk, IsFalse, IsTrue, None, OnOk, Some, length, slice_index_or, true};
-ghost use Rattle.w4_defs.specs.Board.{console_setup};
 ghost use Rattle.w4_defs.specs.KeptList.{IsDraft, computed, linked_at};
 ghost use Rattle.w4_defs.specs.FramesRun.{RunsAtMost};
 ghost use Rattle.w4_defs.specs.State.{HasGlobals};
+ghost use Rattle.w4_console.specs.Calls.{setup_of};
 ghost use Rattle.w4_editor.specs.Editor.{editing_setup};
 ghost use Rattle.w4_editor.specs.Settling.{AreLinked};
 ghost use Rattle.w4_segments.specs.Filming.{KeepsShown};
@@ -25,19 +25,17 @@ ghost use Rattle.w4_segments.specs.declared.worker.Worker.{Worker};
 ghost use Rattle.w4_segments.specs.Worker.{EachDid, HasCartTypes};
 
 use crate::gate::Gate;
-use crate::playing::play;
 use crate::resources::Resources;
 use crate::worker::{Task, Worker};
 use std::alloc::Global;
 use std::sync::ledger::Ledger;
 use std::thread;
 use std::thread::Threads;
+use w4_console::Setup;
 use w4_defs::{OutOfMemory, Steps};
 use w4_editor::Editor;
-use w4_font::Font;
 use w4_map::State;
 use w4_record::Recording;
-use wasm_register::Cart;
 
 /// Links all entries up to `last`, in at most `last` rounds, each of which is one step: each one lengthens
 /// the linked front of the list.
@@ -95,8 +93,7 @@ fn settle_round<R: Threads + Sync, G: Gate + Sync, L: Ledger>(
     play_all(
         resources.rt,
         resources.gate,
-        editor.cart(),
-        editor.font(),
+        &editor.setup(),
         editor.recording(),
         worker_list,
     );
@@ -208,40 +205,32 @@ fn first_unlinked(editor: &Editor, from: usize, last: usize) -> usize
 fn play_all<R: Threads + Sync, G: Gate + Sync>(
     rt: &R,
     gate: &G,
-    cart: &Cart,
-    font: &Font,
+    setup: &Setup<'_>,
     recording: &Recording,
     worker_list: &mut [Worker],
 )
-    requires { All (CanPlay cart.now recording.now.frames) worker_list.old }
-    ensures { EachDid (HasPlayed (console_setup cart.now font.now recording.now.budget)
-        recording.now.frames) worker_list.old worker_list.new }
+    requires { All (CanPlay setup.now.cart.now recording.now.frames) worker_list.old }
+    ensures { EachDid (HasPlayed (setup_of setup.now) recording.now.frames) worker_list.old worker_list.new }
 {
     let worker_count = worker_list.len().max(1);
     thread::for_each_mut(
         rt,
         worker_list,
         worker_count,
-        &|_, worker| play_one(gate, cart, font, recording, worker),
+        &|_, worker| play_one(gate, setup, recording, worker),
     );
 }
 
 /// A worker plays its segment, if it has one.
-fn play_one<G: Gate>(gate: &G, cart: &Cart, font: &Font, recording: &Recording, worker: &mut Worker)
-    requires { CanPlay cart.now recording.now.frames worker.old }
-    ensures { HasPlayed (console_setup cart.now font.now recording.now.budget) recording.now.frames
-        worker.old worker.new }
+fn play_one<G: Gate>(gate: &G, setup: &Setup<'_>, recording: &Recording, worker: &mut Worker)
+    requires { CanPlay setup.now.cart.now recording.now.frames worker.old }
+    ensures { HasPlayed (setup_of setup.now) recording.now.frames worker.old worker.new }
 {
     if let Some(task) = worker.task {
         gate.pass(task.number);
-        play(
-            &mut worker.console,
-            cart,
-            font,
-            recording,
-            task.place,
-            task.end,
-        );
+        worker
+            .console
+            .play(setup, &recording.frames[task.place..task.end]);
     }
 }
 

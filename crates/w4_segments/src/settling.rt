@@ -128,8 +128,7 @@ fn settle<L: Ledger>(alloc: Global, editor: &mut Editor, blank: Blank) -> Result
     ensures at { OnErr result (editor.new.at ≡ None) }
     ensures linked { AreAllLinked editor.old → IsOk result }
 {
-    match editor.settle(alloc, &mut Steps::<L>::new(blank)) {
-        Ok(()) => Ok(()),
-        Err(_) => Err(OutOfMemory),
-    }
+    editor
+        .settle(alloc, &mut Steps::<L>::new(blank))
+        .map_err(|_| OutOfMemory)
 }

@@ -9,6 +9,3 @@ mod shared_page;
 pub mod snap;
 
 pub use snap::{Snap, capture};
-
-#[cfg(test)]
-mod tests;

@@ -15,6 +15,3 @@ pub use header::wav_header;
 pub use laws::calls_give_samples;
 pub use samples::FRAME_LEN;
 pub use wave::Wave;
-
-#[cfg(test)]
-mod tests;

@@ -9,8 +9,6 @@ mod division;
 mod extend;
 pub mod laws;
 mod sign;
-#[cfg(test)]
-mod tests;
 
 pub use bits32::{binary32, compare32, unary32};
 pub use bits64::{binary64, compare64, unary64};

@@ -5,7 +5,5 @@
 
 mod access;
 pub mod page;
-#[cfg(test)]
-mod tests;
 
 pub use page::Page;

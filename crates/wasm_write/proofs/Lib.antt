@@ -15,4 +15,3 @@ pub mod SequenceLaws
 pub mod DrawLaws
 pub mod MadeFits
 pub mod PartsOfModules
-pub mod OneListFits

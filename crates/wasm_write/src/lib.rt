@@ -11,8 +11,6 @@ pub mod made_module;
 pub mod module;
 pub mod module_item;
 pub mod number;
-#[cfg(test)]
-mod tests;
 pub mod value_type;
 
 pub use made::{MADE_FRAMES, Made, Maker};

@@ -81,7 +81,7 @@ fn last_sections(alloc: Global, out: &mut Vec<u8>, wasm_module: &Module) -> Resu
 
 /// The bytes of a module, whether or not the format can encode it.
 #[tactic(auto, unfolding(w4_defs::specs::EncodeModule::module_bytes))]
-pub(crate) fn module_bytes(alloc: Global, wasm_module: &Module) -> Result<Vec<u8>, OutOfMemory>
+fn module_bytes(alloc: Global, wasm_module: &Module) -> Result<Vec<u8>, OutOfMemory>
     ensures { IfOk result (λ v. v.items ≡ module_bytes wasm_module.now) }
 {
     let mut out = Vec::new(alloc);

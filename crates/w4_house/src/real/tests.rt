@@ -1,34 +1,24 @@
 ghost use Rattle.std.specs.Prelude.{None};
 
 use crate::calls::{House, HouseFault, WriteRefusal};
+use crate::checks::{check_end, check_fault, check_front, check_line};
 use crate::real::RealHouse;
 use std::alloc::Global;
-use std::io::{self, Cursor, ErrorKind, Read};
+use std::io::{self, Cursor, ErrorKind, Read, Write};
 use std::process::Abort;
+use std::rt::Files;
 use std::test::Fail;
 use w4_defs::OutOfMemory;
-
-/// The file has these first bytes.
-fn check_front<H: House>(
-    rt: &(impl Abort + AllocGlobal),
-    house: &mut H,
-    most: usize,
-    wanted: &[u8],
-) -> Result<(), Fail> {
-    let bytes = house.read_front(rt.alloc(), "kept", most)?;
-    assert_eq!(rt; bytes.as_slice(), wanted);
-    Ok(())
-}
 
 /// A file is written, read up to a number of bytes, and written again.
 fn check_files<H: House>(rt: &(impl Abort + AllocGlobal), house: &mut H) -> Result<(), Fail> {
     let bytes = [7u8; 10_000];
     house.write_file(rt.alloc(), "kept", &bytes)?;
-    check_front(rt, house, 20_000, &bytes)?;
-    check_front(rt, house, 4_097, &bytes[..4_097])?;
-    check_front(rt, house, 0, b"")?;
+    check_front(rt, house, "kept", 20_000, &bytes)?;
+    check_front(rt, house, "kept", 4_097, &bytes[..4_097])?;
+    check_front(rt, house, "kept", 0, b"")?;
     house.write_file(rt.alloc(), "kept", b"new")?;
-    check_front(rt, house, 20_000, b"new")
+    check_front(rt, house, "kept", 20_000, b"new")
 }
 
 /// A file that isn't there can't be read, and one in no folder can't be written.
@@ -47,6 +37,25 @@ fn write_streams<H: House>(rt: &impl AllocGlobal, house: &mut H) -> Result<(), F
     Ok(())
 }
 
+/// How many reads, writes and writes to standard error have failed.
+fn check_counts<R: Files, I: Read + Drop, O: Write + Drop, E: Write + Drop>(
+    rt: &impl Abort,
+    house: &RealHouse<'_, R, I, O, E>,
+    wanted: (u64, u64, u64),
+) {
+    let counts = (house.read_faults, house.write_faults, house.err_faults);
+    assert_eq!(rt; counts, wanted);
+}
+
+/// Both streams have what was written to them.
+fn check_streams<R: Files, I: Read + Drop>(
+    rt: &impl Abort,
+    house: &RealHouse<'_, R, I, Vec<u8>, Vec<u8>>,
+) {
+    assert_eq!(rt; house.out.as_slice(), b"one two".as_slice());
+    assert_eq!(rt; house.err.as_slice(), b"fault".as_slice());
+}
+
 /// The next lines are these.
 fn check_lines<H: House>(
     rt: &(impl Abort + AllocGlobal),
@@ -54,10 +63,22 @@ fn check_lines<H: House>(
     wanted: &[&[u8]],
 ) -> Result<(), Fail> {
     for line in wanted {
-        let bytes = house.read_line(rt.alloc())?.ok_or("the input has ended")?;
-        assert_eq!(rt; bytes.as_slice(), *line);
+        check_line(rt, house, line)?;
     }
     Ok(())
+}
+
+/// The input has these two lines.
+fn check_input<H: House>(rt: &(impl Abort + AllocGlobal), house: &mut H) -> Result<(), Fail> {
+    check_line(rt, house, b"one")?;
+    check_line(rt, house, b"last")?;
+    check_end(rt, house)
+}
+
+/// The lines of the input and the bytes of files are read.
+fn check_reading<H: House>(rt: &(impl Abort + AllocGlobal), house: &mut H) -> Result<(), Fail> {
+    check_input(rt, house)?;
+    check_files(rt, house)
 }
 
 /// A reader that a signal interrupts before each byte, and that fails at its end.
@@ -92,6 +113,17 @@ fn lines(alloc: Global) -> Result<Vec<u8>, OutOfMemory> {
     Ok(bytes)
 }
 
+/// These lines are read, and the last one, in which the reader fails, is not.
+fn check_disturbed<H: House>(rt: &(impl Abort + AllocGlobal), house: &mut H) -> Result<(), Fail> {
+    check_lines(
+        rt,
+        house,
+        &[b"one", b"", b"\r", &[b'a'; 1_024], &[b'b'; 1_025]],
+    )?;
+    check_fault(rt, house);
+    Ok(())
+}
+
 #[test]
 fn lines_of_a_disturbed_reader(rt: HostRuntime) -> Result<(), Fail> {
     let input = Disturbed {
@@ -100,33 +132,21 @@ fn lines_of_a_disturbed_reader(rt: HostRuntime) -> Result<(), Fail> {
     };
     let (out, err) = (Vec::new(rt.alloc()), Vec::new(rt.alloc()));
     let mut house = RealHouse::new(&rt, input, out, err);
-    check_lines(
-        &rt,
-        &mut house,
-        &[b"one", b"", b"\r", &[b'a'; 1_024], &[b'b'; 1_025]],
-    )?;
-    let fault = house.read_line(rt.alloc()).err();
-    assert_eq!(rt; fault, Some(HouseFault::Failed));
-    assert_eq!(rt; (house.read_faults, house.write_faults), (1, 0));
+    check_disturbed(&rt, &mut house)?;
+    check_counts(&rt, &house, (1, 0, 0));
     Ok(())
 }
 
 #[test]
 fn files_and_writers(rt: HostRuntime) -> Result<(), Fail> {
-    let (out, err) = (Vec::new(rt.alloc()), Vec::new(rt.alloc()));
     let input = Cursor::new(Vec::from_slice(rt.alloc(), b"one\nlast")?);
+    let (out, err) = (Vec::new(rt.alloc()), Vec::new(rt.alloc()));
     let mut house = RealHouse::new(&rt, input, out, err);
-    check_lines(&rt, &mut house, &[b"one", b"last"])?;
-    assert!(rt; house.read_line(rt.alloc())?.is_none());
-    check_files(&rt, &mut house)?;
-    assert_eq!(rt; (house.read_faults, house.write_faults), (0, 0));
+    check_reading(&rt, &mut house)?;
+    check_counts(&rt, &house, (0, 0, 0));
     check_faults(&rt, &mut house);
     write_streams(&rt, &mut house)?;
-    assert_eq!(rt; house.out.as_slice(), b"one two".as_slice());
-    assert_eq!(rt; house.err.as_slice(), b"fault".as_slice());
-    assert_eq!(rt;
-        (house.read_faults, house.write_faults, house.err_faults),
-        (1, 1, 0)
-    );
+    check_streams(&rt, &house);
+    check_counts(&rt, &house, (1, 1, 0));
     Ok(())
 }

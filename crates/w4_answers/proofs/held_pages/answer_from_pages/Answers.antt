@@ -8,7 +8,7 @@ use Rattle.w4_inspect.specs.declared.refusal.RamRefusal.{RamRefusal}
 use Rattle.w4_answers.specs.Writing.{Written}
 use Rattle.w4_answers.specs.RamAnswers.{editor_pages}
 use Rattle.w4_answers.proofs.WritingLaws.{there_is}
-use Rattle.w4_answers.proofs.RamAnswerLaws.{held_refusal, watch_answered, watch_outside}
+use Rattle.w4_answers.proofs.RamAnswerLaws.{held_refusal, place_not_refused, watch_answered, watch_outside}
 use Rattle.w4_answers.proofs.held_pages.answer_from_pages.Goals as goal
 
 pub returns-in_ok-line-in-Ok-clause-out : goal.returns-in_ok-line-in-Ok-clause-out
@@ -39,3 +39,8 @@ returns-in-Err-Outside-clause-out g c = λ e of.
     (subst (λ (wanted : Option RamRefusal). IsRefusal wanted refusal)
     (sym (held_refusal e read c.args.address c.args.width of)) c.in-Err-Outside.ensures.refused))
     c.write-in-Err-Outside.ensures.out
+
+pub unreachable-requires : goal.unreachable-requires
+unreachable-requires g c =
+    place_not_refused c.args.address c.args.width c.in-Err-NoFrame.field-0 c.in-Err-NoFrame.field-0-is
+    c.in-Err-NoFrame.ensures.refused

@@ -1,7 +1,7 @@
 use Rattle.std.proofs.lemmas.Result.{err_from_is_err_and}
 use Rattle.w4_defs.specs.Output.{make_output}
 use Rattle.w4_defs.specs.RecordingOutputs.{inputs_output}
-use Rattle.w4_commands.specs.Commands.{MakesOf}
+use Rattle.w4_commands.specs.Commands.{MakesOf, finished}
 use Rattle.w4_commands.specs.Load.{ResultsIn, cart_view}
 use Rattle.w4_commands.specs.Forms.{command_view}
 use Rattle.w4_commands.proofs.CommandLaws.{by_any, judged_form, unjudged_form}
@@ -18,12 +18,15 @@ returns-in-Inputs-clause-ends g c = rw (c.in-Inputs.is, c.finish-in-Inputs.ensur
     c.run_inputs.result
     (ResultsIn (λ files. inputs_output c.in-Inputs.name.now files)) c.run_inputs.ensures.ends)
 
+pub returns-in-Compare-clause-ends : goal.returns-in-Compare-clause-ends
+returns-in-Compare-clause-ends g c = rw c.in-Compare.is c.run_compare.ensures.ends
+
 pub returns-in_ok-file-in-OnCart-clause-ends : goal.returns-in_ok-file-in-OnCart-clause-ends
 returns-in_ok-file-in-OnCart-clause-ends g c =
     let file = c.in_ok-file-in-OnCart in
-    rw c.in-OnCart.is
+    rw (c.in-OnCart.is, c.finish-in-OnCart.ensures)
     (judged_form (g.H.House.world c.args.house.now) (g.H.House.world c.load_cart.new.house)
-    (g.H.House.world c.run_on_cart.new.house) c.run_on_cart.result (command_view c.in-OnCart.command)
+    (g.H.House.world c.run_on_cart.new.house) (finished c.run_on_cart.result) (command_view c.in-OnCart.command)
     c.cart_name-name.result.now (cart_view file.file) c.cart_name-name.ensures file.ensures.rest
     file.ensures.gives c.run_on_cart.ensures.ends)
 

@@ -1,7 +1,7 @@
 use Rattle.std.proofs.Common.{◌≡◌, ◌+◌, ◌∙◌, ap, sym, subst, arith, refl}
 use Rattle.w4_defs.specs.Reset.{Setup}
 use Rattle.w4_defs.specs.KeptList.{Entry, IsConsistent, IsSettled, linked_at}
-use Rattle.w4_editor.specs.Player.{setup_of}
+use Rattle.w4_editor.specs.Player.{player_setup}
 use Rattle.w4_editor.specs.Settling.{IsComputed}
 use Rattle.w4_editor.proofs.PlayerLaws.{same_setup, still_in_state}
 use Rattle.w4_editor.proofs.SettlingLaws.{progress_none, progress_on, progress_more}
@@ -11,20 +11,20 @@ use Rattle.w4_editor.proofs.settling.settle.Goals as goal
 
 pub loop-i-init : goal.loop-i-init
 loop-i-init g c = (
-  progress_none (setup_of c.args.player.now) c.args.inputs.now c.args.last c.args.kept.now c.args.steps.now
-      c.requires.kept c.requires.first,
+  progress_none (player_setup c.args.player.now) c.args.inputs.now c.args.last c.args.kept.now
+      c.args.steps.now c.requires.kept c.requires.first,
   refl,
 )
 
 pub returns-in_err-settle_one-clause-consistent : goal.returns-in_err-settle_one-clause-consistent
 returns-in_err-settle_one-clause-consistent g c disk is =
-    subst (IsConsistent (setup_of c.args.player.now) disk c.args.inputs.now)
+    subst (IsConsistent (player_setup c.args.player.now) disk c.args.inputs.now)
     (sym c.in_err-settle_one.ensures.err)
     (progress_consistent _ _ _ _ _ _ _ _ c.loop-i.invariant.0 disk is)
 
 pub loop-i-preserved : goal.loop-i-preserved
 loop-i-preserved g c =
-    let setup = setup_of c.args.player.now in
+    let setup = player_setup c.args.player.now in
     let now = c.loop-i.kept in
     let i = c.loop-i.i in
     let so_far = c.loop-i.invariant.0 in

@@ -1,7 +1,7 @@
 use Rattle.std.proofs.Common.{◌≡◌, ◌+◌, ◌∙◌, ap, sym, subst, Some, true, false}
 use Rattle.w4_defs.specs.KeptList.{Entry, state_at}
 use Rattle.w4_defs.specs.State.{HasGlobals}
-use Rattle.w4_editor.specs.Player.{setup_of}
+use Rattle.w4_editor.specs.Player.{player_setup}
 use Rattle.w4_editor.specs.Settling.{IsComputed}
 use Rattle.w4_editor.proofs.PlayerLaws.{same_cart}
 use Rattle.w4_editor.proofs.SettlingLaws.{relinked_computed, replaced_computed}
@@ -9,7 +9,7 @@ use Rattle.w4_editor.proofs.settling.settle_one.Goals as goal
 
 pub returns-then-same-clause-ok : goal.returns-then-same-clause-ok
 returns-then-same-clause-ok g c =
-    let setup = setup_of c.args.player.now in
+    let setup = player_setup c.args.player.now in
     let kept = c.args.kept.now in
     let i = c.args.i in
     let snap : c.snap.result.now ≡ state_at kept (i + 1) =
@@ -22,7 +22,7 @@ returns-then-same-clause-ok g c =
 
 pub returns-clause-ok : goal.returns-clause-ok
 returns-clause-ok g c =
-    let setup = setup_of c.args.player.now in
+    let setup = player_setup c.args.player.now in
     let kept = c.args.kept.now in
     let i = c.args.i in
     let now = c.compute.new.player in

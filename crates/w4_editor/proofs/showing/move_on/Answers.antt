@@ -5,13 +5,13 @@ use Rattle.w4_console.proofs.TakenLaws.{units_told}
 use Rattle.w4_defs.specs.declared.console.Input.{Input}
 use Rattle.w4_defs.specs.Frame.{frame}
 use Rattle.w4_defs.specs.Recording.{Recording}
-use Rattle.w4_editor.specs.Player.{setup_of}
+use Rattle.w4_editor.specs.Player.{player_setup}
 use Rattle.w4_editor.proofs.PlayerLaws.{moves_on}
 use Rattle.w4_editor.proofs.showing.move_on.Goals as goal
 
 pub returns-clause-moment : goal.returns-clause-moment
 returns-clause-moment g c =
-    let setup = setup_of c.args.player.now in
+    let setup = player_setup c.args.player.now in
     let state = c.args.player.now.state in
     let input = c.index.result.now in
     let next = moment c.frame.new.self.state c.frame.new.frame_record in
@@ -21,7 +21,7 @@ returns-clause-moment g c =
 
 pub returns-clause-taken : goal.returns-clause-taken
 returns-clause-taken g c disk here =
-    let setup = setup_of c.args.player.now in
+    let setup = player_setup c.args.player.now in
     let state = c.args.player.now.state in
     let input = c.index.result.now in
     let read = c.index.ensures ∙ ap (λ (r : Recording). get_or r.frames c.args.p input) c.recording.view_is in

@@ -3,13 +3,13 @@ use Rattle.std.proofs.lemmas.List.{take_at}
 use Rattle.w4_defs.specs.declared.console.Input.{Input}
 use Rattle.w4_defs.specs.Recording.{Recording}
 use Rattle.w4_defs.specs.KeptList.{Entry, linked_at}
-use Rattle.w4_editor.specs.Player.{setup_of}
+use Rattle.w4_editor.specs.Player.{player_setup}
 use Rattle.w4_editor.specs.Settling.{StaysConsistent}
 use Rattle.w4_editor.proofs.showing.settle_all.Goals as goal
 
 pub returns-clause-consistent : goal.returns-clause-consistent
 returns-clause-consistent g c =
-    let setup = setup_of c.args.player.now in
+    let setup = player_setup c.args.player.now in
     let items = c.args.kept.now.items in
     let new = c.settle.new.kept in
     let after = take c.args.kept.now.len (new ++ drop (length {A = Entry} new) items) in

@@ -4,14 +4,14 @@ use Rattle.std.proofs.lemmas.List.{take_at}
 use Rattle.w4_defs.specs.declared.console.Input.{Input}
 use Rattle.w4_defs.specs.Recording.{Recording}
 use Rattle.w4_defs.specs.KeptList.{Entry, last_up_to}
-use Rattle.w4_editor.specs.Player.{setup_of}
+use Rattle.w4_editor.specs.Player.{player_setup}
 use Rattle.w4_editor.specs.Settling.{AreLinked, StaysConsistent}
 use Rattle.w4_editor.specs.Showing.{IsOfRun}
 use Rattle.w4_editor.proofs.showing.show.Goals as goal
 
 pub returns-clause-consistent : goal.returns-clause-consistent
 returns-clause-consistent g c =
-    let setup = setup_of c.args.player.now in
+    let setup = player_setup c.args.player.now in
     let items = c.args.kept.now.items in
     let new = c.show_place.new.kept in
     let after = take c.args.kept.now.len (new ++ drop (length {A = Entry} new) items) in
@@ -28,7 +28,7 @@ returns-clause-consistent g c =
 
 pub returns-clause-state : goal.returns-clause-state
 returns-clause-state g c =
-    let setup = setup_of c.args.player.now in
+    let setup = player_setup c.args.player.now in
     let state = c.show_place.new.player.state in
     let inputs_are = c.as_slice-inputs.ensures.value ∙ ap (λ (r : Recording). r.frames) c.recording.view_is in
     subst (λ (inputs : List Input). OnOk c.show_place.result

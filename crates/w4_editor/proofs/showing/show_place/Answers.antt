@@ -1,7 +1,7 @@
 use Rattle.std.proofs.Common.{ℕ, ◌≤◌, ap, subst, arith}
 use Rattle.w4_defs.specs.Reset.{Setup}
 use Rattle.w4_defs.specs.KeptList.{place_at}
-use Rattle.w4_editor.specs.Player.{setup_of}
+use Rattle.w4_editor.specs.Player.{player_setup}
 use Rattle.w4_editor.specs.Showing.{ShowsFrom}
 use Rattle.w4_editor.proofs.PlayerLaws.{same_setup}
 use Rattle.w4_editor.proofs.ShowingLaws.{last_within, last_below, run_shown}
@@ -36,7 +36,7 @@ returns-clause-state g c disk is =
     let below = last_below c.args.p c.args.kept.now c.requires.begin in
     let same = c.settle.ensures.places.places last in
     let there = ap (place_at c.args.kept.now) last_is in
-    run_shown (setup_of c.args.player.now) disk c.args.inputs.now new last c.args.p
+    run_shown (player_setup c.args.player.now) disk c.args.inputs.now new last c.args.p
     c.run_from_entry.new.player.state
     (c.settle.ensures.consistent disk is)
     (omega (arith, within, last_is, long)) c.in_ok-settle.ensures.settled.linked

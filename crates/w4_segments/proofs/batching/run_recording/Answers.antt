@@ -1,5 +1,4 @@
-use Rattle.std.proofs.Common.{◌≡◌, length, ap, ◌∙◌, sym, subst, Some}
-use Rattle.std.specs.List.{slice_range}
+use Rattle.std.proofs.Common.{length, ap, ◌∙◌, sym, Some}
 use Rattle.sha2.specs.Sha256.{sha256}
 use Rattle.w4_console.specs.Calls.{moment}
 use Rattle.w4_defs.specs.declared.console.Input.{Input}
@@ -18,13 +17,11 @@ returns-clause-row c =
     let font = c.args.font.now in
     let view = c.recording.view_is in
     let first = moment c.reset.new.self c.reset.new.frame_record in
-    let last = c.play.new.console in
-    let long : length {A = Input} c.as_slice-frames.result.now ≡ length r.frames =
-    ap (length {A = Input}) (c.as_slice-frames.ensures.value ∙ ap (λ (x : Recording). x.frames) view) in
+    let last = c.play.new.self in
+    let frames = c.as_slice-inputs.ensures.value ∙ ap (λ (x : Recording). x.frames) view in
+    let long = ap (length {A = Input}) frames in
     let disk = c.as_slice.ensures.value ∙ ap (λ (x : Recording). x.disk) view in
     run_is sha256 cart font r first last
     (sym (λ k. reset (console_setup cart font (view k).budget) (disk k)) ∙ c.reset.ensures.reset)
-    (subst (λ n. fold (console_setup cart font r.budget) first.state (slice_range r.frames 0 n) ≡ Some
-    last) long
-    c.play.ensures.fold)
+    (sym (λ k. fold (console_setup cart font (view k).budget) first.state (frames k)) ∙ c.play.ensures.fold)
     ∙ ap Some (sym (c.ran.ensures ∙ (λ k. ran_row sha256 (long k) (c.state.ensures k))))

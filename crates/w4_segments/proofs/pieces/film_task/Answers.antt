@@ -1,7 +1,11 @@
-use Rattle.std.proofs.Common.{◌≡◌, ◌+◌, [], ◌∷◌, ◌++◌, flat_map, length, Some, sym, ap, ◌∙◌, arith}
+use Rattle.std.proofs.Common.{◌≡◌, ◌+◌, List, [], ◌∷◌, ◌++◌, flat_map, length, Some, sym, subst, ap, ◌∙◌, arith}
+use Rattle.std.specs.List.{slice_range}
 use Rattle.std.proofs.lemmas.List.{length-append}
-use Rattle.w4_defs.specs.Board.{console_setup}
+use Rattle.w4_console.specs.Calls.{setup_of}
+use Rattle.w4_defs.specs.declared.console.Input.{Input}
 use Rattle.w4_defs.specs.Image.{image}
+use Rattle.w4_defs.specs.Recording.{Recording}
+use Rattle.w4_defs.specs.Run.{fold}
 use Rattle.w4_defs.specs.State.{State}
 use Rattle.w4_editor.proofs.PlayerLaws.{run_links}
 use Rattle.w4_segments.proofs.PieceLaws.{first_screen, more_screens}
@@ -11,11 +15,18 @@ pub loop-place-init : goal.loop-place-init
 loop-place-init c =
     let args = c.args in
     let r = args.recording.now in
-    let setup = console_setup args.cart.now args.font.now r.budget in
+    let setup = setup_of args.setup.now in
     let first = args.task.first in
     let screen = c.screen_of.result in
-    let here = run_links setup r.disk r.frames args.task.place first args.console.now c.play.new.console
-    c.requires.order c.requires.state c.play.ensures.fold in
+    let state = c.play.new.self in
+    let frames = c.deref.ensures.value ∙ ap (λ (x : Recording). x.frames) c.recording.view_is in
+    let from = args.task.place in
+    let old = args.console.now in
+    let played =
+    subst (λ (xs : List Input). fold setup old (slice_range xs from first) ≡ Some state) frames
+    c.play.ensures.fold in
+    let here =
+    run_links setup r.disk r.frames from first old state c.requires.order c.requires.state played in
     let items : c.push_reserved.new.self.items ≡ screen ∷ [] =
     c.push_reserved.ensures.items ∙ ap (λ xs. xs ++ screen ∷ []) c.requires.empty in
     let capacity = c.push_reserved.ensures.capacity in
@@ -25,7 +36,7 @@ loop-place-init c =
       c.play.ensures.globals,
       ap length items ∙ omega arith,
       omega (arith, capacity, room),
-      first_screen setup r.disk r.frames screen first c.play.new.console here same
+      first_screen setup r.disk r.frames screen first state here same
           ∙ ap (λ xs. Some (flat_map image xs)) (sym items),
       omega arith,
     )
@@ -34,15 +45,19 @@ pub loop-place-preserved : goal.loop-place-preserved
 loop-place-preserved c =
     let args = c.args in
     let r = args.recording.now in
-    let setup = console_setup args.cart.now args.font.now r.budget in
+    let setup = setup_of args.setup.now in
     let first = args.task.first in
     let place = c.loop-place.place in
     let screens = c.loop-place.screens.items in
     let screen = c.screen_of-in-loop-place.result in
-    let state = c.play-in-loop-place.new.console in
+    let state = c.play-in-loop-place.new.self in
     let before = c.loop-place.invariant in
-    let here = run_links setup r.disk r.frames place (place + 1) c.loop-place.console state (omega arith)
-    before.0 c.play-in-loop-place.ensures.fold in
+    let now = c.loop-place.console in
+    let frames = c.deref-in-loop-place.ensures.value ∙ ap (λ (x : Recording). x.frames) c.recording.view_is in
+    let played =
+    subst (λ (xs : List Input). fold setup now (slice_range xs place (place + 1)) ≡ Some state) frames
+    c.play-in-loop-place.ensures.fold in
+    let here = run_links setup r.disk r.frames place (place + 1) now state (omega arith) before.0 played in
     let items = c.push_reserved-in-loop-place.ensures.items in
     let capacity = c.push_reserved-in-loop-place.ensures.capacity in
     let many = before.2 in

@@ -1,8 +1,8 @@
 use Rattle.std.proofs.Common.{sym, subst, arith}
 use Rattle.std.specs.List.{All}
-use Rattle.w4_defs.specs.Board.{console_setup}
-use Rattle.w4_defs.specs.Module.{WasmModule}
+use Rattle.w4_console.specs.Calls.{setup_of}
 use Rattle.w4_defs.specs.Recording.{Recording}
+use Rattle.w4_defs.specs.Reset.{Setup}
 use Rattle.w4_segments.specs.Rounds.{CanPlay, HasPlayed}
 use Rattle.w4_segments.specs.Worker.{EachDid}
 use Rattle.w4_segments.proofs.RoundLaws.{all_before, idle_linked, dealt_can_play, dealt_computed, front_lengthens}
@@ -21,29 +21,21 @@ returns-then-is_idle-clause-none g c _ =
 pub play_all-requires-after_bounds : goal.play_all-requires-after_bounds
 play_all-requires-after_bounds g c κs within =
     let e = c.args.editor.now in
-    subst (λ (m : WasmModule). All (CanPlay m c.recording.result.now.frames) c.deal_segments.new.worker_list)
-    (sym
-    c.cart.ensures)
-    (subst (λ (r : Recording). All (CanPlay e.cart r.frames) c.deal_segments.new.worker_list)
-    (sym c.recording.ensures)
-    (dealt_can_play e.disk e c.args.last c.args.worker_list.now c.deal_segments.new.worker_list
-    c.is_consistent.ensures
-    c.requires.there
-    c.deal_segments.ensures))
+    let dealt = c.deal_segments.new.worker_list in
+    subst (λ (s : Setup). All (CanPlay s.cart c.recording.result.now.frames) dealt) (sym c.setup.ensures)
+    (subst (λ (r : Recording). All (CanPlay e.cart r.frames) dealt) (sym c.recording.ensures)
+    (dealt_can_play e.disk e c.args.last c.args.worker_list.now dealt c.is_consistent.ensures
+    c.requires.there c.deal_segments.ensures))
 
 pub take_all-requires-clause-played : goal.take_all-requires-clause-played
 take_all-requires-clause-played g c =
     let e = c.args.editor.now in
-    dealt_computed e c.args.last c.args.worker_list.now c.deal_segments.new.worker_list
-    c.play_all.new.worker_list c.deal_segments.ensures
-    (subst (λ (m : WasmModule). EachDid (HasPlayed (console_setup m e.font e.budget) e.session.current.inputs)
-    c.deal_segments.new.worker_list c.play_all.new.worker_list) c.cart.ensures
-    (subst (λ font. EachDid (HasPlayed (console_setup c.cart.result.now font e.budget)
-    e.session.current.inputs)
-    c.deal_segments.new.worker_list c.play_all.new.worker_list) c.font.ensures
-    (subst (λ (r : Recording). EachDid (HasPlayed (console_setup c.cart.result.now c.font.result.now
-    r.budget) r.frames)
-    c.deal_segments.new.worker_list c.play_all.new.worker_list) c.recording.ensures c.play_all.ensures)))
+    let dealt = c.deal_segments.new.worker_list in
+    let played = c.play_all.new.worker_list in
+    dealt_computed e c.args.last c.args.worker_list.now dealt played c.deal_segments.ensures
+    (subst (λ (s : Setup). EachDid (HasPlayed s e.session.current.inputs) dealt played) c.setup.ensures
+    (subst (λ (r : Recording). EachDid (HasPlayed (setup_of c.setup.result) r.frames) dealt played)
+    c.recording.ensures c.play_all.ensures))
 
 pub returns-clause-front : goal.returns-clause-front
 returns-clause-front g c _ m lt linked =
@@ -51,8 +43,7 @@ returns-clause-front g c _ m lt linked =
     let many = c.deal_segments.ensures.many in
     let some = c.requires.some in
     let first = c.is_idle.ensures.busy c.if-is_idle.false in
-    front_lengthens (console_setup c.cart.result.now c.font.result.now c.recording.result.now.budget)
-    c.recording.result.now.frames e c.args.last
+    front_lengthens (setup_of c.setup.result) c.recording.result.now.frames e c.args.last
     c.args.worker_list.now c.deal_segments.new.worker_list c.play_all.new.worker_list c.take_all.new.editor
     c.deal_segments.ensures
     c.play_all.ensures

@@ -1,6 +1,6 @@
 use Rattle.std.proofs.Common.{ℕ, Option, subst, sym, refl, Some}
 use Rattle.w4_defs.specs.KeptList.{IsConsistent}
-use Rattle.w4_editor.specs.Player.{setup_of}
+use Rattle.w4_editor.specs.Player.{player_setup}
 use Rattle.w4_editor.specs.Editor.{Editing}
 use Rattle.w4_editor.specs.Playing.{CanKeep, IsPut}
 use Rattle.w4_editor.proofs.EditorLaws.{stays, place_shown, run_here, within_here, put_consistent, view, is_put}
@@ -10,7 +10,7 @@ pub invariant_of-self-2 : goal.invariant_of-self-2
 invariant_of-self-2 c =
     let inside = c.self.inside in
     let can = subst (CanKeep c.args.p) (sym c.self.view_is) c.requires in
-    let setup = setup_of inside.player in
+    let setup = player_setup inside.player in
     let put = put_consistent _ _ _ _ _ _ _ c.self.invariant c.args.p can.at can.fresh can.room can.linked
     c.keep.ensures.globals in
     stays _ _ _ _ _ _ _ c.self.invariant inside.player c.keep.new.kept.items (Some c.args.p) refl

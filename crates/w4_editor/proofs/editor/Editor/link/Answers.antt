@@ -1,6 +1,6 @@
 use Rattle.std.proofs.Common.{◌≡◌, ◌<◌, ◌-◌, length, subst, sym, refl, Some}
 use Rattle.w4_defs.specs.KeptList.{IsConsistent, computed, state_at}
-use Rattle.w4_editor.specs.Player.{setup_of}
+use Rattle.w4_editor.specs.Player.{player_setup}
 use Rattle.w4_editor.specs.Editor.{Editing, editing_setup}
 use Rattle.w4_editor.proofs.EditorLaws.{stays}
 use Rattle.w4_editor.proofs.ShowingLaws.{link_consistent}
@@ -10,7 +10,7 @@ pub invariant_of-self : goal.invariant_of-self
 invariant_of-self c =
     let inside = c.self.inside in
     let i = c.args.i in
-    let setup = setup_of inside.player in
+    let setup = player_setup inside.player in
     let there =
     subst (λ (e : Editing). i < length e.session.current.kept) (sym c.self.view_is) c.requires.there in
     let state = subst

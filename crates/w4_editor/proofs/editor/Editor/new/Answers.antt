@@ -2,7 +2,7 @@ use Rattle.std.proofs.Common.{List, [], ◌∷◌, ◌++◌, Some, sym, ap, ◌�
 use Rattle.w4_defs.specs.KeptList.{Entry}
 use Rattle.w4_defs.specs.Recording.{Recording}
 use Rattle.w4_defs.specs.Reset.{reset}
-use Rattle.w4_editor.specs.Player.{Player, setup_of}
+use Rattle.w4_editor.specs.Player.{Player, player_setup}
 use Rattle.w4_editor.specs.Editor.{IsEditor}
 use Rattle.w4_editor.proofs.HistoryLaws.{first_entry, opens}
 use Rattle.w4_editor.proofs.editor.Editor.new.Goals as goal
@@ -24,8 +24,8 @@ invariant_of-result-3 c =
     (sym c.in_ok-player.ensures.budget ∙ sym (ap (λ (p : Player). p.budget) c.reset.ensures.same))
     c.recording.invariant.few_frames
     c.reset.ensures.globals
-    (ap (λ (p : Player). reset (setup_of p) r.disk) c.reset.ensures.same
-    ∙ ap (reset (setup_of c.in_ok-player.player)) (sym c.as_slice.ensures.value) ∙ c.reset.ensures.reset)
+    (ap (λ (p : Player). reset (player_setup p) r.disk) c.reset.ensures.same
+    ∙ ap (reset (player_setup c.in_ok-player.player)) (sym c.as_slice.ensures.value) ∙ c.reset.ensures.reset)
     (c.in_ok-push.ensures.items ∙ ap (λ (kept : List Entry). kept ++ entry ∷ []) c.in_ok-kept.ensures.items
     ∙ ap (λ (x : Entry). x ∷ []) (c.new-2.ensures ∙ ap first_entry c.in_ok-snap.ensures.state))
     c.in_ok-with_capacity.ensures c.in_ok-with_capacity-2.ensures)

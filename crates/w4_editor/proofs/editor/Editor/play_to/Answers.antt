@@ -1,6 +1,6 @@
 use Rattle.std.proofs.Common.{◌≤◌, length, Some, None, subst, sym}
 use Rattle.w4_defs.specs.KeptList.{last_up_to}
-use Rattle.w4_editor.specs.Player.{setup_of}
+use Rattle.w4_editor.specs.Player.{player_setup}
 use Rattle.w4_editor.specs.Settling.{AreLinked}
 use Rattle.w4_editor.specs.Editor.{Editing}
 use Rattle.w4_editor.proofs.EditorLaws.{stays, none_shown, place_shown}
@@ -11,7 +11,7 @@ invariant_of-self g c =
     let inside = c.self.inside in
     stays _ _ _ _ _ _ _ c.self.invariant c.show.new.player c.show.new.kept.items None c.show.ensures.same
     (c.show.ensures.consistent inside.recording.disk c.self.invariant.session.current.kept)
-    (none_shown (setup_of inside.player) inside.recording.disk inside.recording c.show.new.kept.items
+    (none_shown (player_setup inside.player) inside.recording.disk inside.recording c.show.new.kept.items
     inside.older.items inside.newer.items c.show.new.player.state)
 
 pub returns-in_err-show-clause-linked : goal.returns-in_err-show-clause-linked
@@ -30,6 +30,6 @@ invariant_of-self-2 g c =
     stays _ _ _ _ _ _ _ c.self.invariant c.show.new.player c.show.new.kept.items
     (Some c.args.p) c.show.ensures.same
     (c.show.ensures.consistent inside.recording.disk consistent)
-    (place_shown (setup_of inside.player) inside.recording.disk inside.recording c.show.new.kept.items
+    (place_shown (player_setup inside.player) inside.recording.disk inside.recording c.show.new.kept.items
     inside.older.items inside.newer.items c.show.new.player.state c.args.p within
     (c.in_ok-show.ensures.state inside.recording.disk consistent))

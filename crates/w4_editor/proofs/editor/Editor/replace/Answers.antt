@@ -1,6 +1,6 @@
 use Rattle.std.proofs.Common.{◌≡◌, ◌<◌, ◌-◌, length, subst, sym, refl, arith, Some}
 use Rattle.w4_defs.specs.KeptList.{IsConsistent, computed, state_at, kept_segment}
-use Rattle.w4_editor.specs.Player.{setup_of}
+use Rattle.w4_editor.specs.Player.{player_setup}
 use Rattle.w4_editor.specs.Editor.{Editing, editing_setup}
 use Rattle.w4_editor.proofs.EditorLaws.{stays}
 use Rattle.w4_editor.proofs.ShowingLaws.{replace_consistent}
@@ -12,7 +12,7 @@ invariant_of-self-2 c =
     let inside = c.self.inside in
     let kept = inside.kept.items in
     let i = c.args.i in
-    let setup = setup_of inside.player in
+    let setup = player_setup inside.player in
     let is = c.self.invariant.session.current.kept in
     let there =
     subst (λ (e : Editing). i < length e.session.current.kept) (sym c.self.view_is) c.requires.there in

@@ -1,5 +1,5 @@
 use Rattle.std.proofs.Common.{◌-◌, length, None, subst, sym}
-use Rattle.w4_editor.specs.Player.{setup_of}
+use Rattle.w4_editor.specs.Player.{player_setup}
 use Rattle.w4_editor.specs.Settling.{AreLinked}
 use Rattle.w4_editor.specs.Editor.{Editing}
 use Rattle.w4_editor.proofs.EditorLaws.{stays, none_shown, states_of_run}
@@ -11,8 +11,8 @@ invariant_of-self g c =
     stays _ _ _ _ _ _ _ c.self.invariant c.settle_all.new.player c.settle_all.new.kept.items None
     c.settle_all.ensures.same
     (c.settle_all.ensures.consistent inside.recording.disk c.self.invariant.session.current.kept)
-    (none_shown (setup_of inside.player) inside.recording.disk inside.recording c.settle_all.new.kept.items
-    inside.older.items inside.newer.items c.settle_all.new.player.state)
+    (none_shown (player_setup inside.player) inside.recording.disk inside.recording
+    c.settle_all.new.kept.items inside.older.items inside.newer.items c.settle_all.new.player.state)
 
 pub returns-in_err-settle_all-clause-linked : goal.returns-in_err-settle_all-clause-linked
 returns-in_err-settle_all-clause-linked g c all =
@@ -27,8 +27,8 @@ invariant_of-self-2 g c =
     stays _ _ _ _ _ _ _ c.self.invariant c.settle_all.new.player c.settle_all.new.kept.items None
     c.settle_all.ensures.same
     (c.settle_all.ensures.consistent inside.recording.disk c.self.invariant.session.current.kept)
-    (none_shown (setup_of inside.player) inside.recording.disk inside.recording c.settle_all.new.kept.items
-    inside.older.items inside.newer.items c.settle_all.new.player.state)
+    (none_shown (player_setup inside.player) inside.recording.disk inside.recording
+    c.settle_all.new.kept.items inside.older.items inside.newer.items c.settle_all.new.player.state)
 
 pub returns-clause-states : goal.returns-clause-states
 returns-clause-states g c =
@@ -39,6 +39,6 @@ returns-clause-states g c =
     (stays _ _ _ _ _ _ _ c.self.invariant c.settle_all.new.player c.settle_all.new.kept.items None
     c.settle_all.ensures.same
     (c.settle_all.ensures.consistent inside.recording.disk c.self.invariant.session.current.kept)
-    (none_shown (setup_of inside.player) inside.recording.disk inside.recording c.settle_all.new.kept.items
-    inside.older.items inside.newer.items c.settle_all.new.player.state))
+    (none_shown (player_setup inside.player) inside.recording.disk inside.recording
+    c.settle_all.new.kept.items inside.older.items inside.newer.items c.settle_all.new.player.state))
     inside.kept.items c.in_ok-settle_all.ensures.settled

@@ -3,7 +3,7 @@ use Rattle.std.proofs.lemmas.Option.{same_Some}
 use Rattle.w4_console.specs.Taken.{TellsUnits}
 use Rattle.w4_defs.specs.State.{Moment}
 use Rattle.w4_devices.specs.Records.{record_of}
-use Rattle.w4_editor.specs.Player.{setup_of}
+use Rattle.w4_editor.specs.Player.{player_setup}
 use Rattle.w4_editor.specs.Editor.{Editing, editing_setup}
 use Rattle.w4_editor.specs.Playing.{IsAtEnd, IsStepped}
 use Rattle.w4_editor.proofs.EditorLaws.{stays, place_shown, nowhere_or_at_end, run_here, within_here, view, is_stepped}
@@ -28,7 +28,7 @@ invariant_of-self g c =
     stays _ _ _ _ _ _ _ c.self.invariant c.move_on-taken.new.player inside.kept.items
     (Some (p + 1)) c.move_on-taken.ensures.same
     consistent
-    (place_shown (setup_of inside.player) inside.recording.disk inside.recording inside.kept.items
+    (place_shown (player_setup inside.player) inside.recording.disk inside.recording inside.kept.items
     inside.older.items inside.newer.items c.move_on-taken.new.player.state (p + 1) (omega (arith, below))
     (ap (option_map (λ (m : Moment). m.state)) next))
 
@@ -58,6 +58,6 @@ returns-clause-taken g c =
     → TellsUnits (editing_setup old) old.disk old.session.current.inputs k c.move_on-taken.result)
     c.self.view_is
     (λ k at. subst
-    (λ n. TellsUnits (setup_of inside.player) inside.recording.disk inside.recording.frames n
+    (λ n. TellsUnits (player_setup inside.player) inside.recording.disk inside.recording.frames n
     c.move_on-taken.result)
     (same_Some p k (sym here.0 ∙ at)) told)

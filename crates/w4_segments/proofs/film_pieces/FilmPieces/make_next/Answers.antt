@@ -1,8 +1,8 @@
 use Rattle.std.proofs.Common.{◌≡◌, ◌+◌, ◌++◌, List, length, take, drop, refl, sym, ◌∙◌, subst, arith}
 use Rattle.std.proofs.lemmas.List.{take_at}
-use Rattle.w4_defs.specs.Board.{console_setup}
-use Rattle.w4_defs.specs.Module.{WasmModule}
+use Rattle.w4_console.specs.Calls.{setup_of}
 use Rattle.w4_defs.specs.Recording.{Recording}
+use Rattle.w4_defs.specs.Reset.{Setup}
 use Rattle.w4_editor.specs.Editor.{editing_setup}
 use Rattle.w4_segments.specs.declared.worker.Worker.{Worker}
 use Rattle.w4_segments.specs.FilmPieces.{CanGoOn, ArePieces}
@@ -24,12 +24,10 @@ returns g c =
     subst (λ (worker_list : List Worker). ArePieces e film.first film.end film.filmed worker_list dealt)
     c.as_mut_slice-worker_list.ensures.value c.in_ok-deal_pieces.ensures in
     let did : EachDid (HasFilmed (editing_setup e) e.disk e.session.current.inputs) dealt new =
-    subst (λ (m : WasmModule). EachDid (HasFilmed (console_setup m e.font e.budget) e.disk
-    e.session.current.inputs) dealt new) c.cart.ensures
-    (subst (λ font. EachDid (HasFilmed (console_setup c.cart.result.now font e.budget) e.disk
-    e.session.current.inputs) dealt new) c.font.ensures
-    (subst (λ (r : Recording). EachDid (HasFilmed (console_setup c.cart.result.now c.font.result.now
-    r.budget) r.disk r.frames) dealt new) c.recording.ensures c.film_all.ensures)) in
+    subst (λ (setup : Setup). EachDid (HasFilmed setup e.disk e.session.current.inputs) dealt new)
+    c.setup.ensures
+    (subst (λ (r : Recording). EachDid (HasFilmed (setup_of c.setup.result) r.disk r.frames) dealt new)
+    c.recording.ensures c.film_all.ensures) in
     let more = round_more e film.worker_list.items film.first film.end film.first_entry film.next film.filmed
     c.requires.filming dealt new same c.requires.more c.is_consistent.ensures.kept.few pieces did in
     let back : take film.worker_list.len (new ++ drop (length new) film.worker_list.items) ≡ new =

@@ -1,0 +1,3 @@
+-- Lemmas of tests.
+pub mod WriteListsLaws
+pub mod WriteModulesLaws

@@ -1,0 +1,2 @@
+-- What tests make.
+pub mod WriteModules
