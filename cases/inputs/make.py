@@ -220,6 +220,8 @@ CARTS = {
     "long-constant": with_body("00 41 a0 b3 00 1a 0b"),
     "cut-constant": with_body("00 41 a0 9a 0b"),
 
+    # pad 2 in the system flags, and pad 1 in the byte of the framebuffer that it names
+    "sets-flags": with_body("00 41 1f 41 17 2d 00 00 3a 00 00 41 16 2d 00 00 41 16 2d 00 00 3a 00 a0 01 0b"),
     # f64.const after unreachable
     "float": with_body("00 00 44 00 00 00 00 00 00 00 00 1a 0b"),
     # i32.trunc_sat_f32_s; and memory.init, which is left out
@@ -487,6 +489,13 @@ SECONDS = """
 """
 
 
+# The instructions of floats: those that access the memory, constants, opcodes alone, and saturating truncations.
+FLOATS = [f"{code:02x} 00 00" for code in (0x2A, 0x2B, 0x38, 0x39)] + ["43" + " 00" * 4, "44" + " 00" * 8]
+FLOATS += [f"{code:02x}" for first, end in ((0x5B, 0x67), (0x8B, 0xA7), (0xA8, 0xAC), (0xAE, 0xC0))
+           for code in range(first, end)]
+FLOATS += [f"fc {code:02x}" for code in range(8)]
+
+
 def two_bodies(update, second):
     locals_of_update = hexed("02 01 7f 01 7e")
     return TYPED_FRONT + code(locals_of_update + hexed(update) + b"\x0b", b"\x00" + hexed(second) + b"\x0b")
@@ -567,6 +576,7 @@ RECORDINGS = {
     # pad 1 is 1, 0 and 0: without a reset, and with one in the second frame
     "loads-by-pad-1": recording("loads-by-pad", 100_000, [1, 0, 0]),
     "loads-by-pad-reset": recording_2("loads-by-pad", 100_000, [1, 0, 0], [0, 1, 0]),
+    "loads-by-pad-reset-with-a-disk": recording_2("loads-by-pad", 100_000, [1, 0, 0], [0, 1, 0], b"xyz"),
     "store-past-the-page": recording("store-past-the-page", 100_000, [1, 2, 3]),
     "pixels-then-a-trap": recording("pixels-then-a-trap", 100_000, [1, 2, 3]),
     "extends-a-byte": recording("extends-a-byte", 100_000, [0]),
@@ -628,6 +638,9 @@ RECORDINGS = {
     "smallest-a-kilobyte-of-1": of_frames("smallest", 7, TWO_FRAMES[:1], b"a" * 1_024),
     "smallest-of-2": recording("smallest", 100_000, [0, 0]),
     "counts-frames-of-600": recording("counts-frames", 100_000, [0] * 600),
+    # pads 1 and 2
+    "sets-flags": of_frames(
+        "sets-flags", 100_000, [f"{one:02x} {two:02x}" + " 00" * 8 for one, two in ((1, 1), (2, 1), (3, 0), (4, 0))]),
     "counts-frames-of-1024": recording("counts-frames", 100_000, [0] * 1_024),
 }
 
@@ -705,6 +718,8 @@ def many_variants():
 ORDERS = {
     # lines of 1,025 bytes and of 1,024, and a byte 13 at the end
     "long-lines": b"#" + b"a" * 1_024 + b"\n#" + b"a" * 1_023 + b"\nkeep 1\r\ntraces 0 2\nfilm 0 1 2\n",
+    # 1,024 bytes and a byte 13 are a byte too many
+    "long-line-and-a-return": b"#" + b"a" * 1_023 + b"\r\n",
     "a-hundred": b"".join(b"set 0 %d" % pad + ZEROS + b"\nwatch 160 1 1 1\n" for pad in range(1, 101)),
     "many-variants": many_variants(),
     "one-edit": b"set 0 1" + ZEROS + b"\n",
@@ -737,6 +752,8 @@ def main():
         write(f"bodies/{named(body)}.wasm", two_bodies(body, "20 00"))
     for body in SECONDS.strip("\n").split("\n"):
         write(f"results/{named(body)}.wasm", two_bodies("", body))
+    for instruction in FLOATS:
+        write(f"floats/{named(instruction)}.wasm", with_body(f"00 00 {instruction} 00 0b"))
     for name, bytes_of in RECORDINGS.items():
         write(f"recordings/{name}.w4rec", bytes_of)
     for maker in (7, 14):

@@ -105,6 +105,33 @@ def moves(instructions):
     return with_body(b"\x00" + instructions + b"\x0b")
 
 
+# A number of eight bytes whose highest bits are 1, and one whose highest bits are 0. Both stand at 8,192 by turns.
+HIGH, LOW = 0x8182_8384_8586_8788, 0x0102_0304_0506_0708
+# The loads: their code, the width of what they leave, how many bytes they read, and whether these have a sign.
+LOADS = [(0x28, 32, 4, False), (0x29, 64, 8, False), (0x2c, 32, 1, True), (0x2d, 32, 1, False), (0x2e, 32, 2, True),
+         (0x2f, 32, 2, False), (0x30, 64, 1, True), (0x31, 64, 1, False), (0x32, 64, 2, True), (0x33, 64, 2, False),
+         (0x34, 64, 4, True), (0x35, 64, 4, False)]
+# The stores: their code, the width of what they take, and how many bytes they write.
+STORES = [(0x36, 32, 4), (0x37, 64, 8), (0x3a, 32, 1), (0x3b, 32, 2), (0x3c, 64, 1), (0x3d, 64, 2), (0x3e, 64, 4)]
+
+
+def put(n):
+    return constant(32, 8_192) + constant(64, n) + hexed("37 00 00")
+
+
+def loaded(code, width, count, has_sign, n):
+    held = (n % 2 ** (8 * count)).to_bytes(count, "little")
+    wanted = int.from_bytes(held, "little", signed=has_sign) % 2**width
+    return width, put(n) + constant(32, 8_190) + bytes([code, 0, 2]), wanted
+
+
+def stored(code, width, count):
+    """The eight bytes, which were 0x11 before a store."""
+    before, kept = 0x1111_1111_1111_1111, 2 ** (8 * count)
+    instructions = put(before) + constant(32, 8_190) + constant(width, HIGH % 2**width) + bytes([code, 0, 2])
+    return 64, instructions + constant(32, 8_192) + hexed("29 00 00"), before - before % kept + HIGH % kept
+
+
 def copied(to, source, count, wanted):
     """Eight bytes from 99 on, which were 0, 1, 2, 3, 4, 0, 0, 0 before a copy."""
     before = constant(32, 99) + constant(64, 0x0004_0302_0100) + hexed("37 00 00")
@@ -181,13 +208,19 @@ CARTS = {
         (64, constant(64, 0x1_8000_0000) + b"\xc4", 0xffff_ffff_8000_0000),
         (32, constant(64, 0x0123_4567_89ab_cdef) + b"\xa7", 0x89ab_cdef),
         (64, constant(32, 0x8000_0000) + b"\xac", 0xffff_ffff_8000_0000),
-        (64, constant(32, 0x8000_0000) + b"\xad", 0x8000_0000)), [AMPLE]),
+        (64, constant(32, 0x8000_0000) + b"\xad", 0x8000_0000),
+        # i64.extend16_s, i32.eqz and i64.eqz
+        (64, constant(64, 0x1_8000) + b"\xc3", 0xffff_ffff_ffff_8000),
+        *((32, constant(32, n) + b"\x45", wanted) for n, wanted in [(0, 1), (256, 0)]),
+        *((32, constant(64, n) + b"\x50", wanted) for n, wanted in [(0, 1), (2**32, 0)])), [AMPLE]),
     "select-and-grow": (checks(
         *((32, three(10, 20, c, "1b"), wanted) for c, wanted in [(0, 20), (1, 10), (0x8000_0000, 10)]),
         (32, hexed("3f 00"), 1),
         *((32, constant(32, more) + hexed("40 00"), wanted)
           for more, wanted in [(0, 1), (1, 0xffff_ffff), (0xffff_ffff, 0xffff_ffff)])), [AMPLE]),
 
+    "loads-and-stores": (checks(
+        *(loaded(*row, n) for row in LOADS for n in (HIGH, LOW)), *(stored(*row) for row in STORES)), [AMPLE]),
     # only the last byte of the page isn't 0
     "last-byte": (checks(
         (32, LAST + load(65_532, 0), 0xa500_0000),

@@ -9,15 +9,21 @@ use Rattle.w4_defs.specs.Endings.{manner_of}
 use Rattle.w4_defs.specs.RecordingOutputs.{TwoPlayed}
 use Rattle.w4_defs.specs.World.{World}
 use Rattle.w4_answers.specs.Writing.{AppendsOut, StopsWriting}
+use Rattle.w4_commands.specs.declared.compare.Side.{Side as Named}
 use Rattle.w4_commands.specs.declared.compare.TwoLoaded.{TwoLoaded}
 use Rattle.w4_commands.specs.declared.differences.Differences.{Differences}
 use Rattle.w4_commands.specs.Differences.{differences_of}
+use Rattle.w4_commands.specs.Scene.{scene_side}
 
 -- two runs were compared up to a place
 abbrev pub ComparedTo : Side → Side → ℕ → Differences → Type 0
 ComparedTo one other place d =
     (places : List Both) × (all_some (map (both_at one other) (range_with_len 0 (place + 1))) ≡ Some places)
     × (length places ≡ place + 1) × (d ≡ differences_of places)
+
+-- one of two runs as the definitions see it
+abbrev pub side_view : Named → Side
+side_view s = scene_side s.scene s.inputs.now
 
 -- what two runs are made of besides their carts
 abbrev pub two_view : TwoLoaded → TwoPlayed

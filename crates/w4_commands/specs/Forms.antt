@@ -7,8 +7,10 @@ use Rattle.w4_commands.specs.declared.forms.NetNames.{NetNames}
 use Rattle.w4_commands.specs.declared.forms.BatchNames.{BatchNames}
 use Rattle.w4_commands.specs.declared.forms.ServeNames.{ServeNames}
 use Rattle.w4_commands.specs.declared.forms.CompareNames.{CompareNames}
-use Rattle.w4_commands.specs.declared.forms.Command.{Command}
-use Rattle.w4_commands.specs.declared.forms.Command.TheVariants as command
+use Rattle.w4_commands.specs.declared.forms.CartCommand.{CartCommand}
+use Rattle.w4_commands.specs.declared.forms.CartCommand.TheVariants as cart
+use Rattle.w4_commands.specs.declared.forms.EditorCommand.{EditorCommand}
+use Rattle.w4_commands.specs.declared.forms.EditorCommand.TheVariants as editor
 use Rattle.w4_commands.specs.declared.forms.Form.{Form as Named}
 use Rattle.w4_commands.specs.declared.forms.Form.TheVariants as named
 use Rattle.w4_defs.specs.Commands.{RunWords, EditWords, NetWords, BatchWords, ServeWords, CompareWords, Form, Check, Blank, Frames, Disk, Edit, Make, Net, Ram, Batch, Serve, Compare, Rebind, Inputs, BlankDisk}
@@ -46,22 +48,25 @@ at_least_one units = if nat_le 1 units then Some units else None
 abbrev pub budget_given : List ℕ → Option ℕ
 budget_given word = option_and_then at_least_one (number_of word)
 
-abbrev pub command_view : Command → Form
-command_view (command.Check cart) = Check cart.now
-command_view (command.Blank cart budget) = Blank cart.now budget.units
-command_view (command.BlankDisk cart budget disk) = BlankDisk cart.now budget.units disk.now
-command_view (command.Rebind cart recording) = Rebind cart.now recording.now
-command_view (command.Frames names places) = Frames (run_view names) places.from places.to
-command_view (command.Whole names text) = whole_command text (run_view names)
-command_view (command.Disk names place) = Disk (run_view names) place
-command_view (command.Ram names query) = Ram (run_view names) query.now
-command_view (command.Edit names) = Edit (edit_view names)
-command_view (command.Serve names) = Serve (serve_view names)
-command_view (command.Net names) = Net (net_view names)
-command_view (command.Batch names) = Batch (batch_view names)
+abbrev pub cart_command_view : CartCommand → Form
+cart_command_view (cart.Check name) = Check name.now
+cart_command_view (cart.Blank name budget) = Blank name.now budget.units
+cart_command_view (cart.BlankDisk name budget disk) = BlankDisk name.now budget.units disk.now
+cart_command_view (cart.Rebind name recording) = Rebind name.now recording.now
+cart_command_view (cart.Frames names places) = Frames (run_view names) places.from places.to
+cart_command_view (cart.Whole names text) = whole_command text (run_view names)
+cart_command_view (cart.Disk names place) = Disk (run_view names) place
+cart_command_view (cart.Batch names) = Batch (batch_view names)
+
+abbrev pub editor_command_view : EditorCommand → Form
+editor_command_view (editor.Ram names query) = Ram (run_view names) query.now
+editor_command_view (editor.Edit names) = Edit (edit_view names)
+editor_command_view (editor.Serve names) = Serve (serve_view names)
+editor_command_view (editor.Net names) = Net (net_view names)
 
 abbrev pub form_view : Named → Form
 form_view (named.Make number) = Make number
 form_view (named.Inputs recording) = Inputs recording.now
 form_view (named.Compare names) = Compare (compare_view names)
-form_view (named.OnCart given) = command_view given
+form_view (named.OnCart given) = cart_command_view given
+form_view (named.InEditor given) = editor_command_view given

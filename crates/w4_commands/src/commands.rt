@@ -1,5 +1,6 @@
 //! The choice of a command, and the commands that write texts of one run. A command that names one cart is
-//! carried out over it once it is judged; `make` and `inputs` name none, and `compare` names two.
+//! carried out once it is judged, over it or in an editor that owns it; `make` and `inputs` name none, and
+//! `compare` names two.
 
 ghost use Rattle.std.specs.Prelude.{◌≡◌, ◌+◌, ◌-◌, ◌≤◌, length};
 ghost use Rattle.std.specs.Option.{ForSome};
@@ -12,12 +13,14 @@ ghost use Rattle.w4_commands.specs.Commands.{EndsDone, MakesOf, finished};
 ghost use Rattle.w4_answers.specs.Writing.{Written};
 ghost use Rattle.w4_commands.specs.RunOutputs.{all_texts, places_output, whole_output, whole_text};
 ghost use Rattle.w4_commands.specs.Load.{cart_view, run_files_view};
-ghost use Rattle.w4_commands.specs.Forms.{command_view, form_view, run_view};
+ghost use Rattle.w4_commands.specs.Forms.{cart_command_view, editor_command_view, form_view, run_view};
 
 use crate::batch::run_batch;
 use crate::compare::run_compare;
 use crate::edit::run_edit;
-use crate::forms::{Command, Form, RunNames, WholeText, cart_name};
+use crate::forms::{
+    CartCommand, EditorCommand, Form, RunNames, WholeText, cart_name, edited_cart_name,
+};
 use crate::load::{RunFiles, frame_count, load_cart, load_run, load_run_to};
 use crate::make::run_make;
 use crate::net::run_net;
@@ -53,12 +56,23 @@ pub fn run_form<R: Threads + Sync, H: House, G: Gate + Sync>(
         Form::Make(number) => finish(run_make(alloc, house, number)),
         Form::Inputs(name) => finish(run_inputs(alloc, house, name)),
         Form::Compare(names) => run_compare(alloc, house, names),
-        Form::OnCart(command) => {
-            let name = cart_name(&command);
-            let file = load_cart(alloc, house, name)?;
-            finish(run_on_cart(resources, house, file, command))
-        }
+        Form::OnCart(command) => finish(judge_and_run(resources, house, command)),
+        Form::InEditor(command) => finish(run_in_editor(resources, house, command)),
     }
+}
+
+/// Judges the command's cart, and carries the command out over it.
+fn judge_and_run<R: Threads + Sync, H: House, G: Gate + Sync>(
+    resources: &Resources<'_, R, G>,
+    house: &mut H,
+    command: CartCommand<'_>,
+) -> Result<(), Refusal>
+    ensures ends { EndsDone (H.world house.old) (H.world house.new) result
+        (OutputsBy (cart_command_view command.entry)) }
+    ensures err { LeavesErr (H.world house.old) (H.world house.new) }
+{
+    let file = load_cart(resources.alloc, house, cart_name(&command))?;
+    run_on_cart(resources, house, &file, command)
 }
 
 /// How a command ends that finds no difference.
@@ -75,35 +89,51 @@ fn finish(end: Result<(), Refusal>) -> Result<Finish, Refusal>
 fn run_on_cart<R: Threads + Sync, H: House, G: Gate + Sync>(
     resources: &Resources<'_, R, G>,
     house: &mut H,
-    file: CartFile,
-    command: Command<'_>,
+    file: &CartFile,
+    command: CartCommand<'_>,
 ) -> Result<(), Refusal>
     ensures ends { EndsDone (H.world house.old) (H.world house.new) result (λ files output. (talk : Talk)
-        × OutputsOn (command_view command.entry) talk (cart_view file) files output) }
+        × OutputsOn (cart_command_view command.entry) talk (cart_view file.now) files output) }
     ensures err { LeavesErr (H.world house.old) (H.world house.new) }
 {
     let alloc = resources.alloc;
     match command {
-        Command::Check(_) => run_check(alloc, house),
-        Command::Blank(_, budget) => run_blank(alloc, house, &file, budget),
-        Command::BlankDisk(_, budget, disk) => run_blank_disk(alloc, house, &file, budget, disk),
-        Command::Rebind(_, recording) => run_rebind(alloc, house, &file, recording),
-        Command::Frames(names, places) => {
-            run_places(alloc, house, &file, names, PlaceText::Image, places)
+        CartCommand::Check(_) => run_check(alloc, house),
+        CartCommand::Blank(_, budget) => run_blank(alloc, house, file, budget),
+        CartCommand::BlankDisk(_, budget, disk) => run_blank_disk(alloc, house, file, budget, disk),
+        CartCommand::Rebind(_, recording) => run_rebind(alloc, house, file, recording),
+        CartCommand::Frames(names, places) => {
+            run_places(alloc, house, file, names, PlaceText::Image, places)
         }
-        Command::Disk(names, place) => {
+        CartCommand::Disk(names, place) => {
             let places = Places {
                 from: place,
                 to: place,
             };
-            run_places(alloc, house, &file, names, PlaceText::DiskBytes, places)
+            run_places(alloc, house, file, names, PlaceText::DiskBytes, places)
         }
-        Command::Whole(names, text) => run_whole(alloc, house, &file, names, text),
-        Command::Ram(names, query) => run_ram(alloc, house, file, names, query),
-        Command::Edit(names) => run_edit(resources, house, file, names),
-        Command::Serve(names) => run_serve(resources, house, file, names),
-        Command::Net(names) => run_net(alloc, house, file, names),
-        Command::Batch(names) => run_batch(resources, house, &file, names),
+        CartCommand::Whole(names, text) => run_whole(alloc, house, file, names, text),
+        CartCommand::Batch(names) => run_batch(resources, house, file, names),
+    }
+}
+
+/// Judges the command's cart, and carries the command out in an editor that owns it.
+fn run_in_editor<R: Threads + Sync, H: House, G: Gate + Sync>(
+    resources: &Resources<'_, R, G>,
+    house: &mut H,
+    command: EditorCommand<'_>,
+) -> Result<(), Refusal>
+    ensures ends { EndsDone (H.world house.old) (H.world house.new) result
+        (OutputsBy (editor_command_view command.entry)) }
+    ensures err { LeavesErr (H.world house.old) (H.world house.new) }
+{
+    let alloc = resources.alloc;
+    let file = load_cart(alloc, house, edited_cart_name(&command))?;
+    match command {
+        EditorCommand::Ram(names, query) => run_ram(alloc, house, file, names, query),
+        EditorCommand::Edit(names) => run_edit(resources, house, file, names),
+        EditorCommand::Serve(names) => run_serve(resources, house, file, names),
+        EditorCommand::Net(names) => run_net(alloc, house, file, names),
     }
 }
 

@@ -11,8 +11,8 @@ ghost use Rattle.w4_defs.specs.RecordingOutputs.{compare_files, compare_output, 
 ghost use Rattle.w4_defs.specs.World.{LeavesReading, LeavesWriting};
 ghost use Rattle.w4_commands.specs.Commands.{MakesOf};
 ghost use Rattle.w4_commands.specs.Load.{ResultsIn, StepGives, cart_view};
-ghost use Rattle.w4_commands.specs.Compare.{ComparedTo, WrittenTo, two_view};
-ghost use Rattle.w4_commands.specs.Scene.{scene_side};
+ghost use Rattle.w4_commands.specs.Compare.{ComparedTo, WrittenTo, side_view, two_view};
+ghost use Rattle.w4_defs.specs.State.{HasGlobals};
 ghost use Rattle.w4_commands.specs.Forms.{compare_view};
 
 use crate::differences::{Differences, differences_text, finish_of, no_differences, note_place};
@@ -35,6 +35,29 @@ pub struct TwoLoaded {
     pub first: Recording,
     pub second: Recording,
     pub font: Font,
+}
+
+/// One of two runs: its scene, and its inputs.
+#[derive(Clone, Copy)]
+pub struct Side<'a> {
+    scene: Scene<'a>,
+    inputs: &'a [Input],
+}
+
+impl<'a> Side<'a> {
+    ghost use Rattle.std.specs.Prelude.{◌≡◌};
+    ghost use Rattle.w4_defs.specs.RecordingOutputs.{side_of};
+    ghost use Rattle.w4_commands.specs.Compare.{side_view};
+
+    /// A run of a recording.
+    fn of_recording(cart: &'a Cart, font: &'a Font, recording: &'a Recording) -> Side<'a>
+        ensures { side_view result ≡ side_of cart.now (record { recording = recording.now; font = font.now }) }
+    {
+        Side {
+            scene: Scene::of_recording(cart, font, recording),
+            inputs: recording.frames.as_slice(),
+        }
+    }
 }
 
 /// `compare CART REC CART2 REC2 FONT`.
@@ -122,14 +145,10 @@ fn write_comparison<H: House>(
         (λ lines. WrittenTo (H.world house.old) (H.world house.new) result lines.text (finish_of lines)) }
     ensures rest { LeavesWriting (H.world house.old) (H.world house.new) }
 {
-    let scene = Scene::of_recording(cart, &loaded.font, &loaded.first);
-    let other_scene = Scene::of_recording(other_cart, &loaded.font, &loaded.second);
-    let (inputs, other_inputs) = (
-        loaded.first.frames.as_slice(),
-        loaded.second.frames.as_slice(),
-    );
-    let found = compare_runs(alloc, &scene, inputs, &other_scene, other_inputs)?;
-    let (n, m) = (inputs.len(), other_inputs.len());
+    let side = Side::of_recording(cart, &loaded.font, &loaded.first);
+    let other_side = Side::of_recording(other_cart, &loaded.font, &loaded.second);
+    let found = compare_runs(alloc, &side, &other_side)?;
+    let (n, m) = (side.inputs.len(), other_side.inputs.len());
     let text = differences_text(alloc, &found, n, m)?;
     write_bytes(alloc, house, text.as_slice())?;
     Ok(finish_of(&found, n, m))
@@ -138,25 +157,40 @@ fn write_comparison<H: House>(
 /// Runs both side by side, each frame once, with a console for each.
 fn compare_runs(
     alloc: Global,
-    scene: &Scene<'_>,
-    inputs: &[Input],
-    other_scene: &Scene<'_>,
-    other_inputs: &[Input],
+    side: &Side<'_>,
+    other_side: &Side<'_>,
 ) -> Result<Differences, OutOfMemory>
-    ensures { IfOk result (λ found. ComparedTo (scene_side scene.now inputs.now)
-        (scene_side other_scene.now other_inputs.now)
-        (min (length inputs.now) (length other_inputs.now)) found) }
+    ensures { IfOk result (λ found. ComparedTo (side_view side.now) (side_view other_side.now)
+        (min (length side.now.inputs.now) (length other_side.now.inputs.now)) found) }
 {
-    let mut one = new_stage(alloc, scene.setup.cart)?;
-    let mut other = new_stage(alloc, other_scene.setup.cart)?;
-    run_to(&mut one, scene, inputs, 0);
-    run_to(&mut other, other_scene, other_inputs, 0);
+    let mut one = new_stage(alloc, side.scene.setup.cart)?;
+    let mut other = new_stage(alloc, other_side.scene.setup.cart)?;
+    compare_stages(alloc, &mut one, &mut other, side, other_side)
+}
+
+/// Runs both on stages that haven't run.
+fn compare_stages(
+    alloc: Global,
+    one: &mut Stage,
+    other: &mut Stage,
+    side: &Side<'_>,
+    other_side: &Side<'_>,
+) -> Result<Differences, OutOfMemory>
+    requires one { HasGlobals side.now.scene.setup.cart.now one.old.console }
+    requires other { HasGlobals other_side.now.scene.setup.cart.now other.old.console }
+    ensures { IfOk result (λ found. ComparedTo (side_view side.now) (side_view other_side.now)
+        (min (length side.now.inputs.now) (length other_side.now.inputs.now)) found) }
+{
+    let (scene, inputs) = (&side.scene, side.inputs);
+    let (other_scene, other_inputs) = (&other_side.scene, other_side.inputs);
+    run_to(one, scene, inputs, 0);
+    run_to(other, other_scene, other_inputs, 0);
     let mut found = no_differences();
-    note_place(alloc, &mut one, &mut other, 0, &mut found)?;
+    note_place(alloc, one, other, 0, &mut found)?;
     for place in 0..inputs.len().min(other_inputs.len()) {
-        step(&mut one, scene, inputs, place);
-        step(&mut other, other_scene, other_inputs, place);
-        note_place(alloc, &mut one, &mut other, place + 1, &mut found)?;
+        step(one, scene, inputs, place);
+        step(other, other_scene, other_inputs, place);
+        note_place(alloc, one, other, place + 1, &mut found)?;
     }
     Ok(found)
 }

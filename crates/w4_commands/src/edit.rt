@@ -5,6 +5,7 @@ ghost use Rattle.w4_defs.specs.Recording.{encoding};
 ghost use Rattle.w4_defs.specs.Output.{edit_answers, edit_files, edit_output, edited_recording, orders_of, script_in};
 ghost use Rattle.w4_defs.specs.Causes.{LeavesErr};
 ghost use Rattle.w4_defs.specs.World.{LeavesReading};
+ghost use Rattle.w4_answers.specs.ScriptAnswers.{answers_by, recording_by};
 ghost use Rattle.w4_commands.specs.Edit.{Carried, loaded_view};
 ghost use Rattle.w4_commands.specs.Commands.{EndsDone, MakesOf};
 ghost use Rattle.w4_commands.specs.Load.{ResultsIn, StepGives, GivesValue, cart_view};
@@ -104,6 +105,22 @@ fn carry_out<L: Ledger, R: Threads + Sync, H: House, G: Gate + Sync>(
 {
     let Loaded { run, orders } = loaded;
     let mut desk: Desk<L> = new_desk(resources.alloc, cart, run.font, run.recording, blank)?;
-    answer_all(resources, house, &mut desk, orders.as_slice())?;
-    save_recording(resources.alloc, house, &desk, names.out)
+    answer_and_save(resources, house, &mut desk, orders.as_slice(), names.out)
+}
+
+/// Answers all orders, and saves the edited recording.
+fn answer_and_save<L: Ledger, R: Threads + Sync, H: House, G: Gate + Sync>(
+    resources: &Resources<'_, R, G>,
+    house: &mut H,
+    desk: &mut Desk<L>,
+    orders: &[Order],
+    out: &str,
+) -> Result<(), Refusal>
+    ensures carried { ForSome (answers_by desk.old.counted.editor orders.now).out
+        (λ answers. Carried (H.world house.old) (H.world house.new) result answers out.now
+        (encoding 2 (recording_by desk.old.counted.editor orders.now))) }
+    ensures err { LeavesErr (H.world house.old) (H.world house.new) }
+{
+    answer_all(resources, house, desk, orders)?;
+    save_recording(resources.alloc, house, desk, out)
 }

@@ -19,7 +19,7 @@ ghost use Rattle.w4_defs.specs.Commands.{
   serve_form,
 };
 ghost use Rattle.w4_defs.specs.Outputs.{cart_word};
-ghost use Rattle.w4_commands.specs.Forms.{budget_given, command_view, form_view, run_view};
+ghost use Rattle.w4_commands.specs.Forms.{budget_given, cart_command_view, editor_command_view, form_view, run_view};
 ghost use Rattle.w4_commands.specs.RunOutputs.{whole_form};
 
 use crate::budget::Budget;
@@ -91,9 +91,9 @@ pub enum WholeText {
     Wave,
 }
 
-/// What is done with one cart.
+/// What is done with one cart that is only read.
 #[derive(Clone, Copy)]
-pub enum Command<'a> {
+pub enum CartCommand<'a> {
     /// `check CART`
     Check(&'a str),
     /// `blank CART BUDGET`
@@ -108,6 +108,13 @@ pub enum Command<'a> {
     Whole(RunNames<'a>, WholeText),
     /// `disk CART REC FONT PLACE`
     Disk(RunNames<'a>, u32),
+    /// `batch CART FONT LIST WORKERS`
+    Batch(BatchNames<'a>),
+}
+
+/// What is done in an editor, which owns its cart.
+#[derive(Clone, Copy)]
+pub enum EditorCommand<'a> {
     /// `ram CART REC FONT QUERY`
     Ram(RunNames<'a>, &'a str),
     /// `edit CART REC FONT SCRIPT OUT`
@@ -116,8 +123,6 @@ pub enum Command<'a> {
     Serve(ServeNames<'a>),
     /// `net CART FONT BUDGET LOG`
     Net(NetNames<'a>),
-    /// `batch CART FONT LIST WORKERS`
-    Batch(BatchNames<'a>),
 }
 
 /// A command with its arguments.
@@ -130,26 +135,36 @@ pub enum Form<'a> {
     /// `compare CART REC CART2 REC2 FONT`
     Compare(CompareNames<'a>),
     /// A command over one cart, which is judged first.
-    OnCart(Command<'a>),
+    OnCart(CartCommand<'a>),
+    /// A command in an editor, whose cart is judged first.
+    InEditor(EditorCommand<'a>),
 }
 
 /// The name of the command's cart.
-pub fn cart_name<'a>(command: &Command<'a>) -> &'a str
-    ensures { cart_word (command_view command.now) ≡ Some result.now }
+pub fn cart_name<'a>(command: &CartCommand<'a>) -> &'a str
+    ensures { cart_word (cart_command_view command.now) ≡ Some result.now }
 {
     match *command {
-        Command::Check(cart) => cart,
-        Command::Blank(cart, _) => cart,
-        Command::BlankDisk(cart, _, _) => cart,
-        Command::Rebind(cart, _) => cart,
-        Command::Frames(names, _) => names.cart,
-        Command::Whole(names, _) => names.cart,
-        Command::Disk(names, _) => names.cart,
-        Command::Ram(names, _) => names.cart,
-        Command::Edit(names) => names.run.cart,
-        Command::Serve(names) => names.run.cart,
-        Command::Net(names) => names.cart,
-        Command::Batch(names) => names.cart,
+        CartCommand::Check(cart) => cart,
+        CartCommand::Blank(cart, _) => cart,
+        CartCommand::BlankDisk(cart, _, _) => cart,
+        CartCommand::Rebind(cart, _) => cart,
+        CartCommand::Frames(names, _) => names.cart,
+        CartCommand::Whole(names, _) => names.cart,
+        CartCommand::Disk(names, _) => names.cart,
+        CartCommand::Batch(names) => names.cart,
+    }
+}
+
+/// The name of the cart that the editor is to own.
+pub fn edited_cart_name<'a>(command: &EditorCommand<'a>) -> &'a str
+    ensures { cart_word (editor_command_view command.now) ≡ Some result.now }
+{
+    match *command {
+        EditorCommand::Ram(names, _) => names.cart,
+        EditorCommand::Edit(names) => names.run.cart,
+        EditorCommand::Serve(names) => names.run.cart,
+        EditorCommand::Net(names) => names.cart,
     }
 }
 
@@ -182,7 +197,7 @@ fn check_form(words: &[String]) -> Option<Form<'_>>
     let [cart] = words else {
         return None;
     };
-    Some(Form::OnCart(Command::Check(cart.as_str())))
+    Some(Form::OnCart(CartCommand::Check(cart.as_str())))
 }
 
 #[tactic(auto, unfolding(w4_defs::specs::Commands::blank_form))]
@@ -192,11 +207,11 @@ fn blank_form(words: &[String]) -> Option<Form<'_>>
     match words {
         [cart, budget] => {
             let budget = budget_of(budget)?;
-            Some(Form::OnCart(Command::Blank(cart.as_str(), budget)))
+            Some(Form::OnCart(CartCommand::Blank(cart.as_str(), budget)))
         }
         [cart, budget, disk] => {
             let budget = budget_of(budget)?;
-            Some(Form::OnCart(Command::BlankDisk(cart.as_str(), budget, disk.as_str())))
+            Some(Form::OnCart(CartCommand::BlankDisk(cart.as_str(), budget, disk.as_str())))
         }
         _ => None,
     }
@@ -214,7 +229,7 @@ fn frames_form(words: &[String]) -> Option<Form<'_>>
     if from > to {
         return None;
     }
-    Some(Form::OnCart(Command::Frames(run_names(cart, recording, font), Places { from, to })))
+    Some(Form::OnCart(CartCommand::Frames(run_names(cart, recording, font), Places { from, to })))
 }
 
 /// The form of a command that is named for what is written of a whole run.
@@ -224,7 +239,7 @@ fn whole_form(words: &[String], text: WholeText) -> Option<Form<'_>>
     let [cart, recording, font] = words else {
         return None;
     };
-    Some(Form::OnCart(Command::Whole(run_names(cart, recording, font), text)))
+    Some(Form::OnCart(CartCommand::Whole(run_names(cart, recording, font), text)))
 }
 
 #[tactic(auto, unfolding(w4_defs::specs::Commands::disk_form))]
@@ -235,7 +250,7 @@ fn disk_form(words: &[String]) -> Option<Form<'_>>
         return None;
     };
     let place = number_of(place.as_bytes())?;
-    Some(Form::OnCart(Command::Disk(run_names(cart, recording, font), place)))
+    Some(Form::OnCart(CartCommand::Disk(run_names(cart, recording, font), place)))
 }
 
 fn edit_form(words: &[String]) -> Option<Form<'_>>
@@ -244,7 +259,7 @@ fn edit_form(words: &[String]) -> Option<Form<'_>>
     let [cart, recording, font, script, out] = words else {
         return None;
     };
-    Some(Form::OnCart(Command::Edit(EditNames {
+    Some(Form::InEditor(EditorCommand::Edit(EditNames {
         run: run_names(cart, recording, font),
         script: script.as_str(),
         out: out.as_str(),
@@ -270,7 +285,7 @@ fn net_form(words: &[String]) -> Option<Form<'_>>
         return None;
     };
     let budget = budget_of(budget)?;
-    Some(Form::OnCart(Command::Net(NetNames {
+    Some(Form::InEditor(EditorCommand::Net(NetNames {
         cart: cart.as_str(),
         font: font.as_str(),
         budget,
@@ -284,7 +299,7 @@ fn ram_form(words: &[String]) -> Option<Form<'_>>
     let [cart, recording, font, query] = words else {
         return None;
     };
-    Some(Form::OnCart(Command::Ram(run_names(cart, recording, font), query.as_str())))
+    Some(Form::InEditor(EditorCommand::Ram(run_names(cart, recording, font), query.as_str())))
 }
 
 #[tactic(auto, unfolding(w4_defs::specs::Commands::batch_form))]
@@ -298,7 +313,7 @@ fn batch_form(words: &[String]) -> Option<Form<'_>>
     if count < 1 || count > MOST_WORKERS {
         return None;
     }
-    Some(Form::OnCart(Command::Batch(BatchNames {
+    Some(Form::OnCart(CartCommand::Batch(BatchNames {
         cart: cart.as_str(),
         font: font.as_str(),
         list: list.as_str(),
@@ -312,7 +327,7 @@ fn serve_form(words: &[String]) -> Option<Form<'_>>
     let [cart, recording, font, out] = words else {
         return None;
     };
-    Some(Form::OnCart(Command::Serve(ServeNames {
+    Some(Form::InEditor(EditorCommand::Serve(ServeNames {
         run: run_names(cart, recording, font),
         out: out.as_str(),
     })))
@@ -339,7 +354,7 @@ fn rebind_form(words: &[String]) -> Option<Form<'_>>
     let [cart, recording] = words else {
         return None;
     };
-    Some(Form::OnCart(Command::Rebind(cart.as_str(), recording.as_str())))
+    Some(Form::OnCart(CartCommand::Rebind(cart.as_str(), recording.as_str())))
 }
 
 fn inputs_form(words: &[String]) -> Option<Form<'_>>

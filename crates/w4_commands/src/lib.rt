@@ -27,5 +27,5 @@ mod units;
 mod wave;
 
 pub use commands::run_form;
-pub use forms::{Command, Form, form_of_words};
+pub use forms::{CartCommand, EditorCommand, Form, form_of_words};
 pub use w4_defs::status::{Finish, RecordingKind, Refusal, ScriptKind, Status, number};

@@ -91,13 +91,29 @@ fn lines_of(alloc: Global, number: u32, made: &Made) -> Result<Vec<u8>, OutOfMem
     requires inputs { made.now.inputs.items ≡ made_inputs number }
     ensures { IfOk result (λ text. made_text number ≡ Some text.items) }
 {
+    let cart = accept_made(alloc, made.cart.as_slice(), number)?;
+    lines_of_run(alloc, number, made, &cart)
+}
+
+/// The five lines of a made cart, once it is accepted.
+fn lines_of_run(
+    alloc: Global,
+    number: u32,
+    made: &Made,
+    cart: &Cart,
+) -> Result<Vec<u8>, OutOfMemory>
+    requires accepted { cart.now ≡ made_module number }
+    requires shortest { made.now.cart.items ≡ module_bytes (made_module number) }
+    requires budget { made.now.budget ≡ made_budget }
+    requires inputs { made.now.inputs.items ≡ made_inputs number }
+    ensures { IfOk result (λ text. made_text number ≡ Some text.items) }
+{
     generator_laws();
     let bytes = made.cart.as_slice();
-    let cart = accept_made(alloc, bytes, number)?;
     let font = zero_font();
-    let mut stage = new_stage(alloc, &cart)?;
+    let mut stage = new_stage(alloc, cart)?;
     let setup = Setup {
-        cart: &cart,
+        cart,
         font: &font,
         budget: made.budget,
     };

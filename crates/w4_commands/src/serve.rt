@@ -70,11 +70,26 @@ fn serve_run<L: Ledger, R: Threads + Sync, H: House, G: Gate + Sync>(
         (ServedStep (opened_view file.cart run names.entry.out.now)) }
     ensures err { LeavesErr (H.world house.old) (H.world house.new) }
 {
-    let alloc = resources.alloc;
-    let mut desk: Desk<L> = new_desk(alloc, file.cart, run.font, run.recording, blank)?;
-    match answer_lines(resources, house, &mut desk, names.out) {
-        Ok(()) => save_recording(alloc, house, &desk, names.out),
-        Err(why) => rescue(alloc, house, &desk, names.out, why),
+    let cart = file.cart;
+    let mut desk: Desk<L> = new_desk(resources.alloc, cart, run.font, run.recording, blank)?;
+    serve_at(resources, house, &mut desk, names.out)
+}
+
+/// The session at a desk, and the file that is left.
+fn serve_at<L: Ledger, R: Threads + Sync, H: House, G: Gate + Sync>(
+    resources: &Resources<'_, R, G>,
+    house: &mut H,
+    desk: &mut Desk<L>,
+    out: &str,
+) -> Result<(), Refusal>
+    ensures ends { (o : Opened) → RunsHaveMeaning o.cart → o.out ≡ out.now
+        → Sits o (first_live_session o) desk.old.counted.editor None
+        → EndsDone (H.world house.old) (H.world house.new) result (ServedStep o) }
+    ensures err { LeavesErr (H.world house.old) (H.world house.new) }
+{
+    match answer_lines(resources, house, desk, out) {
+        Ok(()) => save_recording(resources.alloc, house, desk, out),
+        Err(why) => rescue(resources.alloc, house, desk, out, why),
     }
 }
 

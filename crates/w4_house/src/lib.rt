@@ -4,8 +4,6 @@
 #![tactic(auto)]
 
 pub mod calls;
-#[cfg(test)]
-mod checks;
 mod event_log;
 mod input;
 mod line;

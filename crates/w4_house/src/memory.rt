@@ -317,6 +317,3 @@ impl House for MemoryHouse {
         self.store.write_file(alloc, name, bytes)
     }
 }
-
-#[cfg(test)]
-mod tests;

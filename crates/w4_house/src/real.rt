@@ -262,6 +262,3 @@ impl<'a, R: Files, I: Read + Drop, O: Write + Drop, E: Write + Drop> House
         answer
     }
 }
-
-#[cfg(test)]
-mod tests;

@@ -286,6 +286,3 @@ impl House for SureHouse {
         Ok(())
     }
 }
-
-#[cfg(test)]
-mod tests;

@@ -1,8 +1,6 @@
-//! What neither a clause nor a case of cases/ shows: inputs with a reset, pieces of work that are under way at
-//! once, and that the calls of the crates succeed where there is enough memory.
+//! What neither a clause nor a case of cases/ shows: that two pieces of work are under way at once, and that
+//! calls that take memory, if no test of w4_program makes them, succeed where there is enough of it.
 
-mod console;
 mod editor;
 mod replica;
-mod search;
 mod segments;

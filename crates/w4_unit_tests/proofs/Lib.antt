@@ -1,3 +1,2 @@
 -- Lemmas of tests.
-pub mod WriteListsLaws
 pub mod WriteModulesLaws

@@ -1,23 +1,17 @@
 //! Work split over threads, of which no clause says that with ample memory the calls succeed, and that two
 //! pieces are under way at once.
 
-ghost use Rattle.std.specs.Prelude.{◌≡◌, IfOk, vec_len};
-ghost use Rattle.w4_console.specs.Counting.{IsBlankOf};
-
+use super::editor::{Trial, check};
 use crate::carts::{IDLE, cart, font, pad};
 use crate::holder::Holder;
 use std::alloc::Global;
-use std::marker::Brand;
 use std::process::Abort;
-use std::sync::atomic::{AtomicU64, Ordering};
-use std::sync::ledger::{Blank, Ledger};
 use std::test::Fail;
 use std::thread::Threads;
-use w4_defs::{EditRefusal, Halt, Input, Steps};
+use w4_defs::{EditRefusal, Halt};
 use w4_editor::Editor;
 use w4_font::Font;
 use w4_image::IMAGE_LEN;
-use w4_record::Recording;
 use w4_segments::{BatchRow, Gate, Resources, Workers, batch, film, settle_wide};
 use wasm_register::Cart;
 
@@ -32,27 +26,8 @@ const BLANK_IMAGE: [u8; 32] = [
     0x4e, 0xea, 0x11, 0xe2, 0x58, 0x4f, 0x1e, 0xb3, 0x45, 0x82, 0xb7, 0x14, 0xda, 0x2f, 0xe0, 0x36,
 ];
 
-/// An editor of two frames of zeros, whose places are all kept.
-fn editor<L: Ledger>(alloc: Global, blank: Blank) -> Result<Editor, Fail>
-    requires { IsBlankOf L.name L.parts blank }
-{
-    let recording = Recording::new([7; 32], 100_000, Vec::new(alloc), inputs(alloc)?);
-    let mut editor = Editor::new(alloc, cart(alloc, &IDLE)?, font()?, recording)?;
-    let steps = &mut Steps::<L>::new(blank);
-    editor.keep(alloc, 1, steps)?;
-    editor.keep(alloc, 2, steps)?;
-    Ok(editor)
-}
-
-/// Two frames of zeros.
-fn inputs(alloc: Global) -> Result<Vec<Input>, Fail>
-    ensures { IfOk result (λ inputs. vec_len inputs ≡ 2) }
-{
-    Ok(Vec::from_slice(alloc, &[pad(0), pad(0)])?)
-}
-
 /// Tests that two workers film all places at once.
-fn check_film<R: Threads + Sync + Abort>(
+pub fn check_film<R: Threads + Sync + Abort>(
     rt: &R,
     alloc: Global,
     editor: &mut Editor,
@@ -71,8 +46,7 @@ fn check_film<R: Threads + Sync + Abort>(
 
 #[test]
 fn two_pieces_of_a_film_are_under_way_at_once(rt: HostRuntime) -> Result<(), Fail> {
-    let mut editor = editor::<Brand>(rt.alloc(), Blank::new(1))?;
-    check_film(&rt, rt.alloc(), &mut editor)
+    check(&rt, rt.alloc(), Trial::Film)
 }
 
 /// Two edits, each of which takes a link away.
@@ -82,7 +56,7 @@ fn two_unlinked(alloc: Global, editor: &mut Editor) -> Result<(), EditRefusal> {
 }
 
 /// Tests that two workers settle two segments at once.
-fn check_settling<R: Threads + Sync + Abort>(
+pub fn check_settling<R: Threads + Sync + Abort>(
     rt: &R,
     alloc: Global,
     editor: &mut Editor,
@@ -101,8 +75,7 @@ fn check_settling<R: Threads + Sync + Abort>(
 
 #[test]
 fn two_segments_are_settled_at_once(rt: HostRuntime) -> Result<(), Fail> {
-    let mut editor = editor::<Brand>(rt.alloc(), Blank::new(1))?;
-    check_settling(&rt, rt.alloc(), &mut editor)
+    check(&rt, rt.alloc(), Trial::Settling)
 }
 
 /// Two recordings, and one that lacks bytes.
@@ -149,8 +122,8 @@ fn check_batch<R: Threads + Sync + Abort>(
 
 #[test]
 fn two_items_of_a_batch_are_run_at_once(rt: HostRuntime) -> Result<(), Fail> {
-    let cart = cart(rt.alloc(), &IDLE)?;
-    let font = font()?;
     let items = items(rt.alloc())?;
+    let font = font()?;
+    let cart = cart(rt.alloc(), &IDLE)?;
     check_batch(&rt, rt.alloc(), &cart, &font, items.as_slice())
 }

@@ -1,4 +1,5 @@
-//! Modules as they are written, and a made cart: which bytes these are no clause says, nor that they are had.
+//! Modules as they are written, of which no clause says that they are had: one with a section of each kind,
+//! with the bytes of the standard, and deeply nested blocks.
 #![tactic(auto, unfolding(w4_defs::specs::View::before))]
 
 ghost use Rattle.std.specs.Prelude.{IfOk, codes, ◌≡◌};
@@ -12,30 +13,7 @@ use w4_defs::{
     ImportKind, Instr, Limits, Locals, Module, Segment, ValType,
 };
 use wasm_write::item::section;
-use wasm_write::{Maker, write_module};
-
-#[test]
-fn made_cart_of_0_begins_with_the_worked_function(rt: HostRuntime) -> Result<(), Fail> {
-    let made = Maker::make(rt.alloc(), 0).map_err(|_| "no memory")?;
-    let types =
-        b"\0asm\x01\0\0\0\x01\x11\x03\x60\0\0\x60\x02\x7f\x7f\x01\x7f\x60\x04\x7f\x7f\x7f\x7f\0";
-    let imports =
-        b"\x02\x1b\x02\x03env\x04rect\0\x02\x03env\x06memory\x02\x01\x01\x01\x03\x42\x41\x01";
-    let update = b"\x07\x0a\x01\x06update\0\x41\x0a";
-    let first_body = b"\x0c\0\x20\0\x20\x01\x72\x41\xd0\x8e\x01\x74\x0b";
-    let cart = made.cart.as_slice();
-    assert_eq!(rt; cart.get(..27), Some(types.as_slice()));
-    assert_eq!(rt; cart.get(27..60), Some(imports.as_slice()));
-    assert_eq!(rt; cart.get(124..137), Some(update.as_slice()));
-    assert_eq!(rt; cart.get(140..153), Some(first_body.as_slice()));
-    assert_eq!(rt; made.budget, 100_000);
-    assert_eq!(rt; made.inputs.len(), 600);
-    assert_eq!(rt;
-        made.inputs.first().map(|input| input.pads),
-        Some([20, 0, 0, 0])
-    );
-    Ok(())
-}
+use wasm_write::write_module;
 
 /// Drops the blocks from the outermost on: the drop of a nested list takes stack.
 fn take_apart(bodies: &mut Vec<Body>) {
