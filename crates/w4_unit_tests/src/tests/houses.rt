@@ -1,5 +1,6 @@
 //! What no clause says: that the house of the program reads the files and the input that it is asked for, and
-//! writes the bytes that it is given.
+//! writes the bytes that it is given; and that the calls of `SureHouse` on standard input and standard error, which
+//! no other test makes, succeed where there is enough memory.
 
 ghost use Rattle.std.specs.Prelude.{None};
 
@@ -8,7 +9,7 @@ use std::io::{self, Cursor, ErrorKind, Read};
 use std::process::Abort;
 use std::test::Fail;
 use w4_defs::OutOfMemory;
-use w4_house::{House, HouseFault, RealHouse, WriteRefusal};
+use w4_house::{House, HouseFault, RealHouse, SureHouse, WriteRefusal};
 
 /// The file of this name has these first bytes.
 fn check_front<H: House>(
@@ -143,4 +144,13 @@ fn lines_of_a_disturbed_reader(rt: HostRuntime) -> Result<(), Fail> {
     };
     let mut house = RealHouse::new(&rt, input, Vec::new(rt.alloc()), Vec::new(rt.alloc()));
     check_disturbed(&rt, &mut house)
+}
+
+#[test]
+fn a_sure_house_has_no_input_and_keeps_errors(rt: HostRuntime) -> Result<(), Fail> {
+    let mut house = SureHouse::new(rt.alloc());
+    assert!(rt; house.read_line(rt.alloc())?.is_none());
+    house.write_err(rt.alloc(), b"fault")?;
+    assert_eq!(rt; house.err(), b"fault".as_slice());
+    Ok(())
 }
