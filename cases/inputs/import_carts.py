@@ -18,7 +18,7 @@ from make import constant, importing  # noqa: E402
 
 # How many numbers an import takes and returns.
 TAKES = {
-    "blit": (6, 0), "line": (4, 0), "hline": (3, 0), "vline": (3, 0), "oval": (4, 0), "rect": (4, 0),
+    "blit": (6, 0), "blitSub": (9, 0), "line": (4, 0), "hline": (3, 0), "vline": (3, 0), "oval": (4, 0), "rect": (4, 0),
     "text": (3, 0), "textUtf8": (4, 0), "textUtf16": (4, 0), "tone": (4, 0), "diskr": (2, 1), "diskw": (2, 1),
     "trace": (1, 0), "traceUtf8": (2, 0), "traceUtf16": (2, 0), "tracef": (2, 0),
 }
@@ -48,6 +48,8 @@ SHAPES = [
     ("colors", 0x0034), ("blit", 0x2000, 100, 50, 4, 2, 0), ("blit", 0x2000, 105, 50, 4, 2, 2),
     ("blit", 0x2000, 110, 50, 4, 2, 4), ("blit", 0x2000, 115, 50, 4, 2, 8), ("blit", 0x2000, 120, 50, 0, 2, 0),
     ("colors", 0x4321), ("blit", 0x2008, 100, 60, 4, 2, 1), ("blit", 0x2008, 158, 60, 4, 2, 15),
+    ("blitSub", 0x2008, 130, 60, 2, 2, 1, 0, 4, 1), ("blitSub", 0x2000, 135, 60, 2, 1, 1, 1, 4, 2),
+    ("blitSub", 0x2008, 140, 60, 2, 2, 2, 0, 4, 13), ("blitSub", 0x2000, 145, 60, 3, 2, 0, 0, 2, 4),
 ]
 
 # Texts up to a 0 or the page's end, of so many bytes, of units of two bytes; codes that no glyph is there for move on.

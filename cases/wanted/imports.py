@@ -90,11 +90,15 @@ class Screen:
         self.paint(x2, y2, 1)
 
     def blit(self, address, x, y, w, h, flags):
+        self.blitSub(address, x, y, w, h, 0, 0, w, flags)
+
+    def blitSub(self, address, x, y, w, h, source_x, source_y, stride, flags):
         turned = flags // 8 % 2
         for i in range(w):
             for j in range(h):
                 column = w - 1 - i if flags // 2 % 2 != turned else i
-                pixel = (h - 1 - j if flags // 4 % 2 else j) * w + column
+                row = h - 1 - j if flags // 4 % 2 else j
+                pixel = (source_y + row) * stride + source_x + column
                 if flags % 2:
                     value = self.page[address + pixel // 4] >> (6 - 2 * (pixel % 4)) & 3
                 else:
