@@ -5,7 +5,7 @@ use Rattle.w4_house.specs.declared.calls.WriteRefusal.TheVariants.{Failed, OutOf
 use Rattle.w4_defs.specs.Endings.{manner_of}
 use Rattle.w4_defs.specs.World.{Saved, World, Rises, Does, FailsToSave}
 use Rattle.w4_answers.specs.Saving.{StopsSaving}
-use Rattle.w4_answers.specs.Writing.{write_refusal}
+use Rattle.w4_house.specs.Calls.{write_refusal}
 
 -- replacing a file was refused
 pub save_refused : (old new : World) (why : WriteRefusal) (name bytes : List ℕ)

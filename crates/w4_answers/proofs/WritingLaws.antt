@@ -4,7 +4,8 @@
 use Rattle.std.proofs.Common.{◌≡◌, ℕ, List, ◌++◌, take, Option, option_map, refl, sym, ap, subst, ◌∙◌, ◌≤◌, [], Some, None, append_assoc}
 use Rattle.w4_defs.specs.World.{Event, World, Rises, Appends, AppendsFront, Does, LeavesReading, LeavesWriting, files_after, wrote}
 use Rattle.w4_house.proofs.WorldLaws.{appends_then, appends_then_front, does_wrote, does_wrote_front, front_of_more, front_none, front_whole, take-wrote, wrote-append, rises_later}
-use Rattle.w4_answers.specs.Writing.{AppendsOut, AppendsOutFront, DoesFront, StopsWriting, write_refusal, Written}
+use Rattle.w4_answers.specs.Writing.{AppendsOut, AppendsOutFront, DoesFront, StopsWriting, Written}
+use Rattle.w4_house.specs.Calls.{write_refusal}
 use Rattle.w4_defs.specs.Endings.{manner_of, Manner, ReadFailed, InputFailed, WriteFailed, MemoryRefused, Refused as RefusedFor}
 use Rattle.w4_house.specs.declared.calls.WriteRefusal.{WriteRefusal}
 use Rattle.w4_house.specs.declared.calls.WriteRefusal.TheVariants.{Failed, OutOfMemory}

@@ -22,7 +22,8 @@ abbrev pub RunsOn : (place more ticks_before ticks_after : ℕ) → (old new : E
 RunsOn place more ticks_before ticks_after old new = RunsAtMost ticks_before ticks_after
     (show_frames place old.session.current.kept new.session.current.kept + more)
 
--- the text of a place was made: the place is shown then, or it is the record of the reset and no frame was run
+-- the text of a place was made: the place is shown then, or it is the record of the reset and
+-- no frame was run
 pub record IsMade (lead place ticks_before ticks_after : ℕ) (old new : Editing) : Type 0 where
   pub shown : (new.at ≡ Some place)
       ⊎ ((place ≡ 0) × (lead ≡ 1) × (new ≡ old) × (ticks_after ≡ ticks_before))

@@ -35,10 +35,11 @@ pub record Sits (o : Opened) (s : LiveSession) (e : Editing) (standing : Option 
 abbrev pub IsFront : List Event → List Event → Type 0
 IsFront front events = (behind : List Event) × (events ≡ front ++ behind)
 
--- what an answer may leave where memory ran out: the recording after the line, or, where nothing of its answer
--- was done yet, the one before it
+-- what an answer may leave where memory ran out: the recording after the line, or, where nothing of its
+-- answer was done yet, the one before it
 abbrev pub LeavesEither : Opened → LiveSession → LiveSession → List Event → Recording → Type 0
-LeavesEither o s next front left = (left ≡ recording_left o next) ⊎ ((front ≡ []) × (left ≡ recording_left o s))
+LeavesEither o s next front left =
+    (left ≡ recording_left o next) ⊎ ((front ≡ []) × (left ≡ recording_left o s))
 
 -- just these events have happened, and the count of writes has risen with each save among them that failed
 abbrev pub DoesCounted : World → World → List Event → Type 0
@@ -54,7 +55,8 @@ LineStops old new ReadFailed o s line left = ⊥
 LineStops old new InputFailed o s line left = ⊥
 LineStops old new WriteFailed o s line left =
     (mine : List SaveEnd) × (events : List Event) × (next : LiveSession) × StepsTo o s line mine events next
-    × (front : List Event) × IsFront front events × FailsToWrite old new front × (left ≡ recording_left o next)
+    × (front : List Event) × IsFront front events × FailsToWrite old new front
+    × (left ≡ recording_left o next)
 LineStops old new MemoryRefused o s line left =
     (mine : List SaveEnd) × (events : List Event) × (next : LiveSession) × StepsTo o s line mine events next
     × (front : List Event) × IsFront front events × Does old new front × LeavesEither o s next front left
@@ -117,7 +119,8 @@ DoesPart old new events = (front : List Event) × IsFront front events × Does o
 abbrev pub StopsDoing : World → World → Manner → List Event → Type 0
 StopsDoing old new ReadFailed events = ⊥
 StopsDoing old new InputFailed events = ⊥
-StopsDoing old new WriteFailed events = (front : List Event) × IsFront front events × FailsToWrite old new front
+StopsDoing old new WriteFailed events =
+    (front : List Event) × IsFront front events × FailsToWrite old new front
 StopsDoing old new MemoryRefused events = DoesPart old new events
 StopsDoing old new (Refused why) events = ⊥
 

@@ -27,7 +27,8 @@ pub record IsLineAnswered (before after : World) (old new : Editing) (left : Opt
   pub search : left ≡ wanted.session
   pub shows : OnlyShows old new
 
--- what answering it gave: that, or a first part of the answer where it stopped; the recording is then as it was
+-- what answering it gave: that, or a first part of the answer where it stopped; the recording is
+-- then as it was
 abbrev pub GivesLineAnswer : {X : Type 0} → World → World → Result X Refusal → Editing → Editing
     → Option Search
     → Answered (Option Search) → Type 0

@@ -58,8 +58,8 @@ GivesAnswer before after (Err why) old new wanted =
     ForSome wanted.out (λ out. StopsWriting before after (manner_of why) out)
     × LeavesRecording (manner_of why) old new wanted.session
 
--- an order is answered within so many frames. Films and settling are run by workers with counts of their own; a
--- settling leaves all kept places up to date
+-- an order is answered within so many frames. Films and settling are run by workers with counts of their own;
+-- a settling leaves all kept places up to date
 abbrev pub AnswersWithin : Order → (ticks_before ticks_after : ℕ) → (old new : Editing) → Type 0
 AnswersWithin (order.Show p) ticks_before ticks_after old new = RunsOn p 1 ticks_before ticks_after old new
 AnswersWithin (order.Tones a b) ticks_before ticks_after old new =

@@ -2,8 +2,6 @@
 use Rattle.std.specs.Prelude.{◌≡◌, List, ℕ, take, Option, Result, Ok, Err}
 use Rattle.w4_defs.specs.declared.status.Refusal.{Refusal}
 use Rattle.w4_defs.specs.declared.status.Refusal.TheVariants as refusal
-use Rattle.w4_house.specs.declared.calls.WriteRefusal.{WriteRefusal}
-use Rattle.w4_house.specs.declared.calls.WriteRefusal.TheVariants.{Failed, OutOfMemory}
 use Rattle.w4_defs.specs.Endings.{Manner, ReadFailed, InputFailed, WriteFailed, MemoryRefused, Refused, manner_of}
 use Rattle.w4_defs.specs.World.{Event, World, Rises, Appends, Does, wrote}
 
@@ -32,11 +30,6 @@ Written old new (Err why) bytes = StopsWriting old new (manner_of why) bytes
 -- memory ran out before it wrote anything
 abbrev pub WritesNothing : {X : Type 0} → World → World → Result X Refusal → Type 0
 WritesNothing old new result = (result ≡ Err refusal.OutOfMemory) × (new.events ≡ old.events)
-
--- what a write is refused for, as the refusal of a command
-abbrev pub write_refusal : WriteRefusal → Refusal
-write_refusal Failed = refusal.WriteFault
-write_refusal OutOfMemory = refusal.OutOfMemory
 
 -- a first part of these bytes was written, and no file has changed
 abbrev pub DoesFront : World → World → List ℕ → Type 0

@@ -34,26 +34,120 @@ pub struct Desk<L: Ledger> {
     image: Box<[u8; IMAGE_LEN]>,
 }
 
-/// A desk whose editor shows place 0 of a recording, the only one that is kept, and has run no frame.
-pub fn new_desk<L: Ledger>(
-    alloc: Global,
-    cart: Cart,
-    font: Font,
-    recording: Recording,
-    blank: Blank,
-) -> Result<Desk<L>, OutOfMemory>
-    requires { IsBlankOf L.name L.parts blank }
-    ensures { IfOk result (λ desk. desk.counted.editor ≡ new_editing cart font recording
-        (state_at desk.counted.editor.session.current.kept 0)) }
-{
-    let image = Box::new(alloc, [0; IMAGE_LEN])?;
-    let editor = Editor::new(alloc, cart, font, recording)?;
-    let steps: Steps<L> = Steps::new(blank);
-    Ok(Desk {
-        counted: CountedEditor { editor, steps },
-        frame_record: FrameRecord::new(),
-        image,
-    })
+impl<L: Ledger> Desk<L> {
+    /// A desk whose editor shows place 0 of a recording, the only one that is kept, and has run no frame.
+    pub fn new(
+        alloc: Global,
+        cart: Cart,
+        font: Font,
+        recording: Recording,
+        blank: Blank,
+    ) -> Result<Desk<L>, OutOfMemory>
+        requires { IsBlankOf L.name L.parts blank }
+        ensures { IfOk result (λ desk. desk.counted.editor ≡ new_editing cart font recording
+            (state_at desk.counted.editor.session.current.kept 0)) }
+    {
+        let image = Box::new(alloc, [0; IMAGE_LEN])?;
+        let editor = Editor::new(alloc, cart, font, recording)?;
+        let steps: Steps<L> = Steps::new(blank);
+        Ok(Desk {
+            counted: CountedEditor { editor, steps },
+            frame_record: FrameRecord::new(),
+            image,
+        })
+    }
+
+    /// Shows a place, by one frame if the place before it is shown.
+    pub fn go_on(&mut self, alloc: Global, place: usize) -> Result<(), OutOfMemory>
+        requires place { place ≤ length self.old.counted.editor.session.current.inputs }
+        ensures shows { OnOk result (OnlyShows self.old.counted.editor self.new.counted.editor) }
+        ensures recording { current_recording self.new.counted.editor
+            ≡ current_recording self.old.counted.editor }
+        ensures at { OnOk result (self.new.counted.editor.at ≡ Some place) }
+        ensures made { OnOk result (IsMade 0 place self.old.counted.steps self.new.counted.steps
+            self.old.counted.editor self.new.counted.editor) }
+        ensures steps { OnOk result (StepsOn place self.old.counted.steps self.new.counted.steps
+            self.old.counted.editor self.new.counted.editor) }
+    {
+        let counted = &mut self.counted;
+        if is_next(&counted.editor, place) {
+            step_from(counted, &mut self.frame_record, place - 1);
+            return Ok(());
+        }
+        counted.editor.go_to(alloc, place, &mut counted.steps)
+    }
+
+    /// Makes the image of a place, which is shown then.
+    pub fn make_image(&mut self, alloc: Global, place: usize) -> Result<(), OutOfMemory>
+        requires place { place ≤ length self.old.counted.editor.session.current.inputs }
+        ensures shows { OnOk result (OnlyShows self.old.counted.editor self.new.counted.editor) }
+        ensures recording { current_recording self.new.counted.editor
+            ≡ current_recording self.old.counted.editor }
+        ensures image { OnOk result (text_by as_it_stands self.old.counted.editor Image place
+            ≡ Some self.new.image.value) }
+        ensures made { OnOk result (IsMade 0 place self.old.counted.steps self.new.counted.steps
+            self.old.counted.editor self.new.counted.editor) }
+        ensures steps { OnOk result (StepsOn place self.old.counted.steps self.new.counted.steps
+            self.old.counted.editor self.new.counted.editor) }
+    {
+        self.go_on(alloc, place)?;
+        ppm_into(self.counted.editor.state(), &mut self.image);
+        Ok(())
+    }
+
+    /// The image that was made last.
+    pub fn made_image(&self) -> &[u8]
+        ensures { result.now ≡ self.now.image.value }
+    {
+        self.image.as_slice()
+    }
+
+    /// Makes the record of the frame from a place; the place after it is shown then. What it took of the budget.
+    pub fn frame_taken(&mut self, alloc: Global, place: usize) -> Result<FrameTaken, OutOfMemory>
+        requires place { place < length self.old.counted.editor.session.current.inputs }
+        ensures shows { OnOk result (OnlyShows self.old.counted.editor self.new.counted.editor) }
+        ensures recording { current_recording self.new.counted.editor
+            ≡ current_recording self.old.counted.editor }
+        ensures frame_record { OnOk result (option_map (λ (moment : Moment). moment.frame_record)
+            (run (editing_setup self.old.counted.editor) self.old.counted.editor.disk
+            self.old.counted.editor.session.current.inputs (place + 1))
+            ≡ Some (record_of self.new.frame_record)) }
+        ensures taken { IfOk result (λ taken. TellsUnits (editing_setup self.old.counted.editor)
+            self.old.counted.editor.disk
+            self.old.counted.editor.session.current.inputs place taken) }
+        ensures made { OnOk result (IsMade 1 (place + 1) self.old.counted.steps self.new.counted.steps
+            self.old.counted.editor self.new.counted.editor) }
+        ensures steps { OnOk result (StepsOn (place + 1) self.old.counted.steps self.new.counted.steps
+            self.old.counted.editor self.new.counted.editor) }
+    {
+        go_unless_shown(alloc, &mut self.counted, place)?;
+        Ok(step_from(&mut self.counted, &mut self.frame_record, place))
+    }
+
+    /// A text of the frame that leads to a place; at place 0 it is the reset's.
+    pub fn frame_text(
+        &mut self,
+        alloc: Global,
+        wanted: RecordText,
+        place: usize,
+    ) -> Result<Vec<u8>, OutOfMemory>
+        requires place { place ≤ length self.old.counted.editor.session.current.inputs }
+        ensures shows { OnOk result (OnlyShows self.old.counted.editor self.new.counted.editor) }
+        ensures recording { current_recording self.new.counted.editor
+            ≡ current_recording self.old.counted.editor }
+        ensures text { IfOk result (λ text. text_by as_it_stands self.old.counted.editor (text_of_place wanted)
+            place ≡ Some text.items) }
+        ensures made { OnOk result (IsMade 1 place self.old.counted.steps self.new.counted.steps
+            self.old.counted.editor self.new.counted.editor) }
+        ensures steps { OnOk result (StepsOn place self.old.counted.steps self.new.counted.steps
+            self.old.counted.editor self.new.counted.editor) }
+    {
+        if place == 0 {
+            return record_text(alloc, wanted, place, self.counted.editor.reset_frame());
+        }
+        self.frame_taken(alloc, place - 1)?;
+        record_text(alloc, wanted, place, &self.frame_record)
+    }
 }
 
 /// Whether a place is shown.
@@ -118,104 +212,4 @@ fn step_from<L: Ledger>(
         Ok(taken) => taken,
         Err(_) => unreachable!(),
     }
-}
-
-/// Shows a place, by one frame if the place before it is shown.
-pub fn go_on<L: Ledger>(alloc: Global, desk: &mut Desk<L>, place: usize) -> Result<(), OutOfMemory>
-    requires place { place ≤ length desk.old.counted.editor.session.current.inputs }
-    ensures shows { OnOk result (OnlyShows desk.old.counted.editor desk.new.counted.editor) }
-    ensures recording { current_recording desk.new.counted.editor
-        ≡ current_recording desk.old.counted.editor }
-    ensures at { OnOk result (desk.new.counted.editor.at ≡ Some place) }
-    ensures made { OnOk result (IsMade 0 place desk.old.counted.steps desk.new.counted.steps
-        desk.old.counted.editor desk.new.counted.editor) }
-    ensures steps { OnOk result (StepsOn place desk.old.counted.steps desk.new.counted.steps
-        desk.old.counted.editor desk.new.counted.editor) }
-{
-    let counted = &mut desk.counted;
-    if is_next(&counted.editor, place) {
-        step_from(counted, &mut desk.frame_record, place - 1);
-        return Ok(());
-    }
-    counted.editor.go_to(alloc, place, &mut counted.steps)
-}
-
-/// Makes the image of a place, which is shown then.
-pub fn make_image<L: Ledger>(
-    alloc: Global,
-    desk: &mut Desk<L>,
-    place: usize,
-) -> Result<(), OutOfMemory>
-    requires place { place ≤ length desk.old.counted.editor.session.current.inputs }
-    ensures shows { OnOk result (OnlyShows desk.old.counted.editor desk.new.counted.editor) }
-    ensures recording { current_recording desk.new.counted.editor
-        ≡ current_recording desk.old.counted.editor }
-    ensures image { OnOk result (text_by as_it_stands desk.old.counted.editor Image place
-        ≡ Some desk.new.image.value) }
-    ensures made { OnOk result (IsMade 0 place desk.old.counted.steps desk.new.counted.steps
-        desk.old.counted.editor desk.new.counted.editor) }
-    ensures steps { OnOk result (StepsOn place desk.old.counted.steps desk.new.counted.steps
-        desk.old.counted.editor desk.new.counted.editor) }
-{
-    go_on(alloc, desk, place)?;
-    ppm_into(desk.counted.editor.state(), &mut desk.image);
-    Ok(())
-}
-
-/// The image that was made last.
-pub fn made_image<L: Ledger>(desk: &Desk<L>) -> &[u8]
-    ensures { result.now ≡ desk.now.image.value }
-{
-    desk.image.as_slice()
-}
-
-/// Makes the record of the frame from a place; the place after it is shown then. What it took of the budget.
-pub fn frame_taken<L: Ledger>(
-    alloc: Global,
-    desk: &mut Desk<L>,
-    place: usize,
-) -> Result<FrameTaken, OutOfMemory>
-    requires place { place < length desk.old.counted.editor.session.current.inputs }
-    ensures shows { OnOk result (OnlyShows desk.old.counted.editor desk.new.counted.editor) }
-    ensures recording { current_recording desk.new.counted.editor
-        ≡ current_recording desk.old.counted.editor }
-    ensures frame_record { OnOk result (option_map (λ (moment : Moment). moment.frame_record)
-        (run (editing_setup desk.old.counted.editor) desk.old.counted.editor.disk
-        desk.old.counted.editor.session.current.inputs (place + 1))
-        ≡ Some (record_of desk.new.frame_record)) }
-    ensures taken { IfOk result (λ taken. TellsUnits (editing_setup desk.old.counted.editor)
-        desk.old.counted.editor.disk
-        desk.old.counted.editor.session.current.inputs place taken) }
-    ensures made { OnOk result (IsMade 1 (place + 1) desk.old.counted.steps desk.new.counted.steps
-        desk.old.counted.editor desk.new.counted.editor) }
-    ensures steps { OnOk result (StepsOn (place + 1) desk.old.counted.steps desk.new.counted.steps
-        desk.old.counted.editor desk.new.counted.editor) }
-{
-    go_unless_shown(alloc, &mut desk.counted, place)?;
-    Ok(step_from(&mut desk.counted, &mut desk.frame_record, place))
-}
-
-/// A text of the frame that leads to a place; at place 0 it is the reset's.
-pub fn frame_text<L: Ledger>(
-    alloc: Global,
-    desk: &mut Desk<L>,
-    wanted: RecordText,
-    place: usize,
-) -> Result<Vec<u8>, OutOfMemory>
-    requires place { place ≤ length desk.old.counted.editor.session.current.inputs }
-    ensures shows { OnOk result (OnlyShows desk.old.counted.editor desk.new.counted.editor) }
-    ensures recording { current_recording desk.new.counted.editor
-        ≡ current_recording desk.old.counted.editor }
-    ensures text { IfOk result (λ text. text_by as_it_stands desk.old.counted.editor (text_of_place wanted)
-        place ≡ Some text.items) }
-    ensures made { OnOk result (IsMade 1 place desk.old.counted.steps desk.new.counted.steps
-        desk.old.counted.editor desk.new.counted.editor) }
-    ensures steps { OnOk result (StepsOn place desk.old.counted.steps desk.new.counted.steps
-        desk.old.counted.editor desk.new.counted.editor) }
-{
-    if place == 0 {
-        return record_text(alloc, wanted, place, desk.counted.editor.reset_frame());
-    }
-    frame_taken(alloc, desk, place - 1)?;
-    record_text(alloc, wanted, place, &desk.frame_record)
 }

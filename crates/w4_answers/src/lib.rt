@@ -1,6 +1,6 @@
-//! The answers of orders, lines and requests at an editor, and how they are written. `specs/` has the words: what
-//! a step says of the world before and after, and what an answer leaves of the editor. The commands rely on each
-//! answer being that of the definition, or a first part of it where it stopped.
+//! The answers of orders, lines and requests at an editor, and how they are written. `specs/` has the words:
+//! what a step says of the world before and after, and what an answer leaves of the editor. The commands rely
+//! on each answer being that of the definition, or a first part of it where it stopped.
 #![tactic(auto)]
 
 pub mod change_answer;

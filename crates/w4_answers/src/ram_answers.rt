@@ -138,7 +138,9 @@ fn refuse_place<S: Shape, H: House>(
 {
     match refusal {
         RamRefusal::OutOfMemory => Err(Refusal::OutOfMemory),
-        _ => S::write(alloc, house, b"refused no frame\n"),
+        RamRefusal::NoFrame | RamRefusal::Outside => {
+            S::write(alloc, house, b"refused no frame\n")
+        }
     }
 }
 

@@ -13,7 +13,7 @@ ghost use Rattle.w4_editor.specs.Editor.{place_session, current_recording, editi
 ghost use Rattle.w4_defs.specs.PlaceTexts.{place_texts};
 ghost use Rattle.w4_defs.specs.declared.place_text.PlaceText.TheVariants.{DiskBytes};
 
-use crate::desk::{Desk, frame_text, go_on, made_image, make_image};
+use crate::desk::Desk;
 use crate::record_text::RecordText;
 use crate::refusal::refuse;
 use crate::shape::Shape;
@@ -96,15 +96,15 @@ fn write_one<S: Shape, L: Ledger, H: House>(
 {
     match wanted {
         PlaceText::Image => {
-            make_image(alloc, desk, place)?;
-            S::write(alloc, house, made_image(desk))
+            desk.make_image(alloc, place)?;
+            S::write(alloc, house, desk.made_image())
         }
         PlaceText::Schedule => {
-            let text = frame_text(alloc, desk, RecordText::Schedule, place)?;
+            let text = desk.frame_text(alloc, RecordText::Schedule, place)?;
             S::write(alloc, house, text.as_slice())
         }
         PlaceText::Traces => {
-            let text = frame_text(alloc, desk, RecordText::Traces, place)?;
+            let text = desk.frame_text(alloc, RecordText::Traces, place)?;
             S::write(alloc, house, text.as_slice())
         }
         PlaceText::DiskBytes => write_disk::<S, L, H>(alloc, house, desk, place),
@@ -130,6 +130,6 @@ fn write_disk<S: Shape, L: Ledger, H: House>(
     ensures steps { OnOk result (StepsOn place desk.old.counted.steps desk.new.counted.steps
         desk.old.counted.editor desk.new.counted.editor) }
 {
-    go_on(alloc, desk, place)?;
+    desk.go_on(alloc, place)?;
     S::write(alloc, house, desk.counted.editor.state().disk.bytes())
 }

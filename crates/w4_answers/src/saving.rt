@@ -6,7 +6,6 @@ ghost use Rattle.w4_editor.specs.Editor.{current_recording};
 ghost use Rattle.w4_answers.specs.Saving.{Replaces};
 
 use crate::desk::Desk;
-use crate::writing::write_refusal;
 use std::alloc::Global;
 use std::sync::ledger::Ledger;
 use w4_defs::Refusal;
@@ -33,8 +32,6 @@ fn save<H: House>(alloc: Global, house: &mut H, name: &str, bytes: &[u8]) -> Res
     ensures saved { Replaces (H.world house.old) (H.world house.new) result name.now bytes.now }
     ensures rest { LeavesSaving (H.world house.old) (H.world house.new) }
 {
-    match house.write_file(alloc, name, bytes) {
-        Ok(()) => Ok(()),
-        Err(refusal) => Err(write_refusal(refusal)),
-    }
+    house.write_file(alloc, name, bytes)?;
+    Ok(())
 }

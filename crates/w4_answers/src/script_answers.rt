@@ -37,8 +37,8 @@ pub fn answer_all<L: Ledger, R: Threads + Sync, H: House, G: Gate + Sync>(
     Ok(())
 }
 
-/// Answers one order. It runs the frames that showing the first place that is asked for needs, and at most one
-/// for each place; `settle` leaves all kept places up to date.
+/// Answers one order. It runs the frames that showing the first place that is asked for needs, and at most
+/// one for each place; `settle` leaves all kept places up to date.
 pub(crate) fn answer<S: Shape, L: Ledger, R: Threads + Sync, H: House, G: Gate + Sync>(
     resources: &Resources<'_, R, G>,
     house: &mut H,

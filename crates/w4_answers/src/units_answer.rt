@@ -10,7 +10,7 @@ ghost use Rattle.w4_answers.specs.Desk.{IsMade, RunsOn, StepsOn, OnlyShows};
 ghost use Rattle.w4_answers.specs.Writing.{Written};
 ghost use Rattle.w4_answers.specs.UnitsAnswer.{units_by};
 
-use crate::desk::{Desk, frame_taken};
+use crate::desk::Desk;
 use crate::shape::Shape;
 use std::alloc::Global;
 use std::sync::ledger::Ledger;
@@ -87,7 +87,7 @@ fn write_units<S: Shape, L: Ledger, H: House>(
     ensures steps { OnOk result (StepsOn (k + 1) desk.old.counted.steps desk.new.counted.steps
         desk.old.counted.editor desk.new.counted.editor) }
 {
-    let taken = frame_taken(alloc, desk, k)?;
+    let taken = desk.frame_taken(alloc, k)?;
     let mut line = Vec::new(alloc);
     units_line(alloc, k, taken, &mut line)?;
     S::write(alloc, house, line.as_slice())

@@ -21,7 +21,8 @@ use wasm_valid::{Cart as ValidCart, ValidRefusal, validate};
 /// How many bytes a cart has at most: 64 KiB, as in WASM-4.
 pub const MOST_BYTES: usize = 65_536;
 
-/// An accepted cart, whose runs all have a meaning, and the SHA-256 of its bytes, by which recordings name it.
+/// An accepted cart, whose runs all have a meaning, and the SHA-256 of its bytes, by
+/// which recordings name it.
 #[derive(Drop)]
 pub struct CartFile {
     pub cart: Cart,

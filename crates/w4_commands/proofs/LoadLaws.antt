@@ -20,6 +20,9 @@ use Rattle.w4_defs.specs.Module.{WasmModule}
 use Rattle.w4_defs.specs.Profile.{profile_refusal}
 use Rattle.w4_defs.specs.Validity.{IsValid}
 use Rattle.wasm_read.specs.Unique.{AtMostOneModule}
+use Rattle.w4_cart.specs.Refusal.{cart_refusal}
+use Rattle.w4_cart.specs.declared.refusal.CartRefusal.{CartRefusal}
+use Rattle.w4_cart.specs.declared.refusal.CartRefusal.TheVariants.{Kind, OutOfMemory}
 
 -- what stops a step stops what begins with it
 pub stops_first : {A B : Type 0} (old new : World) (why : Manner) (step : Files → Result A Refusal)
@@ -104,6 +107,14 @@ pub cart_file_refused : (old : World) (name bytes : List ℕ) (kind : CartKind)
     → ForSome old.files (λ files. reading files name 65537 ≡ Ok bytes) → IsRefused bytes kind
     → StepRefuses old (CartRefused kind) (λ files cart. CartIn name files cart)
 cart_file_refused old name bytes kind given refused = λ files texts. rw (given files texts) refused
+
+pub cart_stopped : (old new : World) (name bytes : List ℕ) (why : CartRefusal)
+    → ForSome old.files (λ files. reading files name 65537 ≡ Ok bytes)
+    → ((kind : CartKind) → why ≡ Kind kind → IsRefused bytes kind)
+    → Stops old new (manner_of (cart_refusal why)) (λ files cart. CartIn name files cart)
+cart_stopped old new name bytes (Kind kind) given refused =
+    cart_file_refused old name bytes kind given (refused kind refl)
+cart_stopped old new name bytes OutOfMemory given refused = tt
 
 no_invalid : (m : WasmModule) (f : Option ℕ) → IsValid m → IsInvalid m f → ⊥
 no_invalid m None valid invalid = invalid valid.0

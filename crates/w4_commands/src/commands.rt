@@ -30,7 +30,7 @@ use crate::ram::run_ram;
 use crate::recordings::{run_blank, run_blank_disk, run_inputs, run_rebind};
 use crate::scene::Scene;
 use crate::serve::run_serve;
-use crate::stage::new_stage;
+use crate::stage::Stage;
 use crate::units::write_units;
 use crate::wave::write_wave;
 use std::alloc::Global;
@@ -237,7 +237,7 @@ fn write_run<H: House>(
         (λ text. Written (H.world house.old) (H.world house.new) result text) }
     ensures rest { LeavesWriting (H.world house.old) (H.world house.new) }
 {
-    let mut stage = new_stage(alloc, cart)?;
+    let mut stage = Stage::new(alloc, cart)?;
     let recording = &run.recording;
     let scene = Scene::of_recording(cart, &run.font, recording);
     let inputs = recording.frames.as_slice();

@@ -15,11 +15,11 @@ ghost use Rattle.w4_commands.specs.Compare.{ComparedTo, WrittenTo, side_view, tw
 ghost use Rattle.w4_defs.specs.State.{HasGlobals};
 ghost use Rattle.w4_commands.specs.Forms.{compare_view};
 
-use crate::differences::{Differences, differences_text, finish_of, no_differences, note_place};
+use crate::differences::Differences;
 use crate::forms::CompareNames;
 use crate::load::{load_cart, load_font, load_recording};
 use crate::scene::Scene;
-use crate::stage::{Stage, new_stage, run_to, step};
+use crate::stage::Stage;
 use std::alloc::Global;
 use w4_answers::writing::write_bytes;
 use w4_cart::CartFile;
@@ -51,7 +51,8 @@ impl<'a> Side<'a> {
 
     /// A run of a recording.
     fn of_recording(cart: &'a Cart, font: &'a Font, recording: &'a Recording) -> Side<'a>
-        ensures { side_view result ≡ side_of cart.now (record { recording = recording.now; font = font.now }) }
+        ensures { side_view result
+            ≡ side_of cart.now (record { recording = recording.now; font = font.now }) }
     {
         Side {
             scene: Scene::of_recording(cart, font, recording),
@@ -149,9 +150,9 @@ fn write_comparison<H: House>(
     let other_side = Side::of_recording(other_cart, &loaded.font, &loaded.second);
     let found = compare_runs(alloc, &side, &other_side)?;
     let (n, m) = (side.inputs.len(), other_side.inputs.len());
-    let text = differences_text(alloc, &found, n, m)?;
+    let text = found.text(alloc, n, m)?;
     write_bytes(alloc, house, text.as_slice())?;
-    Ok(finish_of(&found, n, m))
+    Ok(found.finish(n, m))
 }
 
 /// Runs both side by side, each frame once, with a console for each.
@@ -163,8 +164,8 @@ fn compare_runs(
     ensures { IfOk result (λ found. ComparedTo (side_view side.now) (side_view other_side.now)
         (min (length side.now.inputs.now) (length other_side.now.inputs.now)) found) }
 {
-    let mut one = new_stage(alloc, side.scene.setup.cart)?;
-    let mut other = new_stage(alloc, other_side.scene.setup.cart)?;
+    let mut one = Stage::new(alloc, side.scene.setup.cart)?;
+    let mut other = Stage::new(alloc, other_side.scene.setup.cart)?;
     compare_stages(alloc, &mut one, &mut other, side, other_side)
 }
 
@@ -183,14 +184,14 @@ fn compare_stages(
 {
     let (scene, inputs) = (&side.scene, side.inputs);
     let (other_scene, other_inputs) = (&other_side.scene, other_side.inputs);
-    run_to(one, scene, inputs, 0);
-    run_to(other, other_scene, other_inputs, 0);
-    let mut found = no_differences();
-    note_place(alloc, one, other, 0, &mut found)?;
+    one.run_to(scene, inputs, 0);
+    other.run_to(other_scene, other_inputs, 0);
+    let mut found = Differences::none();
+    found.note_place(alloc, one, other, 0)?;
     for place in 0..inputs.len().min(other_inputs.len()) {
-        step(one, scene, inputs, place);
-        step(other, other_scene, other_inputs, place);
-        note_place(alloc, one, other, place + 1, &mut found)?;
+        one.step(scene, inputs, place);
+        other.step(other_scene, other_inputs, place);
+        found.note_place(alloc, one, other, place + 1)?;
     }
     Ok(found)
 }

@@ -11,7 +11,7 @@ ghost use Rattle.w4_answers.specs.RecordText.{record_text};
 ghost use Rattle.w4_commands.specs.Differences.{after_place, both_stages, if_differs, listed, noted};
 ghost use Rattle.w4_commands.specs.Stage.{stage_moment};
 
-use crate::stage::{Stage, disk, frame_text, paint, painted, state};
+use crate::stage::Stage;
 use std::alloc::Global;
 use w4_answers::record_text::RecordText;
 use w4_answers::record_text::RecordText::{Schedule, Traces};
@@ -31,16 +31,71 @@ pub struct Differences {
     pub disk: Option<usize>,
 }
 
-/// No differences yet.
-pub fn no_differences() -> Differences
-    ensures { result ≡ record { state = None; image = None; tones = None; traces = None; disk = None } }
-{
-    Differences {
-        state: None,
-        image: None,
-        tones: None,
-        traces: None,
-        disk: None,
+impl Differences {
+    /// No differences yet.
+    pub fn none() -> Differences
+        ensures { result ≡ record { state = None; image = None; tones = None; traces = None; disk = None } }
+    {
+        Differences {
+            state: None,
+            image: None,
+            tones: None,
+            traces: None,
+            disk: None,
+        }
+    }
+
+    /// Notes where two stages at the same place differ.
+    pub fn note_place(
+        &mut self,
+        alloc: Global,
+        one: &mut Stage,
+        other: &mut Stage,
+        place: usize,
+    ) -> Result<(), OutOfMemory>
+        ensures found { OnOk result (self.new ≡ noted (both_stages place one.old other.old) self.old) }
+        ensures one { stage_moment one.new ≡ stage_moment one.old }
+        ensures other { stage_moment other.new ≡ stage_moment other.old }
+    {
+        note_text(alloc, one, other, Schedule, place, &mut self.tones)?;
+        note_text(alloc, one, other, Traces, place, &mut self.traces)?;
+        note_state(one, other, place, &mut self.state);
+        note_disk(one, other, place, &mut self.disk);
+        note_image(one, other, place, &mut self.image);
+        Ok(())
+    }
+
+    /// The six lines of runs of that many inputs.
+    pub fn text(&self, alloc: Global, n: usize, m: usize) -> Result<Vec<u8>, OutOfMemory>
+        ensures { IfOk result (λ text. text.items ≡ (compared_by n m (listed self.now)).text) }
+    {
+        let mut text = Vec::new(alloc);
+        add_respect(&mut text, b"state", self.state)?;
+        add_respect(&mut text, b"image", self.image)?;
+        add_respect(&mut text, b"tones", self.tones)?;
+        add_respect(&mut text, b"traces", self.traces)?;
+        add_respect(&mut text, b"disk", self.disk)?;
+        add_words(&mut text, b"places")?;
+        add_number(&mut text, n as u64)?;
+        add_number(&mut text, m as u64)?;
+        add_words(&mut text, b"\n")?;
+        Ok(text)
+    }
+
+    /// Whether they report a difference.
+    pub fn finish(&self, n: usize, m: usize) -> Finish
+        ensures { result ≡ finish_of (compared_by n m (listed self.now)) }
+    {
+        let same = self.state.is_none()
+            && self.image.is_none()
+            && self.tones.is_none()
+            && self.traces.is_none()
+            && self.disk.is_none();
+        if same && n == m {
+            Finish::Done
+        } else {
+            Finish::Different
+        }
     }
 }
 
@@ -51,33 +106,13 @@ fn if_differs(same: bool, place: usize) -> Option<usize>
     if same { None } else { Some(place) }
 }
 
-/// Notes where two stages at the same place differ.
-pub fn note_place(
-    alloc: Global,
-    one: &mut Stage,
-    other: &mut Stage,
-    place: usize,
-    found: &mut Differences,
-) -> Result<(), OutOfMemory>
-    ensures found { OnOk result (found.new ≡ noted (both_stages place one.old other.old) found.old) }
-    ensures one { stage_moment one.new ≡ stage_moment one.old }
-    ensures other { stage_moment other.new ≡ stage_moment other.old }
-{
-    note_text(alloc, one, other, Schedule, place, &mut found.tones)?;
-    note_text(alloc, one, other, Traces, place, &mut found.traces)?;
-    note_state(one, other, place, &mut found.state);
-    note_disk(one, other, place, &mut found.disk);
-    note_image(one, other, place, &mut found.image);
-    Ok(())
-}
-
 /// Notes whether the states differ, unless they are noted to differ already.
 fn note_state(one: &Stage, other: &Stage, place: usize, found: &mut Option<usize>)
     ensures { found.new ≡ after_place found.old
         (same_state (stage_moment one.now).state (stage_moment other.now).state) place }
 {
     if found.is_none() {
-        *found = if_differs(same_states(state(one), state(other)), place);
+        *found = if_differs(same_states(one.state(), other.state()), place);
     }
 }
 
@@ -106,7 +141,7 @@ fn note_disk(one: &Stage, other: &Stage, place: usize, found: &mut Option<usize>
         (bytes_eq (stage_moment one.now).state.disk (stage_moment other.now).state.disk) place }
 {
     if found.is_none() {
-        *found = if_differs(disk(one) == disk(other), place);
+        *found = if_differs(one.disk() == other.disk(), place);
     }
 }
 
@@ -129,12 +164,12 @@ fn same_images(one: &mut Stage, other: &mut Stage) -> bool
     ensures one { stage_moment one.new ≡ stage_moment one.old }
     ensures other { stage_moment other.new ≡ stage_moment other.old }
 {
-    if state(one).page.bytes() == state(other).page.bytes() {
+    if one.state().page.bytes() == other.state().page.bytes() {
         return true;
     }
-    paint(one);
-    paint(other);
-    painted(one) == painted(other)
+    one.paint();
+    other.paint();
+    one.painted() == other.painted()
 }
 
 /// Notes whether texts of the frames differ, unless they are noted to differ already.
@@ -151,8 +186,8 @@ fn note_text(
         (record_text wanted place (stage_moment other.now).frame_record)) place) }
 {
     if found.is_none() {
-        let text = frame_text(alloc, one, wanted, place)?;
-        let other_text = frame_text(alloc, other, wanted, place)?;
+        let text = one.frame_text(alloc, wanted, place)?;
+        let other_text = other.frame_text(alloc, wanted, place)?;
         *found = if_differs(text.as_slice() == other_text.as_slice(), place);
     }
     Ok(())
@@ -175,42 +210,4 @@ fn add_place(text: &mut Vec<u8>, place: usize) -> Result<(), OutOfMemory>
 {
     add_number(text, place as u64)?;
     add_words(text, b"\n")
-}
-
-/// The six lines of runs of that many inputs.
-pub fn differences_text(
-    alloc: Global,
-    found: &Differences,
-    n: usize,
-    m: usize,
-) -> Result<Vec<u8>, OutOfMemory>
-    ensures { IfOk result (λ text. text.items ≡ (compared_by n m (listed found.now)).text) }
-{
-    let mut text = Vec::new(alloc);
-    add_respect(&mut text, b"state", found.state)?;
-    add_respect(&mut text, b"image", found.image)?;
-    add_respect(&mut text, b"tones", found.tones)?;
-    add_respect(&mut text, b"traces", found.traces)?;
-    add_respect(&mut text, b"disk", found.disk)?;
-    add_words(&mut text, b"places")?;
-    add_number(&mut text, n as u64)?;
-    add_number(&mut text, m as u64)?;
-    add_words(&mut text, b"\n")?;
-    Ok(text)
-}
-
-/// Whether they report a difference.
-pub fn finish_of(found: &Differences, n: usize, m: usize) -> Finish
-    ensures { result ≡ finish_of (compared_by n m (listed found.now)) }
-{
-    let same = found.state.is_none()
-        && found.image.is_none()
-        && found.tones.is_none()
-        && found.traces.is_none()
-        && found.disk.is_none();
-    if same && n == m {
-        Finish::Done
-    } else {
-        Finish::Different
-    }
 }

@@ -19,7 +19,7 @@ use std::alloc::Global;
 use std::marker::Brand;
 use std::sync::ledger::{Blank, Ledger};
 use std::thread::Threads;
-use w4_answers::desk::{Desk, new_desk};
+use w4_answers::desk::Desk;
 use w4_answers::saving::save_recording;
 use w4_answers::script_answers::answer_all;
 use w4_cart::CartFile;
@@ -104,7 +104,7 @@ fn carry_out<L: Ledger, R: Threads + Sync, H: House, G: Gate + Sync>(
     ensures err { LeavesErr (H.world house.old) (H.world house.new) }
 {
     let Loaded { run, orders } = loaded;
-    let mut desk: Desk<L> = new_desk(resources.alloc, cart, run.font, run.recording, blank)?;
+    let mut desk = Desk::<L>::new(resources.alloc, cart, run.font, run.recording, blank)?;
     answer_and_save(resources, house, &mut desk, orders.as_slice(), names.out)
 }
 

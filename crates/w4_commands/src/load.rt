@@ -18,11 +18,11 @@ ghost use Rattle.w4_commands.specs.Forms.{run_view};
 
 use crate::forms::RunNames;
 use std::alloc::Global;
-use w4_cart::{CartFile, CartRefusal, accept_file};
+use w4_cart::{CartFile, accept_file};
 use w4_defs::{RecordingKind, Refusal};
-use w4_font::{FONT_BYTES, Font, FontLength};
+use w4_font::{FONT_BYTES, Font};
 use w4_house::{House, HouseFault};
-use w4_record::{Recording, RecordingRefusal, read_recording};
+use w4_record::{Recording, read_recording};
 
 /// The files of a run, without the cart.
 #[derive(Drop)]
@@ -64,22 +64,14 @@ pub fn load_cart<H: House>(alloc: Global, house: &mut H, name: &str) -> Result<C
     ensures rest { LeavesReading (H.world house.old) (H.world house.new) }
 {
     let bytes = read_file(alloc, house, name, w4_cart::MOST_BYTES + 1)?;
-    match accept_file(alloc, bytes.as_slice()) {
-        Ok(file) => Ok(file),
-        Err(CartRefusal::Kind(kind)) => Err(Refusal::CartRefused(kind)),
-        Err(CartRefusal::OutOfMemory) => Err(Refusal::OutOfMemory),
-    }
+    Ok(accept_file(alloc, bytes.as_slice())?)
 }
 
 /// The recording that the bytes encode, of any cart.
 pub fn judge_any(alloc: Global, bytes: &[u8]) -> Result<Recording, Refusal>
     ensures { GivesValue (λ recording. recording) result (any_recording bytes.now) }
 {
-    match read_recording(alloc, bytes) {
-        Ok(recording) => Ok(recording),
-        Err(RecordingRefusal::BadRecording) => Err(Refusal::RecordingRefused(RecordingKind::Bad)),
-        Err(RecordingRefusal::OutOfMemory) => Err(Refusal::OutOfMemory),
-    }
+    Ok(read_recording(alloc, bytes)?)
 }
 
 /// The recording that the bytes encode, which has to be of the cart with this digest.
@@ -98,10 +90,7 @@ fn judge_recording(alloc: Global, bytes: &[u8], digest: &[u8; 32]) -> Result<Rec
 fn judge_font(bytes: &[u8]) -> Result<Font, Refusal>
     ensures { GivesValue (λ font. font) result (font_of bytes.now) }
 {
-    match Font::new(bytes) {
-        Ok(font) => Ok(font),
-        Err(FontLength) => Err(Refusal::FontRefused),
-    }
+    Ok(Font::new(bytes)?)
 }
 
 #[tactic(auto, unfolding(w4_defs::specs::Output::recording_in))]

@@ -14,7 +14,7 @@ ghost use Rattle.w4_defs.specs.Output.{made_text, make_output};
 ghost use Rattle.w4_defs.specs.EncodeModule.{module_bytes};
 
 use crate::scene::Scene;
-use crate::stage::{Stage, halt, lit, new_stage, paint, painted, run_to};
+use crate::stage::Stage;
 use crate::summary::{Summary, summary_text};
 use std::alloc::Global;
 use w4_answers::writing::write_bytes;
@@ -111,19 +111,14 @@ fn lines_of_run(
     generator_laws();
     let bytes = made.cart.as_slice();
     let font = zero_font();
-    let mut stage = new_stage(alloc, cart)?;
+    let mut stage = Stage::new(alloc, cart)?;
     let setup = Setup {
         cart,
         font: &font,
         budget: made.budget,
     };
     let scene = Scene { setup, disk: &[] };
-    run_to(
-        &mut stage,
-        &scene,
-        made.inputs.as_slice(),
-        MADE_FRAMES as usize,
-    );
+    stage.run_to(&scene, made.inputs.as_slice(), MADE_FRAMES as usize);
     summary_of(alloc, &mut stage, bytes.len())
 }
 
@@ -131,12 +126,12 @@ fn lines_of_run(
 fn summary_of(alloc: Global, stage: &mut Stage, cart_len: usize) -> Result<Vec<u8>, OutOfMemory>
     ensures { IfOk result (λ text. text.items ≡ summary_text sha256 cart_len stage.old.console) }
 {
-    paint(stage);
+    stage.paint();
     let summary = Summary {
         cart_len,
-        halt: halt(stage),
-        lit: lit(stage),
-        image: digest_of(painted(stage)),
+        halt: stage.halt(),
+        lit: stage.lit(),
+        image: digest_of(stage.painted()),
     };
     summary_text(alloc, &summary)
 }

@@ -11,7 +11,7 @@ ghost use Rattle.w4_commands.specs.Stage.{stage_moment};
 ghost use Rattle.w4_defs.specs.PlaceTexts.{as_it_stands, moment_text, place_text, place_texts};
 
 use crate::scene::Scene;
-use crate::stage::{Stage, disk, frame_text, paint, painted, run_to, step};
+use crate::stage::Stage;
 use std::alloc::Global;
 use w4_answers::record_text::RecordText;
 use w4_answers::writing::write_bytes;
@@ -42,18 +42,18 @@ pub fn write_place<H: House>(
 {
     match wanted {
         PlaceText::Image => {
-            paint(stage);
-            write_bytes(alloc, house, painted(stage))
+            stage.paint();
+            write_bytes(alloc, house, stage.painted())
         }
         PlaceText::Schedule => {
-            let text = frame_text(alloc, stage, RecordText::Schedule, place)?;
+            let text = stage.frame_text(alloc, RecordText::Schedule, place)?;
             write_bytes(alloc, house, text.as_slice())
         }
         PlaceText::Traces => {
-            let text = frame_text(alloc, stage, RecordText::Traces, place)?;
+            let text = stage.frame_text(alloc, RecordText::Traces, place)?;
             write_bytes(alloc, house, text.as_slice())
         }
-        PlaceText::DiskBytes => write_bytes(alloc, house, disk(stage)),
+        PlaceText::DiskBytes => write_bytes(alloc, house, stage.disk()),
     }
 }
 
@@ -77,10 +77,10 @@ pub fn write_places<H: House>(
     ensures rest { LeavesWriting (H.world house.old) (H.world house.new) }
 {
     let WantedTexts { text, from, to } = wanted;
-    run_to(stage, scene, inputs, from);
+    stage.run_to(scene, inputs, from);
     write_place(alloc, house, stage, text, from)?;
     for place in from..to {
-        step(stage, scene, inputs, place);
+        stage.step(scene, inputs, place);
         write_place(alloc, house, stage, text, place + 1)?;
     }
     Ok(())

@@ -31,7 +31,7 @@ use std::alloc::Global;
 use std::marker::Brand;
 use std::sync::ledger::{Blank, Ledger};
 use std::thread::Threads;
-use w4_answers::desk::{Desk, new_desk};
+use w4_answers::desk::Desk;
 use w4_answers::live_answer::answer_live_line;
 use w4_answers::saving::save_recording;
 use w4_cart::CartFile;
@@ -71,7 +71,7 @@ fn serve_run<L: Ledger, R: Threads + Sync, H: House, G: Gate + Sync>(
     ensures err { LeavesErr (H.world house.old) (H.world house.new) }
 {
     let cart = file.cart;
-    let mut desk: Desk<L> = new_desk(resources.alloc, cart, run.font, run.recording, blank)?;
+    let mut desk = Desk::<L>::new(resources.alloc, cart, run.font, run.recording, blank)?;
     serve_at(resources, house, &mut desk, names.out)
 }
 

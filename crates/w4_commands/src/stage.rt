@@ -32,133 +32,128 @@ pub struct Stage {
     image: Box<[u8; IMAGE_LEN]>,
 }
 
-/// A stage before any reset. Takes all the memory that running needs.
-pub fn new_stage(alloc: Global, cart: &Cart) -> Result<Stage, OutOfMemory>
-    ensures { IfOk result (λ stage. HasGlobals cart.now stage.console) }
-{
-    let console = Console::new(alloc, cart)?;
-    let frame_record = FrameRecord::new();
-    let image = Box::new(alloc, [0; IMAGE_LEN])?;
-    Ok(Stage {
-        console,
-        frame_record,
-        image,
-    })
-}
-
-/// Starts the run with a reset, and returns what the reset took of the budget.
-pub fn begin_run(stage: &mut Stage, scene: &Scene<'_>, inputs: &[Input]) -> Taken
-    requires { HasGlobals scene.now.setup.cart.now stage.old.console }
-    ensures place { IsAtPlace scene.now inputs.now 0 stage.new }
-    ensures taken { start_units (scene_setup scene.now) scene.now.disk.now ≡ Some (taken_of result) }
-{
-    let Setup { cart, font, budget } = scene.setup;
-    let frame_record = &mut stage.frame_record;
-    stage
-        .console
-        .reset(cart, font, scene.disk, budget, frame_record)
-}
-
-/// Goes on to the next place, and tells what the frame took of the budget.
-pub fn step_units(
-    stage: &mut Stage,
-    scene: &Scene<'_>,
-    inputs: &[Input],
-    place: usize,
-) -> FrameTaken
-    requires place { place < length inputs.now }
-    requires here { IsAtPlace scene.now inputs.now place stage.old }
-    ensures place { IsAtPlace scene.now inputs.now (place + 1) stage.new }
-    ensures taken { TellsUnits (scene_setup scene.now) scene.now.disk.now inputs.now place result }
-{
-    runs_in_parts();
-    stage
-        .console
-        .step(&scene.setup, &inputs[place], &mut stage.frame_record)
-}
-
-/// Goes on to the next place.
-pub fn step(stage: &mut Stage, scene: &Scene<'_>, inputs: &[Input], place: usize)
-    requires place { place < length inputs.now }
-    requires here { IsAtPlace scene.now inputs.now place stage.old }
-    ensures { IsAtPlace scene.now inputs.now (place + 1) stage.new }
-{
-    step_units(stage, scene, inputs, place);
-}
-
-/// Runs from a reset up to a place, in as many frames as its number.
-pub fn run_to(stage: &mut Stage, scene: &Scene<'_>, inputs: &[Input], place: usize)
-    requires place { place ≤ length inputs.now }
-    requires globals { HasGlobals scene.now.setup.cart.now stage.old.console }
-    ensures { IsAtPlace scene.now inputs.now place stage.new }
-{
-    begin_run(stage, scene, inputs);
-    for passed in 0..place {
-        step(stage, scene, inputs, passed);
+impl Stage {
+    /// A stage before any reset. Takes all the memory that running needs.
+    pub fn new(alloc: Global, cart: &Cart) -> Result<Stage, OutOfMemory>
+        ensures { IfOk result (λ stage. HasGlobals cart.now stage.console) }
+    {
+        let console = Console::new(alloc, cart)?;
+        let frame_record = FrameRecord::new();
+        let image = Box::new(alloc, [0; IMAGE_LEN])?;
+        Ok(Stage {
+            console,
+            frame_record,
+            image,
+        })
     }
-}
 
-/// Puts the image of the page into the stage.
-pub fn paint(stage: &mut Stage)
-    ensures image { stage.new.image.value ≡ image stage.old.console.page }
-    ensures console { stage.new.console ≡ stage.old.console }
-    ensures frame_record { stage.new.frame_record ≡ stage.old.frame_record }
-{
-    ppm_into(stage.console.state(), &mut stage.image);
-}
+    /// Starts the run with a reset, and returns what the reset took of the budget.
+    pub fn begin_run(&mut self, scene: &Scene<'_>, inputs: &[Input]) -> Taken
+        requires { HasGlobals scene.now.setup.cart.now self.old.console }
+        ensures place { IsAtPlace scene.now inputs.now 0 self.new }
+        ensures taken { start_units (scene_setup scene.now) scene.now.disk.now ≡ Some (taken_of result) }
+    {
+        let Setup { cart, font, budget } = scene.setup;
+        let frame_record = &mut self.frame_record;
+        self.console
+            .reset(cart, font, scene.disk, budget, frame_record)
+    }
 
-/// The image in the stage.
-pub fn painted(stage: &Stage) -> &[u8]
-    ensures { result.now ≡ stage.now.image.value }
-{
-    stage.image.as_slice()
-}
+    /// Goes on to the next place, and tells what the frame took of the budget.
+    pub fn step_units(&mut self, scene: &Scene<'_>, inputs: &[Input], place: usize) -> FrameTaken
+        requires place { place < length inputs.now }
+        requires here { IsAtPlace scene.now inputs.now place self.old }
+        ensures place { IsAtPlace scene.now inputs.now (place + 1) self.new }
+        ensures taken { TellsUnits (scene_setup scene.now) scene.now.disk.now inputs.now place result }
+    {
+        runs_in_parts();
+        self.console
+            .step(&scene.setup, &inputs[place], &mut self.frame_record)
+    }
 
-/// The state of the console.
-pub fn state(stage: &Stage) -> &State
-    ensures { result.now ≡ stage.now.console }
-{
-    stage.console.state()
-}
+    /// Goes on to the next place.
+    pub fn step(&mut self, scene: &Scene<'_>, inputs: &[Input], place: usize)
+        requires place { place < length inputs.now }
+        requires here { IsAtPlace scene.now inputs.now place self.old }
+        ensures { IsAtPlace scene.now inputs.now (place + 1) self.new }
+    {
+        self.step_units(scene, inputs, place);
+    }
 
-/// The bytes on the disk.
-pub fn disk(stage: &Stage) -> &[u8]
-    ensures { result.now ≡ stage.now.console.disk }
-{
-    stage.console.state().disk.bytes()
-}
+    /// Runs from a reset up to a place, in as many frames as its number.
+    pub fn run_to(&mut self, scene: &Scene<'_>, inputs: &[Input], place: usize)
+        requires place { place ≤ length inputs.now }
+        requires globals { HasGlobals scene.now.setup.cart.now self.old.console }
+        ensures { IsAtPlace scene.now inputs.now place self.new }
+    {
+        self.begin_run(scene, inputs);
+        for passed in 0..place {
+            self.step(scene, inputs, passed);
+        }
+    }
 
-/// Whether the cart still runs.
-pub fn halt(stage: &Stage) -> Halt
-    ensures { result ≡ stage.now.console.halt }
-{
-    stage.console.state().halt
-}
+    /// Paints the image of the page.
+    pub fn paint(&mut self)
+        ensures image { self.new.image.value ≡ image self.old.console.page }
+        ensures console { self.new.console ≡ self.old.console }
+        ensures frame_record { self.new.frame_record ≡ self.old.frame_record }
+    {
+        ppm_into(self.console.state(), &mut self.image);
+    }
 
-/// How many pixels of the image don't have palette index 0.
-pub fn lit(stage: &Stage) -> u32
-    ensures { result ≡ lit_pixels stage.now.console.page }
-{
-    lit_pixels(stage.console.state().page.bytes())
-}
+    /// The image that was painted last.
+    pub fn painted(&self) -> &[u8]
+        ensures { result.now ≡ self.now.image.value }
+    {
+        self.image.as_slice()
+    }
 
-/// A text of the frame that led to this place.
-pub fn frame_text(
-    alloc: Global,
-    stage: &Stage,
-    wanted: RecordText,
-    place: usize,
-) -> Result<Vec<u8>, OutOfMemory>
-    ensures { IfOk result (λ text. text.items
-        ≡ record_text wanted place (stage_moment stage.now).frame_record) }
-{
-    record_text(alloc, wanted, place, &stage.frame_record)
-}
+    /// The state of the console.
+    pub fn state(&self) -> &State
+        ensures { result.now ≡ self.now.console }
+    {
+        self.console.state()
+    }
 
-/// Renders the sound of the frame that led to this place.
-pub fn render(stage: &Stage, wave: &mut Wave, samples: &mut [u8; FRAME_LEN])
-    ensures samples { samples.new ≡ rendered (stage_moment stage.now).frame_record wave.old }
-    ensures wave { wave.new ≡ after_frame (stage_moment stage.now).frame_record wave.old }
-{
-    wave.render(&stage.frame_record, samples);
+    /// The bytes on the disk.
+    pub fn disk(&self) -> &[u8]
+        ensures { result.now ≡ self.now.console.disk }
+    {
+        self.console.state().disk.bytes()
+    }
+
+    /// Whether the cart still runs.
+    pub fn halt(&self) -> Halt
+        ensures { result ≡ self.now.console.halt }
+    {
+        self.console.state().halt
+    }
+
+    /// How many pixels of the image don't have palette index 0.
+    pub fn lit(&self) -> u32
+        ensures { result ≡ lit_pixels self.now.console.page }
+    {
+        lit_pixels(self.console.state().page.bytes())
+    }
+
+    /// A text of the frame that led to this place.
+    pub fn frame_text(
+        &self,
+        alloc: Global,
+        wanted: RecordText,
+        place: usize,
+    ) -> Result<Vec<u8>, OutOfMemory>
+        ensures { IfOk result (λ text. text.items
+            ≡ record_text wanted place (stage_moment self.now).frame_record) }
+    {
+        record_text(alloc, wanted, place, &self.frame_record)
+    }
+
+    /// Renders the sound of the frame that led to this place.
+    pub fn render(&self, wave: &mut Wave, samples: &mut [u8; FRAME_LEN])
+        ensures samples { samples.new ≡ rendered (stage_moment self.now).frame_record wave.old }
+        ensures wave { wave.new ≡ after_frame (stage_moment self.now).frame_record wave.old }
+    {
+        wave.render(&self.frame_record, samples);
+    }
 }

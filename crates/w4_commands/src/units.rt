@@ -12,7 +12,7 @@ ghost use Rattle.w4_commands.specs.Load.{run_files_view};
 
 use crate::load::RunFiles;
 use crate::scene::Scene;
-use crate::stage::{Stage, begin_run, new_stage, step_units};
+use crate::stage::Stage;
 use std::alloc::Global;
 use w4_answers::writing::write_bytes;
 use w4_console::{FrameTaken, Taken, start_line, units_line};
@@ -31,7 +31,7 @@ pub fn write_units<H: House>(
         (λ text. Written (H.world house.old) (H.world house.new) result text) }
     ensures rest { LeavesWriting (H.world house.old) (H.world house.new) }
 {
-    let mut stage = new_stage(alloc, cart)?;
+    let mut stage = Stage::new(alloc, cart)?;
     let recording = &run.recording;
     let scene = Scene::of_recording(cart, &run.font, recording);
     let inputs = recording.frames.as_slice();
@@ -51,10 +51,10 @@ fn write_lines<H: House>(
         (λ text. Written (H.world house.old) (H.world house.new) result text) }
     ensures rest { LeavesWriting (H.world house.old) (H.world house.new) }
 {
-    let start = begin_run(stage, scene, inputs);
+    let start = stage.begin_run(scene, inputs);
     write_start(alloc, house, start)?;
     for place in 0..inputs.len() {
-        let taken = step_units(stage, scene, inputs, place);
+        let taken = stage.step_units(scene, inputs, place);
         write_line(alloc, house, place, taken)?;
     }
     Ok(())

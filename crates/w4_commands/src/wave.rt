@@ -13,7 +13,7 @@ ghost use Rattle.w4_commands.specs.Load.{run_files_view};
 
 use crate::load::RunFiles;
 use crate::scene::Scene;
-use crate::stage::{Stage, new_stage, render, run_to, step};
+use crate::stage::Stage;
 use std::alloc::Global;
 use w4_answers::writing::write_bytes;
 use w4_defs::{Input, Refusal};
@@ -32,7 +32,7 @@ pub fn write_wave<H: House>(
         (λ text. Written (H.world house.old) (H.world house.new) result text) }
     ensures rest { LeavesWriting (H.world house.old) (H.world house.new) }
 {
-    let mut stage = new_stage(alloc, cart)?;
+    let mut stage = Stage::new(alloc, cart)?;
     let recording = &run.recording;
     let scene = Scene::of_recording(cart, &run.font, recording);
     let inputs = recording.frames.as_slice();
@@ -65,10 +65,10 @@ fn write_samples<H: House>(
     ensures rest { LeavesWriting (H.world house.old) (H.world house.new) }
 {
     let mut wave = Wave::new();
-    run_to(stage, scene, inputs, 0);
+    stage.run_to(scene, inputs, 0);
     write_frame(alloc, house, stage, &mut wave)?;
     for place in 0..inputs.len() {
-        step(stage, scene, inputs, place);
+        stage.step(scene, inputs, place);
         write_frame(alloc, house, stage, &mut wave)?;
     }
     Ok(())
@@ -87,6 +87,6 @@ fn write_frame<H: House>(
     ensures rest { LeavesWriting (H.world house.old) (H.world house.new) }
 {
     let mut samples = [0; FRAME_LEN];
-    render(stage, wave, &mut samples);
+    stage.render(wave, &mut samples);
     write_bytes(alloc, house, &samples)
 }

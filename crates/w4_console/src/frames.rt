@@ -20,8 +20,8 @@ use w4_map::State;
 use wasm_register::Engine;
 use wasm_valid::Entry;
 
-/// How a frame begins: with a start if its input has a reset, and otherwise with empty logs. What the start
-/// took.
+/// How a frame begins: with a start if its input has a reset, and otherwise with empty logs.
+/// What the start took.
 pub(crate) fn begin_frame(
     engine: &mut Engine,
     state: &mut State,
@@ -39,7 +39,7 @@ pub(crate) fn begin_frame(
     if input.reset {
         Some(start_cart(engine, state, setup, frame_record))
     } else {
-        *frame_record = FrameRecord::new();
+        frame_record.clear();
         None
     }
 }

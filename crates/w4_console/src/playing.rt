@@ -1,5 +1,5 @@
-//! Playing by a setup: one frame or many, under the caller's counter, or under one of its own where frames
-//! aren't counted.
+//! Playing by a setup: one frame or many, under the caller's counter, or under one of its own
+//! where frames aren't counted.
 
 ghost use Rattle.std.specs.Prelude.{◌≡◌, ◌+◌, Some, length};
 ghost use Rattle.w4_console.specs.Calls.{moment, setup_of};
@@ -27,7 +27,8 @@ impl Console {
         frame_record: &mut FrameRecord,
     ) -> FrameTaken
         requires { HasGlobals setup.now.cart.now self.old }
-        ensures frame { frame (setup_of setup.now) self.old input.now ≡ Some (moment self.new frame_record.new) }
+        ensures frame { frame (setup_of setup.now) self.old input.now
+            ≡ Some (moment self.new frame_record.new) }
         ensures taken { FrameTakes (setup_of setup.now) self.old input.now result }
         ensures globals { HasGlobals setup.now.cart.now self.new }
     {
@@ -72,7 +73,8 @@ impl Console {
     ) -> FrameTaken
         requires globals { HasGlobals setup.now.cart.now self.old }
         requires blank { IsBlankOf L.name L.parts blank }
-        ensures frame { frame (setup_of setup.now) self.old input.now ≡ Some (moment self.new frame_record.new) }
+        ensures frame { frame (setup_of setup.now) self.old input.now
+            ≡ Some (moment self.new frame_record.new) }
         ensures taken { FrameTakes (setup_of setup.now) self.old input.now result }
         ensures globals { HasGlobals setup.now.cart.now self.new }
     {

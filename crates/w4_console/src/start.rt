@@ -39,7 +39,7 @@ pub(crate) fn start_cart(
     ensures globals { HasGlobals setup.now.cart.now state.new }
 {
     put_fresh(state, setup.cart);
-    *frame_record = FrameRecord::new();
+    frame_record.clear();
     let rest = call_all(engine, state, setup, frame_record);
     taken_by_calls(setup.budget, rest)
 }
@@ -65,8 +65,8 @@ pub(crate) fn first_globals(cart: &Cart) -> &[Val]
     cart.first_globals()
 }
 
-/// A fact for callers, which costs nothing: the module is valid, so its constants have the types of their
-/// globals.
+/// A fact for callers, which costs nothing: the module is valid, so its constants have the
+/// types of their globals.
 fn is_valid(cart: &Cart)
     ensures { IsValid cart.now }
 {

@@ -28,4 +28,13 @@ impl FrameRecord {
             sounds: [None; 4],
         }
     }
+
+    /// Empties logs and sounds in place: less is written than for a new record.
+    pub fn clear(&mut self)
+        ensures { record_of self.new ≡ empty_record }
+    {
+        self.tones.clear();
+        self.traces.clear();
+        self.sounds = [None; 4];
+    }
 }

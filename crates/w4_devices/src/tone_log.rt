@@ -60,6 +60,14 @@ impl ToneLog {
         }
     }
 
+    /// Empties the log. The tones that it had stay in memory until others are written over them.
+    pub fn clear(&mut self)
+        ensures { self.new ≡ empty_log }
+    {
+        self.count = 0;
+        self.dropped = 0;
+    }
+
     /// Adds a tone. `decode` of w4_tone gives tones in the ranges asked for.
     pub fn add(&mut self, tone: Tone)
         requires { IsTone tone }

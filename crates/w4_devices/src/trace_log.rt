@@ -42,6 +42,14 @@ impl TraceLog {
         }
     }
 
+    /// Empties the log. Only the lines that it had are written over.
+    pub fn clear(&mut self)
+        ensures { self.new ≡ empty_log }
+    {
+        self.lines.clear();
+        self.dropped = 0;
+    }
+
     /// Adds the line of `trace`, `traceUtf8` or `traceUtf16`.
     pub fn trace(&mut self, page: &PageBytes, source: TextSource)
         ensures { self.new ≡ logged kept_lines self.old (trace_line page.now source) }

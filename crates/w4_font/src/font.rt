@@ -3,6 +3,7 @@
 ghost use Rattle.std.specs.Prelude.{◌≡◌, ◌≢◌, ℕ, List, IfErr, IfOk, length, slice_index};
 
 use std::marker::Model;
+use w4_defs::Refusal;
 
 /// How many bytes a font has: 8 for each of 224 codes.
 pub const FONT_BYTES: usize = 1_792;
@@ -22,6 +23,16 @@ impl Model for Font {
 /// The bytes of a font aren't 1,792.
 #[derive(Clone, Copy, PartialEq, Eq, Debug)]
 pub struct FontLength;
+
+impl From<FontLength> for Refusal {
+    ghost use Rattle.w4_defs.specs.declared.status.Refusal.TheVariants.{FontRefused};
+
+    ghost from_gives = { λ _ refusal. refusal ≡ FontRefused };
+
+    fn from(_length: FontLength) -> Refusal {
+        Refusal::FontRefused
+    }
+}
 
 impl Font {
     /// The font of these bytes. Refused if and only if they aren't 1,792.

@@ -1,3 +1,4 @@
+pub mod Calls
 pub mod Stored
 pub mod Lines
 pub mod EventLog

@@ -43,7 +43,7 @@ ghost use Rattle.w4_house.specs.Lines.{taken};
 
 use std::alloc::{AllocError, Global};
 use thiserror::Error;
-use w4_defs::OutOfMemory;
+use w4_defs::{OutOfMemory, Refusal};
 
 /// Why a file or a line of standard input couldn't be read.
 #[derive(Clone, Copy, PartialEq, Eq, Debug, Error)]
@@ -87,6 +87,19 @@ impl From<OutOfMemory> for WriteRefusal {
 
     fn from(_refusal: OutOfMemory) -> WriteRefusal {
         WriteRefusal::OutOfMemory
+    }
+}
+
+impl From<WriteRefusal> for Refusal {
+    ghost use Rattle.w4_house.specs.Calls.{write_refusal};
+
+    ghost from_gives = { λ why refusal. refusal ≡ write_refusal why };
+
+    fn from(why: WriteRefusal) -> Refusal {
+        match why {
+            WriteRefusal::Failed => Refusal::WriteFault,
+            WriteRefusal::OutOfMemory => Refusal::OutOfMemory,
+        }
     }
 }
 

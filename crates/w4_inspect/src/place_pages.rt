@@ -119,7 +119,8 @@ fn add_pages<L: Ledger>(
     requires at { editor.old.at ≡ Some places.a }
     requires place { places.b ≤ length editor.old.session.current.inputs }
     requires first { all_some (map (page_at editor.old) (range_with_len places.a 1)) ≡ Some pages.old.items }
-    ensures pages { OnOk result (all_some (map (page_at editor.old) (range_with_len places.a (places.b + 1 - places.a)))
+    ensures pages { OnOk result
+        (all_some (map (page_at editor.old) (range_with_len places.a (places.b + 1 - places.a)))
         ≡ Some pages.new.items) }
     ensures same { OnOk result (editor.new ≡ with_session editor.old editor.old.session (Some places.b)) }
     ensures ticks { OnOk result (steps.new ≡ steps.old + (places.b - places.a)) }

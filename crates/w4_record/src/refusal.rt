@@ -4,7 +4,7 @@ ghost use Rattle.std.specs.Prelude.{◌≡◌};
 
 use std::alloc::{AllocError, AllocFailed};
 use thiserror::Error;
-use w4_defs::OutOfMemory as NoMemory;
+use w4_defs::{OutOfMemory as NoMemory, RecordingKind, Refusal};
 
 /// Why there is no recording.
 #[derive(Clone, Copy, PartialEq, Eq, Debug, Error)]
@@ -44,5 +44,18 @@ impl<T: Drop> From<AllocFailed<T>> for RecordingRefusal {
 
     fn from(_refusal: AllocFailed<T>) -> RecordingRefusal {
         RecordingRefusal::OutOfMemory
+    }
+}
+
+impl From<RecordingRefusal> for Refusal {
+    ghost use Rattle.w4_record.specs.Refusal.{recording_refusal};
+
+    ghost from_gives = { λ why refusal. refusal ≡ recording_refusal why };
+
+    fn from(why: RecordingRefusal) -> Refusal {
+        match why {
+            RecordingRefusal::BadRecording => Refusal::RecordingRefused(RecordingKind::Bad),
+            RecordingRefusal::OutOfMemory => Refusal::OutOfMemory,
+        }
     }
 }

@@ -1,6 +1,6 @@
 //! What no clause says: that the house of the program reads the files and the input that it is asked for, and
-//! writes the bytes that it is given; and that the calls of `SureHouse` on standard input and standard error, which
-//! no other test makes, succeed where there is enough memory.
+//! writes the bytes that it is given; and that the calls of `SureHouse` on standard input and standard error,
+//! which no other test makes, succeed where there is enough memory.
 
 ghost use Rattle.std.specs.Prelude.{None};
 

@@ -12,7 +12,7 @@ use Rattle.w4_answers.proofs.range_answer.write_disk.Goals as goal
 pub returns-clause-out : goal.returns-clause-out
 returns-clause-out g c =
     let old = c.args.desk.now.counted.editor in
-    let new = c.go_on.new.desk.counted.editor in
+    let new = c.go_on.new.self.counted.editor in
     there_is
     (λ text.
     Written (g.H.House.world c.args.house.now) (g.H.House.world c.write.new.house) c.write.result text)

@@ -14,9 +14,9 @@ returns-in_ok-make_image-in-Image-clause-out g c =
     Written (g.H.House.world c.args.house.now) (g.H.House.world c.write.new.house) c.write.result
     text)
     (text_by g.S.Shape.form c.args.desk.now.counted.editor Image c.args.place)
-    (g.S.Shape.form c.make_image.new.desk.image.value)
+    (g.S.Shape.form c.make_image.new.self.image.value)
     (text_formed g.S.Shape.form Image c.args.place (run_at c.args.desk.now.counted.editor c.args.place)
-    c.make_image.new.desk.image.value c.in_ok-make_image-in-Image.ensures.image) (rw (← c.made_image.ensures) c.write.ensures.out))
+    c.make_image.new.self.image.value c.in_ok-make_image-in-Image.ensures.image) (rw (← c.made_image.ensures) c.write.ensures.out))
 
 pub returns-in_ok-text-in-Schedule-clause-out : goal.returns-in_ok-text-in-Schedule-clause-out
 returns-in_ok-text-in-Schedule-clause-out g c =

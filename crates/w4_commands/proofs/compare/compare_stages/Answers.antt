@@ -9,13 +9,13 @@ pub loop-place-init : goal.loop-place-init
 loop-place-init c =
     let scene = c.args.side.now.scene in
     let other_scene = c.args.other_side.now.scene in (
-      places_begin scene other_scene c.args.side.now.inputs.now c.args.other_side.now.inputs.now c.run_to.new.stage
-          c.run_to-2.new.stage c.no_differences-found.result c.note_place.new.found
-          c.no_differences-found.ensures c.in_ok-note_place.ensures.found c.run_to.ensures c.run_to-2.ensures,
+      places_begin scene other_scene c.args.side.now.inputs.now c.args.other_side.now.inputs.now c.run_to.new.self
+          c.run_to-2.new.self c.none-found.result c.note_place.new.self
+          c.none-found.ensures c.in_ok-note_place.ensures.found c.run_to.ensures c.run_to-2.ensures,
       omega arith,
-      stands_still scene c.args.side.now.inputs.now 0 c.run_to.new.stage c.note_place.new.one c.note_place.ensures.one
+      stands_still scene c.args.side.now.inputs.now 0 c.run_to.new.self c.note_place.new.one c.note_place.ensures.one
           c.run_to.ensures,
-      stands_still other_scene c.args.other_side.now.inputs.now 0 c.run_to-2.new.stage c.note_place.new.other
+      stands_still other_scene c.args.other_side.now.inputs.now 0 c.run_to-2.new.self c.note_place.new.other
           c.note_place.ensures.other c.run_to-2.ensures,
     )
 
@@ -24,14 +24,14 @@ loop-place-preserved c =
     let scene = c.args.side.now.scene in
     let other_scene = c.args.other_side.now.scene in
     let place = c.loop-place.place in (
-      places_go_on scene other_scene c.args.side.now.inputs.now c.args.other_side.now.inputs.now place c.step.new.stage
-          c.step-in-loop-place.new.stage c.loop-place.found c.note_place-in-loop-place.new.found
+      places_go_on scene other_scene c.args.side.now.inputs.now c.args.other_side.now.inputs.now place c.step.new.self
+          c.step-in-loop-place.new.self c.loop-place.found c.note_place-in-loop-place.new.self
           c.in_ok-note_place-2.ensures.found c.step.ensures c.step-in-loop-place.ensures
           c.loop-place.invariant.0,
       omega (arith, c.loop-place-test.true, c.min-place-end.ensures),
-      stands_still scene c.args.side.now.inputs.now (place + 1) c.step.new.stage c.note_place-in-loop-place.new.one
+      stands_still scene c.args.side.now.inputs.now (place + 1) c.step.new.self c.note_place-in-loop-place.new.one
           c.note_place-in-loop-place.ensures.one c.step.ensures,
-      stands_still other_scene c.args.other_side.now.inputs.now (place + 1) c.step-in-loop-place.new.stage
+      stands_still other_scene c.args.other_side.now.inputs.now (place + 1) c.step-in-loop-place.new.self
           c.note_place-in-loop-place.new.other c.note_place-in-loop-place.ensures.other
           c.step-in-loop-place.ensures,
     )

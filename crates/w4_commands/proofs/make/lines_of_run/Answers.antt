@@ -15,7 +15,7 @@ run_to-requires-clause-place c =
 
 pub returns : goal.returns
 returns c =
-    let moment = stage_moment c.run_to.new.stage in
+    let moment = stage_moment c.run_to.new.self in
     let told = summary_is c.args.number c.args.cart.now c.zero_font-font.result c.args.made.now.budget
     c.as_slice.result.now c.args.made.now.cart.items (length c.as_slice-bytes.result.now) moment
     c.requires.accepted

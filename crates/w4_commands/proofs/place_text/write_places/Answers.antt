@@ -25,7 +25,7 @@ loop-place-init g c =
       texts-more first first now text whole c.args.wanted.from (c.args.wanted.to + 1) (omega
           (arith, c.requires.order))
           (there_is (λ bytes. AppendsOut first.events now.events bytes) (text c.args.wanted.from)
-          (moment_text c.args.wanted.text c.args.wanted.from (stage_moment c.run_to.new.stage))
+          (moment_text c.args.wanted.text c.args.wanted.from (stage_moment c.run_to.new.self))
           (rw c.run_to.ensures.0 refl) c.in_ok-write_place.ensures.out)
           (there_begins first whole),
       c.requires.order,
@@ -46,7 +46,7 @@ loop-place-preserved g c =
     let next = g.H.House.world c.write_place-in-loop-place.new.house in (
       texts-more first now next text whole at (c.args.wanted.to + 1) (omega (arith, c.loop-place-test.true))
           (there_is (λ bytes. AppendsOut now.events next.events bytes) (text at)
-          (moment_text c.args.wanted.text at (stage_moment c.step.new.stage))
+          (moment_text c.args.wanted.text at (stage_moment c.step.new.self))
           (rw c.step.ensures.0 refl) c.in_ok-write_place-2.ensures.out)
           c.loop-place.invariant.0,
       omega (arith, c.loop-place-test.true),
@@ -81,7 +81,7 @@ returns-in_err-write_place-clause-out g c =
     (arith, c.requires.order))
     (omega arith) (there_begins first whole)
     (there_is (λ bytes. StopsWriting first now why bytes) (text c.args.wanted.from)
-    (moment_text c.args.wanted.text c.args.wanted.from (stage_moment c.run_to.new.stage))
+    (moment_text c.args.wanted.text c.args.wanted.from (stage_moment c.run_to.new.self))
     (rw c.run_to.ensures.0 refl) c.in_err-write_place.ensures.out))
 
 pub returns-in_err-write_place-2-clause-out : goal.returns-in_err-write_place-2-clause-out
@@ -104,5 +104,5 @@ returns-in_err-write_place-2-clause-out g c =
     (arith, c.loop-place-test.true))
     c.loop-place.invariant.3.later c.loop-place.invariant.0
     (there_is (λ bytes. StopsWriting now next why bytes) (text at)
-    (moment_text c.args.wanted.text at (stage_moment c.step.new.stage))
+    (moment_text c.args.wanted.text at (stage_moment c.step.new.self))
     (rw c.step.ensures.0 refl) c.in_err-write_place-2.ensures.out))

@@ -15,7 +15,7 @@ loop-place-init g c =
     let all : length c.args.inputs.now - 0 ≡ length c.args.inputs.now = omega arith in (
       rw (all, ← c.new-wave.ensures)
           (samples-begin (g.H.House.world c.args.house.now) (g.H.House.world c.write_frame.new.house) records
-          (stage_moment c.run_to.new.stage).frame_record c.new-wave.result c.write_frame.new.wave
+          (stage_moment c.run_to.new.self).frame_record c.new-wave.result c.write_frame.new.wave
           (length c.args.inputs.now) (rw c.run_to.ensures.0 refl) c.in_ok-write_frame.ensures.out
           c.in_ok-write_frame.ensures.wave),
       omega arith,
@@ -29,7 +29,7 @@ loop-place-preserved g c =
     let first = g.H.House.world c.args.house.now in
     let now = g.H.House.world c.loop-place.house in
     let after = g.H.House.world c.write_frame-in-loop-place.new.house in (
-      samples-go_on first now after records (stage_moment c.step.new.stage).frame_record c.loop-place.wave
+      samples-go_on first now after records (stage_moment c.step.new.self).frame_record c.loop-place.wave
           c.write_frame-in-loop-place.new.wave c.loop-place.place (length c.args.inputs.now)
           (samples_at records first_wave 0 (length c.args.inputs.now + 1)) c.loop-place-test.true
           (rw c.step.ensures.0 refl) c.in_ok-write_frame-2.ensures.out c.in_ok-write_frame-2.ensures.wave
@@ -62,7 +62,7 @@ returns-in_err-write_frame-clause-out g c =
     (samples_of (λ text. StopsWriting old new why text)
     (scene_records c.args.scene.now c.args.inputs.now places)
     (rw (← c.new-wave.ensures)
-    (samples-stop_first old new why records (stage_moment c.run_to.new.stage).frame_record c.new-wave.result
+    (samples-stop_first old new why records (stage_moment c.run_to.new.self).frame_record c.new-wave.result
     (length c.args.inputs.now) (rw c.run_to.ensures.0 refl) c.in_err-write_frame.ensures.out)))
 
 pub returns-in_err-write_frame-2-clause-out : goal.returns-in_err-write_frame-2-clause-out
@@ -79,7 +79,7 @@ returns-in_err-write_frame-2-clause-out g c =
     rw (p.1, p.2)
     (samples_of (λ text. StopsWriting old new why text)
     (scene_records c.args.scene.now c.args.inputs.now places)
-    (samples-stop old now new why records (stage_moment c.step.new.stage).frame_record c.loop-place.wave
+    (samples-stop old now new why records (stage_moment c.step.new.self).frame_record c.loop-place.wave
     c.loop-place.place (length c.args.inputs.now) (samples_at records first_wave 0 places)
     c.loop-place-test.true (rw c.step.ensures.0 refl) c.loop-place.invariant.3.later
     c.loop-place.invariant.0 c.in_err-write_frame-2.ensures.out))

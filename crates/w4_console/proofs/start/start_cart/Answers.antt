@@ -15,8 +15,8 @@ returns-clause-start c =
     call_all (setup_of c.args.setup.now) (start_functions c.args.setup.now.cart.now)
     now c.args.setup.now.budget
     ≡ Some (so_far c.call_all-rest.new.state c.call_all-rest.new.frame_record))
-    (frame_begins c.put_fresh.new.state (fresh c.args.setup.now.cart.now c.args.state.now.disk) c.new.result
-    c.put_fresh.ensures.state c.new.ensures)
+    (frame_begins c.put_fresh.new.state (fresh c.args.setup.now.cart.now c.args.state.now.disk) c.clear.new.self
+    c.put_fresh.ensures.state c.clear.ensures)
     c.call_all-rest.ensures.called
 
 pub returns-clause-taken : goal.returns-clause-taken
@@ -24,6 +24,6 @@ unfolding start_units
 returns-clause-taken c =
     let setup = setup_of c.args.setup.now in
     ap (λ (now : LoggedState). taken_by_calls setup (start_functions c.args.setup.now.cart.now) now c.args.setup.now.budget)
-    (sym (frame_begins c.put_fresh.new.state (fresh c.args.setup.now.cart.now c.args.state.now.disk) c.new.result
-    c.put_fresh.ensures.state c.new.ensures))
+    (sym (frame_begins c.put_fresh.new.state (fresh c.args.setup.now.cart.now c.args.state.now.disk) c.clear.new.self
+    c.put_fresh.ensures.state c.clear.ensures))
     ∙ c.call_all-rest.ensures.taken ∙ ap Some (sym c.taken_by_calls.ensures)

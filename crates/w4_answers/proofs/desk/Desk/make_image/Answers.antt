@@ -4,12 +4,12 @@ use Rattle.w4_defs.specs.declared.place_text.PlaceText.TheVariants.{Image}
 use Rattle.w4_defs.proofs.TextsOfStates.{image_of_state}
 use Rattle.w4_answers.proofs.DeskSessionLaws.{same_text}
 use Rattle.w4_answers.proofs.RangeAnswerLaws.{run_at}
-use Rattle.w4_answers.proofs.desk.make_image.Goals as goal
+use Rattle.w4_answers.proofs.desk.Desk.make_image.Goals as goal
 
 pub returns-clause-image : goal.returns-clause-image
 returns-clause-image g c =
-    let new = c.go_on.new.desk.counted.editor in
-    sym (same_text as_it_stands c.args.desk.now.counted.editor new Image c.args.place
+    let new = c.go_on.new.self.counted.editor in
+    sym (same_text as_it_stands c.args.self.now.counted.editor new Image c.args.place
     c.in_ok-go_on.ensures.shows)
     ∙ image_of_state as_it_stands c.args.place (run_at new c.args.place) c.state.result.now
     (c.state.ensures c.args.place c.in_ok-go_on.ensures.at)

@@ -5,11 +5,11 @@ use Rattle.w4_answers.specs.Desk.{IsMade, StepsOn}
 use Rattle.w4_answers.proofs.DeskLaws.{made_of_reset}
 use Rattle.w4_answers.proofs.RangeAnswerLaws.{record_in, reset_record, run_at, text_of_record}
 use Rattle.w4_answers.proofs.ScriptAnswerLaws.{if_ok_map, on_ok}
-use Rattle.w4_answers.proofs.desk.frame_text.Goals as goal
+use Rattle.w4_answers.proofs.desk.Desk.frame_text.Goals as goal
 
 pub returns-then-place-eq0-clause-text : goal.returns-then-place-eq0-clause-text
 returns-then-place-eq0-clause-text g c =
-    let old = c.args.desk.now.counted.editor in
+    let old = c.args.self.now.counted.editor in
     let frame_record = record_of c.reset_frame.result.now in
     let told = text_of_record c.args.wanted c.args.place (run_at old c.args.place) frame_record
     (rw c.if-place-eq0.true
@@ -20,8 +20,8 @@ returns-then-place-eq0-clause-text g c =
 
 pub returns-clause-text : goal.returns-clause-text
 returns-clause-text g c =
-    let old = c.args.desk.now.counted.editor in
-    let frame_record = record_of c.frame_taken.new.desk.frame_record in
+    let old = c.args.self.now.counted.editor in
+    let frame_record = record_of c.frame_taken.new.self.frame_record in
     let here : c.args.place - 1 + 1 ≡ c.args.place = omega (arith, c.if-place-eq0.false) in
     let told = text_of_record c.args.wanted c.args.place (run_at old c.args.place) frame_record
     (subst (λ p. record_in (run_at old p) ≡ Some frame_record) here
@@ -31,15 +31,15 @@ returns-clause-text g c =
 
 pub returns-then-place-eq0-clause-made : goal.returns-then-place-eq0-clause-made
 returns-then-place-eq0-clause-made g c =
-    on_ok c.record_text.result (made_of_reset c.args.place c.args.desk.now.counted.steps
-    c.args.desk.now.counted.editor c.if-place-eq0.true)
+    on_ok c.record_text.result (made_of_reset c.args.place c.args.self.now.counted.steps
+    c.args.self.now.counted.editor c.if-place-eq0.true)
 
 pub returns-clause-made : goal.returns-clause-made
 returns-clause-made g c =
     let here : c.args.place - 1 + 1 ≡ c.args.place = omega (arith, c.if-place-eq0.false) in
     on_ok c.record_text-2.result
-    (subst (λ p. IsMade 1 p c.args.desk.now.counted.steps c.frame_taken.new.desk.counted.steps
-    c.args.desk.now.counted.editor c.frame_taken.new.desk.counted.editor) here
+    (subst (λ p. IsMade 1 p c.args.self.now.counted.steps c.frame_taken.new.self.counted.steps
+    c.args.self.now.counted.editor c.frame_taken.new.self.counted.editor) here
     c.in_ok-frame_taken.ensures.made)
 
 pub returns-then-place-eq0-clause-steps : goal.returns-then-place-eq0-clause-steps
@@ -51,6 +51,6 @@ pub returns-clause-steps : goal.returns-clause-steps
 returns-clause-steps g c =
     let here : c.args.place - 1 + 1 ≡ c.args.place = omega (arith, c.if-place-eq0.false) in
     on_ok c.record_text-2.result
-    (subst (λ p. StepsOn p c.args.desk.now.counted.steps c.frame_taken.new.desk.counted.steps
-    c.args.desk.now.counted.editor c.frame_taken.new.desk.counted.editor) here
+    (subst (λ p. StepsOn p c.args.self.now.counted.steps c.frame_taken.new.self.counted.steps
+    c.args.self.now.counted.editor c.frame_taken.new.self.counted.editor) here
     c.in_ok-frame_taken.ensures.steps)

@@ -4,16 +4,16 @@ use Rattle.w4_defs.specs.Session.{Session}
 use Rattle.w4_editor.specs.Editor.{Editing}
 use Rattle.w4_answers.specs.Desk.{RunsOn}
 use Rattle.w4_answers.proofs.DeskLaws.{made_from_before}
-use Rattle.w4_answers.proofs.desk.frame_taken.Goals as goal
+use Rattle.w4_answers.proofs.desk.Desk.frame_taken.Goals as goal
 
 pub returns-clause-made : goal.returns-clause-made
 returns-clause-made g c =
     let here : c.args.place ≡ c.args.place + 1 - 1 = omega arith in
-    made_from_before (c.args.place + 1) c.args.desk.now.counted.steps c.go_unless_shown.new.counted.steps
-    c.step_from.new.counted.steps c.args.desk.now.counted.editor c.go_unless_shown.new.counted.editor
+    made_from_before (c.args.place + 1) c.args.self.now.counted.steps c.go_unless_shown.new.counted.steps
+    c.step_from.new.counted.steps c.args.self.now.counted.editor c.go_unless_shown.new.counted.editor
     c.step_from.new.counted.editor
-    (subst (λ p. RunsOn p 0 c.args.desk.now.counted.steps c.go_unless_shown.new.counted.steps
-    c.args.desk.now.counted.editor c.go_unless_shown.new.counted.editor) here
+    (subst (λ p. RunsOn p 0 c.args.self.now.counted.steps c.go_unless_shown.new.counted.steps
+    c.args.self.now.counted.editor c.go_unless_shown.new.counted.editor) here
     c.in_ok-go_unless_shown.ensures.frames_run)
     c.step_from.ensures.ticks
     (ap (λ (s : Session Entry). s.current.kept) c.step_from.ensures.kept) c.step_from.ensures.at
