@@ -102,7 +102,8 @@ impl<L: Ledger> Desk<L> {
         self.image.as_slice()
     }
 
-    /// Makes the record of the frame from a place; the place after it is shown then. What it took of the budget.
+    /// Makes the record of the frame from a place; the place after it is shown then. What the frame took of
+    /// its budget.
     pub fn frame_taken(&mut self, alloc: Global, place: usize) -> Result<FrameTaken, OutOfMemory>
         requires place { place < length self.old.counted.editor.session.current.inputs }
         ensures shows { OnOk result (OnlyShows self.old.counted.editor self.new.counted.editor) }
@@ -135,8 +136,8 @@ impl<L: Ledger> Desk<L> {
         ensures shows { OnOk result (OnlyShows self.old.counted.editor self.new.counted.editor) }
         ensures recording { current_recording self.new.counted.editor
             ≡ current_recording self.old.counted.editor }
-        ensures text { IfOk result (λ text. text_by as_it_stands self.old.counted.editor (text_of_place wanted)
-            place ≡ Some text.items) }
+        ensures text { IfOk result (λ text.
+            text_by as_it_stands self.old.counted.editor (text_of_place wanted) place ≡ Some text.items) }
         ensures made { OnOk result (IsMade 1 place self.old.counted.steps self.new.counted.steps
             self.old.counted.editor self.new.counted.editor) }
         ensures steps { OnOk result (StepsOn place self.old.counted.steps self.new.counted.steps

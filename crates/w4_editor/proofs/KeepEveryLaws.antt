@@ -1,13 +1,17 @@
 -- Each multiple of a number is kept, one after another.
-use Rattle.std.proofs.Common.{◌≡◌, ◌≢◌, ℕ, zero, suc, ◌+◌, ◌-◌, ◌%◌, ◌<◌, ◌≤◌, Bool, true, false, cond, not, ltb, eqb, ◌&&◌, ◌||◌, List, [], ◌∷◌, map, length, get_or, drop, refl, sym, ap, ◌∙◌, arith, subst, add-one, drop-cons}
+use Rattle.std.proofs.Common.{◌≡◌, ◌≢◌, inl, inr, ℕ, Option, None, zero, suc, ◌+◌, ◌-◌, ◌%◌, ◌<◌, ◌≤◌, Bool, true, false, cond, not, ltb, eqb, ◌&&◌, ◌||◌, List, [], ◌∷◌, map, length, get_or, drop, refl, sym, ap, ◌∙◌, arith, subst, add-one, drop-cons}
 use Rattle.std.specs.Prelude.{◌==◌}
 use Rattle.std.specs.List.{filter, range_with_len}
 use Rattle.std.proofs.Math.ListN.{drop_of_length-le}
 use Rattle.std.proofs.lemmas.Bool.{eq-eqb, ne_eqb}
 use Rattle.std.proofs.lemmas.List.{length-map}
+use Rattle.w4_defs.specs.declared.editing.EditRefusal.{EditRefusal}
+use Rattle.w4_defs.specs.declared.editing.EditRefusal.TheVariants.{OutOfMemory}
 use Rattle.w4_defs.specs.KeptList.{Entry, kept_entries, place_at}
-use Rattle.w4_defs.specs.Session.{places_alone, is_kept, with_kept, all_kept}
+use Rattle.w4_defs.specs.Session.{Draft, places_alone, is_kept, keep_refusal, with_kept, all_kept}
 use Rattle.w4_editor.specs.KeepEvery.{is_fresh_multiple, with_multiple}
+use Rattle.w4_editor.specs.Playing.{IsCauseOrMemory}
+use Rattle.w4_editor.proofs.EditorLaws.{may_keep}
 
 -- the multiples among so many places
 abbrev pub multiples_from : ℕ → ℕ → ℕ → List ℕ
@@ -195,3 +199,34 @@ kept_nowhere p i entries whole le so_far =
     let none : is_kept places_alone p (drop i (map kept_entries.place entries)) ≡ false =
     rw (drop_of_length-le (map kept_entries.place entries) past) refl in
     sym none ∙ so_far
+
+-- ---- a multiple that isn't kept yet may be kept
+
+is_fresh : (multiple there : Bool) → multiple && not there ≡ true → there ≡ false
+is_fresh true false e = refl
+is_fresh true true e = absurd cc
+is_fresh false there e = absurd cc
+
+-- a place is kept if and only if it is one of the places
+pub is_one : (p : ℕ) (kept : List Entry)
+    → is_kept kept_entries p kept ≡ is_kept places_alone p (map kept_entries.place kept)
+is_one p [] = refl
+is_one p (x ∷ kept) = ap (λ (there : Bool). eqb x.place p || there) (is_one p kept)
+
+pub may_keep_multiple : (every p : ℕ) (draft : Draft Entry) → p ≤ length draft.inputs
+    → is_fresh_multiple every p (map kept_entries.place draft.kept) ≡ true
+    → length (with_multiple every p (map kept_entries.place draft.kept)) ≤ 1024
+    → keep_refusal kept_entries p draft ≡ None
+may_keep_multiple every p draft le fresh room =
+    let places = map kept_entries.place draft.kept in
+    let other = is_fresh (p % every == 0) (is_kept places_alone p places) fresh in
+    let more : length (with_multiple every p places) ≡ length places + 1 =
+    ap (λ (b : Bool). length (cond b (with_kept places_alone p places) places)) fresh ∙ length_with p places in
+    let many = length-map draft.kept kept_entries.place in
+    may_keep p draft le (is_one p draft.kept ∙ other) (omega (arith, more, many, room))
+
+-- where nothing refuses the place it is memory that does
+pub memory_alone : (cause : Option EditRefusal) (refusal : EditRefusal) → cause ≡ None
+    → IsCauseOrMemory cause refusal → refusal ≡ OutOfMemory
+memory_alone cause refusal none (inl some) = let both = sym none ∙ some in absurd cc
+memory_alone cause refusal none (inr memory) = memory.0

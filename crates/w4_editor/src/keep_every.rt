@@ -100,7 +100,10 @@ fn keep_wanted<L: Ledger>(
     }
     match editor.keep(alloc, place, steps) {
         Ok(copied) => Ok(copied),
-        Err(_) => Err(OutOfMemory),
+        Err(refusal) => match refusal {
+            EditRefusal::OutOfMemory => Err(OutOfMemory),
+            _ => unreachable!(),
+        },
     }
 }
 

@@ -1,5 +1,5 @@
 -- What the editor's calls leave of a replica whose editor was rolled back.
-use Rattle.std.proofs.Common.{◌≡◌, ℕ, ◌<◌, ◌≤◌, Bool, true, false, cond, ltb, eqb, leb, ◌||◌, List, [], ◌∷◌, length, Option, Some, None, Result, Ok, Err, refl, sym, ap, ◌∙◌, inl, inr, arith}
+use Rattle.std.proofs.Common.{◌≡◌, ℕ, ◌<◌, ◌≤◌, Bool, true, false, cond, ltb, leb, List, [], ◌∷◌, length, Option, Some, None, Result, Ok, Err, refl, sym, ap, ◌∙◌, inl, inr, arith}
 use Rattle.std.proofs.lemmas.Bool.{lt-ltb, le-ltb, lt-leb, le-leb}
 use Rattle.std.proofs.lemmas.List.{length-map}
 use Rattle.std.specs.Prelude.{OnOk, OnErr}
@@ -17,6 +17,7 @@ use Rattle.w4_defs.specs.State.{State}
 use Rattle.w4_editor.specs.Editor.{Editing, editing_setup, with_session}
 use Rattle.w4_editor.specs.Showing.{linked_entry}
 use Rattle.w4_editor.specs.Playing.{IsShown, IsKeptAt, IsPut, IsCauseOrMemory, KeepsRecording}
+use Rattle.w4_editor.proofs.KeepEveryLaws.{is_one}
 use Rattle.w4_netplay.specs.Rollback.{rollback_frames, IsRight, IsRolledTo, IsPartlyRolled}
 use Rattle.w4_defs.specs.declared.net_refusal.NetRefusal.{NetRefusal}
 use Rattle.w4_defs.specs.declared.net_refusal.NetRefusal.TheVariants as net
@@ -145,12 +146,6 @@ pub same_place_refusal : (old mid : Netplay) (p : ℕ) → IsRolled old mid
     → place_refusal p mid.editor.session.current ≡ place_refusal p (predicted_draft old)
 same_place_refusal old mid p rolled =
     ap (λ (inputs : List Input). cond (leb p (length inputs)) None (Some NoFrame)) rolled.inputs
-
--- a place is kept if and only if it is one of the places
-is_one : (p : ℕ) (kept : List Entry)
-    → is_kept kept_entries p kept ≡ is_kept places_alone p (places_of kept)
-is_one p [] = refl
-is_one p (x ∷ kept) = ap (λ t. eqb x.place p || t) (is_one p kept)
 
 -- why a place isn't kept, by the number of inputs, whether it is kept, and how many places are
 abbrev keep_cause : ℕ → ℕ → Bool → ℕ → Option EditRefusal
