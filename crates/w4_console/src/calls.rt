@@ -1,4 +1,5 @@
-//! Calls of a cart's entry functions. The devices are moved into a board and back, which takes no memory.
+//! Calls of a cart's entry functions. The devices are moved into a board and back, and the record in its box,
+//! which takes no memory.
 
 ghost use Rattle.std.specs.Option.{IfSome};
 ghost use Rattle.std.specs.Prelude.{◌≡◌, OnOk, Some};
@@ -17,11 +18,12 @@ ghost use Rattle.w4_console.specs.Calls.{
 ghost use Rattle.w4_defs.specs.State.{HasGlobals};
 ghost use Rattle.w4_defs.specs.Module.{nothing_to_nothing};
 
+use crate::logs::Logs;
 use crate::setup::Setup;
 use crate::taken::Stop;
 use std::mem;
 use w4_defs::Halt;
-use w4_devices::{Disk, FrameRecord, ToneLog, TraceLog};
+use w4_devices::{Disk, FrameRecord};
 use w4_font::Font;
 use w4_host::Board;
 use w4_map::State;
@@ -36,21 +38,21 @@ pub(crate) fn call_if_there(
     setup: &Setup<'_>,
     function: Option<u32>,
     budget: u32,
-    frame_record: &mut FrameRecord,
+    logs: &mut Logs,
 ) -> Result<u32, Stop>
     requires signature { IfSome function (λ f. signature_of setup.now.cart.now f ≡ Some nothing_to_nothing) }
     requires globals { HasGlobals setup.now.cart.now state.old }
     requires running { state.old.halt ≡ Running }
     ensures called { IsCalledFirst setup.now.cart.now setup.now.font.now function
-        (so_far state.old frame_record.old) budget result (so_far state.new frame_record.new) }
+        (so_far state.old logs.old) budget result (so_far state.new logs.new) }
     ensures taken { TakesUnitsFirst setup.now.cart.now setup.now.font.now function
-        (so_far state.old frame_record.old) budget result (so_far state.new frame_record.new) }
+        (so_far state.old logs.old) budget result (so_far state.new logs.new) }
     ensures globals { HasGlobals setup.now.cart.now state.new }
     ensures running { OnOk result (state.new.halt ≡ Running) }
 {
     match function {
         None => Ok(budget),
-        Some(function) => call_function(engine, state, setup, function, budget, frame_record),
+        Some(function) => call_function(engine, state, setup, function, budget, logs),
     }
 }
 
@@ -62,17 +64,20 @@ pub(crate) fn call_function(
     setup: &Setup<'_>,
     function: u32,
     budget: u32,
-    frame_record: &mut FrameRecord,
+    logs: &mut Logs,
 ) -> Result<u32, Stop>
     requires signature { signature_of setup.now.cart.now function ≡ Some nothing_to_nothing }
     requires globals { HasGlobals setup.now.cart.now state.old }
     ensures called { IsCalled setup.now.cart.now setup.now.font.now function
-        (so_far state.old frame_record.old) budget result (so_far state.new frame_record.new) }
+        (so_far state.old logs.old) budget result (so_far state.new logs.new) }
     ensures taken { TakesUnits setup.now.cart.now setup.now.font.now function
-        (so_far state.old frame_record.old) budget result (so_far state.new frame_record.new) }
+        (so_far state.old logs.old) budget result (so_far state.new logs.new) }
     ensures globals { HasGlobals setup.now.cart.now state.new }
     ensures running { OnOk result (state.new.halt ≡ Running) }
 {
+    let Some(frame_record) = logs.frame_record.take() else {
+        unreachable!()
+    };
     let mut board = board_of(setup.font, state, frame_record);
     let ending = engine.invoke(
         setup.cart,
@@ -82,35 +87,33 @@ pub(crate) fn call_function(
         &mut board,
         budget,
     );
-    put_back(state, frame_record, board, halt_after(ending));
+    logs.frame_record = Some(put_back(state, board, halt_after(ending)));
     rest_after(ending)
 }
 
-/// Moves the devices into a board, with the logs so far.
-fn board_of<'a>(font: &'a Font, state: &mut State, frame_record: &mut FrameRecord) -> Board<'a>
+/// Moves the devices into a board, with the record so far.
+fn board_of<'a>(font: &'a Font, state: &mut State, frame_record: Box<FrameRecord>) -> Board<'a>
     ensures { record { page = state.new.page; globals = state.new.globals; host = result }
-        ≡ store_of font.now (so_far state.old frame_record.old) }
+        ≡ store_of font.now (so_far state.old frame_record.value) }
 {
     Board {
         font,
         channels: state.channels,
         disk: mem::replace(&mut state.disk, Disk::new(&[])),
-        tones: mem::replace(&mut frame_record.tones, ToneLog::new()),
-        traces: mem::replace(&mut frame_record.traces, TraceLog::new()),
+        frame_record,
     }
 }
 
-/// Moves the devices and the logs back, and sets halt.
-fn put_back(state: &mut State, frame_record: &mut FrameRecord, board: Board<'_>, halt: Halt)
-    ensures { so_far state.new frame_record.new
+/// Moves the devices back and sets halt, and gives the record back.
+fn put_back(state: &mut State, board: Board<'_>, halt: Halt) -> Box<FrameRecord>
+    ensures { so_far state.new result.value
         ≡ logged_state_after
         (record { page = state.old.page; globals = state.old.globals; host = board.entry }) halt }
 {
     state.channels = board.channels;
     state.disk = board.disk;
     state.halt = halt;
-    frame_record.tones = board.tones;
-    frame_record.traces = board.traces;
+    board.frame_record
 }
 
 fn halt_after(ending: Ending) -> Halt

@@ -7,6 +7,7 @@ mod calls;
 pub mod console;
 mod frames;
 pub mod laws;
+mod logs;
 mod page;
 pub mod playing;
 pub mod setup;

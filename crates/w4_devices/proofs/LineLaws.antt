@@ -1,5 +1,5 @@
 -- Laws of a line that is cut: cutting early and cutting late give the same line.
-use Rattle.std.proofs.Common.{◌≡◌, ℕ, zero, suc, ◌+◌, min, List, [], ◌∷◌, ◌++◌, length, take, refl, ap, ◌∙◌, sym, arith, append_assoc}
+use Rattle.std.proofs.Common.{◌≡◌, ℕ, zero, suc, ◌+◌, ◌≤◌, min, List, [], ◌∷◌, ◌++◌, length, take, refl, ap, ◌∙◌, sym, arith, append_assoc}
 use Rattle.std.proofs.lemmas.List.{take_at, take_min, take-take}
 use Rattle.std.proofs.Math.Seq.{take-append-add}
 use Rattle.w4_defs.specs.Traces.{line_of}
@@ -28,3 +28,9 @@ cut_kept line bytes e = ap line_of e ∙ (take-take 128 128 bytes (omega arith) 
 -- nothing more comes onto a full line
 pub cut_full : (line more : List ℕ) → length line ≡ 128 → line_of (line ++ more) ≡ line
 cut_full line more full = take_at line more 128 full
+
+pub take_whole : (n : ℕ) (xs : List ℕ) → length xs ≤ n → take n xs ≡ xs
+take_whole zero [] le = refl
+take_whole (suc n) [] le = refl
+take_whole zero (x ∷ xs) le = absurd (omega (arith, le))
+take_whole (suc n) (x ∷ xs) le = ap (λ (ys : List ℕ). x ∷ ys) (take_whole n xs (omega (arith, le)))

@@ -51,6 +51,13 @@ impl Line {
         line
     }
 
+    /// Another line with the same bytes.
+    pub fn copy(&self) -> Line
+        ensures { result ≡ self.now }
+    {
+        Line::of(self.bytes())
+    }
+
     /// Adds bytes at the line's end.
     pub fn add_all(&mut self, bytes: &[u8])
         ensures { self.new ≡ line_of (self.old ++ bytes.now) }

@@ -81,6 +81,16 @@ impl ToneLog {
         }
     }
 
+    /// Becomes as another log. Only the tones that it has are copied.
+    pub fn copy_from(&mut self, other: &ToneLog)
+        ensures { self.new ≡ other.now }
+    {
+        let count = other.count;
+        self.tones[..count].copy_from_slice(&other.tones[..count]);
+        self.count = count;
+        self.dropped = other.dropped;
+    }
+
     /// The tones that were kept, in order. Each is in the ranges of a tone.
     pub fn kept(&self) -> &[Tone]
         ensures tones { result.now ≡ self.now.items }

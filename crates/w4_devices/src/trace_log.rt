@@ -1,6 +1,6 @@
 //! The trace lines of one frame.
 
-ghost use Rattle.std.specs.Prelude.{◌≡◌};
+ghost use Rattle.std.specs.Prelude.{◌≡◌, ◌≤◌, length};
 ghost use Rattle.w4_defs.specs.Logs.{empty_log, kept_lines, logged};
 ghost use Rattle.w4_defs.specs.Traces.{trace_line, tracef_line};
 
@@ -64,6 +64,17 @@ impl TraceLog {
         self.add(tracef_line(page, ptr, args));
     }
 
+    /// Becomes as another log. Only the lines that it has are copied.
+    pub fn copy_from(&mut self, other: &TraceLog)
+        ensures { self.new ≡ other.now }
+    {
+        self.lines.clear();
+        for line in other.lines() {
+            self.lines.push(line.copy());
+        }
+        self.dropped = other.dropped;
+    }
+
     fn add(&mut self, line: Line)
         ensures { self.new ≡ logged kept_lines self.old line }
     {
@@ -76,7 +87,8 @@ impl TraceLog {
 
     /// The lines that were kept, in order.
     pub(crate) fn lines(&self) -> &[Line]
-        ensures { result.now ≡ self.now.items }
+        ensures lines { result.now ≡ self.now.items }
+        ensures few { length result.now ≤ 32 }
     {
         self.lines.as_slice()
     }

@@ -9,19 +9,19 @@ use crate::drawing;
 use crate::weights::text_weight;
 use std::marker::Model;
 use w4_defs::{Import, PageBytes};
-use w4_devices::{Disk, ToneLog, TraceLog};
+use w4_devices::{Disk, FrameRecord};
 use w4_font::Font;
 use w4_tone::{Channels, decode};
 use wasm_tree::Host;
 
-/// The font, the channels, the disk, and the logs of the frame that is under way.
+/// The font, the channels, the disk, and the record of the frame that is under way: in a box, so that a board
+/// is given it and gives it back without a copy.
 #[derive(Drop)]
 pub struct Board<'a> {
     pub font: &'a Font,
     pub channels: Channels,
     pub disk: Disk,
-    pub tones: ToneLog,
-    pub traces: TraceLog,
+    pub frame_record: Box<FrameRecord>,
 }
 
 impl<'a> Model for Board<'a> {
@@ -33,8 +33,8 @@ impl<'a> Model for Board<'a> {
       font = b.font.now;
       channels = b.channels;
       disk = b.disk;
-      tones = b.tones;
-      traces = b.traces;
+      tones = b.frame_record.value.tones;
+      traces = b.frame_record.value.traces;
     } };
 }
 
@@ -86,10 +86,11 @@ impl Host for Board<'_> {
                 self.disk
                     .write_from(page, argument(args, 0), argument(args, 1)),
             ),
-            Import::Trace => self.traces.trace(page, cstr(args)),
-            Import::TraceUtf8 => self.traces.trace(page, utf8(args)),
-            Import::TraceUtf16 => self.traces.trace(page, utf16(args)),
+            Import::Trace => self.frame_record.traces.trace(page, cstr(args)),
+            Import::TraceUtf8 => self.frame_record.traces.trace(page, utf8(args)),
+            Import::TraceUtf16 => self.frame_record.traces.trace(page, utf16(args)),
             Import::Tracef => self
+                .frame_record
                 .traces
                 .tracef(page, argument(args, 0), argument(args, 1)),
         }
@@ -114,6 +115,6 @@ impl Board<'_> {
             argument(args, 3),
         );
         self.channels.play(tone);
-        self.tones.add(tone);
+        self.frame_record.tones.add(tone);
     }
 }

@@ -22,8 +22,8 @@ returns-in_err-rest-clause-called c =
     let cart = c.args.setup.now.cart.now in
     let font = c.args.setup.now.font.now in
     let budget = c.args.setup.now.budget in
-    let before = so_far c.args.state.now c.args.frame_record.now in
-    let first = so_far c.call_if_there.new.state c.call_if_there.new.frame_record in
+    let before = so_far c.args.state.now c.args.logs.now in
+    let first = so_far c.call_if_there.new.state c.call_if_there.new.logs in
     let why : Stop = c.in_err-rest.field-0.0 in
     stops cart font budget c.start.result cart.start (after_first cart) before first c.args.setup.now.budget
     c.start.ensures.value why c.in_err-rest.ensures.called
@@ -33,9 +33,9 @@ returns-in_err-rest-2-clause-called c =
     let cart = c.args.setup.now.cart.now in
     let font = c.args.setup.now.font.now in
     let budget = c.args.setup.now.budget in
-    let before = so_far c.args.state.now c.args.frame_record.now in
-    let first = so_far c.call_if_there.new.state c.call_if_there.new.frame_record in
-    let second = so_far c.call_if_there-2.new.state c.call_if_there-2.new.frame_record in
+    let before = so_far c.args.state.now c.args.logs.now in
+    let first = so_far c.call_if_there.new.state c.call_if_there.new.logs in
+    let second = so_far c.call_if_there-2.new.state c.call_if_there-2.new.logs in
     let why : Stop = c.in_err-rest-2.field-0.0 in
     calls_go_on cart font budget c.start.result cart.start (after_first cart) before first c.args.setup.now.budget
     c.start.ensures.value second c.in_ok-rest.rest c.in_ok-rest.ensures.called
@@ -48,10 +48,10 @@ returns-in_err-rest-3-clause-called c =
     let cart = c.args.setup.now.cart.now in
     let font = c.args.setup.now.font.now in
     let budget = c.args.setup.now.budget in
-    let before = so_far c.args.state.now c.args.frame_record.now in
-    let first = so_far c.call_if_there.new.state c.call_if_there.new.frame_record in
-    let second = so_far c.call_if_there-2.new.state c.call_if_there-2.new.frame_record in
-    let third = so_far c.call_if_there-3.new.state c.call_if_there-3.new.frame_record in
+    let before = so_far c.args.state.now c.args.logs.now in
+    let first = so_far c.call_if_there.new.state c.call_if_there.new.logs in
+    let second = so_far c.call_if_there-2.new.state c.call_if_there-2.new.logs in
+    let third = so_far c.call_if_there-3.new.state c.call_if_there-3.new.logs in
     let why : Stop = c.in_err-rest-3.field-0.0 in
     calls_go_on cart font budget c.start.result cart.start (after_first cart) before first c.args.setup.now.budget
     c.start.ensures.value third c.in_ok-rest.rest c.in_ok-rest.ensures.called
@@ -67,11 +67,11 @@ returns-clause-called c =
     let cart = c.args.setup.now.cart.now in
     let font = c.args.setup.now.font.now in
     let budget = c.args.setup.now.budget in
-    let before = so_far c.args.state.now c.args.frame_record.now in
-    let first = so_far c.call_if_there.new.state c.call_if_there.new.frame_record in
-    let second = so_far c.call_if_there-2.new.state c.call_if_there-2.new.frame_record in
-    let third = so_far c.call_if_there-3.new.state c.call_if_there-3.new.frame_record in
-    let last = so_far c.call_if_there-4.new.state c.call_if_there-4.new.frame_record in
+    let before = so_far c.args.state.now c.args.logs.now in
+    let first = so_far c.call_if_there.new.state c.call_if_there.new.logs in
+    let second = so_far c.call_if_there-2.new.state c.call_if_there-2.new.logs in
+    let third = so_far c.call_if_there-3.new.state c.call_if_there-3.new.logs in
+    let last = so_far c.call_if_there-4.new.state c.call_if_there-4.new.logs in
     calls_go_on cart font budget c.start.result cart.start (after_first cart) before first c.args.setup.now.budget
     c.start.ensures.value last c.in_ok-rest.rest c.in_ok-rest.ensures.called
     (calls_go_on cart font budget c.entry-crt_start.result (exported_function cart (codes "_start"))
@@ -88,8 +88,8 @@ returns-in_err-rest-clause-taken c =
     let cart = c.args.setup.now.cart.now in
     let font = c.args.setup.now.font.now in
     let budget = c.args.setup.now.budget in
-    let before = so_far c.args.state.now c.args.frame_record.now in
-    let first = so_far c.call_if_there.new.state c.call_if_there.new.frame_record in
+    let before = so_far c.args.state.now c.args.logs.now in
+    let first = so_far c.call_if_there.new.state c.call_if_there.new.logs in
     let why : Stop = c.in_err-rest.field-0.0 in
     let same : c.from_residual.result ≡ Err why = search rules in
     units_at_stop cart font budget c.start.result cart.start (after_first cart) before first
@@ -101,9 +101,9 @@ returns-in_err-rest-2-clause-taken c =
     let cart = c.args.setup.now.cart.now in
     let font = c.args.setup.now.font.now in
     let budget = c.args.setup.now.budget in
-    let before = so_far c.args.state.now c.args.frame_record.now in
-    let first = so_far c.call_if_there.new.state c.call_if_there.new.frame_record in
-    let second = so_far c.call_if_there-2.new.state c.call_if_there-2.new.frame_record in
+    let before = so_far c.args.state.now c.args.logs.now in
+    let first = so_far c.call_if_there.new.state c.call_if_there.new.logs in
+    let second = so_far c.call_if_there-2.new.state c.call_if_there-2.new.logs in
     let why : Stop = c.in_err-rest-2.field-0.0 in
     let taken = taken_by_calls_of budget (Err why) in
     let same : c.from_residual-in_err-rest-2.result ≡ Err why = search rules in
@@ -119,10 +119,10 @@ returns-in_err-rest-3-clause-taken c =
     let cart = c.args.setup.now.cart.now in
     let font = c.args.setup.now.font.now in
     let budget = c.args.setup.now.budget in
-    let before = so_far c.args.state.now c.args.frame_record.now in
-    let first = so_far c.call_if_there.new.state c.call_if_there.new.frame_record in
-    let second = so_far c.call_if_there-2.new.state c.call_if_there-2.new.frame_record in
-    let third = so_far c.call_if_there-3.new.state c.call_if_there-3.new.frame_record in
+    let before = so_far c.args.state.now c.args.logs.now in
+    let first = so_far c.call_if_there.new.state c.call_if_there.new.logs in
+    let second = so_far c.call_if_there-2.new.state c.call_if_there-2.new.logs in
+    let third = so_far c.call_if_there-3.new.state c.call_if_there-3.new.logs in
     let why : Stop = c.in_err-rest-3.field-0.0 in
     let taken = taken_by_calls_of budget (Err why) in
     let same : c.from_residual-in_err-rest-3.result ≡ Err why = search rules in
@@ -141,11 +141,11 @@ returns-clause-taken c =
     let cart = c.args.setup.now.cart.now in
     let font = c.args.setup.now.font.now in
     let budget = c.args.setup.now.budget in
-    let before = so_far c.args.state.now c.args.frame_record.now in
-    let first = so_far c.call_if_there.new.state c.call_if_there.new.frame_record in
-    let second = so_far c.call_if_there-2.new.state c.call_if_there-2.new.frame_record in
-    let third = so_far c.call_if_there-3.new.state c.call_if_there-3.new.frame_record in
-    let last = so_far c.call_if_there-4.new.state c.call_if_there-4.new.frame_record in
+    let before = so_far c.args.state.now c.args.logs.now in
+    let first = so_far c.call_if_there.new.state c.call_if_there.new.logs in
+    let second = so_far c.call_if_there-2.new.state c.call_if_there-2.new.logs in
+    let third = so_far c.call_if_there-3.new.state c.call_if_there-3.new.logs in
+    let last = so_far c.call_if_there-4.new.state c.call_if_there-4.new.logs in
     let taken = taken_by_calls_of budget c.call_if_there-4.result in
     taken_go_on cart font budget c.start.result cart.start (after_first cart) before first c.args.setup.now.budget
     c.start.ensures.value taken c.in_ok-rest.rest c.in_ok-rest.ensures.taken

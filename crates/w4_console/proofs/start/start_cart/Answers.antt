@@ -14,7 +14,7 @@ returns-clause-start c =
     (λ (now : LoggedState).
     call_all (setup_of c.args.setup.now) (start_functions c.args.setup.now.cart.now)
     now c.args.setup.now.budget
-    ≡ Some (so_far c.call_all-rest.new.state c.call_all-rest.new.frame_record))
+    ≡ Some (so_far c.call_all-rest.new.state c.call_all-rest.new.logs))
     (frame_begins c.put_fresh.new.state (fresh c.args.setup.now.cart.now c.args.state.now.disk) c.clear.new.self
     c.put_fresh.ensures.state c.clear.ensures)
     c.call_all-rest.ensures.called
