@@ -8,9 +8,11 @@ use Rattle.w4_defs.specs.declared.order.Order.{Order}
 use Rattle.w4_defs.specs.declared.order.Order.TheVariants as order
 use Rattle.w4_defs.specs.KeptList.{Entry, kept_entries}
 use Rattle.w4_defs.specs.Reset.{Setup}
-use Rattle.w4_defs.specs.Session.{Session, PlacesDecide, places_alone, session_of_places, result_of_places, keep, keep_refusal, unless, with_kept, with_list}
+use Rattle.w4_defs.specs.Session.{Session, PlacesDecide, places_alone, session_of_places, result_of_places}
+use Rattle.w4_defs.specs.Session.{keep, keep_refusal, unless, with_kept, with_list}
 use Rattle.w4_defs.specs.State.{blank_state}
-use Rattle.w4_editor.specs.Editor.{Editing, current_recording, with_session, KeepsRest, IsChanged, place_session}
+use Rattle.w4_editor.specs.Editor.{Editing, current_recording, with_session, KeepsRest, IsChanged}
+use Rattle.w4_editor.specs.Editor.{place_session}
 use Rattle.w4_editor.specs.Edits.{IsErrorOrMemory}
 use Rattle.w4_editor.specs.Showing.{linked_entry}
 use Rattle.w4_editor.specs.Playing.{IsKeptAt, IsCauseOrMemory}
@@ -25,7 +27,8 @@ use Rattle.w4_defs.specs.declared.status.Refusal.{Refusal}
 use Rattle.w4_defs.specs.declared.status.Refusal.TheVariants as run
 use Rattle.w4_answers.proofs.WritingLaws.{stops_untold, there_is}
 use Rattle.w4_answers.proofs.DeskSessionLaws.{appends_nothing, leaves_kept}
-use Rattle.w4_editor.proofs.EditorPlaceLaws.{EditResult, SessionOrRefusal, no_input, left_by_edit, kept_made, kept_rest, rest_at}
+use Rattle.w4_editor.proofs.EditorPlaceLaws.{EditResult, SessionOrRefusal, no_input, left_by_edit, kept_made}
+use Rattle.w4_editor.proofs.EditorPlaceLaws.{kept_rest, rest_at}
 
 -- ---- one order
 

@@ -1,5 +1,6 @@
 -- How many frames answers run: from one place of a range to the next.
-use Rattle.std.proofs.Common.{◌≡◌, ◌≢◌, ◌⊎◌, ℕ, ◌+◌, ◌-◌, ◌<◌, ◌≤◌, inl, inr, Some, List, refl, sym, ◌∙◌, arith, subst}
+use Rattle.std.proofs.Common.{◌≡◌, ◌≢◌, ◌⊎◌, ℕ, ◌+◌, ◌-◌, ◌<◌, ◌≤◌, inl, inr, Some, List, refl, sym, ◌∙◌}
+use Rattle.std.proofs.Common.{arith, subst}
 use Rattle.std.specs.Prelude.{Result, Ok, Err, OnOk}
 use Rattle.w4_defs.specs.declared.editing.EditRefusal.{EditRefusal}
 use Rattle.w4_defs.specs.declared.editing.EditRefusal.TheVariants.{OutOfMemory}
@@ -37,7 +38,8 @@ made_by_show place ticks_before ticks_after old new shown =
     }
 
 pub made_by_step : (lead place ticks_before ticks_after : ℕ) (old new : Editing)
-    → ticks_after ≡ ticks_before + 1 → new.at ≡ Some place → IsMade lead place ticks_before ticks_after old new
+    → ticks_after ≡ ticks_before + 1 → new.at ≡ Some place → IsMade lead place ticks_before ticks_after old
+    new
 made_by_step lead place ticks_before ticks_after old new one at =
     record { shown = inl at; frames_run = omega (arith, one) }
 
@@ -81,7 +83,8 @@ pub run_on : (lead begin last place ticks_first ticks_now ticks_after : ℕ) (fi
     → IsMade lead place ticks_now ticks_after now new
     → StepsOn place ticks_now ticks_after now new
     → HasRun lead begin last (place + 1) ticks_first ticks_after first new
-run_on lead begin last place ticks_first ticks_now ticks_after first now new from below (inl none) made steps =
+run_on lead begin last place ticks_first ticks_now ticks_after first now new from below (inl none) made steps
+    =
     elim made.shown [
       | inl at ↦
           let here : place ≡ place + 1 - 1 = omega arith in
@@ -100,7 +103,8 @@ run_on lead begin last place ticks_first ticks_now ticks_after first now new fro
           let same = none.0 in
           inl (omega (arith, zero, one, same, from), reset.2 ∙ none.1, reset.3 ∙ none.2)
     ]
-run_on lead begin last place ticks_first ticks_now ticks_after first now new from below (inr some) made steps =
+run_on lead begin last place ticks_first ticks_now ticks_after first now new from below (inr some) made steps
+    =
     elim made.shown [
       | inl at ↦
           let here : place ≡ place + 1 - 1 = omega arith in
@@ -113,7 +117,8 @@ run_on lead begin last place ticks_first ticks_now ticks_after first now new fro
             omega (arith, below),
             subst (λ n. new.at ≡ Some n) here at,
             subst (λ (kept : List Entry). RunsAtMost ticks_first ticks_after
-                (show_frames (begin - lead) first.session.current.kept kept + (place + 1 - begin))) (sym step.1)
+                (show_frames (begin - lead) first.session.current.kept kept + (place + 1 - begin)))
+                (sym step.1)
                 (omega (arith, few, one, past)),
           )
       | inr reset ↦
@@ -177,14 +182,16 @@ change_answers_within (order.KeepEvery every) _ _ _ _ show film settle tones tra
 change_answers_within (order.DropKept p) _ _ _ _ show film settle tones traces at state within = within
 change_answers_within (order.Settle workers) _ _ _ _ show film settle tones traces at state within =
     absurd (settle workers refl)
-change_answers_within (order.Show p) _ _ _ _ show film settle tones traces at state within = absurd (show p refl)
+change_answers_within (order.Show p) _ _ _ _ show film settle tones traces at state within = absurd
+    (show p refl)
 change_answers_within (order.Film a b workers) _ _ _ _ show film settle tones traces at state within =
     absurd (film a b workers refl)
 change_answers_within (order.Tones a b) _ _ _ _ show film settle tones traces at state within =
     absurd (tones a b refl)
 change_answers_within (order.Traces a b) _ _ _ _ show film settle tones traces at state within =
     absurd (traces a b refl)
-change_answers_within (order.DiskAt p) _ _ _ _ show film settle tones traces at state within = absurd (at p refl)
+change_answers_within (order.DiskAt p) _ _ _ _ show film settle tones traces at state within = absurd
+    (at p refl)
 change_answers_within (order.StateAt p) _ _ _ _ show film settle tones traces at state within =
     absurd (state p refl)
 

@@ -6,7 +6,8 @@ use Rattle.std.proofs.lemmas.List.{append-nil}
 use Rattle.w4_defs.specs.declared.console.Input.{Input}
 use Rattle.w4_defs.specs.Run.{run_state}
 use Rattle.w4_defs.specs.Session.{Session}
-use Rattle.w4_editor.specs.Editor.{Editing, current_recording, editing_setup, with_session, KeepsRest, place_session}
+use Rattle.w4_editor.specs.Editor.{Editing, current_recording, editing_setup, with_session, KeepsRest}
+use Rattle.w4_editor.specs.Editor.{place_session}
 use Rattle.w4_editor.specs.Playing.{IsShown, KeepsRecording}
 use Rattle.w4_defs.specs.World.{Event, World, wrote}
 use Rattle.w4_answers.specs.Writing.{AppendsOut, Written, StopsWriting}
@@ -16,7 +17,8 @@ use Rattle.w4_defs.specs.Answers.{answer_text}
 use Rattle.w4_defs.specs.PlaceTexts.{PieceForm}
 use Rattle.w4_answers.specs.Desk.{OnlyShows, text_by}
 use Rattle.w4_answers.specs.ScriptAnswers.{IsAnswered, GivesAnswer, LeavesRecording}
-use Rattle.w4_defs.specs.Endings.{Manner, ReadFailed, InputFailed, WriteFailed, MemoryRefused, Refused, manner_of}
+use Rattle.w4_defs.specs.Endings.{Manner, ReadFailed, InputFailed, WriteFailed, MemoryRefused, Refused}
+use Rattle.w4_defs.specs.Endings.{manner_of}
 use Rattle.w4_defs.specs.declared.status.Refusal.{Refusal}
 use Rattle.w4_answers.proofs.WritingLaws.{there_as, there_is}
 use Rattle.w4_editor.proofs.EditorPlaceLaws.{rest_then, same_recording, same_session}

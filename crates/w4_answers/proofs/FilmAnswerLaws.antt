@@ -1,5 +1,7 @@
 -- Films: what an order for one writes, and the images that its pieces have.
-use Rattle.std.proofs.Common.{◌≡◌, ℕ, suc, ◌+◌, ◌-◌, ◌/◌, ◌<◌, ◌≤◌, inl, inr, List, [], ◌∷◌, ◌++◌, drop, drop_at, flat_map, get_or, length, length-append, map, take_at, Option, Some, None, option_map, refl, sym, ap, ◌∙◌, append_assoc, arith}
+use Rattle.std.proofs.Common.{◌≡◌, ℕ, suc, ◌+◌, ◌-◌, ◌/◌, ◌<◌, ◌≤◌, inl, inr, List, [], ◌∷◌, ◌++◌, drop}
+use Rattle.std.proofs.Common.{drop_at, flat_map, get_or, length, length-append, map, take_at, Option, Some}
+use Rattle.std.proofs.Common.{None, option_map, refl, sym, ap, ◌∙◌, append_assoc, arith}
 use Rattle.std.specs.List.{range_with_len}
 use Rattle.std.specs.Prelude.{◌≢◌, Result, Ok, Err, OnOk, OnErr}
 use Rattle.w4_editor.specs.Editor.{Editing, current_recording}
@@ -20,7 +22,8 @@ use Rattle.w4_defs.specs.State.{Moment}
 use Rattle.w4_defs.proofs.RegisterLaws.{length-image}
 use Rattle.w4_answers.specs.FilmAnswer.{images_in, images_in_blocks}
 use Rattle.w4_defs.specs.Reset.{Setup}
-use Rattle.w4_defs.specs.ScriptAnswers.{film_or_refused, film_refusal_words, film_text, no_frame, range_text, refused_line}
+use Rattle.w4_defs.specs.ScriptAnswers.{film_or_refused, film_refusal_words, film_text, no_frame, range_text}
+use Rattle.w4_defs.specs.ScriptAnswers.{refused_line}
 use Rattle.w4_defs.specs.Session.{Session}
 use Rattle.w4_segments.specs.Filming.{IsFilmRefusal}
 

@@ -1,6 +1,8 @@
 -- Events that have happened, with the writes that failed among them or after them.
 use Rattle.std.proofs.Common.{◌≡◌, ◌≤◌, ◌+◌, ℕ, List, [], ◌∷◌, ◌++◌, refl, sym, subst, arith}
-use Rattle.w4_defs.specs.World.{Event, Took, InputEnded, InputLost, Wrote, Saved, NotSaved, World, Rises, RisesBy, Appends, Does, OutFails, LeavesTaking, LeavesWriting, failed_saves, wrote}
+use Rattle.w4_defs.specs.World.{Event, Took, InputEnded, InputLost, Wrote, Saved, NotSaved, World, Rises}
+use Rattle.w4_defs.specs.World.{RisesBy, Appends, Does, OutFails, LeavesTaking, LeavesWriting, failed_saves}
+use Rattle.w4_defs.specs.World.{wrote}
 use Rattle.w4_house.proofs.WorldLaws.{does_then, does_wrote}
 use Rattle.w4_answers.specs.LiveAnswer.{DoesCounted, FailsToWrite}
 

@@ -1,5 +1,7 @@
 -- The answer of one line of a live session, from its pieces and its end to the line's step.
-use Rattle.std.proofs.Common.{◌≡◌, ◌≢◌, ◌⊎◌, ◌≤◌, ℕ, zero, suc, inl, inr, true, false, List, [], ◌∷◌, ◌++◌, drop, take, take-append-drop, Option, Some, None, refl, sym, ap, subst, ◌∙◌, append_assoc, append-nil, arith}
+use Rattle.std.proofs.Common.{◌≡◌, ◌≢◌, ◌⊎◌, ◌≤◌, ℕ, zero, suc, inl, inr, true, false, List, [], ◌∷◌, ◌++◌}
+use Rattle.std.proofs.Common.{drop, take, take-append-drop, Option, Some, None, refl, sym, ap, subst, ◌∙◌}
+use Rattle.std.proofs.Common.{append_assoc, append-nil, arith}
 use Rattle.std.specs.Prelude.{Result, Ok, Err, OnOk, IsSome, ⊤}
 use Rattle.std.specs.Option.{ForSome}
 use Rattle.w4_defs.specs.declared.editing.EditRefusal.{EditRefusal}
@@ -11,8 +13,11 @@ use Rattle.w4_defs.specs.declared.order.Order.TheVariants as order
 use Rattle.w4_defs.specs.declared.status.Refusal.{Refusal}
 use Rattle.w4_defs.specs.declared.status.Refusal.TheVariants as refusal
 use Rattle.w4_defs.specs.Answers.{Answered, answer_text, carried_out}
-use Rattle.w4_defs.specs.Endings.{Manner, ReadFailed, InputFailed, WriteFailed, MemoryRefused, Refused as RefusedFor, manner_of}
-use Rattle.w4_defs.specs.Live.{Asked, AsksNothing, NoOrder, Asks, LiveSession, Opened, SaveEnd, Replaced, Refused, RefusedLate, answer_end, answer_step, asked_of, framed, line_step, live_answer, recording_left, refused_save, save_events, taken_lines}
+use Rattle.w4_defs.specs.Endings.{Manner, ReadFailed, InputFailed, WriteFailed, MemoryRefused}
+use Rattle.w4_defs.specs.Endings.{Refused as RefusedFor, manner_of}
+use Rattle.w4_defs.specs.Live.{Asked, AsksNothing, NoOrder, Asks, LiveSession, Opened, SaveEnd, Replaced}
+use Rattle.w4_defs.specs.Live.{Refused, RefusedLate, answer_end, answer_step, asked_of, framed, line_step}
+use Rattle.w4_defs.specs.Live.{live_answer, recording_left, refused_save, save_events, taken_lines}
 use Rattle.w4_defs.specs.Meaning.{RunsHaveMeaning}
 use Rattle.w4_defs.specs.Output.{run_setup}
 use Rattle.w4_defs.specs.PlaceTexts.{PieceForm}
@@ -28,13 +33,16 @@ use Rattle.w4_house.proofs.WorldLaws.{does_then, does_wrote, wrote-append}
 use Rattle.w4_editor.specs.Editor.{Editing, current_recording, editing_setup, KeepsRest, place_session}
 use Rattle.w4_answers.specs.Writing.{AppendsOut, StopsWriting, Written}
 use Rattle.w4_answers.specs.Saving.{StopsSaving}
-use Rattle.w4_answers.specs.LiveAnswer.{AnswersSave, Done, GivesPieces, LeavesLive, StopsDoing, asked_answer, asks_save, AnswersLine, DoesCounted, IsFront, LeavesServing, LineStops, Sits, StepsTo}
+use Rattle.w4_answers.specs.LiveAnswer.{AnswersSave, Done, GivesPieces, LeavesLive, StopsDoing, asked_answer}
+use Rattle.w4_answers.specs.LiveAnswer.{asks_save, AnswersLine, DoesCounted, IsFront, LeavesServing}
+use Rattle.w4_answers.specs.LiveAnswer.{LineStops, Sits, StepsTo}
 use Rattle.w4_answers.specs.OwnAnswer.{IsOwn}
 use Rattle.w4_answers.specs.RamAnswers.{GivesLineAnswer, ask_answer}
 use Rattle.w4_answers.specs.ScriptAnswers.{GivesAnswer, LeavesRecording, answer_by}
 use Rattle.w4_answers.specs.Desk.{OnlyShows}
 use Rattle.w4_defs.proofs.OptionLaws.{some_same}
-use Rattle.w4_answers.proofs.LiveAnswerEventLaws.{counted_saved, counted_then, counted_wrote, fails_after, fails_wrote}
+use Rattle.w4_answers.proofs.LiveAnswerEventLaws.{counted_saved, counted_then, counted_wrote, fails_after}
+use Rattle.w4_answers.proofs.LiveAnswerEventLaws.{fails_wrote}
 use Rattle.w4_answers.proofs.WritingLaws.{there_is}
 use Rattle.w4_answers.proofs.DeskSessionLaws.{appends_nothing, same_disk, same_editing_setup}
 
@@ -68,7 +76,8 @@ stopped_written old mid new InputFailed done bytes does rest h = h
 stopped_written old mid new WriteFailed done bytes does rest (rise, (count, h)) = (
   done ++ wrote (take count bytes),
   part_front done count bytes,
-  fails_after old mid new done (wrote (take count bytes)) does (fails_wrote mid new (take count bytes) rise h rest),
+  fails_after old mid new done (wrote (take count bytes)) does
+      (fails_wrote mid new (take count bytes) rise h rest),
 )
 stopped_written old mid new MemoryRefused done bytes does rest (count, h) = (
   done ++ wrote (take count bytes),

@@ -1,5 +1,6 @@
 -- Lines of a log: what a replica's calls leave of the session, and what is told.
-use Rattle.std.proofs.Common.{◌≡◌, ◌≢◌, ◌⊎◌, ℕ, ◌+◌, ◌<◌, ◌≤◌, inl, inr, true, false, Bool, List, [], ◌∷◌, length, Option, Some, None, refl, sym, ap, subst, ◌∙◌}
+use Rattle.std.proofs.Common.{◌≡◌, ◌≢◌, ◌⊎◌, ℕ, ◌+◌, ◌<◌, ◌≤◌, inl, inr, true, false, Bool, List, [], ◌∷◌}
+use Rattle.std.proofs.Common.{length, Option, Some, None, refl, sym, ap, subst, ◌∙◌}
 use Rattle.std.specs.Prelude.{Result, Ok, Err, nat_le, if◌then◌else◌}
 use Rattle.std.specs.Option.{ForSome}
 use Rattle.std.proofs.lemmas.Bool.{lt-ltb, le-ltb, le-leb, lt-leb, leb-true, leb-false}
@@ -28,12 +29,14 @@ use Rattle.w4_answers.specs.Writing.{AppendsOut, Written, StopsWriting, WritesNo
 use Rattle.w4_defs.specs.declared.net_refusal.NetRefusal.{NetRefusal}
 use Rattle.w4_defs.specs.declared.net_refusal.NetRefusal.TheVariants as net
 use Rattle.w4_netplay.specs.Pads.{known_in}
-use Rattle.w4_netplay.specs.Replica.{edit_refusal, IsNetRefusal, KeepsNetplay, KeepsPlace, Netplay, places_kept, known_of, predicted_draft, prediction}
+use Rattle.w4_netplay.specs.Replica.{edit_refusal, IsNetRefusal, KeepsNetplay, KeepsPlace, Netplay}
+use Rattle.w4_netplay.specs.Replica.{places_kept, known_of, predicted_draft, prediction}
 use Rattle.w4_defs.specs.ScriptAnswers.{refused_line, refusal_words}
 use Rattle.w4_defs.specs.Answers.{Answered, answer_text, carried_out}
 use Rattle.w4_defs.specs.Endings.{Manner, manner_of}
 use Rattle.w4_defs.specs.declared.status.Refusal.{Refusal}
-use Rattle.w4_defs.specs.LogAnswers.{NetSession, first_session, net_answer, answer_keep, answer_next, answer_packet, if_passed, net_words, predicted_image, predicted_state}
+use Rattle.w4_defs.specs.LogAnswers.{NetSession, first_session, net_answer, answer_keep, answer_next}
+use Rattle.w4_defs.specs.LogAnswers.{answer_packet, if_passed, net_words, predicted_image, predicted_state}
 use Rattle.w4_answers.specs.NetAnswers.{IsHeard, GivesHeard, net_session}
 use Rattle.w4_answers.proofs.WritingLaws.{stops_untold, there_is}
 use Rattle.w4_answers.proofs.DeskSessionLaws.{appends_nothing, same_editing_setup}
@@ -67,7 +70,8 @@ same_netplay old new same =
 
 pub heard_text : (before after : World) (old new : Netplay) (out : Option (List ℕ))
     (wanted : Answered NetSession)
-    → wanted ≡ answer_text (net_session old) out → ForSome out (λ text. AppendsOut before.events after.events text)
+    → wanted ≡ answer_text (net_session old) out
+    → ForSome out (λ text. AppendsOut before.events after.events text)
     → KeepsNetplay old new → IsHeard before after old new wanted
 heard_text before after old new out wanted is written keeps =
     subst (λ (a : Answered NetSession). IsHeard before after old new a) (sym is)

@@ -1,5 +1,6 @@
 -- Texts of places, one after another. Where one of them isn't there, all together aren't.
-use Rattle.std.proofs.Common.{◌≡◌, ℕ, zero, suc, ◌+◌, ◌-◌, ◌<◌, ◌≤◌, List, Option, Some, None, [], refl, ap, subst, arith, append-nil}
+use Rattle.std.proofs.Common.{◌≡◌, ℕ, zero, suc, ◌+◌, ◌-◌, ◌<◌, ◌≤◌, List, Option, Some, None, [], refl, ap}
+use Rattle.std.proofs.Common.{subst, arith, append-nil}
 use Rattle.std.specs.Option.{ForSome}
 use Rattle.w4_defs.specs.AllThere.{joined}
 use Rattle.w4_defs.specs.World.{World}

@@ -1,5 +1,6 @@
 -- Lines of a query: places that aren't there, and what is told of those that are.
-use Rattle.std.proofs.Common.{◌≡◌, ◌≢◌, ◌⊎◌, ℕ, ◌+◌, ◌-◌, ◌<◌, ◌≤◌, inl, inr, true, false, Bool, List, [], ◌∷◌, length, map, Option, Some, None, option_map, refl, sym, ap, subst, ◌∙◌}
+use Rattle.std.proofs.Common.{◌≡◌, ◌≢◌, ◌⊎◌, ℕ, ◌+◌, ◌-◌, ◌<◌, ◌≤◌, inl, inr, true, false, Bool, List, []}
+use Rattle.std.proofs.Common.{◌∷◌, length, map, Option, Some, None, option_map, refl, sym, ap, subst, ◌∙◌}
 use Rattle.std.specs.Prelude.{Result, Ok, Err, OnOk, codes, nat_lt, if◌then◌else◌}
 use Rattle.std.specs.Option.{ForSome}
 use Rattle.std.specs.List.{range_with_len}
@@ -25,7 +26,8 @@ use Rattle.w4_inspect.specs.PlacePages.{page_at, AreOf, ReadPages, outside_refus
 use Rattle.w4_inspect.specs.Refusal.{IsRefusal, no_frame_refusal, watch_refusal}
 use Rattle.w4_inspect.specs.Watching.{watched}
 use Rattle.w4_inspect.specs.declared.refusal.RamRefusal.{RamRefusal}
-use Rattle.w4_inspect.specs.declared.refusal.RamRefusal.TheVariants.{NoFrame, Outside, OutOfMemory as MemoryRefused}
+use Rattle.w4_inspect.specs.declared.refusal.RamRefusal.TheVariants.{NoFrame, Outside}
+use Rattle.w4_inspect.specs.declared.refusal.RamRefusal.TheVariants.{OutOfMemory as MemoryRefused}
 use Rattle.w4_defs.specs.ScriptAnswers.{no_frame}
 use Rattle.w4_defs.specs.Answers.{Answered, answer_text, carried_out}
 use Rattle.w4_answers.specs.ScriptAnswers.{GivesAnswer}
@@ -33,7 +35,8 @@ use Rattle.w4_answers.specs.Desk.{OnlyShows}
 use Rattle.w4_defs.specs.Endings.{Manner, manner_of}
 use Rattle.w4_defs.specs.declared.status.Refusal.{Refusal}
 use Rattle.w4_answers.specs.HeldPages.{AreHeld}
-use Rattle.w4_answers.specs.RamAnswers.{IsLineAnswered, GivesLineAnswer, IsQueryAnswered, GivesQueryAnswer, ask_answer, editor_pages, query_answer, query_session}
+use Rattle.w4_answers.specs.RamAnswers.{IsLineAnswered, GivesLineAnswer, IsQueryAnswered, GivesQueryAnswer}
+use Rattle.w4_answers.specs.RamAnswers.{ask_answer, editor_pages, query_answer, query_session}
 use Rattle.w4_defs.specs.QueryAnswers.{answer_narrow, answer_start, outside, pages_of, searched, watch_text}
 use Rattle.w4_defs.proofs.OptionLaws.{some_same}
 use Rattle.w4_answers.proofs.ScriptAnswerLaws.{on_ok}

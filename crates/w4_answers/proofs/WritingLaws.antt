@@ -1,12 +1,17 @@
 -- Bytes on standard output, as events: one write after another, and what they leave of files. Bytes that are
 -- written piece after piece, and what has been written where one of them stopped: a piece that isn't there is
 -- never written, and then the whole isn't there either.
-use Rattle.std.proofs.Common.{◌≡◌, ℕ, List, ◌++◌, take, Option, option_map, refl, sym, ap, subst, ◌∙◌, ◌≤◌, [], Some, None, append_assoc}
-use Rattle.w4_defs.specs.World.{Event, World, Rises, Appends, AppendsFront, Does, LeavesReading, LeavesWriting, files_after, wrote}
-use Rattle.w4_house.proofs.WorldLaws.{appends_then, appends_then_front, does_wrote, does_wrote_front, front_of_more, front_none, front_whole, take-wrote, wrote-append, rises_later}
+use Rattle.std.proofs.Common.{◌≡◌, ℕ, List, ◌++◌, take, Option, option_map, refl, sym, ap, subst, ◌∙◌, ◌≤◌}
+use Rattle.std.proofs.Common.{[], Some, None, append_assoc}
+use Rattle.w4_defs.specs.World.{Event, World, Rises, Appends, AppendsFront, Does, LeavesReading}
+use Rattle.w4_defs.specs.World.{LeavesWriting, files_after, wrote}
+use Rattle.w4_house.proofs.WorldLaws.{appends_then, appends_then_front, does_wrote, does_wrote_front}
+use Rattle.w4_house.proofs.WorldLaws.{front_of_more, front_none, front_whole, take-wrote, wrote-append}
+use Rattle.w4_house.proofs.WorldLaws.{rises_later}
 use Rattle.w4_answers.specs.Writing.{AppendsOut, AppendsOutFront, DoesFront, StopsWriting, Written}
 use Rattle.w4_house.specs.Calls.{write_refusal}
-use Rattle.w4_defs.specs.Endings.{manner_of, Manner, ReadFailed, InputFailed, WriteFailed, MemoryRefused, Refused as RefusedFor}
+use Rattle.w4_defs.specs.Endings.{manner_of, Manner, ReadFailed, InputFailed, WriteFailed, MemoryRefused}
+use Rattle.w4_defs.specs.Endings.{Refused as RefusedFor}
 use Rattle.w4_house.specs.declared.calls.WriteRefusal.{WriteRefusal}
 use Rattle.w4_house.specs.declared.calls.WriteRefusal.TheVariants.{Failed, OutOfMemory}
 use Rattle.std.specs.Prelude.{Result, Ok, Err}
@@ -38,7 +43,8 @@ pub out_then_front : (first second third : Option (List Event)) (some more : Lis
 out_then_front first second third some more one next =
     front_out first third (some ++ more)
     (subst (AppendsFront first third) (sym (wrote-append some more))
-    (appends_then_front first second third (wrote some) (wrote more) one (front_events second third more next)))
+    (appends_then_front first second third (wrote some) (wrote more) one
+    (front_events second third more next)))
 
 pub out_front_of_more : (old new : Option (List Event)) (some more : List ℕ) → AppendsOutFront old new some
     → AppendsOutFront old new (some ++ more)
@@ -65,7 +71,8 @@ does_later first second third done leaves does = record {
 
 -- bytes that were written after files were read
 pub written_does : (first second third : World) (bytes : List ℕ) → LeavesReading first second
-    → LeavesWriting second third → AppendsOut second.events third.events bytes → Does first third (wrote bytes)
+    → LeavesWriting second third → AppendsOut second.events third.events bytes
+    → Does first third (wrote bytes)
 written_does first second third bytes leaves rest h =
     does_later first second third (wrote bytes) leaves (does_wrote second third bytes h rest.files)
 
@@ -73,7 +80,8 @@ pub front_does : (first second third : World) (bytes : List ℕ) → LeavesReadi
     → LeavesWriting second third → AppendsOutFront second.events third.events bytes
     → DoesFront first third bytes
 front_does first second third bytes leaves rest h =
-    let front = does_wrote_front second third bytes (front_events second.events third.events bytes h) rest.files in
+    let front = does_wrote_front second third bytes (front_events second.events third.events bytes h)
+    rest.files in
     (front.0, does_later first second third (take front.0 (wrote bytes)) leaves front.1)
 
 -- a write was refused

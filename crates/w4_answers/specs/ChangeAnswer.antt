@@ -3,7 +3,8 @@ use Rattle.std.specs.Prelude.{ℕ, Result, Ok, ◌≡◌, ◌⊎◌, List}
 use Rattle.w4_defs.specs.declared.editing.EditRefusal.{EditRefusal}
 use Rattle.w4_defs.specs.declared.order.Order.{Order}
 use Rattle.w4_defs.specs.declared.order.Order.TheVariants as order
-use Rattle.w4_defs.specs.Session.{Session, places_alone, set_input, insert_input, delete_input, undo, redo, keep, keep_every, drop_kept}
+use Rattle.w4_defs.specs.Session.{Session, places_alone, set_input, insert_input, delete_input, undo, redo}
+use Rattle.w4_defs.specs.Session.{keep, keep_every, drop_kept}
 use Rattle.w4_editor.specs.Editor.{Editing}
 use Rattle.w4_editor.specs.Playing.{IsKeptAt, AreKeptInTurn}
 

@@ -1,9 +1,12 @@
 -- The answer of one line of a live session: the step of the line, what is edited then, and what is known
 -- where it stopped.
-use Rattle.std.specs.Prelude.{◌≡◌, ◌⊎◌, ◌≤◌, ℕ, List, [], ◌++◌, Option, Some, Result, Ok, Err, Bool, true, false, codes, ⊤}
+use Rattle.std.specs.Prelude.{◌≡◌, ◌⊎◌, ◌≤◌, ℕ, List, [], ◌++◌, Option, Some, Result, Ok, Err, Bool, true}
+use Rattle.std.specs.Prelude.{false, codes, ⊤}
 use Rattle.w4_defs.specs.declared.status.Refusal.{Refusal}
-use Rattle.w4_defs.specs.Endings.{Manner, ReadFailed, InputFailed, WriteFailed, MemoryRefused, Refused, manner_of}
-use Rattle.w4_defs.specs.Live.{LiveSession, Opened, SaveEnd, asked_of, line_step, recording_left, taken_lines, Asked, AsksNothing, NoOrder, Asks, framed, live_answer, save_events}
+use Rattle.w4_defs.specs.Endings.{Manner, ReadFailed, InputFailed, WriteFailed, MemoryRefused, Refused}
+use Rattle.w4_defs.specs.Endings.{manner_of}
+use Rattle.w4_defs.specs.Live.{LiveSession, Opened, SaveEnd, asked_of, line_step, recording_left, taken_lines}
+use Rattle.w4_defs.specs.Live.{Asked, AsksNothing, NoOrder, Asks, framed, live_answer, save_events}
 use Rattle.w4_defs.specs.Output.{run_setup}
 use Rattle.w4_defs.specs.Recording.{Recording}
 use Rattle.w4_defs.specs.Search.{Search}

@@ -1,7 +1,8 @@
 -- What replacing a file leaves of the world.
 use Rattle.std.specs.Prelude.{◌∷◌, [], List, ℕ, Result, Ok, Err}
 use Rattle.w4_defs.specs.declared.status.Refusal.{Refusal}
-use Rattle.w4_defs.specs.Endings.{Manner, ReadFailed, InputFailed, WriteFailed, MemoryRefused, Refused, manner_of}
+use Rattle.w4_defs.specs.Endings.{Manner, ReadFailed, InputFailed, WriteFailed, MemoryRefused, Refused}
+use Rattle.w4_defs.specs.Endings.{manner_of}
 use Rattle.w4_defs.specs.World.{Saved, World, Rises, Does, FailsToSave}
 
 -- why a file wasn't replaced; after a failure it may have been all the same

@@ -2,7 +2,8 @@
 use Rattle.std.specs.Prelude.{◌≡◌, List, ℕ, take, Option, Result, Ok, Err}
 use Rattle.w4_defs.specs.declared.status.Refusal.{Refusal}
 use Rattle.w4_defs.specs.declared.status.Refusal.TheVariants as refusal
-use Rattle.w4_defs.specs.Endings.{Manner, ReadFailed, InputFailed, WriteFailed, MemoryRefused, Refused, manner_of}
+use Rattle.w4_defs.specs.Endings.{Manner, ReadFailed, InputFailed, WriteFailed, MemoryRefused, Refused}
+use Rattle.w4_defs.specs.Endings.{manner_of}
 use Rattle.w4_defs.specs.World.{Event, World, Rises, Appends, Does, wrote}
 
 -- where told, standard output has got these bytes, one after another

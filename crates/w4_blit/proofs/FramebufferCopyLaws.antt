@@ -1,5 +1,6 @@
 -- The page of the call's beginning doesn't change while the framebuffer is painted.
-use Rattle.std.proofs.Common.{◌≡◌, ℕ, ◌+◌, ◌-◌, ◌*◌, ◌/◌, Bool, true, false, cond, Option, refl, ◌<◌, ◌≤◌, ◌⊎◌, List, length, take, drop, get_or, sym, ◌∙◌, ap, subst, inl, inr, arith}
+use Rattle.std.proofs.Common.{◌≡◌, ℕ, ◌+◌, ◌-◌, ◌*◌, ◌/◌, Bool, true, false, cond, Option, refl, ◌<◌, ◌≤◌}
+use Rattle.std.proofs.Common.{◌⊎◌, List, length, take, drop, get_or, sym, ◌∙◌, ap, subst, inl, inr, arith}
 use Rattle.std.specs.Prelude.{slice_range, ℤ, pos, ◌+ℤ◌, ◌-ℤ◌}
 use Rattle.std.proofs.lemmas.Bool.{cases_lt}
 use Rattle.std.proofs.lemmas.Bool.Decides.{nat_tests}
@@ -12,7 +13,8 @@ use Rattle.w4_defs.specs.Text.{before_zero, text_codes, units}
 use Rattle.w4_defs.specs.declared.sprite.Sprite.{Sprite}
 use Rattle.w4_defs.specs.Colours.{palette_index}
 use Rattle.w4_defs.specs.Shapes.{natural, only_if, is_inside}
-use Rattle.w4_defs.specs.Blit.{has_flag, source_column, source_row, source_value, cell_index, width_on_screen, height_on_screen, blit_painter}
+use Rattle.w4_defs.specs.Blit.{has_flag, source_column, source_row, source_value, cell_index, width_on_screen}
+use Rattle.w4_defs.specs.Blit.{height_on_screen, blit_painter}
 use Rattle.w4_defs.proofs.PaintLaws.{length-paint, paint-outside}
 use Rattle.w4_blit.specs.FramebufferCopy.{IsAtHand, byte_with_copy, source_start, with_copied_bytes}
 

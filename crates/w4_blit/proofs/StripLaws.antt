@@ -1,5 +1,7 @@
 -- Words as digits of two bits, the first the lowest.
-use Rattle.std.proofs.Common.{◌≡◌, ◌≢◌, ℕ, ◌+◌, ◌-◌, ◌*◌, ◌/◌, ◌%◌, ◌^◌, ◌<◌, ◌≤◌, ◌⊎◌, min, Bool, true, false, ◌&&◌, ◌||◌, List, length, get_or, set, subst, Option, Some, None, unwrap_or, bit_and, bit_xor, mul_assoc, refl, sym, ◌∙◌, ap, inl, inr, arith}
+use Rattle.std.proofs.Common.{◌≡◌, ◌≢◌, ℕ, ◌+◌, ◌-◌, ◌*◌, ◌/◌, ◌%◌, ◌^◌, ◌<◌, ◌≤◌, ◌⊎◌, min, Bool, true}
+use Rattle.std.proofs.Common.{false, ◌&&◌, ◌||◌, List, length, get_or, set, subst, Option, Some, None}
+use Rattle.std.proofs.Common.{unwrap_or, bit_and, bit_xor, mul_assoc, refl, sym, ◌∙◌, ap, inl, inr, arith}
 use Rattle.std.specs.Prelude.{◌==◌, nat_le, nat_lt, if◌then◌else◌}
 use Rattle.std.specs.Int.{bit_at}
 use Rattle.std.specs.Option.{option_or}

@@ -1,5 +1,6 @@
 -- The page when the call began: the page that is painted, with its framebuffer's bytes from a copy.
-use Rattle.std.specs.Prelude.{ℕ, ◌+◌, ◌-◌, ◌<◌, ◌≤◌, ◌⊎◌, ◌||◌, min, List, map, length, nat_lt, nat_le, if◌then◌else◌, slice_index}
+use Rattle.std.specs.Prelude.{ℕ, ◌+◌, ◌-◌, ◌<◌, ◌≤◌, ◌⊎◌, ◌||◌, min, List, map, length, nat_lt, nat_le}
+use Rattle.std.specs.Prelude.{if◌then◌else◌, slice_index}
 use Rattle.std.specs.List.{range_with_len}
 use Rattle.w4_defs.specs.declared.console.TextSource.{TextSource}
 use Rattle.w4_defs.specs.declared.console.TextSource.TheVariants.{Cstr, Utf8, Utf16}

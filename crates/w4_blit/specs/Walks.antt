@@ -1,5 +1,6 @@
 -- The pixels of a sprite that the cells in a row of the screen read: they stand at even distances.
-use Rattle.std.specs.Prelude.{◌≡◌, ℕ, ◌+◌, ◌-◌, ◌*◌, ◌/◌, ◌%◌, ◌^◌, ◌≤◌, ◌⊎◌, List, if◌then◌else◌, Option, ℤ, pos, ◌-ℤ◌}
+use Rattle.std.specs.Prelude.{◌≡◌, ℕ, ◌+◌, ◌-◌, ◌*◌, ◌/◌, ◌%◌, ◌^◌, ◌≤◌, ◌⊎◌, List, if◌then◌else◌, Option, ℤ}
+use Rattle.std.specs.Prelude.{pos, ◌-ℤ◌}
 use Rattle.w4_defs.specs.declared.sprite.Sprite.{Sprite}
 use Rattle.w4_defs.specs.Framebuffer.{Painter}
 use Rattle.w4_defs.specs.Colours.{palette_index}

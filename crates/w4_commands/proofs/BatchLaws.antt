@@ -1,5 +1,6 @@
 -- The lines of rows, one after another.
-use Rattle.std.proofs.Common.{◌≡◌, ℕ, ◌+◌, ◌<◌, ◌≤◌, List, [], ◌∷◌, drop, get_or, length, Option, Some, None, refl, subst, add-one, drop-cons}
+use Rattle.std.proofs.Common.{◌≡◌, ℕ, ◌+◌, ◌<◌, ◌≤◌, List, [], ◌∷◌, drop, get_or, length, Option, Some, None}
+use Rattle.std.proofs.Common.{refl, subst, add-one, drop-cons}
 use Rattle.std.specs.Option.{ForSome}
 use Rattle.std.proofs.Math.ListN.{drop_of_length-le}
 use Rattle.w4_defs.specs.declared.batch.BatchRow.{BatchRow}

@@ -1,18 +1,24 @@
 -- How the whole ended, put together from how its steps ended.
-use Rattle.std.proofs.Common.{◌≡◌, ◌+◌, ℕ, inl, inr, List, [], ◌∷◌, ◌++◌, take, Option, Some, option_map, Result, Ok, Err, refl, sym, subst, ap, ◌∙◌}
+use Rattle.std.proofs.Common.{◌≡◌, ◌+◌, ℕ, inl, inr, List, [], ◌∷◌, ◌++◌, take, Option, Some, option_map}
+use Rattle.std.proofs.Common.{Result, Ok, Err, refl, sym, subst, ap, ◌∙◌}
 use Rattle.std.specs.Option.{ForSome}
 use Rattle.std.specs.Prelude.{IsSome}
 use Rattle.std.proofs.lemmas.List.{append-nil}
 use Rattle.w4_defs.specs.Recording.{encoding}
-use Rattle.w4_defs.specs.World.{Event, InputLost, Saved, Files, World, Rises, RisesBy, Does, FailsToSave, OutFails, SavesOrFails, failed_saves, not_saved, LeavesReading, LeavesWriting, wrote}
+use Rattle.w4_defs.specs.World.{Event, InputLost, Saved, Files, World, Rises, RisesBy, Does, FailsToSave}
+use Rattle.w4_defs.specs.World.{OutFails, SavesOrFails, failed_saves, not_saved, LeavesReading, LeavesWriting}
+use Rattle.w4_defs.specs.World.{wrote}
 use Rattle.w4_house.proofs.WorldLaws.{reading_none, rises_later, take-wrote}
 use Rattle.w4_defs.specs.declared.status.Finish.{Finish}
 use Rattle.w4_defs.specs.declared.status.Refusal.{Refusal}
 use Rattle.w4_defs.specs.declared.status.Refusal.TheVariants as refusal
-use Rattle.w4_defs.specs.Endings.{Manner, ReadFailed, InputFailed, WriteFailed, MemoryRefused, Refused, manner_of}
+use Rattle.w4_defs.specs.Endings.{Manner, ReadFailed, InputFailed, WriteFailed, MemoryRefused, Refused}
+use Rattle.w4_defs.specs.Endings.{manner_of}
 use Rattle.w4_defs.specs.Commands.{EditWords, Form}
 use Rattle.w4_defs.specs.Live.{Talk}
-use Rattle.w4_defs.specs.Output.{CartFile, CartIn, Output, Loaded, all_events, edit_files, edit_answers, edited_recording, only_written, edit_result, edit_output, making, printing, written}
+use Rattle.w4_defs.specs.Output.{CartFile, CartIn, Output, Loaded, all_events, edit_files, edit_answers}
+use Rattle.w4_defs.specs.Output.{edited_recording, only_written, edit_result, edit_output, making, printing}
+use Rattle.w4_defs.specs.Output.{written}
 use Rattle.w4_defs.specs.Outputs.{OutputsBy, OutputsOn, OverCart, OverFile, cart_word}
 use Rattle.w4_defs.specs.Causes.{Ends, EndsRefused, RunsOutAfter, WritesPart, stopped_events}
 use Rattle.w4_commands.specs.Edit.{Carried, StopsCarrying}
@@ -62,7 +68,8 @@ part_later first second third output leaves (inl (count, short, inr (fails, out)
   short,
   inr (
     fails_later first second third (take count output.events) (output.rescued count) leaves fails,
-    out_fails_later first second third (take count output.events ++ not_saved (output.rescued count)) leaves out,
+    out_fails_later first second third (take count output.events ++ not_saved (output.rescued count)) leaves
+        out,
   ),
 )
 part_later first second third output leaves (inr (inl (count, wants, rise, fails))) = inr (inl (
@@ -85,10 +92,15 @@ runs_out_later first second third output count leaves (inr (inl (before, near, s
   saves_later first second third (take count output.events) (output.rescued before) leaves saves,
 ))
 runs_out_later first second third output count leaves (inr (inr (wants, inl does))) =
-    inr (inr (wants, inl (does_later first second third (take count output.events ++ InputLost ∷ []) leaves does)))
+    inr (inr (
+      wants,
+      inl (does_later first second third (take count output.events ++ InputLost ∷ []) leaves
+          does),
+    ))
 runs_out_later first second third output count leaves (inr (inr (wants, inr saves))) = inr (inr (
   wants,
-  inr (saves_later first second third (take count output.events ++ InputLost ∷ []) (output.rescued count) leaves
+  inr (saves_later first second third (take count output.events ++ InputLost ∷ []) (output.rescued count)
+      leaves
       saves),
 ))
 
@@ -226,7 +238,8 @@ over_its_cart : (form : Form) (name : List ℕ) (talk : Talk) (files : Files)
 over_its_cart form name talk files output is h =
     (talk, subst (λ word. OverFile word form talk files output) (sym is) h)
 
-pub unjudged_form : (old new : World) (why : Refusal) (form : Form) (name : List ℕ) → cart_word form ≡ Some name
+pub unjudged_form : (old new : World) (why : Refusal) (form : Form) (name : List ℕ)
+    → cart_word form ≡ Some name
     → LeavesReading old new → Stops old new (manner_of why) (λ files cart. CartIn name files cart)
     → Ends old new (Err why) (OutputsBy form)
 unjudged_form old new why form name is leaves h =
@@ -242,7 +255,8 @@ pub judged_form : (first second third : World) (result : Result Finish Refusal) 
 judged_form first second third result form name cart is leaves given h =
     let on : Step = λ files output. (talk : Talk) × OutputsOn form talk cart files output in
     ends_as first third result on (OutputsBy form)
-    (λ files told output some. over_its_cart form name some.0 files output is (Ok cart, given files told, some.1))
+    (λ files told output some. over_its_cart form name some.0 files output is
+    (Ok cart, given files told, some.1))
     (ends_later first second third result on leaves h)
 
 -- what was to be read wasn't right, so that nothing was made of it

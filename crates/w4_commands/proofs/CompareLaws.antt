@@ -1,5 +1,7 @@
 -- Two runs that are compared place by place, and the lines that tell of them.
-use Rattle.std.proofs.Common.{◌≡◌, ◌↔◌, ℕ, suc, ◌+◌, Bool, true, false, cond, inl, inr, zero, List, [], ◌∷◌, ◌++◌, length, map, take, Option, Some, None, option_map, Result, Ok, Err, Decides, refl, sym, ap, subst, ◌∙◌, append_assoc, arith}
+use Rattle.std.proofs.Common.{◌≡◌, ◌↔◌, ℕ, suc, ◌+◌, Bool, true, false, cond, inl, inr, zero, List, [], ◌∷◌}
+use Rattle.std.proofs.Common.{◌++◌, length, map, take, Option, Some, None, option_map, Result, Ok, Err}
+use Rattle.std.proofs.Common.{Decides, refl, sym, ap, subst, ◌∙◌, append_assoc, arith}
 use Rattle.std.proofs.lemmas.List.{append-nil}
 use Rattle.std.specs.Prelude.{IsSome, IsTrue, not, min}
 use Rattle.std.specs.List.{position_from, range_with_len}
@@ -7,12 +9,16 @@ use Rattle.std.specs.Option.{ForSome}
 use Rattle.std.proofs.lemmas.Iterator.Adapters.{position_from-zero}
 use Rattle.w4_defs.specs.AllThere.{all_some}
 use Rattle.w4_defs.specs.Causes.{Ends, EndsRefused}
-use Rattle.w4_defs.specs.Comparison.{Both, Compared, Respect, Side, both_at, compared, compared_by, first_difference, has_same_disk, has_same_image, has_same_state, has_same_tones, has_same_traces}
-use Rattle.w4_defs.specs.Endings.{Manner, ReadFailed, InputFailed, WriteFailed, MemoryRefused, Refused, manner_of}
+use Rattle.w4_defs.specs.Comparison.{Both, Compared, Respect, Side, both_at, compared, compared_by}
+use Rattle.w4_defs.specs.Comparison.{first_difference, has_same_disk, has_same_image, has_same_state}
+use Rattle.w4_defs.specs.Comparison.{has_same_tones, has_same_traces}
+use Rattle.w4_defs.specs.Endings.{Manner, ReadFailed, InputFailed, WriteFailed, MemoryRefused, Refused}
+use Rattle.w4_defs.specs.Endings.{manner_of}
 use Rattle.w4_defs.specs.Commands.{CompareWords}
 use Rattle.w4_defs.specs.Meaning.{RunsHaveMeaning}
 use Rattle.w4_defs.specs.Output.{CartFile, Output}
-use Rattle.w4_defs.specs.RecordingOutputs.{TwoPlayed, compare_files, compare_output, compared_result, compared_runs, finish_of, side_of}
+use Rattle.w4_defs.specs.RecordingOutputs.{TwoPlayed, compare_files, compare_output, compared_result}
+use Rattle.w4_defs.specs.RecordingOutputs.{compared_runs, finish_of, side_of}
 use Rattle.w4_defs.proofs.ComparedThereLaws.{compared_there}
 use Rattle.w4_defs.specs.World.{Event, Files, World, Does, LeavesReading, LeavesWriting, Rises, wrote}
 use Rattle.w4_defs.specs.declared.status.Finish.{Finish}
@@ -45,7 +51,8 @@ differs : (same : Bool) (at place : ℕ) → place ≡ at → cond (not same) (S
 differs true at place is = refl
 differs false at place is = ap (λ (n : ℕ). Some n) (sym is)
 
-later : (found : Bool) (at place : ℕ) (rest more : Option ℕ) (same : Bool) → more ≡ after_place rest same place
+later : (found : Bool) (at place : ℕ) (rest more : Option ℕ) (same : Bool)
+    → more ≡ after_place rest same place
     → cond found (Some at) more ≡ after_place (cond found (Some at) rest) same place
 later true at place rest more same is = refl
 later false at place rest more same is = is
@@ -60,7 +67,8 @@ from_more same at place (one ∷ places) both is =
     (from_more same (at + 1) place places both (omega (arith, is)))
 
 first_more : (same : Respect) (places : List Both) (both : Both) (place : ℕ) → length places ≡ place
-    → first_difference same (places ++ both ∷ []) ≡ after_place (first_difference same places) (same both) place
+    → first_difference same (places ++ both ∷ []) ≡ after_place (first_difference same places)
+    (same both) place
 first_more same places both place is =
     position_from-zero (λ b. not (same b)) (places ++ both ∷ [])
     ∙ from_more same 0 place places both (omega (arith, is))
@@ -78,7 +86,8 @@ noted_more places both is = λ i. record {
 
 -- ---- places one after another
 
-range_more : (from count : ℕ) → range_with_len from (suc count) ≡ range_with_len from count ++ (from + count) ∷ []
+range_more : (from count : ℕ) → range_with_len from (suc count) ≡ range_with_len from count ++ (from + count)
+    ∷ []
 range_more from zero = ap (λ (n : ℕ). n ∷ []) (omega arith)
 range_more from (suc count) =
     ap (λ (rest : List ℕ). from ∷ rest) (range_more (from + 1) count
@@ -105,7 +114,8 @@ compared_goes_on one other place both found is at (places, there, many, so_far) 
       places ++ both ∷ [],
       ap (λ (range : List ℕ). all_some (map (both_at one other) range))
           (ap (λ (n : ℕ). range_with_len 0 n) more ∙ range_more 0 (place + 1))
-          ∙ ap (λ xs. all_some xs) (map_more (both_at one other) (range_with_len 0 (place + 1)) (0 + (place + 1)))
+          ∙ ap (λ xs. all_some xs) (map_more (both_at one other) (range_with_len 0 (place + 1))
+          (0 + (place + 1)))
           ∙ values_more (map (both_at one other) (range_with_len 0 (place + 1))) places
           (both_at one other (0 + (place + 1))) both there
           (subst (λ (n : ℕ). both_at one other n ≡ Some both) (sym from) is),
@@ -172,7 +182,8 @@ mapped_value f None there = absurd cc
 nothing_saved : (old new : World) (done : List Event) → Does old new done → Does old new (done ++ [])
 nothing_saved old new done does = subst (Does old new) (sym (append-nil done)) does
 
-module _ (first second third : World) (leaves : LeavesReading first second) (rest : LeavesWriting second third)
+module _ (first second third : World) (leaves : LeavesReading first second)
+    (rest : LeavesWriting second third)
     (lines : Compared) (step : Files → Result Output Refusal → Type 0)
     (made : ForSome first.files (λ files. step files (Ok (compared_result lines)))) where
   lines_stopped : (why : Manner) → StopsWriting second third why lines.text → EndsRefused first third why step
@@ -223,5 +234,6 @@ ends_sides first second third leaves rest words one other p given meant other_me
     let there = mapped_value compared_result lines (compared_there one.code other.code meant other_meant p) in
     ends_compared first second third leaves rest there.0
     (MakesOf (λ files. compare_output words one other files))
-    (λ files told. rw (given files told) (ap (λ found. option_map Ok (option_map compared_result found)) there.1))
+    (λ files told. rw (given files told) (ap (λ found. option_map Ok (option_map compared_result found))
+    there.1))
     result (h there.0 there.1)

@@ -18,7 +18,8 @@ use Rattle.w4_house.proofs.WorldLaws.{does_then, reading_none, rises_later}
 use Rattle.w4_answers.proofs.WritingLaws.{front_does, written_does}
 use Rattle.w4_defs.specs.declared.status.Refusal.{Refusal}
 use Rattle.w4_answers.specs.ScriptAnswers.{IsAnswered, answers_by, recording_by}
-use Rattle.w4_defs.specs.Endings.{Manner, ReadFailed, InputFailed, WriteFailed, MemoryRefused, Refused, manner_of}
+use Rattle.w4_defs.specs.Endings.{Manner, ReadFailed, InputFailed, WriteFailed, MemoryRefused, Refused}
+use Rattle.w4_defs.specs.Endings.{manner_of}
 use Rattle.w4_defs.specs.Output.{Loaded, edit_answers, edited_recording}
 
 -- what was carried out at the editor that a file opens was carried out for the file

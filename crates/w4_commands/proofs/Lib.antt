@@ -12,3 +12,4 @@ pub mod WaveLaws
 pub mod BatchListLaws
 pub mod BatchLaws
 pub mod WholeTextLaws
+pub mod FormsLaws

@@ -1,11 +1,13 @@
 -- Steps on files, one after another: why the first or a later one stopped, and what they gave. A cart's file:
 -- it wasn't read, or its bytes are a cart, or none, and never both.
-use Rattle.std.proofs.Common.{◌≡◌, ℕ, ◌+◌, inl, inr, List, Option, Result, Ok, Err, refl, sym, ◌∙◌, Some, None, subst, arith}
+use Rattle.std.proofs.Common.{◌≡◌, ℕ, ◌+◌, inl, inr, List, Option, Result, Ok, Err, refl, sym, ◌∙◌, Some}
+use Rattle.std.proofs.Common.{None, subst, arith}
 use Rattle.std.specs.Option.{ForSome}
 use Rattle.w4_defs.specs.World.{Files, World, LeavesReading}
 use Rattle.w4_house.proofs.WorldLaws.{rises_later}
 use Rattle.w4_defs.specs.declared.status.Refusal.{Refusal}
-use Rattle.w4_defs.specs.Endings.{Manner, ReadFailed, InputFailed, WriteFailed, MemoryRefused, Refused, manner_of}
+use Rattle.w4_defs.specs.Endings.{Manner, ReadFailed, InputFailed, WriteFailed, MemoryRefused, Refused}
+use Rattle.w4_defs.specs.Endings.{manner_of}
 use Rattle.w4_defs.specs.Output.{◌>>=◌, Output, reading, judged, making, CartFile, CartIn}
 use Rattle.w4_commands.specs.Load.{GivesRefusal, GivesValue, ResultsIn, Stops, StepGives}
 use Rattle.w4_commands.specs.Commands.{MakesOf}

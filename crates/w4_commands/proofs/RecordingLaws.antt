@@ -1,5 +1,6 @@
 -- Commands that write what they make of a recording or a disk.
-use Rattle.std.proofs.Common.{◌≡◌, ℕ, ◌+◌, ◌<◌, ◌≤◌, List, [], ◌∷◌, ◌++◌, drop, pos, false, get_or, length, Result, Ok, Err, refl, ap, subst, ◌∙◌}
+use Rattle.std.proofs.Common.{◌≡◌, ℕ, ◌+◌, ◌<◌, ◌≤◌, List, [], ◌∷◌, ◌++◌, drop, pos, false, get_or, length}
+use Rattle.std.proofs.Common.{Result, Ok, Err, refl, ap, subst, ◌∙◌}
 use Rattle.std.proofs.lemmas.List.{drop_more}
 use Rattle.std.specs.Option.{ForSome}
 use Rattle.w4_defs.specs.World.{Files, World, LeavesReading, LeavesWriting}
@@ -19,7 +20,8 @@ use Rattle.w4_answers.proofs.WritingLaws.{Owes, owes_less, piece_stopped}
 use Rattle.w4_commands.proofs.CommandLaws.{ends_text, ends_unread}
 
 -- what is written of a file
-abbrev pub written_of : {G : Type 0} → (Files → Result G Refusal) → (G → List ℕ) → Files → Result Output Refusal
+abbrev pub written_of : {G : Type 0} → (Files → Result G Refusal) → (G → List ℕ) → Files
+    → Result Output Refusal
 written_of read text files = read files >>= λ g. Ok (only_written (text g))
 
 -- the file was judged, and the text of it written

@@ -1,19 +1,25 @@
 -- How a live session ends, once its lines have ended or stopped and the recording left was saved or not.
-use Rattle.std.proofs.Common.{◌≡◌, ◌⊎◌, ◌+◌, ◌≤◌, ◌<◌, ℕ, inl, inr, List, [], ◌∷◌, ◌++◌, length, take, Some, option_map, Result, Ok, Err, refl, sym, ap, subst, ◌∙◌, append_assoc, arith}
+use Rattle.std.proofs.Common.{◌≡◌, ◌⊎◌, ◌+◌, ◌≤◌, ◌<◌, ℕ, inl, inr, List, [], ◌∷◌, ◌++◌, length, take, Some}
+use Rattle.std.proofs.Common.{option_map, Result, Ok, Err, refl, sym, ap, subst, ◌∙◌, append_assoc, arith}
 use Rattle.std.proofs.Math.Seq.{take-append_seam, take-length}
 use Rattle.std.proofs.lemmas.List.{append-nil, length-append}
 use Rattle.std.specs.Prelude.{slice_get}
 use Rattle.w4_defs.specs.declared.status.Refusal.{Refusal}
 use Rattle.w4_defs.specs.declared.status.Refusal.TheVariants as refusal
-use Rattle.w4_defs.specs.Causes.{Ends, EndsRefused, IsShort, LosesInput, RunsOutAfter, WantsInput, WritesPart, stopped_events}
-use Rattle.w4_defs.specs.Endings.{Manner, ReadFailed, InputFailed, WriteFailed, MemoryRefused, Refused, manner_of}
-use Rattle.w4_defs.specs.Live.{LiveSession, Opened, SaveEnd, Talk, recording_left, saving, saving_after, serve_result, taken_lines}
+use Rattle.w4_defs.specs.Causes.{Ends, EndsRefused, IsShort, LosesInput, RunsOutAfter, WantsInput, WritesPart}
+use Rattle.w4_defs.specs.Causes.{stopped_events}
+use Rattle.w4_defs.specs.Endings.{Manner, ReadFailed, InputFailed, WriteFailed, MemoryRefused, Refused}
+use Rattle.w4_defs.specs.Endings.{manner_of}
+use Rattle.w4_defs.specs.Live.{LiveSession, Opened, SaveEnd, Talk, recording_left, saving, saving_after}
+use Rattle.w4_defs.specs.Live.{serve_result, taken_lines}
 use Rattle.w4_defs.specs.Output.{Output, all_events}
 use Rattle.w4_defs.specs.Recording.{Recording, encoding}
-use Rattle.w4_defs.specs.World.{Event, Took, InputEnded, InputLost, Saved, NotSaved, Files, World, Rises, Does, FailsToSave, OutFails, LeavesSaving, not_saved}
+use Rattle.w4_defs.specs.World.{Event, Took, InputEnded, InputLost, Saved, NotSaved, Files, World, Rises}
+use Rattle.w4_defs.specs.World.{Does, FailsToSave, OutFails, LeavesSaving, not_saved}
 use Rattle.w4_commands.specs.Commands.{EndsDone}
 use Rattle.w4_answers.specs.Saving.{Replaces, StopsSaving}
-use Rattle.w4_commands.specs.Serve.{EndsStopped, HasServed, ServedStep, stop_refusal, LinesStop, Serves, ServesPart, ServesThen}
+use Rattle.w4_commands.specs.Serve.{EndsStopped, HasServed, ServedStep, stop_refusal, LinesStop, Serves}
+use Rattle.w4_commands.specs.Serve.{ServesPart, ServesThen}
 use Rattle.w4_answers.specs.LiveAnswer.{LeavesEither}
 use Rattle.w4_house.proofs.WorldLaws.{does_then, rises_later, rises_on}
 use Rattle.w4_answers.proofs.LiveAnswerEventLaws.{out_fails_not_saved, out_fails_saved, out_rises}
@@ -26,7 +32,8 @@ use Rattle.w4_commands.proofs.ServeLineLaws.{saving_is, served_is, served_line, 
 front_part : (front behind : List Event) → take (length front) (front ++ behind) ≡ front
 front_part front behind = take-append_seam front behind
 
-next_event : (front : List Event) (event : Event) → slice_get (front ++ event ∷ []) (length front) ≡ Some event
+next_event : (front : List Event) (event : Event) → slice_get (front ++ event ∷ []) (length front)
+    ≡ Some event
 next_event [] event = refl
 next_event (one ∷ front) event = next_event front event
 
@@ -117,7 +124,8 @@ module _ (o : Opened) (s : LiveSession) (old mid new : World) (left : Recording)
     ended_ran_out does none =
         let events = done ++ InputEnded ∷ [] in (
           length events,
-          ran_out old new whole (length events) (subst (Does old new) (append-nil events ∙ sym (take-length events))
+          ran_out old new whole (length events)
+              (subst (Does old new) (append-nil events ∙ sym (take-length events))
               (does_then old mid new events [] does none)),
         )
 
@@ -163,7 +171,8 @@ module _ (o : Opened) (s : LiveSession) (old mid new : World) (left : Recording)
         → (count : ℕ) × RunsOutAfter old new whole count
     lost_ran_out does none = (
       length done,
-      ran_out_lost old new whole (length done) wants (subst (Does old new) (append-nil (done ++ InputLost ∷ [])
+      ran_out_lost old new whole (length done) wants
+          (subst (Does old new) (append-nil (done ++ InputLost ∷ [])
           ∙ ap (λ events. events ++ InputLost ∷ []) (sym front_is))
           (does_then old mid new (done ++ InputLost ∷ []) [] does none)),
     )
@@ -176,7 +185,8 @@ module _ (o : Opened) (s : LiveSession) (old mid new : World) (left : Recording)
     lost_out_by does WriteFailed (rise, fails) = (
       length done,
       ran_out_lost_saved old new whole (length done) wants (inr
-          (fails_then old mid new (take (length done) whole.events ++ InputLost ∷ []) (whole.rescued (length done))
+          (fails_then old mid new (take (length done) whole.events ++ InputLost ∷ [])
+          (whole.rescued (length done))
           (does_lost does)
           (fails_as mid new (Saved name bytes ∷ []) (whole.rescued (length done)) (sym rescue_is) fails))),
     )
@@ -188,7 +198,8 @@ module _ (o : Opened) (s : LiveSession) (old mid new : World) (left : Recording)
     lost_out does (Ok x) saved = (
       length done,
       ran_out_lost_saved old new whole (length done) wants (inl
-          (does_then old mid new (take (length done) whole.events ++ InputLost ∷ []) (whole.rescued (length done))
+          (does_then old mid new (take (length done) whole.events ++ InputLost ∷ [])
+          (whole.rescued (length done))
           (does_lost does)
           (saved_as mid new (Saved name bytes ∷ []) (whole.rescued (length done)) (sym rescue_is) saved))),
     )
@@ -234,19 +245,22 @@ module _ (o : Opened) (s : LiveSession) (lines : List (List ℕ)) (saves : List 
       ∙ ap (λ events. front ++ not_saved events) part_rescue
 
   unsaved_out_fails : OutFails old mid front → Rises mid.write_faults new.write_faults
-      → OutFails old new (take (length front) part_whole.events ++ not_saved (part_whole.rescued (length front)))
+      → OutFails old new (take (length front) part_whole.events ++ not_saved
+      (part_whole.rescued (length front)))
   unsaved_out_fails fails rise = subst (OutFails old new) (sym unsaved_is)
       (out_fails_not_saved old mid new front o.out fails rise)
 
   part_saved : Does mid new (saving o s) → Does old new (stopped_events part_whole (length front))
   part_saved saved =
-      does_then old mid new (take (length front) part_whole.events) (part_whole.rescued (length front)) does_front
+      does_then old mid new (take (length front) part_whole.events) (part_whole.rescued (length front))
+      does_front
       (subst (Does mid new) (sym part_rescue) saved)
 
   part_failed : FailsToSave mid new [] (saving o s)
       → FailsToSave old new (take (length front) part_whole.events) (part_whole.rescued (length front))
   part_failed fails =
-      fails_then old mid new (take (length front) part_whole.events) (part_whole.rescued (length front)) does_front
+      fails_then old mid new (take (length front) part_whole.events) (part_whole.rescued (length front))
+      does_front
       (subst (FailsToSave mid new []) (sym part_rescue) fails)
 
   part_ran_out : Does mid new [] → (count : ℕ) × RunsOutAfter old new part_whole count
@@ -329,7 +343,8 @@ module _ (o : Opened) (old mid new : World) (left : Recording) (rest : LeavesSav
     ),
   )
   ended_stopped s then is later MemoryRefused h = inr (λ files told.
-      let out = ended_ran_out o s old mid new left is then.lines then.saves then.done then.served then.does h in (
+      let out = ended_ran_out o s old mid new left is then.lines then.saves then.done then.served then.does h
+      in (
         output o s then.lines then.saves then.done then.served,
         made o s then.lines then.saves then.done then.served files,
         out.0,
@@ -337,7 +352,8 @@ module _ (o : Opened) (old mid new : World) (left : Recording) (rest : LeavesSav
       ))
   ended_stopped s then is later (Refused why) h = absurd h
 
-  pub serve_ended : {X : Type 0} (s : LiveSession) (then : ServesThen old mid o s InputEnded) → left ≡ recording_left o s
+  pub serve_ended : {X : Type 0} (s : LiveSession) (then : ServesThen old mid o s InputEnded)
+      → left ≡ recording_left o s
       → old.write_faults ≤ mid.write_faults → (result : Result X Refusal)
       → Replaces mid new result o.out Bytes → EndsDone old new result (ServedStep o)
   serve_ended s then is later (Ok x) h = λ files told. (
@@ -362,12 +378,14 @@ module _ (o : Opened) (old mid new : World) (left : Recording) (rest : LeavesSav
     λ files told. (
       output o s then.lines then.saves then.done then.served,
       made o s then.lines then.saves then.done then.served files,
-      lost_failed o s old mid new left is then.lines then.saves then.done then.served (reads_rose lost) then.does
+      lost_failed o s old mid new left is then.lines then.saves then.done then.served (reads_rose lost)
+          then.does
           fails,
     ),
   )
   lost_stopped s then is lost later MemoryRefused h = inr (λ files told.
-      let out = lost_ran_out o s old mid new left is then.lines then.saves then.done then.served then.does h in (
+      let out = lost_ran_out o s old mid new left is then.lines then.saves then.done then.served then.does h
+      in (
         output o s then.lines then.saves then.done then.served,
         made o s then.lines then.saves then.done then.served files,
         out.0,
@@ -399,14 +417,16 @@ module _ (o : Opened) (old mid new : World) (left : Recording) (rest : LeavesSav
     part_done = part.done ++ Took part.line ∷ part.events
 
     pub part_served : HasServed o part_lines part_saves part_done next
-    part_served = served_line o s next part.lines part.saves part.mine part.done part.events part.line part.served
+    part_served = served_line o s next part.lines part.saves part.mine part.done part.events part.line
+        part.served
         part.step
 
     abbrev pub part_events : List Event
     part_events = part.done ++ Took part.line ∷ part.front
 
     pub events_behind : part_done ≡ part_events ++ part.is_front.0
-    events_behind = step_front o s next part.lines part.saves part.done part.line part.mine part.events part.front
+    events_behind = step_front o s next part.lines part.saves part.done part.line part.mine part.events
+        part.front
         part.is_front.0 part.is_front.1
 
     pub takes_all : taken_lines part_events ≡ part_lines
@@ -453,7 +473,8 @@ module _ (o : Opened) (old mid new : World) (left : Recording) (rest : LeavesSav
     part_saved_too : left ≡ recording_left o next → OutFails old mid part_events
         → Does mid new (Saved o.out Bytes ∷ []) → EndsRefused old new WriteFailed (ServedStep o)
     part_saved_too is out h = (
-      rises_on old.write_faults mid.write_faults new.write_faults (out_rises old mid part_events out) rest.later,
+      rises_on old.write_faults mid.write_faults new.write_faults (out_rises old mid part_events out)
+          rest.later,
       λ files told. (
         part_output,
         part_made files,
@@ -508,7 +529,8 @@ module _ (o : Opened) (old mid new : World) (left : Recording) (rest : LeavesSav
         part_made files,
         length part_events,
         still_out o next part_lines part_saves part_done part_served part_events part.is_front.0 events_behind
-            takes_all old mid new part.does left s (length part.done) (inr one_more) before_rescue is result h,
+            takes_all old mid new part.does left s (length part.done) (inr one_more) before_rescue is result
+            h,
       ))
 
   -- memory had run out where a line was wanted
@@ -522,9 +544,11 @@ module _ (o : Opened) (old mid new : World) (left : Recording) (rest : LeavesSav
         output o s serves.lines serves.saves done serves.served,
         made o s serves.lines serves.saves done serves.served files,
         length done,
-        still_out o s serves.lines serves.saves done serves.served done [] is_done serves.served.taken old mid new
+        still_out o s serves.lines serves.saves done serves.served done [] is_done serves.served.taken old mid
+            new
             serves.does.0 left s (length done) (inl refl)
-            (part_rescue o s serves.lines serves.saves done serves.served done [] is_done serves.served.taken old
+            (part_rescue o s serves.lines serves.saves done serves.served done [] is_done serves.served.taken
+            old
             mid new serves.does.0) is result h,
       ))
 
@@ -533,7 +557,8 @@ module _ (o : Opened) (old mid new : World) (left : Recording) (rest : LeavesSav
       → left ≡ recording_left o s → (result : Result X Refusal) → Replaces mid new result o.out Bytes
       → EndsRefused old new MemoryRefused (ServedStep o)
   within_out s then is result h = inr (λ files told.
-      let out = lost_out o s old mid new left is then.lines then.saves then.done then.served then.does result h in (
+      let out = lost_out o s old mid new left is then.lines then.saves then.done then.served then.does result
+      h in (
         output o s then.lines then.saves then.done then.served,
         made o s then.lines then.saves then.done then.served files,
         out.0,

@@ -1,18 +1,23 @@
 -- What a session over lines comes to once its files are read, and its loop: one line after another, up to the
 -- end of the input or a stop.
-use Rattle.std.proofs.Common.{◌≡◌, [], Some, option_map, Result, Ok, Err, ap, ◌∙◌, ◌≤◌, ℕ, inl, inr, Option, None, List, ◌∷◌, ◌++◌, refl, sym, subst, arith}
+use Rattle.std.proofs.Common.{◌≡◌, [], Some, option_map, Result, Ok, Err, ap, ◌∙◌, ◌≤◌, ℕ, inl, inr, Option}
+use Rattle.std.proofs.Common.{None, List, ◌∷◌, ◌++◌, refl, sym, subst, arith}
 use Rattle.std.specs.Option.{ForSome}
 use Rattle.w4_defs.specs.declared.status.Refusal.{Refusal}
 use Rattle.w4_defs.specs.Causes.{Ends}
 use Rattle.w4_defs.specs.Commands.{ServeWords}
-use Rattle.w4_defs.specs.Endings.{manner_of, Manner, ReadFailed, InputFailed, WriteFailed, MemoryRefused, Refused}
-use Rattle.w4_defs.specs.Live.{Opened, Talk, serve_output, served, LiveSession, first_live_session, recording_left}
+use Rattle.w4_defs.specs.Endings.{manner_of, Manner, ReadFailed, InputFailed, WriteFailed, MemoryRefused}
+use Rattle.w4_defs.specs.Endings.{Refused}
+use Rattle.w4_defs.specs.Live.{Opened, Talk, serve_output, served, LiveSession, first_live_session}
+use Rattle.w4_defs.specs.Live.{recording_left}
 use Rattle.w4_defs.specs.Output.{CartFile, Output, Played, making, run_files}
-use Rattle.w4_defs.specs.World.{Files, World, LeavesReading, Event, Took, InputEnded, InputLost, Does, LeavesTaking}
+use Rattle.w4_defs.specs.World.{Files, World, LeavesReading, Event, Took, InputEnded, InputLost, Does}
+use Rattle.w4_defs.specs.World.{LeavesTaking}
 use Rattle.w4_commands.specs.Commands.{EndsDone, finished}
 use Rattle.w4_commands.specs.Load.{ResultsIn, Stops}
 use Rattle.w4_commands.specs.Serve.{ServedStep, LinesStop, LosesLine, Serves, ServesThen}
-use Rattle.w4_answers.specs.LiveAnswer.{DoesCounted, FailsToWrite, LeavesServing, LineAnswered, LineStops, Sits}
+use Rattle.w4_answers.specs.LiveAnswer.{DoesCounted, FailsToWrite, LeavesServing, LineAnswered, LineStops}
+use Rattle.w4_answers.specs.LiveAnswer.{Sits}
 use Rattle.w4_commands.proofs.CommandLaws.{Step, ends_as, ends_later, ends_unread}
 use Rattle.std.proofs.lemmas.List.{append-nil}
 use Rattle.w4_defs.specs.Recording.{Recording}
@@ -45,11 +50,16 @@ pub serve_made : {X : Type 0} (first second third : World) (words : ServeWords) 
 serve_made first second third words cart p leaves given result h =
     let inner = ServedStep (opened_on cart words p) in
     ends_as first third (finished result) inner (ServeStep words cart)
-    (λ files told output made. (made.0, with_files words made.0 cart p files output (given files told) made.1))
+    (λ files told output made. (
+      made.0,
+      with_files words made.0 cart p files output (given files told)
+          made.1,
+    ))
     (ends_later first second third (finished result) inner leaves h)
 
 without_files : (words : ServeWords) (talk : Talk) (cart : CartFile) (files : Files) (fault : Refusal)
-    → run_files cart.digest words.run files ≡ Err fault → serve_output words talk cart files ≡ Some (Err fault)
+    → run_files cart.digest words.run files ≡ Err fault → serve_output words talk cart files ≡ Some
+    (Err fault)
 unfolding serve_output
 without_files words talk cart files fault none =
     ap (λ found. making found (λ q. served (opened_on cart words q) talk)) none
@@ -60,7 +70,8 @@ pub serve_unread : (old new : World) (words : ServeWords) (cart : CartFile) (why
     → Ends old new (Err why) (ServeStep words cart)
 serve_unread old new words cart why leaves h =
     let talk : Talk = record { lines = []; saves = [] } in
-    ends_unread old new (ResultsIn (λ files. run_files cart.digest words.run files)) (ServeStep words cart) leaves
+    ends_unread old new (ResultsIn (λ files. run_files cart.digest words.run files)) (ServeStep words cart)
+    leaves
     (λ files fault none. (talk, without_files words talk cart files fault none)) why h
 
 -- ---- what is left
@@ -107,7 +118,8 @@ serves_none world o = record {
 }
 
 -- a line was taken
-module _ (old now mid new : World) (o : Opened) (s : LiveSession) (line : List ℕ) (serves : Serves old now o s)
+module _ (old now mid new : World) (o : Opened) (s : LiveSession) (line : List ℕ)
+    (serves : Serves old now o s)
     (leaves : LeavesTaking now mid) (taken : Does now mid (Took line ∷ [])) where
   -- and what it does was done, or so much of it
   took : (front : List Event) → Does mid new front → Does old new (serves.done ++ Took line ∷ front)

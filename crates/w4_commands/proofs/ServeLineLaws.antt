@@ -1,9 +1,12 @@
 -- Lines of a live session, one after another, and the output that they come to.
-use Rattle.std.proofs.Common.{◌≡◌, ℕ, List, [], ◌∷◌, ◌++◌, Option, Some, None, option_map, refl, sym, ap, ◌∙◌, append_assoc}
+use Rattle.std.proofs.Common.{◌≡◌, ℕ, List, [], ◌∷◌, ◌++◌, Option, Some, None, option_map, refl, sym, ap, ◌∙◌}
+use Rattle.std.proofs.Common.{append_assoc}
 use Rattle.std.proofs.lemmas.List.{append-nil}
 use Rattle.w4_defs.specs.declared.live.LiveOrder.TheVariants as live
 use Rattle.w4_defs.specs.AllThere.{joined}
-use Rattle.w4_defs.specs.Live.{Asked, AsksNothing, NoOrder, Asks, LiveSession, LiveStep, Opened, SaveEnd, Talk, asked_of, first_live_session, line_step, save_step, saving, saving_after, serve_result, served, session_after, session_events, taken_lines}
+use Rattle.w4_defs.specs.Live.{Asked, AsksNothing, NoOrder, Asks, LiveSession, LiveStep, Opened, SaveEnd}
+use Rattle.w4_defs.specs.Live.{Talk, asked_of, first_live_session, line_step, save_step, saving, saving_after}
+use Rattle.w4_defs.specs.Live.{serve_result, served, session_after, session_events, taken_lines}
 use Rattle.w4_defs.specs.World.{Event, Took, InputEnded, InputLost, Wrote, Saved, NotSaved}
 use Rattle.w4_commands.specs.Serve.{HasServed}
 use Rattle.w4_answers.specs.LiveAnswer.{StepsTo}
@@ -51,7 +54,8 @@ after_more : (o : Opened) (s : LiveSession) (lines : List (List ℕ)) (line : Li
 after_more o s [] line = refl
 after_more o s (one ∷ lines) line = after_more o (line_step o s [] (asked_of one)).session lines line
 
-pub taken-append : (some more : List Event) → taken_lines (some ++ more) ≡ taken_lines some ++ taken_lines more
+pub taken-append : (some more : List Event) → taken_lines (some ++ more) ≡ taken_lines some ++ taken_lines
+    more
 taken-append [] more = refl
 taken-append (Took line ∷ some) more = ap (λ lines. line ∷ lines) (taken-append some more)
 taken-append (InputEnded ∷ some) more = taken-append some more

@@ -1,27 +1,19 @@
 -- Samples that are written frame after frame.
-use Rattle.std.proofs.Common.{◌≡◌, ℕ, suc, ◌+◌, ◌-◌, ◌<◌, ◌≤◌, List, ◌∷◌, ◌++◌, length, map, Option, Some, None, option_map, refl, sym, ap, subst, arith}
+use Rattle.std.proofs.Common.{◌≡◌, ℕ, suc, ◌+◌, ◌-◌, ◌<◌, ◌≤◌, List, ◌∷◌, ◌++◌, map, Option, Some}
+use Rattle.std.proofs.Common.{None, option_map, refl, sym, ap, subst, arith}
 use Rattle.std.specs.List.{range_with_len}
 use Rattle.std.specs.Option.{ForSome}
 use Rattle.std.specs.Prelude.{Result, Ok, Err}
 use Rattle.w4_defs.specs.AllThere.{joined, all_some}
-use Rattle.w4_defs.specs.Comparison.{Side}
-use Rattle.w4_defs.specs.Run.{run}
-use Rattle.w4_defs.specs.State.{FrameRecord, Moment}
-use Rattle.w4_defs.specs.Sound.{Wave, after_frame, first_wave, rendered, samples, samples_from, wav_header}
+use Rattle.w4_defs.specs.State.{FrameRecord}
+use Rattle.w4_defs.specs.Sound.{Wave, after_frame, first_wave, rendered, samples, samples_from}
 use Rattle.w4_defs.specs.World.{World}
 use Rattle.w4_answers.specs.Writing.{AppendsOut, StopsWriting, Written}
 use Rattle.w4_defs.proofs.OptionLaws.{some_same}
-use Rattle.w4_answers.proofs.WritingLaws.{out_then, owes_after, owes_stopped, OwesThere, there_begins, there_is, there_less, there_nothing, there_stopped}
+use Rattle.w4_answers.proofs.WritingLaws.{out_then, owes_after, owes_stopped, OwesThere, there_begins}
+use Rattle.w4_answers.proofs.WritingLaws.{there_is, there_less, there_nothing, there_stopped}
 use Rattle.w4_defs.specs.declared.status.Refusal.{Refusal}
 use Rattle.w4_defs.specs.Endings.{Manner, manner_of}
-
--- what is written of a run: the header and the samples of its places
-abbrev pub side_sound : Side → Option (List ℕ)
-side_sound side =
-    let places = length side.inputs + 1 in
-    option_map (λ records. wav_header places ++ samples records)
-    (all_some (map (λ place. option_map (λ (moment : Moment). moment.frame_record)
-    (run side.setup side.disk side.inputs place)) (range_with_len 0 places)))
 
 -- the samples of so many places, by what their frames made
 abbrev pub samples_at : (ℕ → Option FrameRecord) → Wave → ℕ → ℕ → Option (List ℕ)
@@ -64,7 +56,8 @@ samples-later records one wave next at to lt e goes =
 
 piece_written : (now after : World) (bytes : List ℕ) → AppendsOut now.events after.events bytes
     → ForSome (Some bytes) (λ text. AppendsOut now.events after.events text)
-piece_written now after bytes h = there_is (λ text. AppendsOut now.events after.events text) (Some bytes) bytes refl h
+piece_written now after bytes h = there_is (λ text. AppendsOut now.events after.events text)
+    (Some bytes) bytes refl h
 
 piece_stopping : (now after : World) (why : Manner) (bytes : List ℕ) → StopsWriting now after why bytes
     → ForSome (Some bytes) (λ text. StopsWriting now after why text)
@@ -74,7 +67,8 @@ piece_stopping now after why bytes h =
 pub samples-begin : (first now : World) (records : ℕ → Option FrameRecord) (one : FrameRecord)
     (wave next : Wave)
     (count : ℕ)
-    → records 0 ≡ Some one → AppendsOut first.events now.events (rendered one wave) → next ≡ after_frame one wave
+    → records 0 ≡ Some one → AppendsOut first.events now.events (rendered one wave)
+    → next ≡ after_frame one wave
     → OwesThere first now (samples_at records next 1 count) (samples_at records wave 0 (count + 1))
 samples-begin first now records one wave next count e h goes =
     let whole = samples_at records wave 0 (count + 1) in

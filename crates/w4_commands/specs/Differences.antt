@@ -1,6 +1,7 @@
 -- Where two runs differ first, as far as they were compared.
 use Rattle.std.specs.Prelude.{ℕ, ◌∷◌, [], Bool, List, Option, Some, None, if◌then◌else◌}
-use Rattle.w4_defs.specs.Comparison.{Both, first_difference, has_same_disk, has_same_image, has_same_state, has_same_tones, has_same_traces}
+use Rattle.w4_defs.specs.Comparison.{Both, first_difference, has_same_disk, has_same_image, has_same_state}
+use Rattle.w4_defs.specs.Comparison.{has_same_tones, has_same_traces}
 use Rattle.w4_commands.specs.Stage.{stage_moment}
 use Rattle.w4_commands.specs.declared.differences.Differences.{Differences}
 use Rattle.w4_commands.specs.declared.stage.Stage.{Stage}

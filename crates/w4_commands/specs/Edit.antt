@@ -1,16 +1,22 @@
 -- What an edit reads, as the definitions see it, and what it leaves of the world: its answers, then the
 -- recording.
 use Rattle.w4_commands.specs.declared.edit.Loaded.{Loaded}
+use Rattle.w4_commands.specs.declared.load.RunFiles.{RunFiles}
+use Rattle.w4_defs.specs.declared.order.Order.{Order}
 use Rattle.w4_defs.specs.Output.{Loaded as GivenOrders}
 use Rattle.std.specs.Prelude.{◌⊎◌, ◌++◌, ◌∷◌, [], List, ℕ, Result, Ok, Err}
 use Rattle.w4_defs.specs.declared.status.Refusal.{Refusal}
-use Rattle.w4_defs.specs.Endings.{Manner, ReadFailed, InputFailed, WriteFailed, MemoryRefused, Refused, manner_of}
+use Rattle.w4_defs.specs.Endings.{Manner, ReadFailed, InputFailed, WriteFailed, MemoryRefused, Refused}
+use Rattle.w4_defs.specs.Endings.{manner_of}
 use Rattle.w4_defs.specs.World.{Saved, World, Rises, Does, FailsToSave, wrote}
 use Rattle.w4_commands.specs.Load.{run_files_view}
 use Rattle.w4_answers.specs.Writing.{DoesFront}
 
+abbrev pub run_and_orders : RunFiles → List Order → GivenOrders
+run_and_orders run orders = record { run = run_files_view run; orders = orders }
+
 abbrev pub loaded_view : Loaded → GivenOrders
-loaded_view l = record { run = run_files_view l.run; orders = l.orders.items }
+loaded_view l = run_and_orders l.run l.orders.items
 
 -- why an edit stopped: a first part of its answers was written, or all of them, and the file wasn't replaced
 abbrev pub StopsCarrying : World → World → Manner → List ℕ → List ℕ → List ℕ → Type 0

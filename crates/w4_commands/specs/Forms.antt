@@ -13,7 +13,9 @@ use Rattle.w4_commands.specs.declared.forms.EditorCommand.{EditorCommand}
 use Rattle.w4_commands.specs.declared.forms.EditorCommand.TheVariants as editor
 use Rattle.w4_commands.specs.declared.forms.Form.{Form as Named}
 use Rattle.w4_commands.specs.declared.forms.Form.TheVariants as named
-use Rattle.w4_defs.specs.Commands.{RunWords, EditWords, NetWords, BatchWords, ServeWords, CompareWords, Form, Check, Blank, Frames, Disk, Edit, Make, Net, Ram, Batch, Serve, Compare, Rebind, Inputs, BlankDisk}
+use Rattle.w4_defs.specs.Commands.{RunWords, EditWords, NetWords, BatchWords, ServeWords, CompareWords, Form}
+use Rattle.w4_defs.specs.Commands.{Check, Blank, Frames, Disk, Edit, Make, Net, Ram, Batch, Serve, Compare}
+use Rattle.w4_defs.specs.Commands.{Rebind, Inputs, BlankDisk}
 use Rattle.w4_commands.specs.RunOutputs.{whole_command}
 
 abbrev pub run_view : RunNames → RunWords

@@ -4,9 +4,11 @@ use Rattle.std.specs.Prelude.{ℕ, ◌+◌, ◌-◌, List, length, Option, Resul
 use Rattle.w4_defs.specs.declared.place_text.PlaceText.{PlaceText}
 use Rattle.w4_defs.specs.declared.place_text.PlaceText.TheVariants.{Schedule, Traces}
 use Rattle.w4_defs.specs.declared.status.Refusal.{Refusal}
-use Rattle.w4_defs.specs.Commands.{Form, RunWords, Tones, Trace, Units, Wave, tones_form, trace_form, units_form, wave_form}
+use Rattle.w4_defs.specs.Commands.{Form, RunWords, Tones, Trace, Units, Wave, tones_form, trace_form}
+use Rattle.w4_defs.specs.Commands.{units_form, wave_form}
 use Rattle.w4_defs.specs.Module.{WasmModule}
-use Rattle.w4_defs.specs.Output.{CartFile, Output, Played, place_texts_from, printing, run_files, run_files_to}
+use Rattle.w4_defs.specs.Output.{CartFile, Output, Played, place_texts_from, printing, run_files}
+use Rattle.w4_defs.specs.Output.{run_files_to}
 use Rattle.w4_defs.specs.RecordingOutputs.{run_units}
 use Rattle.w4_defs.specs.ToolOutputs.{wave_text}
 use Rattle.w4_defs.specs.World.{Files}

@@ -1,11 +1,13 @@
 -- A live session as its loop sees it: what was done for the lines taken so far, and what is edited then.
 use Rattle.std.specs.Prelude.{ℕ, List, ◌≡◌, ◌⊎◌, [], ◌∷◌, ◌++◌, Some, option_map, Result, Ok, Err, ⊤}
 use Rattle.w4_commands.specs.declared.load.RunFiles.{RunFiles}
-use Rattle.w4_defs.specs.Live.{Opened, LiveSession, SaveEnd, Talk, first_live_session, recording_left, served, session_after, session_events, taken_lines}
+use Rattle.w4_defs.specs.Live.{Opened, LiveSession, SaveEnd, Talk, first_live_session, recording_left, served}
+use Rattle.w4_defs.specs.Live.{session_after, session_events, taken_lines}
 use Rattle.w4_defs.specs.Module.{WasmModule}
 use Rattle.w4_defs.specs.declared.status.Refusal.{Refusal}
 use Rattle.w4_defs.specs.declared.status.Refusal.TheVariants as refusal
-use Rattle.w4_defs.specs.Endings.{Manner, ReadFailed, InputFailed, WriteFailed, MemoryRefused, Refused, manner_of}
+use Rattle.w4_defs.specs.Endings.{Manner, ReadFailed, InputFailed, WriteFailed, MemoryRefused, Refused}
+use Rattle.w4_defs.specs.Endings.{manner_of}
 use Rattle.w4_defs.specs.Output.{Output}
 use Rattle.w4_defs.specs.Recording.{Recording}
 use Rattle.w4_defs.specs.World.{Event, Files, Took, InputEnded, InputLost, World, Rises, Does, OutFails}

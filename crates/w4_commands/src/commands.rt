@@ -241,5 +241,7 @@ fn write_run<H: House>(
     let recording = &run.recording;
     let scene = Scene::of_recording(cart, &run.font, recording);
     let inputs = recording.frames.as_slice();
-    write_places(alloc, house, &mut stage, &scene, inputs, wanted)
+    let end = write_places(alloc, house, &mut stage, &scene, inputs, wanted);
+    stage.close();
+    end
 }

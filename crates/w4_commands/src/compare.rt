@@ -166,7 +166,10 @@ fn compare_runs(
 {
     let mut one = Stage::new(alloc, side.scene.setup.cart)?;
     let mut other = Stage::new(alloc, other_side.scene.setup.cart)?;
-    compare_stages(alloc, &mut one, &mut other, side, other_side)
+    let found = compare_stages(alloc, &mut one, &mut other, side, other_side);
+    one.close();
+    other.close();
+    found
 }
 
 /// Runs both on stages that haven't run.

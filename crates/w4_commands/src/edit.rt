@@ -6,12 +6,13 @@ ghost use Rattle.w4_defs.specs.Output.{edit_answers, edit_files, edit_output, ed
 ghost use Rattle.w4_defs.specs.Causes.{LeavesErr};
 ghost use Rattle.w4_defs.specs.World.{LeavesReading};
 ghost use Rattle.w4_answers.specs.ScriptAnswers.{answers_by, recording_by};
-ghost use Rattle.w4_commands.specs.Edit.{Carried, loaded_view};
+ghost use Rattle.w4_commands.specs.Edit.{Carried, loaded_view, run_and_orders};
 ghost use Rattle.w4_commands.specs.Commands.{EndsDone, MakesOf};
 ghost use Rattle.w4_commands.specs.Load.{ResultsIn, StepGives, GivesValue, cart_view};
 ghost use Rattle.w4_console.specs.Counting.{IsBlankOf};
 ghost use Rattle.w4_commands.specs.Forms.{edit_view};
 
+use crate::closing::close_desk;
 use crate::forms::EditNames;
 use crate::lines_refusal::script_refusal;
 use crate::load::{RunFiles, load_run, read_file};
@@ -36,6 +37,14 @@ pub struct Loaded {
     pub orders: Vec<Order>,
 }
 
+/// What an edit does once its files are read: its orders, and the name of the file that the edited recording
+/// goes to.
+#[derive(Clone, Copy)]
+struct EditTask<'a> {
+    orders: &'a [Order],
+    out: &'a str,
+}
+
 /// `edit CART REC FONT SCRIPT OUT`.
 #[tactic(auto, unfolding(w4_defs::specs::Output::edit_output))]
 pub fn run_edit<R: Threads + Sync, H: House, G: Gate + Sync>(
@@ -49,7 +58,12 @@ pub fn run_edit<R: Threads + Sync, H: House, G: Gate + Sync>(
     ensures err { LeavesErr (H.world house.old) (H.world house.new) }
 {
     let loaded = load_edit(resources.alloc, house, &file.digest, names)?;
-    carry_out::<Brand, R, H, G>(resources, house, file.cart, loaded, names, Blank::new(1))
+    let Loaded { run, orders } = loaded;
+    let task = EditTask {
+        orders: orders.as_slice(),
+        out: names.out,
+    };
+    carry_out::<Brand, R, H, G>(resources, house, file.cart, run, task, Blank::new(1))
 }
 
 /// Reads what an edit over the cart with this digest is made of.
@@ -93,19 +107,20 @@ fn carry_out<L: Ledger, R: Threads + Sync, H: House, G: Gate + Sync>(
     resources: &Resources<'_, R, G>,
     house: &mut H,
     cart: Cart,
-    loaded: Loaded,
-    names: EditNames<'_>,
+    run: RunFiles,
+    task: EditTask<'_>,
     blank: Blank,
 ) -> Result<(), Refusal>
     requires { IsBlankOf L.name L.parts blank }
-    ensures carried { ForSome (edit_answers cart (loaded_view loaded)).out
-        (λ out. Carried (H.world house.old) (H.world house.new) result out names.entry.out.now
-        (encoding 2 (edited_recording cart (loaded_view loaded)))) }
+    ensures carried { ForSome (edit_answers cart (run_and_orders run task.entry.orders.now)).out
+        (λ out. Carried (H.world house.old) (H.world house.new) result out task.entry.out.now
+        (encoding 2 (edited_recording cart (run_and_orders run task.entry.orders.now)))) }
     ensures err { LeavesErr (H.world house.old) (H.world house.new) }
 {
-    let Loaded { run, orders } = loaded;
     let mut desk = Desk::<L>::new(resources.alloc, cart, run.font, run.recording, blank)?;
-    answer_and_save(resources, house, &mut desk, orders.as_slice(), names.out)
+    let end = answer_and_save(resources, house, &mut desk, task.orders, task.out);
+    close_desk(desk);
+    end
 }
 
 /// Answers all orders, and saves the edited recording.

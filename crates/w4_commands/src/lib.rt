@@ -5,6 +5,7 @@
 
 mod batch;
 pub mod budget;
+mod closing;
 pub mod commands;
 mod compare;
 mod differences;

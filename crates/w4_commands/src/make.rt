@@ -119,7 +119,9 @@ fn lines_of_run(
     };
     let scene = Scene { setup, disk: &[] };
     stage.run_to(&scene, made.inputs.as_slice(), MADE_FRAMES as usize);
-    summary_of(alloc, &mut stage, bytes.len())
+    let lines = summary_of(alloc, &mut stage, bytes.len());
+    stage.close();
+    lines
 }
 
 /// The lines of the state that the stage has come to.

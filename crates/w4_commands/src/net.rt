@@ -53,7 +53,8 @@ pub fn run_net<H: House>(
     ensures err { LeavesErr (H.world house.old) (H.world house.new) }
 {
     let loaded = load_net(alloc, house, names)?;
-    answer_log(alloc, house, file, names.budget, loaded)
+    let NetLoaded { font, orders } = loaded;
+    answer_log(alloc, house, file, font, names.budget, orders.as_slice())
 }
 
 /// Reads what a session of rollback is made of.
@@ -95,18 +96,18 @@ fn answer_log<H: House>(
     alloc: Global,
     house: &mut H,
     file: CartFile,
+    font: Font,
     budget: Budget,
-    loaded: NetLoaded,
+    orders: &[NetOrder],
 ) -> Result<(), Refusal>
-    ensures out { ForSome (net_text file.cart budget.units (net_loaded_view loaded))
+    ensures out { ForSome (net_text file.cart budget.units (record { font = font; orders = orders.now }))
         (λ text. Written (H.world house.old) (H.world house.new) result text) }
     ensures rest { LeavesWriting (H.world house.old) (H.world house.new) }
 {
-    let NetLoaded { font, orders } = loaded;
     let CartFile { cart, digest } = file;
     let recording = Recording::new(digest, budget.units, Vec::new(alloc), Vec::new(alloc));
     let mut replica = Replica::new(alloc, cart, font, recording)?;
-    answer_orders::<Brand, H>(alloc, house, &mut replica, orders.as_slice(), Blank::new(1))
+    answer_orders::<Brand, H>(alloc, house, &mut replica, orders, Blank::new(1))
 }
 
 /// Answers all lines. The frames that are run for them are counted by a counter of their own.

@@ -1,13 +1,13 @@
 //! `ram`: values and searches of memory, over the places of a recording.
 
-ghost use Rattle.std.specs.Prelude.{◌<◌, All, IfOk, OnOk, length};
+ghost use Rattle.std.specs.Prelude.{All, IfOk, OnOk};
 ghost use Rattle.std.specs.Option.{ForSome};
 ghost use Rattle.w4_defs.specs.World.{LeavesReading, LeavesWriting};
 ghost use Rattle.w4_defs.specs.declared.inspect.QueryLine.TheVariants.{Ask as Request};
 ghost use Rattle.w4_script.specs.Query.{IsQueryLine, IsRequest};
 ghost use Rattle.w4_defs.specs.Causes.{LeavesErr};
 ghost use Rattle.w4_commands.specs.Commands.{EndsDone, MakesOf};
-ghost use Rattle.w4_commands.specs.Load.{ResultsIn, StepGives, GivesValue, cart_view};
+ghost use Rattle.w4_commands.specs.Load.{ResultsIn, StepGives, GivesValue, cart_view, run_files_view};
 ghost use Rattle.w4_answers.specs.Writing.{Written};
 ghost use Rattle.w4_answers.specs.HeldPages.{AreHeld};
 ghost use Rattle.w4_answers.specs.RamAnswers.{GivesQueryAnswer, query_answer, query_answers};
@@ -16,6 +16,7 @@ ghost use Rattle.w4_console.specs.Counting.{IsBlankOf};
 ghost use Rattle.w4_commands.specs.Ram.{ram_loaded_view};
 ghost use Rattle.w4_commands.specs.Forms.{run_view};
 
+use crate::closing::close_editor;
 use crate::forms::RunNames;
 use crate::lines_refusal::script_refusal;
 use crate::load::{RunFiles, load_run, read_file};
@@ -65,7 +66,15 @@ pub fn run_ram<H: House>(
     ensures err { LeavesErr (H.world house.old) (H.world house.new) }
 {
     let loaded = load_ram(alloc, house, &file.digest, names, query)?;
-    answer_query::<Brand, H>(alloc, house, file.cart, loaded, Blank::new(1))
+    let RamLoaded { run, lines } = loaded;
+    answer_query::<Brand, H>(
+        alloc,
+        house,
+        file.cart,
+        run,
+        lines.as_slice(),
+        Blank::new(1),
+    )
 }
 
 /// Reads what a query over a run of the cart with this digest is made of.
@@ -113,16 +122,16 @@ fn answer_query<L: Ledger, H: House>(
     alloc: Global,
     house: &mut H,
     cart: Cart,
-    loaded: RamLoaded,
+    run: RunFiles,
+    lines: &[QueryLine],
     blank: Blank,
 ) -> Result<(), Refusal>
-    requires ranges { All IsQueryLine loaded.lines.items }
+    requires ranges { All IsQueryLine lines.now }
     requires blank { IsBlankOf L.name L.parts blank }
-    ensures out { ForSome (ram_text cart (ram_loaded_view loaded))
+    ensures out { ForSome (ram_text cart (record { run = run_files_view run; lines = lines.now }))
         (λ text. Written (H.world house.old) (H.world house.new) result text) }
     ensures rest { LeavesWriting (H.world house.old) (H.world house.new) }
 {
-    let RamLoaded { run, lines } = loaded;
     let RunFiles { recording, font } = run;
     let editor = Editor::new(alloc, cart, font, recording)?;
     let steps: Steps<L> = Steps::new(blank);
@@ -131,7 +140,14 @@ fn answer_query<L: Ledger, H: House>(
         search: None,
         held: None,
     };
-    answer_lines(alloc, house, &mut desk, lines.as_slice())
+    let end = answer_lines(alloc, house, &mut desk, lines);
+    close_query(desk);
+    end
+}
+
+/// Gives back the memory of an editor with what is held beside it.
+fn close_query<L: Ledger>(desk: QueryDesk<L>) {
+    close_editor(desk.counted.editor);
 }
 
 /// Answers all lines.
@@ -149,32 +165,26 @@ fn answer_lines<L: Ledger, H: House>(
 {
     for i in 0..lines.len() {
         let line = lines[i];
-        let again = watch_again(lines, i);
+        let again = watch_same_places(&line, lines.get(i + 1));
         answer_query_line(alloc, house, desk, line, again)?;
     }
     Ok(())
 }
 
-/// Whether this line and the next watch the same places.
-fn watch_again(lines: &[QueryLine], i: usize) -> bool
-    requires { i < length lines.now }
-{
-    match lines.get(i + 1) {
-        Some(next) => match (places_of(&lines[i]), places_of(next)) {
-            (Some(places), Some(others)) => places == others,
-            _ => false,
-        },
-        None => false,
-    }
-}
-
-/// The places that a line watches.
-fn places_of(line: &QueryLine) -> Option<(u32, u32)> {
-    match *line {
-        QueryLine::Ask {
-            ask: Ask::Watch { a, b, .. },
-        } => Some((a, b)),
-        _ => None,
+/// Whether a line and the next one watch the same places.
+fn watch_same_places(line: &QueryLine, next: Option<&QueryLine>) -> bool {
+    match (line, next) {
+        (
+            QueryLine::Ask {
+                ask: Ask::Watch { a, b, .. },
+            },
+            Some(
+                QueryLine::Ask {
+                    ask: Ask::Watch { a: c, b: d, .. },
+                },
+            ),
+        ) => a == c && b == d,
+        _ => false,
     }
 }
 

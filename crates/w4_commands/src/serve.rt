@@ -25,6 +25,7 @@ ghost use Rattle.w4_console.specs.Counting.{IsBlankOf};
 ghost use Rattle.w4_commands.specs.Load.{cart_view};
 ghost use Rattle.w4_commands.specs.Forms.{serve_view};
 
+use crate::closing::close_desk;
 use crate::forms::ServeNames;
 use crate::load::{RunFiles, load_run};
 use std::alloc::Global;
@@ -72,7 +73,9 @@ fn serve_run<L: Ledger, R: Threads + Sync, H: House, G: Gate + Sync>(
 {
     let cart = file.cart;
     let mut desk = Desk::<L>::new(resources.alloc, cart, run.font, run.recording, blank)?;
-    serve_at(resources, house, &mut desk, names.out)
+    let end = serve_at(resources, house, &mut desk, names.out);
+    close_desk(desk);
+    end
 }
 
 /// The session at a desk, and the file that is left.

@@ -47,6 +47,10 @@ impl Stage {
         })
     }
 
+    /// Gives its memory back. A function of its own, since each place at which a stage may be dropped costs much
+    /// to prove.
+    pub fn close(self) {}
+
     /// Starts the run with a reset, and returns what the reset took of the budget.
     pub fn begin_run(&mut self, scene: &Scene<'_>, inputs: &[Input]) -> Taken
         requires { HasGlobals scene.now.setup.cart.now self.old.console }

@@ -35,7 +35,9 @@ pub fn write_units<H: House>(
     let recording = &run.recording;
     let scene = Scene::of_recording(cart, &run.font, recording);
     let inputs = recording.frames.as_slice();
-    write_lines(alloc, house, &mut stage, &scene, inputs)
+    let end = write_lines(alloc, house, &mut stage, &scene, inputs);
+    stage.close();
+    end
 }
 
 /// Writes the lines one at a time, so that memory doesn't grow with their number.

@@ -6,7 +6,8 @@ ghost use Rattle.w4_defs.specs.Sound.{after_frame, rendered, samples, wav_header
 ghost use Rattle.w4_defs.specs.State.{HasGlobals};
 ghost use Rattle.w4_defs.specs.World.{LeavesWriting};
 ghost use Rattle.w4_answers.specs.Writing.{Written};
-ghost use Rattle.w4_commands.specs.Wave.{scene_records};
+ghost use Rattle.w4_commands.specs.Scene.{scene_side};
+ghost use Rattle.w4_commands.specs.Wave.{scene_records, side_sound};
 ghost use Rattle.w4_commands.specs.Stage.{stage_moment};
 ghost use Rattle.w4_defs.specs.ToolOutputs.{wave_text};
 ghost use Rattle.w4_commands.specs.Load.{run_files_view};
@@ -36,8 +37,27 @@ pub fn write_wave<H: House>(
     let recording = &run.recording;
     let scene = Scene::of_recording(cart, &run.font, recording);
     let inputs = recording.frames.as_slice();
+    let end = write_sound(alloc, house, &mut stage, &scene, inputs);
+    stage.close();
+    end
+}
+
+/// Writes the header and the samples of all places, on a stage that hasn't run.
+fn write_sound<H: House>(
+    alloc: Global,
+    house: &mut H,
+    stage: &mut Stage,
+    scene: &Scene<'_>,
+    inputs: &[Input],
+) -> Result<(), Refusal>
+    requires few { length inputs.now ≤ 36000 }
+    requires globals { HasGlobals scene.now.setup.cart.now stage.old.console }
+    ensures out { ForSome (side_sound (scene_side scene.now inputs.now))
+        (λ text. Written (H.world house.old) (H.world house.new) result text) }
+    ensures rest { LeavesWriting (H.world house.old) (H.world house.new) }
+{
     write_header(alloc, house, inputs.len() + 1)?;
-    write_samples(alloc, house, &mut stage, &scene, inputs)
+    write_samples(alloc, house, stage, scene, inputs)
 }
 
 /// Writes the header of a file of that many places.

@@ -12,7 +12,8 @@ use Rattle.w4_defs.specs.Reset.{call_all, logged_state_after, store_of, then_on}
 use Rattle.w4_defs.specs.State.{Board, State, LoggedState}
 use Rattle.w4_defs.specs.Units.{Taken, TookUnits, taken_by, taken_by_calls, then_taken}
 use Rattle.w4_console.specs.declared.taken.Stop.{Stop}
-use Rattle.w4_console.specs.Calls.{gone_on, halt_after, IsCalled, IsCalledFirst, rest_after, TakesUnits, TakesUnitsFirst, units_on}
+use Rattle.w4_console.specs.Calls.{gone_on, halt_after, IsCalled, IsCalledFirst, rest_after, TakesUnits}
+use Rattle.w4_console.specs.Calls.{TakesUnitsFirst, units_on}
 use Rattle.w4_console.specs.Taken.{taken_by_calls_of}
 use Rattle.wasm_laws.specs.declared.ending.Ending.{Ending}
 use Rattle.wasm_laws.specs.declared.ending.Ending.TheVariants as ending

@@ -1,5 +1,6 @@
 -- Each reset and each frame of an accepted cart has a meaning, and leaves globals of the cart's types.
-use Rattle.std.proofs.Common.{◌≡◌, ◌≢◌, ℕ, Bool, true, false, List, [], ◌∷◌, take, Option, Some, None, refl, ap}
+use Rattle.std.proofs.Common.{◌≡◌, ◌≢◌, ℕ, Bool, true, false, List, [], ◌∷◌, take, Option, Some, None, refl}
+use Rattle.std.proofs.Common.{ap}
 use Rattle.std.specs.Prelude.{IsSome, IsSomeAnd, IfSome, length, codes}
 use Rattle.std.specs.Option.{option_and_then, option_map}
 use Rattle.w4_defs.specs.declared.console.Halt.{Halt}
@@ -13,7 +14,8 @@ use Rattle.w4_defs.specs.Lookup.{signature_of, own_global_types}
 use Rattle.w4_defs.specs.Module.{WasmModule, nothing_to_nothing}
 use Rattle.w4_defs.specs.Outcome.{Ended, RunDone, RunTrap, RunSpent, RunStuck}
 use Rattle.w4_defs.specs.Profile.{profile_refusal}
-use Rattle.w4_defs.specs.Reset.{call_all, fresh, logged_state_after, recorded, reset, start, store_of, then_on, with_empty_logs}
+use Rattle.w4_defs.specs.Reset.{call_all, fresh, logged_state_after, recorded, reset, start, store_of}
+use Rattle.w4_defs.specs.Reset.{then_on, with_empty_logs}
 use Rattle.w4_defs.specs.Run.{fold, played_on}
 use Rattle.w4_defs.specs.State.{Board, Moment, State, LoggedState, HasGlobals}
 use Rattle.w4_defs.specs.Validity.{IsStart, IsValid}

@@ -22,5 +22,6 @@ units_told setup disk inputs k state input taken here is takes form =
     goes_on (run_state setup disk inputs k) _ state here
     ∙ goes_on (slice_get inputs k) _ input is
     ∙ goes_on (frame_units setup state input) _ (taken_of taken.update) takes.0
-    ∙ goes_on (reset_units setup state input) (λ start. Some (form (units_line k (taken_of taken.update) start)))
+    ∙ goes_on (reset_units setup state input)
+    (λ start. Some (form (units_line k (taken_of taken.update) start)))
     (option_map taken_of taken.start) takes.1

@@ -4,7 +4,8 @@ use Rattle.w4_defs.specs.declared.console.Input.{Input}
 use Rattle.w4_defs.specs.PlaceTexts.{PieceForm}
 use Rattle.w4_defs.specs.Reset.{Setup}
 use Rattle.w4_defs.specs.State.{State}
-use Rattle.w4_defs.specs.Units.{Taken as Told, TookUnits, WasHalted, DidTrap, WasSpent, frame_units, reset_units, units_at, units_line}
+use Rattle.w4_defs.specs.Units.{Taken as Told, TookUnits, WasHalted, DidTrap, WasSpent, frame_units}
+use Rattle.w4_defs.specs.Units.{reset_units, units_at, units_line}
 use Rattle.w4_console.specs.declared.taken.FrameTaken.{FrameTaken}
 use Rattle.w4_console.specs.declared.taken.Stop.{Stop}
 use Rattle.w4_console.specs.declared.taken.Stop.TheVariants as stop

@@ -18,7 +18,7 @@ ghost use Rattle.w4_console.specs.Calls.{
 ghost use Rattle.w4_defs.specs.State.{HasGlobals};
 ghost use Rattle.w4_defs.specs.Module.{nothing_to_nothing};
 
-use crate::logs::Logs;
+use crate::current_record::CurrentRecord;
 use crate::setup::Setup;
 use crate::taken::Stop;
 use std::mem;
@@ -38,21 +38,21 @@ pub(crate) fn call_if_there(
     setup: &Setup<'_>,
     function: Option<u32>,
     budget: u32,
-    logs: &mut Logs,
+    current: &mut CurrentRecord,
 ) -> Result<u32, Stop>
     requires signature { IfSome function (λ f. signature_of setup.now.cart.now f ≡ Some nothing_to_nothing) }
     requires globals { HasGlobals setup.now.cart.now state.old }
     requires running { state.old.halt ≡ Running }
     ensures called { IsCalledFirst setup.now.cart.now setup.now.font.now function
-        (so_far state.old logs.old) budget result (so_far state.new logs.new) }
+        (so_far state.old current.old) budget result (so_far state.new current.new) }
     ensures taken { TakesUnitsFirst setup.now.cart.now setup.now.font.now function
-        (so_far state.old logs.old) budget result (so_far state.new logs.new) }
+        (so_far state.old current.old) budget result (so_far state.new current.new) }
     ensures globals { HasGlobals setup.now.cart.now state.new }
     ensures running { OnOk result (state.new.halt ≡ Running) }
 {
     match function {
         None => Ok(budget),
-        Some(function) => call_function(engine, state, setup, function, budget, logs),
+        Some(function) => call_function(engine, state, setup, function, budget, current),
     }
 }
 
@@ -64,18 +64,18 @@ pub(crate) fn call_function(
     setup: &Setup<'_>,
     function: u32,
     budget: u32,
-    logs: &mut Logs,
+    current: &mut CurrentRecord,
 ) -> Result<u32, Stop>
     requires signature { signature_of setup.now.cart.now function ≡ Some nothing_to_nothing }
     requires globals { HasGlobals setup.now.cart.now state.old }
     ensures called { IsCalled setup.now.cart.now setup.now.font.now function
-        (so_far state.old logs.old) budget result (so_far state.new logs.new) }
+        (so_far state.old current.old) budget result (so_far state.new current.new) }
     ensures taken { TakesUnits setup.now.cart.now setup.now.font.now function
-        (so_far state.old logs.old) budget result (so_far state.new logs.new) }
+        (so_far state.old current.old) budget result (so_far state.new current.new) }
     ensures globals { HasGlobals setup.now.cart.now state.new }
     ensures running { OnOk result (state.new.halt ≡ Running) }
 {
-    let Some(frame_record) = logs.frame_record.take() else {
+    let Some(frame_record) = current.frame_record.take() else {
         unreachable!()
     };
     let mut board = board_of(setup.font, state, frame_record);
@@ -87,7 +87,7 @@ pub(crate) fn call_function(
         &mut board,
         budget,
     );
-    logs.frame_record = Some(put_back(state, board, halt_after(ending)));
+    current.frame_record = Some(put_back(state, board, halt_after(ending)));
     rest_after(ending)
 }
 

@@ -10,8 +10,8 @@ ghost use Rattle.w4_defs.specs.Units.{frame_units, reset_units, start_units};
 ghost use Rattle.w4_console.specs.Calls.{moment};
 ghost use Rattle.w4_console.specs.Taken.{taken_of};
 
+use crate::current_record::CurrentRecord;
 use crate::frames::{begin_frame, record, update};
-use crate::logs::Logs;
 use crate::setup::Setup;
 use crate::start::{first_globals, start_cart};
 use crate::taken::{FrameTaken, Taken};
@@ -29,7 +29,7 @@ use wasm_register::{Cart, Engine};
 pub struct Console {
     engine: Engine,
     state: State,
-    logs: Logs,
+    current: CurrentRecord,
 }
 
 impl Model for Console {
@@ -52,7 +52,7 @@ impl Console {
         Ok(Console {
             engine: Engine::new(alloc)?,
             state: State::new(alloc, first_globals(cart))?,
-            logs: Logs::new(alloc)?,
+            current: CurrentRecord::new(alloc)?,
         })
     }
 
@@ -76,11 +76,11 @@ impl Console {
             ≡ Some (taken_of result) }
         ensures globals { HasGlobals cart.now self.new }
     {
-        let (engine, state, logs) = (&mut self.engine, &mut self.state, &mut self.logs);
+        let (engine, state, current) = (&mut self.engine, &mut self.state, &mut self.current);
         state.disk = Disk::new(disk);
         let setup = Setup { cart, font, budget };
-        let taken = start_cart(engine, state, &setup, logs);
-        record(state, logs, frame_record);
+        let taken = start_cart(engine, state, &setup, current);
+        record(state, current, frame_record);
         taken
     }
 
@@ -109,11 +109,11 @@ impl Console {
         ensures ticks { steps.new ≡ steps.old + 1 }
     {
         steps.tick();
-        let (engine, state, logs) = (&mut self.engine, &mut self.state, &mut self.logs);
+        let (engine, state, current) = (&mut self.engine, &mut self.state, &mut self.current);
         let setup = Setup { cart, font, budget };
-        let start = begin_frame(engine, state, &setup, input, logs);
-        let update = update(engine, state, &setup, input, logs);
-        record(state, logs, frame_record);
+        let start = begin_frame(engine, state, &setup, input, current);
+        let update = update(engine, state, &setup, input, current);
+        record(state, current, frame_record);
         FrameTaken { update, start }
     }
 

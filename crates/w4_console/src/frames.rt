@@ -10,7 +10,7 @@ ghost use Rattle.w4_console.specs.Taken.{taken_of};
 ghost use Rattle.w4_defs.specs.State.{HasGlobals};
 
 use crate::calls::call_function;
-use crate::logs::Logs;
+use crate::current_record::CurrentRecord;
 use crate::page::put_input_page;
 use crate::setup::Setup;
 use crate::start::start_cart;
@@ -28,19 +28,19 @@ pub(crate) fn begin_frame(
     state: &mut State,
     setup: &Setup<'_>,
     input: &Input,
-    logs: &mut Logs,
+    current: &mut CurrentRecord,
 ) -> Option<Taken>
     requires globals { HasGlobals setup.now.cart.now state.old }
     ensures begun { before_update (setup_of setup.now) state.old input.now
-        ≡ Some (so_far state.new logs.new) }
+        ≡ Some (so_far state.new current.new) }
     ensures taken { reset_units (setup_of setup.now) state.old input.now
         ≡ Some (option_map taken_of result) }
     ensures globals { HasGlobals setup.now.cart.now state.new }
 {
     if input.reset {
-        Some(start_cart(engine, state, setup, logs))
+        Some(start_cart(engine, state, setup, current))
     } else {
-        logs.clear();
+        current.clear();
         None
     }
 }
@@ -51,49 +51,54 @@ pub(crate) fn update(
     state: &mut State,
     setup: &Setup<'_>,
     input: &Input,
-    logs: &mut Logs,
+    current: &mut CurrentRecord,
 ) -> Taken
     requires globals { HasGlobals setup.now.cart.now state.old }
     ensures update { update (setup_of setup.now) input.now
-        (so_far state.old logs.old)
-        ≡ Some (so_far state.new logs.new) }
+        (so_far state.old current.old)
+        ≡ Some (so_far state.new current.new) }
     ensures taken { taken_from (setup_of setup.now) input.now
-        (so_far state.old logs.old) state.old.halt
+        (so_far state.old current.old) state.old.halt
         ≡ Some (taken_of result) }
     ensures globals { HasGlobals setup.now.cart.now state.new }
 {
     if let Halt::Running = state.halt {
         put_input_page(state.page.bytes_mut(), input);
-        call_update(engine, state, setup, logs)
+        call_update(engine, state, setup, current)
     } else {
         Taken::Halted
     }
 }
 
 /// Calls `update` with the whole budget. What it took.
-fn call_update(engine: &mut Engine, state: &mut State, setup: &Setup<'_>, logs: &mut Logs) -> Taken
+fn call_update(
+    engine: &mut Engine,
+    state: &mut State,
+    setup: &Setup<'_>,
+    current: &mut CurrentRecord,
+) -> Taken
     requires globals { HasGlobals setup.now.cart.now state.old }
     ensures called { call_update (setup_of setup.now) (update_entry setup.now.cart.now)
-        (so_far state.old logs.old)
-        ≡ Some (so_far state.new logs.new) }
+        (so_far state.old current.old)
+        ≡ Some (so_far state.new current.new) }
     ensures taken { taken_by_update (setup_of setup.now)
-        (so_far state.old logs.old) (update_entry setup.now.cart.now)
+        (so_far state.old current.old) (update_entry setup.now.cart.now)
         ≡ Some (taken_of result) }
     ensures globals { HasGlobals setup.now.cart.now state.new }
 {
     let Some(function) = setup.cart.entry(Entry::Update) else {
         unreachable!()
     };
-    let rest = call_function(engine, state, setup, function, setup.budget, logs);
+    let rest = call_function(engine, state, setup, function, setup.budget, current);
     taken_by_calls(setup.budget, rest)
 }
 
-/// Takes the record: the logs so far and the sounds at the first tick. Then the channels age.
-pub(crate) fn record(state: &mut State, logs: &Logs, frame_record: &mut FrameRecord)
-    ensures recorded { moment state.new frame_record.new ≡ recorded (so_far state.old logs.now) }
+/// Copies the logs so far into the record, with the sounds at the first tick. Then the channels age.
+pub(crate) fn record(state: &mut State, current: &CurrentRecord, frame_record: &mut FrameRecord)
+    ensures recorded { moment state.new frame_record.new ≡ recorded (so_far state.old current.now) }
     ensures globals { state.new.globals ≡ state.old.globals }
 {
-    let logged = logs.record();
+    let logged = current.record();
     frame_record.tones.copy_from(&logged.tones);
     frame_record.traces.copy_from(&logged.traces);
     frame_record.sounds = state.channels.sounds(0);

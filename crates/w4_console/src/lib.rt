@@ -5,9 +5,9 @@
 
 mod calls;
 pub mod console;
+mod current_record;
 mod frames;
 pub mod laws;
-mod logs;
 mod page;
 pub mod playing;
 pub mod setup;

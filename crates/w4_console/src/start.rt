@@ -13,7 +13,7 @@ ghost use Rattle.w4_console.specs.Taken.{taken_by_calls_of, taken_of};
 ghost use Rattle.w4_defs.specs.State.{HasGlobals};
 
 use crate::calls::call_if_there;
-use crate::logs::Logs;
+use crate::current_record::CurrentRecord;
 use crate::page::put_start_page;
 use crate::setup::Setup;
 use crate::taken::{Stop, Taken, taken_by_calls};
@@ -29,18 +29,18 @@ pub(crate) fn start_cart(
     engine: &mut Engine,
     state: &mut State,
     setup: &Setup<'_>,
-    logs: &mut Logs,
+    current: &mut CurrentRecord,
 ) -> Taken
     requires globals { HasGlobals setup.now.cart.now state.old }
     ensures start { start (setup_of setup.now) state.old.disk
-        ≡ Some (so_far state.new logs.new) }
+        ≡ Some (so_far state.new current.new) }
     ensures taken { start_units (setup_of setup.now) state.old.disk
         ≡ Some (taken_of result) }
     ensures globals { HasGlobals setup.now.cart.now state.new }
 {
     put_fresh(state, setup.cart);
-    logs.clear();
-    let rest = call_all(engine, state, setup, logs);
+    current.clear();
+    let rest = call_all(engine, state, setup, current);
     taken_by_calls(setup.budget, rest)
 }
 
@@ -79,22 +79,29 @@ fn call_all(
     engine: &mut Engine,
     state: &mut State,
     setup: &Setup<'_>,
-    logs: &mut Logs,
+    current: &mut CurrentRecord,
 ) -> Result<u32, Stop>
     requires globals { HasGlobals setup.now.cart.now state.old }
     requires running { state.old.halt ≡ Running }
     ensures called { call_all (setup_of setup.now) (start_functions setup.now.cart.now)
-        (so_far state.old logs.old) setup.now.budget ≡ Some (so_far state.new logs.new) }
+        (so_far state.old current.old) setup.now.budget ≡ Some (so_far state.new current.new) }
     ensures taken { taken_by_calls (setup_of setup.now) (start_functions setup.now.cart.now)
-        (so_far state.old logs.old) setup.now.budget
+        (so_far state.old current.old) setup.now.budget
         ≡ Some (taken_by_calls_of setup.now.budget result) }
     ensures globals { HasGlobals setup.now.cart.now state.new }
 {
-    let rest = call_if_there(engine, state, setup, setup.cart.start(), setup.budget, logs)?;
+    let rest = call_if_there(
+        engine,
+        state,
+        setup,
+        setup.cart.start(),
+        setup.budget,
+        current,
+    )?;
     let crt_start = setup.cart.entry(Entry::CrtStart);
-    let rest = call_if_there(engine, state, setup, crt_start, rest, logs)?;
+    let rest = call_if_there(engine, state, setup, crt_start, rest, current)?;
     let initialize = setup.cart.entry(Entry::Initialize);
-    let rest = call_if_there(engine, state, setup, initialize, rest, logs)?;
+    let rest = call_if_there(engine, state, setup, initialize, rest, current)?;
     let start = setup.cart.entry(Entry::Start);
-    call_if_there(engine, state, setup, start, rest, logs)
+    call_if_there(engine, state, setup, start, rest, current)
 }

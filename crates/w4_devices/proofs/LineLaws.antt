@@ -1,5 +1,6 @@
 -- Laws of a line that is cut: cutting early and cutting late give the same line.
-use Rattle.std.proofs.Common.{◌≡◌, ℕ, zero, suc, ◌+◌, ◌≤◌, min, List, [], ◌∷◌, ◌++◌, length, take, refl, ap, ◌∙◌, sym, arith, append_assoc}
+use Rattle.std.proofs.Common.{◌≡◌, ℕ, zero, suc, ◌+◌, ◌≤◌, min, List, [], ◌∷◌, ◌++◌, length, take, refl, ap}
+use Rattle.std.proofs.Common.{◌∙◌, sym, arith, append_assoc}
 use Rattle.std.proofs.lemmas.List.{take_at, take_min, take-take}
 use Rattle.std.proofs.Math.Seq.{take-append-add}
 use Rattle.w4_defs.specs.Traces.{line_of}

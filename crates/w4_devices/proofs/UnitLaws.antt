@@ -1,5 +1,6 @@
 -- Laws of 16-bit units: one unit from the front of some bytes, and the end.
-use Rattle.std.proofs.Common.{◌≡◌, ℕ, ◌+◌, ◌*◌, ◌<◌, ◌≤◌, List, [], ◌∷◌, ◌++◌, length, get_or, drop, map, refl, ap, ◌∙◌, sym, arith, length-drop}
+use Rattle.std.proofs.Common.{◌≡◌, ℕ, ◌+◌, ◌*◌, ◌<◌, ◌≤◌, List, [], ◌∷◌, ◌++◌, length, get_or, drop, map}
+use Rattle.std.proofs.Common.{refl, ap, ◌∙◌, sym, arith, length-drop}
 use Rattle.std.proofs.lemmas.List.{drop_more}
 use Rattle.w4_defs.specs.Text.{units}
 use Rattle.w4_defs.specs.Traces.{line_of, traced_unit}

@@ -12,7 +12,8 @@ use Rattle.w4_defs.specs.declared.console.Input.{Input}
 use Rattle.w4_defs.specs.State.{State}
 use Rattle.w4_defs.specs.Reset.{Setup}
 use Rattle.w4_defs.specs.Run.{fold}
-use Rattle.w4_defs.specs.Session.{is_kept, unlink_above, moved_up, moved_down, stays_after_delete, kept_after_set}
+use Rattle.w4_defs.specs.Session.{is_kept, unlink_above, moved_up, moved_down, stays_after_delete}
+use Rattle.w4_defs.specs.Session.{kept_after_set}
 use Rattle.w4_defs.specs.Session.{kept_after_insert, kept_after_delete}
 use Rattle.w4_defs.specs.KeptList.{Entry, kept_entries, IsConsistent}
 use Rattle.w4_defs.proofs.EditedPlaces.{stay_by_cases}

@@ -1,10 +1,12 @@
 -- An editor's session of places, from one call to the next.
-use Rattle.std.proofs.Common.{◌≡◌, ℕ, suc, ◌+◌, Some, None, List, [], ◌∷◌, ◌++◌, map, length, Option, false, refl, sym, ap, ◌∙◌, arith, pos, subst}
+use Rattle.std.proofs.Common.{◌≡◌, ℕ, suc, ◌+◌, Some, None, List, [], ◌∷◌, ◌++◌, map, length, Option, false}
+use Rattle.std.proofs.Common.{refl, sym, ap, ◌∙◌, arith, pos, subst}
 use Rattle.std.specs.Prelude.{Result, Ok}
 use Rattle.w4_defs.specs.declared.console.Input.{Input}
 use Rattle.w4_defs.specs.declared.editing.EditRefusal.{EditRefusal}
 use Rattle.w4_defs.specs.KeptList.{Entry, kept_entries, place_at}
-use Rattle.w4_defs.specs.Session.{Session, PlacesDecide, draft_of_places, places_alone, session_of_places, result_of_places, keep, unless, with_list}
+use Rattle.w4_defs.specs.Session.{Session, PlacesDecide, draft_of_places, places_alone, session_of_places}
+use Rattle.w4_defs.specs.Session.{result_of_places, keep, unless, with_list}
 use Rattle.w4_editor.specs.Editor.{Editing, current_recording, with_session, KeepsRest, place_session}
 use Rattle.w4_editor.specs.Showing.{linked_entry}
 use Rattle.w4_editor.specs.Playing.{AreKeptInTurn, IsKeptAt, KeepsRecording}

@@ -1,5 +1,7 @@
 -- Each multiple of a number is kept, one after another.
-use Rattle.std.proofs.Common.{◌≡◌, ◌≢◌, inl, inr, ℕ, Option, None, zero, suc, ◌+◌, ◌-◌, ◌%◌, ◌<◌, ◌≤◌, Bool, true, false, cond, not, ltb, eqb, ◌&&◌, ◌||◌, List, [], ◌∷◌, map, length, get_or, drop, refl, sym, ap, ◌∙◌, arith, subst, add-one, drop-cons}
+use Rattle.std.proofs.Common.{◌≡◌, ◌≢◌, inl, inr, ℕ, Option, None, zero, suc, ◌+◌, ◌-◌, ◌%◌, ◌<◌, ◌≤◌, Bool}
+use Rattle.std.proofs.Common.{true, false, cond, not, ltb, eqb, ◌&&◌, ◌||◌, List, [], ◌∷◌, map, length}
+use Rattle.std.proofs.Common.{get_or, drop, refl, sym, ap, ◌∙◌, arith, subst, add-one, drop-cons}
 use Rattle.std.specs.Prelude.{◌==◌}
 use Rattle.std.specs.List.{filter, range_with_len}
 use Rattle.std.proofs.Math.ListN.{drop_of_length-le}
@@ -221,7 +223,8 @@ may_keep_multiple every p draft le fresh room =
     let places = map kept_entries.place draft.kept in
     let other = is_fresh (p % every == 0) (is_kept places_alone p places) fresh in
     let more : length (with_multiple every p places) ≡ length places + 1 =
-    ap (λ (b : Bool). length (cond b (with_kept places_alone p places) places)) fresh ∙ length_with p places in
+    ap (λ (b : Bool). length (cond b (with_kept places_alone p places) places)) fresh
+    ∙ length_with p places in
     let many = length-map draft.kept kept_entries.place in
     may_keep p draft le (is_one p draft.kept ∙ other) (omega (arith, more, many, room))
 

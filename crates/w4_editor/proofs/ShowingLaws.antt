@@ -13,7 +13,8 @@ use Rattle.w4_defs.specs.KeptList.{last_up_to, computed, relinked_at, replaced_a
 use Rattle.w4_defs.proofs.KeptListLaws.{linked_is_run}
 use Rattle.w4_editor.specs.Showing.{ShowsFrom}
 use Rattle.w4_editor.specs.Settling.{StaysConsistent}
-use Rattle.w4_editor.proofs.SettlingLaws.{Progress, IsTrueChange, true_change, changed_true, first_keeps, relinked_computed, replaced_change}
+use Rattle.w4_editor.proofs.SettlingLaws.{Progress, IsTrueChange, true_change, changed_true, first_keeps}
+use Rattle.w4_editor.proofs.SettlingLaws.{relinked_computed, replaced_change}
 use Rattle.w4_editor.proofs.KeptListLaws.{position_or_len_le}
 use Rattle.w4_editor.proofs.PlayerLaws.{run_links}
 

@@ -1,6 +1,7 @@
 -- Stretches of inputs, in two parts and where one input is changed, inserted or removed, or several are
 -- written.
-use Rattle.std.proofs.Common.{◌≡◌, ℕ, suc, ◌+◌, ◌-◌, ◌<◌, ◌≤◌, List, [], ◌∷◌, ◌++◌, length, take, drop, set, refl}
+use Rattle.std.proofs.Common.{◌≡◌, ℕ, suc, ◌+◌, ◌-◌, ◌<◌, ◌≤◌, List, [], ◌∷◌, ◌++◌, length, take, drop, set}
+use Rattle.std.proofs.Common.{refl}
 use Rattle.std.proofs.Common.{sym, ap, ◌∙◌, arith, length-take-le, take-append-drop}
 use Rattle.std.specs.List.{slice_range, insert, remove, splice}
 use Rattle.std.proofs.Math.Seq.{take-add}

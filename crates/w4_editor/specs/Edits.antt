@@ -1,5 +1,6 @@
 -- An edit of several inputs at once (project rule), and how an edit is refused.
-use Rattle.std.specs.Prelude.{ℕ, ◌+◌, List, length, Option, Some, None, Result, nat_le, nat_lt, if◌then◌else◌, ◌≡◌, ◌⊎◌, Err, IsOk}
+use Rattle.std.specs.Prelude.{ℕ, ◌+◌, List, length, Option, Some, None, Result, nat_le, nat_lt, if◌then◌else◌}
+use Rattle.std.specs.Prelude.{◌≡◌, ◌⊎◌, Err, IsOk}
 use Rattle.w4_defs.specs.declared.console.Input.{Input}
 use Rattle.w4_defs.specs.declared.editing.EditRefusal.{EditRefusal}
 use Rattle.w4_defs.specs.declared.editing.EditRefusal.TheVariants.{NoFrame, FullRecording, OutOfMemory}

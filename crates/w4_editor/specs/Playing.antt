@@ -1,12 +1,14 @@
 -- What showing, stepping, keeping and settling do to an editor, also while a state is lent out.
-use Rattle.std.specs.Prelude.{◌≡◌, ℕ, ◌+◌, ◌-◌, ◌<◌, ◌⊎◌, false, List, [], ◌∷◌, length, Option, Some, None, option_map, Ok, ◌≢◌, Result, IfErr, OnErr, OnOk}
+use Rattle.std.specs.Prelude.{◌≡◌, ℕ, ◌+◌, ◌-◌, ◌<◌, ◌⊎◌, false, List, [], ◌∷◌, length, Option, Some, None}
+use Rattle.std.specs.Prelude.{option_map, Ok, ◌≢◌, Result, IfErr, OnErr, OnOk}
 use Rattle.w4_defs.specs.declared.editing.EditRefusal.{EditRefusal}
 use Rattle.w4_defs.specs.declared.editing.EditRefusal.TheVariants.{OutOfMemory}
 use Rattle.w4_defs.specs.FramesRun.{RunsAtMost}
 use Rattle.w4_defs.specs.Run.{run, run_state}
 use Rattle.w4_defs.specs.Session.{is_kept, keep}
 use Rattle.w4_defs.specs.State.{State, Moment, FrameRecord}
-use Rattle.w4_defs.specs.KeptList.{kept_entries, place_at, state_at, SamePlaces, IsSettled, last_up_to, show_frames, settle_frames}
+use Rattle.w4_defs.specs.KeptList.{kept_entries, place_at, state_at, SamePlaces, IsSettled, last_up_to}
+use Rattle.w4_defs.specs.KeptList.{show_frames, settle_frames}
 use Rattle.w4_editor.specs.Settling.{AreLinked}
 use Rattle.w4_editor.specs.Showing.{copied_beside, linked_entry}
 use Rattle.w4_editor.specs.Editor.{Editing, editing_setup, with_session}

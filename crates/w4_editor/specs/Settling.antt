@@ -4,7 +4,8 @@ use Rattle.std.specs.Prelude.{◌≡◌, ◌≢◌, ℕ, ◌+◌, ◌≤◌, tru
 use Rattle.w4_defs.specs.declared.console.Input.{Input}
 use Rattle.w4_defs.specs.State.{HasGlobals}
 use Rattle.w4_defs.specs.Reset.{Setup}
-use Rattle.w4_defs.specs.KeptList.{Entry, kept_entry_at, state_at, linked_at, computed, is_sure, IsConsistent, SamePlaces}
+use Rattle.w4_defs.specs.KeptList.{Entry, kept_entry_at, state_at, linked_at, computed, is_sure, IsConsistent}
+use Rattle.w4_defs.specs.KeptList.{SamePlaces}
 
 -- the entries up to this one are linked
 abbrev pub AreLinked : ℕ → List Entry → Type 0

@@ -8,6 +8,7 @@ ghost use Rattle.w4_editor.specs.KeepEvery.{all_to_keep, is_fresh_multiple, with
 ghost use Rattle.w4_editor.specs.Playing.{AreKeptInTurn};
 
 use crate::editor::Editor;
+use crate::memory_refusal::only_memory;
 use crate::places::{is_kept, last_place};
 use crate::showing::MOST_KEPT;
 use std::alloc::Global;
@@ -100,10 +101,7 @@ fn keep_wanted<L: Ledger>(
     }
     match editor.keep(alloc, place, steps) {
         Ok(copied) => Ok(copied),
-        Err(refusal) => match refusal {
-            EditRefusal::OutOfMemory => Err(OutOfMemory),
-            _ => unreachable!(),
-        },
+        Err(refusal) => Err(only_memory(refusal)),
     }
 }
 

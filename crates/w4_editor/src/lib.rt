@@ -10,6 +10,7 @@ pub mod history;
 pub mod keep_every;
 pub mod kept;
 pub mod kept_list;
+pub mod memory_refusal;
 pub mod places;
 pub mod player;
 pub mod playing;
@@ -17,5 +18,6 @@ pub mod settling;
 pub mod showing;
 
 pub use editor::Editor;
+pub use memory_refusal::only_memory;
 pub use showing::MOST_KEPT;
 pub use w4_defs::EditRefusal;

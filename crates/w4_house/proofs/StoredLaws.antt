@@ -1,6 +1,8 @@
 -- The map of std and the files that it keeps answer alike.
-use Rattle.std.proofs.Common.{◌≡◌, ℕ, Bool, true, false, cond, List, [], ◌∷◌, map, Option, Some, Vec, String, string_bytes, option_map, refl, sym, ap, ◌∙◌}
-use Rattle.std.specs.FinMap.{find, get, insert, get-from_entries, get-insert, same_map, slice_cmp-IsAntisymmetric, nat_cmp-IsAntisymmetric}
+use Rattle.std.proofs.Common.{◌≡◌, ℕ, Bool, true, false, cond, List, [], ◌∷◌, map, Option, Some, Vec, String}
+use Rattle.std.proofs.Common.{string_bytes, option_map, refl, sym, ap, ◌∙◌}
+use Rattle.std.specs.FinMap.{find, get, insert, get-from_entries, get-insert, same_map}
+use Rattle.std.specs.FinMap.{slice_cmp-IsAntisymmetric, nat_cmp-IsAntisymmetric}
 use Rattle.std.specs.Cmp.Lexicographic.{slice_cmp}
 use Rattle.std.specs.Ordering.{nat_cmp, is_eq, eq_by_cmp}
 use Rattle.std.specs.Str.{bytes_eq}

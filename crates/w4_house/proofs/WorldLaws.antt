@@ -1,9 +1,13 @@
 -- What follows from the relations between two states of what stands outside: one call after another.
-use Rattle.std.proofs.Common.{◌≡◌, ◌≤◌, ℕ, zero, suc, ◌+◌, List, [], ◌∷◌, ◌++◌, take, length, Option, Some, None, option_map, refl, sym, subst, ◌∙◌, ap, append_assoc, append-nil, drop, arith}
+use Rattle.std.proofs.Common.{◌≡◌, ◌≤◌, ℕ, zero, suc, ◌+◌, List, [], ◌∷◌, ◌++◌, take, length, Option, Some}
+use Rattle.std.proofs.Common.{None, option_map, refl, sym, subst, ◌∙◌, ap, append_assoc, append-nil, drop}
+use Rattle.std.proofs.Common.{arith}
 use Rattle.std.proofs.Math.Seq.{take-append-add, take-append_seam, take-length}
 use Rattle.std.proofs.lemmas.List.{take-append-drop}
 use Rattle.std.specs.FinMap.{insert}
-use Rattle.w4_defs.specs.World.{World, Files, Event, Took, InputEnded, InputLost, Wrote, Saved, NotSaved, wrote, files_after, Rises, Appends, AppendsFront, Does, LeavesReading, LeavesWriting, LeavesReporting, LeavesTaking, LeavesSaving}
+use Rattle.w4_defs.specs.World.{World, Files, Event, Took, InputEnded, InputLost, Wrote, Saved, NotSaved}
+use Rattle.w4_defs.specs.World.{wrote, files_after, Rises, Appends, AppendsFront, Does, LeavesReading}
+use Rattle.w4_defs.specs.World.{LeavesWriting, LeavesReporting, LeavesTaking, LeavesSaving}
 
 -- A count that rose stays risen while it doesn't fall, and one that rises later has risen from before.
 pub rises_on : (first second third : ℕ) → Rises first second → second ≤ third → Rises first third

@@ -3,7 +3,8 @@ use Rattle.std.specs.Prelude.{List, [], ◌∷◌, string_bytes}
 use Rattle.std.specs.List.{flat_map}
 use Rattle.w4_defs.specs.World.{Event, Took, InputEnded, InputLost, Saved, NotSaved, wrote}
 use Rattle.w4_house.specs.declared.log_entry.LogEntry.{LogEntry}
-use Rattle.w4_house.specs.declared.log_entry.LogEntry.TheVariants.{Line, InputEnd, InputFault, Output, File, FileFault}
+use Rattle.w4_house.specs.declared.log_entry.LogEntry.TheVariants.{Line, InputEnd, InputFault, Output, File}
+use Rattle.w4_house.specs.declared.log_entry.LogEntry.TheVariants.{FileFault}
 
 -- An entry of bytes that were written stands for an event for each of them.
 abbrev pub events_of : LogEntry → List Event

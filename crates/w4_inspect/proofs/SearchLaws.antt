@@ -1,5 +1,6 @@
 -- Addresses that are filtered in place, and what a search has left after any number of narrowings.
-use Rattle.std.proofs.Common.{◌≡◌, ℕ, ◌+◌, ◌<◌, ◌≤◌, Bool, List, length, get_or, drop, ap, sym, ◌∙◌, subst, add-zero, [], ◌∷◌, map, Option, Some, None, option_map, refl}
+use Rattle.std.proofs.Common.{◌≡◌, ℕ, ◌+◌, ◌<◌, ◌≤◌, Bool, List, length, get_or, drop, ap, sym, ◌∙◌, subst}
+use Rattle.std.proofs.Common.{add-zero, [], ◌∷◌, map, Option, Some, None, option_map, refl}
 use Rattle.std.proofs.lemmas.List.{get_or-drop}
 use Rattle.std.proofs.lemmas.List.Elements.{All-get_or}
 use Rattle.std.proofs.lemmas.List.Filters.{FiltersInPlace}

@@ -1,5 +1,6 @@
 -- The pages of an editor's recording, run from reset, and those that are read once for many watches.
-use Rattle.std.specs.Prelude.{ℕ, List, Option, ◌≡◌, ◌+◌, ◌-◌, ◌≤◌, length, map, nat_lt, Some, None, if◌then◌else◌}
+use Rattle.std.specs.Prelude.{ℕ, List, Option, ◌≡◌, ◌+◌, ◌-◌, ◌≤◌, length, map, nat_lt, Some, None}
+use Rattle.std.specs.Prelude.{if◌then◌else◌}
 use Rattle.w4_defs.specs.Run.{run_page}
 use Rattle.w4_editor.specs.Editor.{Editing, editing_setup}
 use Rattle.std.specs.List.{range_with_len}

@@ -1,5 +1,7 @@
 -- What is known after a packet is learned, and the pads that are predicted from it.
-use Rattle.std.proofs.Common.{◌≡◌, ◌≢◌, ℕ, zero, suc, ◌<◌, Bool, true, false, cond, ◌&&◌, eqb, List, [], ◌∷◌, length, set, get_or, replicate, Option, Some, None, pos, ◌+◌, add-one, refl, sym, ap, ◌∙◌, subst, inl, inr, arith}
+use Rattle.std.proofs.Common.{◌≡◌, ◌≢◌, ℕ, zero, suc, ◌<◌, Bool, true, false, cond, ◌&&◌, eqb, List, [], ◌∷◌}
+use Rattle.std.proofs.Common.{length, set, get_or, replicate, Option, Some, None, pos, ◌+◌, add-one, refl}
+use Rattle.std.proofs.Common.{sym, ap, ◌∙◌, subst, inl, inr, arith}
 use Rattle.std.specs.Option.{option_and_then}
 use Rattle.std.specs.Array.{AllZipBelow}
 use Rattle.std.specs.List.{AllZip, slice_get}

@@ -1,5 +1,6 @@
 -- What the editor's calls leave of a replica whose editor was rolled back.
-use Rattle.std.proofs.Common.{◌≡◌, ℕ, ◌<◌, ◌≤◌, Bool, true, false, cond, ltb, leb, List, [], ◌∷◌, length, Option, Some, None, Result, Ok, Err, refl, sym, ap, ◌∙◌, inl, inr, arith}
+use Rattle.std.proofs.Common.{◌≡◌, ℕ, ◌<◌, ◌≤◌, Bool, true, false, cond, ltb, leb, List, [], ◌∷◌, length}
+use Rattle.std.proofs.Common.{Option, Some, None, Result, Ok, Err, refl, sym, ap, ◌∙◌, inl, inr, arith}
 use Rattle.std.proofs.lemmas.Bool.{lt-ltb, le-ltb, lt-leb, le-leb}
 use Rattle.std.proofs.lemmas.List.{length-map}
 use Rattle.std.specs.Prelude.{OnOk, OnErr}
@@ -12,7 +13,8 @@ use Rattle.w4_defs.specs.declared.editing.EditRefusal.TheVariants.{NoFrame, Kept
 use Rattle.w4_defs.specs.KeptList.{Entry, kept_entries, places_of, show_frames}
 use Rattle.w4_defs.specs.Rollback.{Known, net_input, net_inputs}
 use Rattle.w4_defs.specs.Run.{run_state}
-use Rattle.w4_defs.specs.Session.{Session, places_alone, is_kept, with_kept, with_list, keep_refusal, place_refusal, unless}
+use Rattle.w4_defs.specs.Session.{Session, places_alone, is_kept, with_kept, with_list, keep_refusal}
+use Rattle.w4_defs.specs.Session.{place_refusal, unless}
 use Rattle.w4_defs.specs.State.{State}
 use Rattle.w4_editor.specs.Editor.{Editing, editing_setup, with_session}
 use Rattle.w4_editor.specs.Showing.{linked_entry}
@@ -22,7 +24,8 @@ use Rattle.w4_netplay.specs.Rollback.{rollback_frames, IsRight, IsRolledTo, IsPa
 use Rattle.w4_defs.specs.declared.net_refusal.NetRefusal.{NetRefusal}
 use Rattle.w4_defs.specs.declared.net_refusal.NetRefusal.TheVariants as net
 use Rattle.w4_netplay.specs.Pads.{known_in}
-use Rattle.w4_netplay.specs.Replica.{edit_refusal, Netplay, IsReplica, IsNetRefusal, KeepsNetplay, ShowsPlace, KeepsPlace, known_of, places_kept, prediction, predicted_draft, IsRolled}
+use Rattle.w4_netplay.specs.Replica.{edit_refusal, Netplay, IsReplica, IsNetRefusal, KeepsNetplay, ShowsPlace}
+use Rattle.w4_netplay.specs.Replica.{KeepsPlace, known_of, places_kept, prediction, predicted_draft, IsRolled}
 use Rattle.w4_netplay.proofs.RollbackFrameLaws.{shown_within}
 use Rattle.w4_netplay.proofs.RollbackLinkLaws.{same_places}
 use Rattle.w4_netplay.proofs.RollbackLaws.{rolled_all, rolled_length, net_length}

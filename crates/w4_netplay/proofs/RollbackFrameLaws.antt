@@ -1,5 +1,6 @@
 -- A showing after a roll back runs no more frames than its bound says.
-use Rattle.std.proofs.Common.{◌≡◌, ℕ, zero, suc, ◌+◌, ◌-◌, ◌<◌, ◌≤◌, Bool, true, false, cond, ◌&&◌, List, [], ◌∷◌, length, take, drop, refl, sym, ap, ◌∙◌, subst, arith}
+use Rattle.std.proofs.Common.{◌≡◌, ℕ, zero, suc, ◌+◌, ◌-◌, ◌<◌, ◌≤◌, Bool, true, false, cond, ◌&&◌, List, []}
+use Rattle.std.proofs.Common.{◌∷◌, length, take, drop, refl, sym, ap, ◌∙◌, subst, arith}
 use lib.Pointwise.{pointwise_decides}
 use Rattle.std.specs.Bool.{Decides}
 use Rattle.std.specs.Cmp.{booleans_Decides}
@@ -8,10 +9,12 @@ use Rattle.std.proofs.lemmas.Bool.{and_parts, and_from}
 use Rattle.std.proofs.lemmas.Bool.Decides.{Decides-eqb, Decides-int_eq, Decides-and, Decides-like}
 use Rattle.std.proofs.lemmas.Slice.Eq.{bytes_eq-Decides}
 use Rattle.w4_defs.specs.declared.console.Input.{Input}
-use Rattle.w4_defs.specs.KeptList.{Entry, place_at, state_at, linked_at, first_above, is_sure, doubtful, show_frames}
+use Rattle.w4_defs.specs.KeptList.{Entry, place_at, state_at, linked_at, first_above, is_sure, doubtful}
+use Rattle.w4_defs.specs.KeptList.{show_frames}
 use Rattle.w4_defs.specs.SameState.{same_state}
 use Rattle.w4_editor.proofs.EditorLaws.{first_same}
-use Rattle.w4_netplay.specs.Rollback.{same_input, same_between, rolled_from, rolled_back, rollback_frames, KeepsLinks}
+use Rattle.w4_netplay.specs.Rollback.{same_input, same_between, rolled_from, rolled_back, rollback_frames}
+use Rattle.w4_netplay.specs.Rollback.{KeepsLinks}
 
 -- ---- inputs that are the same
 

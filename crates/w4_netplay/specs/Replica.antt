@@ -3,7 +3,9 @@ use Rattle.std.specs.Prelude.{Option, Some, None, ◌≡◌, ℕ, ◌≤◌, Lis
 use Rattle.w4_defs.specs.declared.editing.EditRefusal.{EditRefusal}
 use Rattle.w4_defs.specs.declared.editing.EditRefusal.TheVariants as edit
 use Rattle.w4_defs.specs.declared.net_refusal.NetRefusal.{NetRefusal}
-use Rattle.w4_defs.specs.declared.net_refusal.NetRefusal.TheVariants.{NoPlayer, FrameRange, Conflict, FullRecording, NoFrame, Kept, FullSnapshots, OutOfMemory}
+use Rattle.w4_defs.specs.declared.net_refusal.NetRefusal.TheVariants.{NoPlayer, FrameRange, Conflict}
+use Rattle.w4_defs.specs.declared.net_refusal.NetRefusal.TheVariants.{FullRecording, NoFrame, Kept}
+use Rattle.w4_defs.specs.declared.net_refusal.NetRefusal.TheVariants.{FullSnapshots, OutOfMemory}
 use Rattle.w4_defs.specs.declared.console.Input.{Input}
 use Rattle.w4_defs.specs.FramesRun.{RunsAtMost}
 use Rattle.w4_defs.specs.KeptList.{places_of}

@@ -1,7 +1,8 @@
 -- How many frames a showing may run (project rule): as in the editor, where a segment counts as doubtful also
 -- if it holds an input that isn't the predicted one. And what rolling back leaves of a kept list and of an
 -- editor.
-use Rattle.std.specs.Prelude.{◌≡◌, ℕ, ◌+◌, ◌<◌, ◌≤◌, true, List, [], ◌∷◌, ◌++◌, drop, None, Some, ◌==◌, ◌&&◌, Bool, false, map, pos, refl}
+use Rattle.std.specs.Prelude.{◌≡◌, ℕ, ◌+◌, ◌<◌, ◌≤◌, true, List, [], ◌∷◌, ◌++◌, drop, None, Some, ◌==◌, ◌&&◌}
+use Rattle.std.specs.Prelude.{Bool, false, map, pos, refl}
 use Rattle.std.specs.List.{slice_get, slice_range}
 use Rattle.w4_defs.specs.declared.console.Input.{Input}
 use Rattle.w4_defs.specs.KeptList.{Entry, SamePlaces, place_at, state_at, linked_at, doubtful, show_frames}

@@ -20,14 +20,14 @@ ghost use Rattle.w4_netplay.specs.Replica.{
 ghost use Rattle.w4_defs.specs.declared.net_refusal.NetRefusal.TheVariants.{FullRecording, OutOfMemory as NoMemory};
 
 use crate::pads::Pads;
-use crate::rollback::{only_memory, roll_back};
+use crate::rollback::roll_back;
 use std::alloc::Global;
 use std::marker::Model;
 use std::sync::ledger::Ledger;
 use w4_defs::netplay::Packet;
 use w4_defs::{NetRefusal, OutOfMemory, Steps};
 use w4_editor::places::is_kept;
-use w4_editor::{Editor, MOST_KEPT};
+use w4_editor::{Editor, MOST_KEPT, only_memory};
 use w4_font::Font;
 use w4_map::State;
 use w4_record::{MOST_FRAMES, Recording};

@@ -9,8 +9,8 @@ ghost use Rattle.w4_netplay.specs.Rollback.{IsPartlyRolled, IsRolledTo, IsWritte
 
 use crate::pads::Pads;
 use std::alloc::Global;
-use w4_defs::{EditRefusal, Input, OutOfMemory};
-use w4_editor::Editor;
+use w4_defs::{Input, OutOfMemory};
+use w4_editor::{Editor, only_memory};
 use w4_record::Recording;
 
 /// Brings the inputs of an editor up to those that are predicted for that many frames. Takes memory only
@@ -89,12 +89,4 @@ fn write_run(
         }
         Err(refusal) => Err(only_memory(refusal)),
     }
-}
-
-/// What is left where the causes of a refusal were looked at before: memory was refused.
-pub fn only_memory(refusal: EditRefusal) -> OutOfMemory
-    requires { refusal ≡ EditRefusal.OutOfMemory }
-{
-    prove!(refusal == EditRefusal::OutOfMemory);
-    OutOfMemory
 }

@@ -1,5 +1,7 @@
 -- What a byte with a palette index in some of its digits shows.
-use Rattle.std.proofs.Common.{append_assoc, ◌⊎◌, subst, ◌++◌, take, drop, length, replicate, ◌≡◌, ℕ, ◌+◌, ◌-◌, ◌*◌, ◌/◌, ◌%◌, ◌^◌, ◌<◌, ◌≤◌, Bool, true, false, ◌&&◌, ◌||◌, cond, List, get_or, Option, Some, unwrap_or, refl, sym, ◌∙◌, ap, inl, inr, arith}
+use Rattle.std.proofs.Common.{append_assoc, ◌⊎◌, subst, ◌++◌, take, drop, length, replicate, ◌≡◌, ℕ, ◌+◌, ◌-◌}
+use Rattle.std.proofs.Common.{◌*◌, ◌/◌, ◌%◌, ◌^◌, ◌<◌, ◌≤◌, Bool, true, false, ◌&&◌, ◌||◌, cond, List, get_or}
+use Rattle.std.proofs.Common.{Option, Some, unwrap_or, refl, sym, ◌∙◌, ap, inl, inr, arith}
 use Rattle.std.specs.Prelude.{ℤ, pos, int_le, ◌==◌, nat_le, nat_lt, if◌then◌else◌}
 use Rattle.std.specs.Option.{option_or}
 use Rattle.std.proofs.lemmas.Bool.{cases_eq, cases_lt}
@@ -14,7 +16,8 @@ use Rattle.w4_defs.proofs.PaintLaws.{paint_only}
 use Rattle.w4_defs.proofs.RegisterLaws.{spliced}
 use Rattle.w4_pixels.specs.Clipping.{clipped}
 use Rattle.w4_pixels.proofs.ClippingLaws.{union}
-use Rattle.w4_pixels.specs.Packed.{Chooses, bytes_painter, masked_painter, dot_painter, one_of_four, quad_painter, zero_painter}
+use Rattle.w4_pixels.specs.Packed.{Chooses, bytes_painter, masked_painter, dot_painter, one_of_four}
+use Rattle.w4_pixels.specs.Packed.{quad_painter, zero_painter}
 
 chosen_index : (test : Bool) (index digit new : ℕ) → new < 4 → new ≡ cond test index digit
     → new ≡ unwrap_or (only_if test (Some index)) digit % 4

@@ -1,5 +1,6 @@
 -- The painters of the calls that write whole bytes, in columns and rows of the screen.
-use Rattle.std.specs.Prelude.{◌≡◌, ◌<◌, ◌⊎◌, ℕ, ◌/◌, ◌%◌, ◌^◌, ◌&&◌, nat_le, nat_lt, ◌==◌, if◌then◌else◌, Option, Some}
+use Rattle.std.specs.Prelude.{◌≡◌, ◌<◌, ◌⊎◌, ℕ, ◌/◌, ◌%◌, ◌^◌, ◌&&◌, nat_le, nat_lt, ◌==◌, if◌then◌else◌}
+use Rattle.std.specs.Prelude.{Option, Some}
 use Rattle.w4_defs.specs.Framebuffer.{Painter}
 use Rattle.w4_defs.specs.Shapes.{only_if}
 

@@ -5,17 +5,24 @@ use Rattle.w4_defs.specs.declared.status.Finish.{Finish}
 use Rattle.w4_defs.specs.declared.status.Finish.TheVariants.{Done, Different}
 use Rattle.w4_defs.specs.declared.status.Refusal.{Refusal}
 use Rattle.w4_defs.specs.Causes.{IsWhole}
-use Rattle.w4_defs.specs.Commands.{Form, Check, Blank, Frames, Tones, Trace, Disk, Edit, Make, Net, Ram, Wave, Batch, Serve, Units, Compare, Rebind, Inputs, BlankDisk}
+use Rattle.w4_defs.specs.Commands.{Form, Check, Blank, Frames, Tones, Trace, Disk, Edit, Make, Net, Ram, Wave}
+use Rattle.w4_defs.specs.Commands.{Batch, Serve, Units, Compare, Rebind, Inputs, BlankDisk}
 use Rattle.w4_defs.specs.Endings.{status_of_finish}
 use Rattle.w4_defs.specs.declared.place_text.PlaceText.TheVariants.{Image, Schedule, Traces, DiskBytes}
 use Rattle.w4_defs.specs.InputsText.{inputs_text}
-use Rattle.w4_defs.specs.Live.{Opened, Talk, first_live_session, serve_output, serve_result, served, session_events}
-use Rattle.w4_defs.specs.Output.{◌>>=◌, CartFile, Output, blank_recording, checked, edit_answers, edit_files, edit_output, edit_result, disk_output, images_output, make_output, made_text, making, only_written, place_texts_from, printing, run_files, run_files_to, texts_output, written}
+use Rattle.w4_defs.specs.Live.{Opened, Talk, first_live_session, serve_output, serve_result, served}
+use Rattle.w4_defs.specs.Live.{session_events}
+use Rattle.w4_defs.specs.Output.{◌>>=◌, CartFile, Output, blank_recording, checked, edit_answers, edit_files}
+use Rattle.w4_defs.specs.Output.{edit_output, edit_result, disk_output, images_output, make_output, made_text}
+use Rattle.w4_defs.specs.Output.{making, only_written, place_texts_from, printing, run_files, run_files_to}
+use Rattle.w4_defs.specs.Output.{texts_output, written}
 use Rattle.w4_defs.specs.Recording.{encoding}
 use Rattle.w4_defs.specs.Outputs.{OutputsAlone, OutputsForm, OutputsOn, OverFile, OverJudged, cart_word}
 use Rattle.w4_defs.specs.Promise.{IsDoneBy}
-use Rattle.w4_defs.specs.RecordingOutputs.{any_recording_in, blank_disk_output, disk_in, inputs_output, rebind_output, rebound, run_units, units_output}
-use Rattle.w4_defs.specs.ToolOutputs.{batch_files, batch_output, batch_text, net_files, net_output, net_text, ram_files, ram_output, ram_text, wave_output, wave_text}
+use Rattle.w4_defs.specs.RecordingOutputs.{any_recording_in, blank_disk_output, disk_in, inputs_output}
+use Rattle.w4_defs.specs.RecordingOutputs.{rebind_output, rebound, run_units, units_output}
+use Rattle.w4_defs.specs.ToolOutputs.{batch_files, batch_output, batch_text, net_files, net_output, net_text}
+use Rattle.w4_defs.specs.ToolOutputs.{ram_files, ram_output, ram_text, wave_output, wave_text}
 use Rattle.w4_defs.specs.World.{Files}
 
 -- each output of these kinds has no difference to tell

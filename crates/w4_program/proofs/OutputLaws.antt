@@ -1,5 +1,6 @@
 -- Bytes are one cart or are refused for one cause, so the output is one too.
-use Rattle.std.proofs.Common.{◌≡◌, ℕ, ◌<◌, ◌⊎◌, inl, inr, List, Option, Some, None, Result, Ok, Err, refl, sym, ap, subst, ◌∙◌, arith}
+use Rattle.std.proofs.Common.{◌≡◌, ℕ, ◌<◌, ◌⊎◌, inl, inr, List, Option, Some, None, Result, Ok, Err, refl}
+use Rattle.std.proofs.Common.{sym, ap, subst, ◌∙◌, arith}
 use Rattle.std.proofs.lemmas.Bool.{cases_order}
 use Rattle.w4_defs.specs.declared.refusal.CartKind.{CartKind}
 use Rattle.w4_defs.specs.declared.refusal.CartKind.TheVariants.{TooLarge, Malformed, Profile, Invalid}
@@ -11,8 +12,11 @@ use Rattle.w4_defs.specs.Cart.{IsInvalid, IsRefused}
 use Rattle.wasm_read.specs.Unique.{AtMostOneModule}
 use Rattle.w4_defs.specs.World.{Files}
 use Rattle.w4_defs.specs.declared.status.Refusal.{Refusal}
-use Rattle.w4_defs.specs.declared.status.Refusal.TheVariants.{CartRefused, RecordingRefused, FontRefused, ScriptRefused, ListRefused, FrameRefused, ReadFault, InputFault, WriteFault, OutOfMemory}
-use Rattle.w4_defs.specs.Commands.{Form, Check, Blank, Frames, Tones, Trace, Disk, Edit, Make, Net, Ram, Wave, Batch, Serve, Units, Compare, Rebind, Inputs, BlankDisk}
+use Rattle.w4_defs.specs.declared.status.Refusal.TheVariants.{CartRefused, RecordingRefused, FontRefused}
+use Rattle.w4_defs.specs.declared.status.Refusal.TheVariants.{ScriptRefused, ListRefused, FrameRefused}
+use Rattle.w4_defs.specs.declared.status.Refusal.TheVariants.{ReadFault, InputFault, WriteFault, OutOfMemory}
+use Rattle.w4_defs.specs.Commands.{Form, Check, Blank, Frames, Tones, Trace, Disk, Edit, Make, Net, Ram, Wave}
+use Rattle.w4_defs.specs.Commands.{Batch, Serve, Units, Compare, Rebind, Inputs, BlankDisk}
 use Rattle.w4_defs.specs.Live.{Talk}
 use Rattle.w4_defs.specs.Output.{CartFile, Output, JudgedCart, reading}
 use Rattle.w4_defs.specs.RecordingOutputs.{compare_output}

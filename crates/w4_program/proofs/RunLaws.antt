@@ -1,17 +1,20 @@
 -- Resets, frames and runs of a cart that was judged have a meaning. What a form does is what the words that
 -- have it do, and how the whole ended is so after the report of its status, too.
-use Rattle.std.proofs.Common.{◌≡◌, ℕ, List, Result, Ok, Err, refl, inr, Option, Some, None, ◌⊎◌, ◌+◌, inl, [], ◌∷◌, ◌++◌, take, sym, subst, ◌∙◌}
+use Rattle.std.proofs.Common.{◌≡◌, ℕ, List, Result, Ok, Err, refl, inr, Option, Some, None, ◌⊎◌, ◌+◌, inl, []}
+use Rattle.std.proofs.Common.{◌∷◌, ◌++◌, take, sym, subst, ◌∙◌}
 use Rattle.w4_defs.specs.Generator.{made_module}
 use Rattle.w4_defs.specs.Meaning.{FramesHaveMeaning, AcceptedRunsHaveMeaning}
 use Rattle.w4_defs.specs.EncodeModule.{module_bytes}
 use Rattle.wasm_write.specs.Laws.{MadeModulesAreCarts}
-use Rattle.w4_defs.specs.World.{Files, World, Event, InputLost, Rises, RisesBy, AppendsFront, Does, FailsToSave, OutFails, SavesOrFails, LeavesReporting, failed_saves, not_saved}
+use Rattle.w4_defs.specs.World.{Files, World, Event, InputLost, Rises, RisesBy, AppendsFront, Does}
+use Rattle.w4_defs.specs.World.{FailsToSave, OutFails, SavesOrFails, LeavesReporting, failed_saves, not_saved}
 use Rattle.w4_defs.specs.declared.status.Refusal.{Refusal}
 use Rattle.w4_defs.specs.Output.{CartFile, JudgedCart, reading, Output, all_events}
 use Rattle.w4_defs.specs.CartRuns.{CartRunsHaveMeaning}
 use Rattle.w4_defs.specs.declared.status.Finish.{Finish}
 use Rattle.w4_defs.specs.declared.status.Status.{Status}
-use Rattle.w4_defs.specs.Causes.{Ends, EndsRefused, EndsWhole, IsCutShort, IsWhole, LeavesErr, LeavesOutputs, LosesInput, RunsOutAfter, WritesPart, stopped_events}
+use Rattle.w4_defs.specs.Causes.{Ends, EndsRefused, EndsWhole, IsCutShort, IsWhole, LeavesErr, LeavesOutputs}
+use Rattle.w4_defs.specs.Causes.{LosesInput, RunsOutAfter, WritesPart, stopped_events}
 use Rattle.w4_defs.specs.Commands.{Form, form_of}
 use Rattle.w4_defs.specs.Outputs.{Outputs, OutputsBy}
 use Rattle.w4_commands.proofs.CommandLaws.{ends_as}
@@ -19,7 +22,8 @@ use Rattle.w4_program.specs.Run.{IsObeyed, status_of_end}
 use Rattle.w4_defs.specs.declared.status.Finish.TheVariants as finish
 use Rattle.w4_defs.specs.declared.status.Refusal.TheVariants as refusal
 use Rattle.w4_defs.specs.declared.status.Status.TheVariants as status
-use Rattle.w4_defs.specs.Endings.{Manner, ReadFailed, InputFailed, WriteFailed, MemoryRefused, Refused, manner_of, status_of_finish, status_of_refusal}
+use Rattle.w4_defs.specs.Endings.{Manner, ReadFailed, InputFailed, WriteFailed, MemoryRefused, Refused}
+use Rattle.w4_defs.specs.Endings.{manner_of, status_of_finish, status_of_refusal}
 use Rattle.w4_defs.specs.StatusLines.{status_line}
 
 not_both : (cart : CartFile) (refusal : Refusal) (found : Result CartFile Refusal) → found ≡ Ok cart
@@ -75,7 +79,8 @@ module _ (old mid new : World) (leaves : LeavesReporting mid new) where
   out_fails_reported done out =
       subst (λ n. RisesBy (failed_saves done + 1) old.write_faults n) (sym leaves.writes) out
 
-  saves_reported : (done saved : List Event) → SavesOrFails old mid done saved → SavesOrFails old new done saved
+  saves_reported : (done saved : List Event) → SavesOrFails old mid done saved
+      → SavesOrFails old new done saved
   saves_reported done saved (inl does) = inl (does_reported (done ++ saved) does)
   saves_reported done saved (inr fails) = inr (fails_reported done saved fails)
 

@@ -12,7 +12,8 @@ use Rattle.w4_defs.specs.declared.status.Status.{Status}
 use Rattle.w4_defs.specs.declared.status.Status.TheVariants as status
 use Rattle.w4_defs.specs.Endings.{status_of_finish}
 use Rattle.w4_defs.specs.Output.{Output, all_events}
-use Rattle.w4_defs.specs.Causes.{ChangesNothing, EndsWhole, IsCutShort, IsExact, LeavesErr, LeavesOutputs, LosesInput, ReadFails, Reports, StepRefuses, WritesPart}
+use Rattle.w4_defs.specs.Causes.{ChangesNothing, EndsWhole, IsCutShort, IsExact, LeavesErr, LeavesOutputs}
+use Rattle.w4_defs.specs.Causes.{LosesInput, ReadFails, Reports, StepRefuses, WritesPart}
 use Rattle.w4_defs.specs.Promise.{NoFault}
 use Rattle.w4_program.specs.Run.{IsObeyed}
 use Rattle.w4_program.proofs.RunLaws.{EndsBy, Step}

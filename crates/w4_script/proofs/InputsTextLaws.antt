@@ -1,5 +1,7 @@
 -- The line of an input, in a recording's text, is read as the order that inserts it.
-use Rattle.std.proofs.Common.{◌≡◌, ◌≢◌, ℕ, ℤ, pos, negsuc, neg_ℤ, suc, ◌+◌, ◌<◌, ◌≤◌, Bool, true, false, cond, List, [], ◌∷◌, ◌++◌, length, map, Option, Some, None, codes, FitsSigned, refl, sym, subst, ap, ◌∙◌, arith, add-one, append_assoc, length-append}
+use Rattle.std.proofs.Common.{◌≡◌, ◌≢◌, ℕ, ℤ, pos, negsuc, neg_ℤ, suc, ◌+◌, ◌<◌, ◌≤◌, Bool, true, false, cond}
+use Rattle.std.proofs.Common.{List, [], ◌∷◌, ◌++◌, length, map, Option, Some, None, codes, FitsSigned, refl}
+use Rattle.std.proofs.Common.{sym, subst, ap, ◌∙◌, arith, add-one, append_assoc, length-append}
 use Rattle.std.specs.Fmt.{decimal}
 use Rattle.std.specs.Int.{w16}
 use Rattle.std.specs.List.{flat_map, AllByRecursion}
@@ -17,7 +19,8 @@ use Rattle.w4_defs.specs.Reading.{◌>>=◌, IsBytes}
 use Rattle.w4_defs.specs.Recording.{IsInput}
 use Rattle.w4_defs.specs.Script.{frame_order, order_of, reset_word, script_rows}
 use Rattle.w4_defs.proofs.DecimalLaws.{decimal_is_read}
-use Rattle.w4_script.proofs.InputsTextWordLaws.{IsShortWord, IsVisible, all_append, line_visible, spread, spread_short, words_again}
+use Rattle.w4_script.proofs.InputsTextWordLaws.{IsShortWord, IsVisible, all_append, line_visible, spread}
+use Rattle.w4_script.proofs.InputsTextWordLaws.{spread_short, words_again}
 
 -- ---- numbers
 

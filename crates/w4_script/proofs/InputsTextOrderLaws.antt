@@ -1,5 +1,6 @@
 -- The text of a recording's inputs is read as the orders that insert them.
-use Rattle.std.proofs.Common.{◌≡◌, ℕ, ◌+◌, ◌*◌, ◌/◌, ◌%◌, ◌<◌, ◌≤◌, Bool, true, false, cond, nat_lt, List, [], ◌∷◌, ◌++◌, length, Ok, codes, refl, ap, ◌∙◌, arith, append_assoc, length-append}
+use Rattle.std.proofs.Common.{◌≡◌, ℕ, ◌+◌, ◌*◌, ◌/◌, ◌%◌, ◌<◌, ◌≤◌, Bool, true, false, cond, nat_lt, List, []}
+use Rattle.std.proofs.Common.{◌∷◌, ◌++◌, length, Ok, codes, refl, ap, ◌∙◌, arith, append_assoc, length-append}
 use Rattle.std.specs.Fmt.{decimal}
 use Rattle.std.specs.List.{flat_map, AllByRecursion}
 use Rattle.w4_defs.specs.declared.console.Input.{Input}
@@ -13,9 +14,11 @@ use Rattle.w4_defs.specs.MadeSummary.{hexadecimal}
 use Rattle.w4_defs.specs.OrderFile.{orders_in, with_order}
 use Rattle.w4_defs.specs.Recording.{IsInput, IsRecording, Recording}
 use Rattle.w4_defs.specs.Script.{order_of, script_of}
-use Rattle.w4_script.proofs.InputsTextLaws.{decimal_word, insert_is_not_skipped, insert_is_read, insert_is_visible, insert_line}
+use Rattle.w4_script.proofs.InputsTextLaws.{decimal_word, insert_is_not_skipped, insert_is_read}
+use Rattle.w4_script.proofs.InputsTextLaws.{insert_is_visible, insert_line}
 use Rattle.w4_defs.proofs.ScriptLaws.{file_limit}
-use Rattle.w4_script.proofs.InputsTextWordLaws.{IsVisible, all_append, all_with, line_before, remark_is_skipped}
+use Rattle.w4_script.proofs.InputsTextWordLaws.{IsVisible, all_append, all_with, line_before}
+use Rattle.w4_script.proofs.InputsTextWordLaws.{remark_is_skipped}
 
 -- ---- remarks
 

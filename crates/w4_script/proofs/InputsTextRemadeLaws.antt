@@ -1,5 +1,7 @@
 -- The orders of a recording's text, carried out over a recording without frames, make its inputs again.
-use Rattle.std.proofs.Common.{◌≡◌, ℕ, suc, ◌+◌, ◌<◌, ◌≤◌, Bool, true, false, cond, nat_lt, List, [], ◌∷◌, ◌++◌, length, Option, Some, None, option_map, Ok, refl, sym, subst, ap, ◌∙◌, arith, append_assoc, append-nil, length-append}
+use Rattle.std.proofs.Common.{◌≡◌, ℕ, suc, ◌+◌, ◌<◌, ◌≤◌, Bool, true, false, cond, nat_lt, List, [], ◌∷◌}
+use Rattle.std.proofs.Common.{◌++◌, length, Option, Some, None, option_map, Ok, refl, sym, subst, ap, ◌∙◌}
+use Rattle.std.proofs.Common.{arith, append_assoc, append-nil, length-append}
 use Rattle.std.specs.Prelude.{IsOkAnd}
 use Rattle.std.specs.List.{flat_map, insert, AllByRecursion}
 use Rattle.std.specs.Option.{option_or}
@@ -12,20 +14,28 @@ use Rattle.w4_defs.specs.declared.order.Order.{Order}
 use Rattle.w4_defs.specs.declared.order.Order.TheVariants.{Insert}
 use Rattle.w4_defs.specs.AllThere.{joined}
 use Rattle.w4_defs.specs.Answers.{Answered, answers_by, carried_out}
-use Rattle.w4_script.specs.InputsTextLaws.{LinesAreCarriedOut, LinesRemakeInputs, ScriptRemakesInputs, answered_by_end, text_lines}
+use Rattle.w4_script.specs.InputsTextLaws.{LinesAreCarriedOut, LinesRemakeInputs, ScriptRemakesInputs}
+use Rattle.w4_script.specs.InputsTextLaws.{answered_by_end, text_lines}
 use Rattle.w4_defs.specs.Lines.{is_skipped, words_of}
-use Rattle.w4_defs.specs.Live.{Asked, AsksNothing, NoOrder, Asks, LiveSession, LiveStep, Opened, SaveEnd, answer_end, answer_step, asked_by, asked_of, first_live_session, framed, line_step, live_order_of, over_session, own_rows, session_after, session_events}
+use Rattle.w4_defs.specs.Live.{Asked, AsksNothing, NoOrder, Asks, LiveSession, LiveStep, Opened, SaveEnd}
+use Rattle.w4_defs.specs.Live.{answer_end, answer_step, asked_by, asked_of, first_live_session, framed}
+use Rattle.w4_defs.specs.Live.{line_step, live_order_of, over_session, own_rows, session_after}
+use Rattle.w4_defs.specs.Live.{session_events}
 use Rattle.w4_defs.specs.OrderFile.{order_by}
 use Rattle.w4_defs.specs.PlaceTexts.{as_it_stands}
 use Rattle.w4_defs.specs.RamQuery.{ask_of}
 use Rattle.w4_defs.specs.Recording.{IsInput, IsRecording, Recording}
 use Rattle.w4_defs.specs.Reset.{Setup}
 use Rattle.w4_defs.specs.ScriptAnswers.{answer, answer_change, script_answers}
-use Rattle.w4_defs.specs.Session.{Session, edited, insert_draft, insert_input, new_session, places_alone, unless}
+use Rattle.w4_defs.specs.Session.{Session, edited, insert_draft, insert_input, new_session, places_alone}
+use Rattle.w4_defs.specs.Session.{unless}
 use Rattle.w4_defs.specs.World.{Event, Took, wrote}
 use Rattle.w4_defs.proofs.AllThereLaws.{nothing_joined}
-use Rattle.w4_script.proofs.InputsTextLaws.{insert_is_not_skipped, insert_is_read, insert_is_short, insert_line}
-use Rattle.w4_script.proofs.InputsTextOrderLaws.{budget_is_short, budget_is_visible, budget_remark, disk_is_short, disk_is_visible, disk_words, insert_lines, insertions, text_in_lines, text_is_read}
+use Rattle.w4_script.proofs.InputsTextLaws.{insert_is_not_skipped, insert_is_read, insert_is_short}
+use Rattle.w4_script.proofs.InputsTextLaws.{insert_line}
+use Rattle.w4_script.proofs.InputsTextOrderLaws.{budget_is_short, budget_is_visible, budget_remark}
+use Rattle.w4_script.proofs.InputsTextOrderLaws.{disk_is_short, disk_is_visible, disk_words, insert_lines}
+use Rattle.w4_script.proofs.InputsTextOrderLaws.{insertions, text_in_lines, text_is_read}
 use Rattle.w4_script.proofs.InputsTextWordLaws.{IsVisible, remark_is_skipped}
 
 -- ---- an insert at the end of a recording

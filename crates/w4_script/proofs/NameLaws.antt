@@ -1,6 +1,8 @@
 -- Lists of names: their first line, which is empty or not, the names that are read one after another, and the
 -- worked cases.
-use Rattle.std.proofs.Common.{◌≡◌, ◌≤◌, ◌<◌, ℕ, ◌+◌, ltb, true, false, Bool, List, [], ◌∷◌, ◌++◌, length, map, codes, string_bytes, String, Global, Some, None, Result, Ok, Err, refl, sym, ap, ◌∙◌}
+use Rattle.std.proofs.Common.{◌≡◌, ◌≤◌, ◌<◌, ℕ, ◌+◌, ltb, true, false, Bool, List, [], ◌∷◌, ◌++◌, length, map}
+use Rattle.std.proofs.Common.{codes, string_bytes, String, Global, Some, None, Result, Ok, Err, refl, sym, ap}
+use Rattle.std.proofs.Common.{◌∙◌}
 use Rattle.std.specs.Io.BufRead.{strip_last}
 use Rattle.std.specs.Str.{IsUtf8, is_utf8}
 use Rattle.std.proofs.lemmas.Bool.{le-leb, lt-ltb}
@@ -9,7 +11,8 @@ use Rattle.std.proofs.lemmas.Str.{IsUtf8-from_is_utf8, is_utf8-from_IsUtf8}
 use Rattle.w4_defs.specs.Lines.{pieces}
 use Rattle.w4_defs.specs.declared.status.ScriptKind.{ScriptKind}
 use Rattle.w4_defs.specs.declared.status.ScriptKind.TheVariants.{BadLine}
-use Rattle.w4_defs.specs.NameLists.{NameLine, NameListCases, name_after, name_lines, name_lines_from, names_after, names_of}
+use Rattle.w4_defs.specs.NameLists.{NameLine, NameListCases, name_after, name_lines, name_lines_from}
+use Rattle.w4_defs.specs.NameLists.{names_after, names_of}
 use Rattle.w4_script.proofs.OrderFileLaws.{with_orders, regroup_orders}
 
 pub named_before : (number : ℕ) (bytes line rest name : List ℕ)

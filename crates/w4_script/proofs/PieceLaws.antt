@@ -1,5 +1,6 @@
 -- The first piece of a text, and those after it.
-use Rattle.std.proofs.Common.{◌≡◌, ℕ, suc, ltb, subst, ◌+◌, ◌<◌, ◌≤◌, true, false, cond, Bool, not, List, [], ◌∷◌, take, drop, refl, ap, ◌∙◌, ◌==◌, length, arith, Some, None}
+use Rattle.std.proofs.Common.{◌≡◌, ℕ, suc, ltb, subst, ◌+◌, ◌<◌, ◌≤◌, true, false, cond, Bool, not, List, []}
+use Rattle.std.proofs.Common.{◌∷◌, take, drop, refl, ap, ◌∙◌, ◌==◌, length, arith, Some, None}
 use Rattle.std.proofs.lemmas.Bool.{ltb-false}
 use Rattle.std.proofs.lemmas.List.{take_all, drop_all}
 use Rattle.std.specs.List.{position, position_or_len}

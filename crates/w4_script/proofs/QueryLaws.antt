@@ -1,5 +1,6 @@
 -- The lines of a query are fit for the calls that they ask for.
-use Rattle.std.proofs.Common.{◌≡◌, ℕ, Bool, true, false, List, [], ◌∷◌, length, All, Option, Some, None, Result, Ok, Err, option_map, refl, sym, subst, if◌then◌else◌, leb, cond, arith}
+use Rattle.std.proofs.Common.{◌≡◌, ℕ, Bool, true, false, List, [], ◌∷◌, length, All, Option, Some, None}
+use Rattle.std.proofs.Common.{Result, Ok, Err, option_map, refl, sym, subst, if◌then◌else◌, leb, cond, arith}
 use Rattle.std.specs.Prelude.{⊤, IfSome}
 use Rattle.std.specs.Option.{option_or}
 use Rattle.std.specs.Str.{bytes_eq}
@@ -14,9 +15,11 @@ use Rattle.w4_defs.specs.declared.order.Order.{Order}
 use Rattle.w4_defs.specs.declared.status.ScriptKind.{ScriptKind}
 use Rattle.w4_defs.specs.declared.status.ScriptKind.TheVariants.{TooLong}
 use Rattle.w4_defs.specs.Lines.{Line, lines_of}
-use Rattle.w4_defs.specs.OrderFile.{OrderReader, OrderRow, order_by, order_named, orders_in, file_of, with_order}
+use Rattle.w4_defs.specs.OrderFile.{OrderReader, OrderRow, order_by, order_named, orders_in, file_of}
+use Rattle.w4_defs.specs.OrderFile.{with_order}
 use Rattle.w4_defs.specs.OrderWords.{no_word}
-use Rattle.w4_defs.specs.RamQuery.{ask_of, is_words, keeping, query_line_of, query_rows, start_words, test_words, watch_words}
+use Rattle.w4_defs.specs.RamQuery.{ask_of, is_words, keeping, query_line_of, query_rows, start_words}
+use Rattle.w4_defs.specs.RamQuery.{test_words, watch_words}
 use Rattle.w4_defs.specs.Reading.{◌>>=◌}
 use Rattle.w4_defs.specs.Script.{order_of}
 use Rattle.w4_defs.proofs.OptionLaws.{some_same}

@@ -1,5 +1,6 @@
 -- A film that is handed out a piece at a time: a round more, a piece less, and what is left.
-use Rattle.std.proofs.Common.{◌≡◌, ℕ, ◌+◌, ◌-◌, ◌<◌, ◌≤◌, List, [], length, get_or, Option, Some, inl, inr, sym, ap, ◌∙◌, arith}
+use Rattle.std.proofs.Common.{◌≡◌, ℕ, ◌+◌, ◌-◌, ◌<◌, ◌≤◌, List, [], length, get_or, Option, Some, inl, inr}
+use Rattle.std.proofs.Common.{sym, ap, ◌∙◌, arith}
 use Rattle.std.specs.List.{All, slice_get}
 use Rattle.std.proofs.lemmas.Option.{slice_get_cases}
 use Rattle.w4_defs.specs.AllThere.{joined}
@@ -8,12 +9,14 @@ use Rattle.w4_defs.specs.KeptList.{place_at}
 use Rattle.w4_editor.specs.Editor.{Editing, editing_setup}
 use Rattle.w4_editor.specs.Playing.{KeepsRecording}
 use Rattle.w4_segments.specs.declared.worker.Worker.{Worker}
-use Rattle.w4_segments.specs.FilmPieces.{CanGoOn, images_between, images_by, AreOfRunBelow, ArePieces, piece_begin}
+use Rattle.w4_segments.specs.FilmPieces.{CanGoOn, images_between, images_by, AreOfRunBelow, ArePieces}
+use Rattle.w4_segments.specs.FilmPieces.{piece_begin}
 use Rattle.w4_segments.specs.Filming.{film_images}
 use Rattle.w4_segments.specs.Rounds.{entries_of}
 use Rattle.w4_segments.specs.Worker.{EachDid, HasCartTypes}
 use Rattle.w4_segments.specs.Pieces.{HasFilmed, worker_images}
-use Rattle.w4_segments.proofs.PieceLaws.{cut_inside, cut_rises, cut_there, cut_to_end, pieces_filmed, span_both, span_none, types_filmed}
+use Rattle.w4_segments.proofs.PieceLaws.{cut_inside, cut_rises, cut_there, cut_to_end, pieces_filmed}
+use Rattle.w4_segments.proofs.PieceLaws.{span_both, span_none, types_filmed}
 
 module _ (e : Editing) (worker_list : List Worker) (first end first_entry next filmed : ℕ)
     (is : CanGoOn worker_list first end first_entry next filmed e) where

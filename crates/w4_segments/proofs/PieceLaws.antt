@@ -1,6 +1,7 @@
 -- Images of a run in parts, the screens that they are made from, the cuts of a film, and what the workers of
 -- a round make.
-use Rattle.std.proofs.Common.{◌≡◌, ℕ, ◌+◌, ◌-◌, ◌<◌, ◌≤◌, cond, min, max, List, [], ◌∷◌, ◌++◌, flat_map, length, get_or, Option, Some, None, inl, inr, refl, sym, ap, ◌∙◌, subst, arith}
+use Rattle.std.proofs.Common.{◌≡◌, ℕ, ◌+◌, ◌-◌, ◌<◌, ◌≤◌, cond, min, max, List, [], ◌∷◌, ◌++◌, flat_map}
+use Rattle.std.proofs.Common.{length, get_or, Option, Some, None, inl, inr, refl, sym, ap, ◌∙◌, subst, arith}
 use Rattle.std.specs.List.{All}
 use Rattle.std.specs.Prelude.{vec_capacity}
 use Rattle.std.proofs.lemmas.Bool.{cases_lt, lt-ltb, le-ltb}
@@ -24,7 +25,8 @@ use Rattle.w4_editor.specs.Settling.{AreLinked}
 use Rattle.w4_segments.specs.declared.worker.Task.{Task}
 use Rattle.w4_segments.specs.declared.worker.Worker.{Worker}
 use Rattle.w4_defs.specs.Film.{run_images}
-use Rattle.w4_segments.specs.FilmPieces.{images_between, images_of, piece_begin, AreOfRunBelow, IsPiece, ArePieces}
+use Rattle.w4_segments.specs.FilmPieces.{images_between, images_of, piece_begin, AreOfRunBelow, IsPiece}
+use Rattle.w4_segments.specs.FilmPieces.{ArePieces}
 use Rattle.w4_segments.specs.Rounds.{entries_of}
 use Rattle.w4_segments.specs.Worker.{HasCartTypes, EachDid}
 use Rattle.w4_segments.specs.Pieces.{HasFilmed, task_images, worker_images}

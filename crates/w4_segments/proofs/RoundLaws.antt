@@ -1,5 +1,7 @@
 -- Dealing segments, and taking over what was played.
-use Rattle.std.proofs.Common.{◌≡◌, ◌≢◌, ℕ, ◌+◌, ◌<◌, ◌≤◌, Bool, true, zero, suc, false, not, List, [], ◌∷◌, length, get_or, set, Option, Some, None, inl, inr, refl, sym, ap, ◌∙◌, subst, arith, add-one}
+use Rattle.std.proofs.Common.{◌≡◌, ◌≢◌, ℕ, ◌+◌, ◌<◌, ◌≤◌, Bool, true, zero, suc, false, not, List, [], ◌∷◌}
+use Rattle.std.proofs.Common.{length, get_or, set, Option, Some, None, inl, inr, refl, sym, ap, ◌∙◌, subst}
+use Rattle.std.proofs.Common.{arith, add-one}
 use Rattle.std.specs.List.{All}
 use Rattle.std.proofs.lemmas.Bool.{cases_lt, cases_eq}
 use Rattle.std.specs.Option.{unwrap_or, is_some}
@@ -7,7 +9,8 @@ use Rattle.std.proofs.lemmas.List.{get_or_default}
 use Rattle.w4_defs.specs.declared.console.Input.{Input}
 use Rattle.w4_defs.specs.Reset.{Setup}
 use Rattle.std.specs.List.{slice_range}
-use Rattle.w4_defs.specs.KeptList.{Entry, state_at, linked_at, computed, relinked_at, replaced_at, SamePlaces, IsDraft}
+use Rattle.w4_defs.specs.KeptList.{Entry, state_at, linked_at, computed, relinked_at, replaced_at, SamePlaces}
+use Rattle.w4_defs.specs.KeptList.{IsDraft}
 use Rattle.w4_defs.specs.Session.{with_list}
 use Rattle.w4_defs.specs.State.{State, HasGlobals}
 use Rattle.w4_editor.specs.Editor.{Editing, editing_setup, with_session}
@@ -18,7 +21,8 @@ use Rattle.w4_editor.proofs.SettlingLaws.{relinked_computed, replaced_computed}
 use Rattle.w4_segments.specs.declared.worker.Task.{Task}
 use Rattle.w4_segments.specs.declared.worker.Worker.{Worker}
 use Rattle.w4_segments.specs.Filming.{KeepsShown}
-use Rattle.w4_segments.specs.Rounds.{entries_of, IsSegment, IsDealt, AreRising, AreDealt, AreComputed, LinksNext, IsTaken, LengthensFront, CanPlay, HasPlayed}
+use Rattle.w4_segments.specs.Rounds.{entries_of, IsSegment, IsDealt, AreRising, AreDealt, AreComputed}
+use Rattle.w4_segments.specs.Rounds.{LinksNext, IsTaken, LengthensFront, CanPlay, HasPlayed}
 use Rattle.w4_segments.specs.Worker.{HasCartTypes, EachDid}
 use Rattle.w4_segments.proofs.WorkerLaws.{up_to_here, all_changed, changed_here, unchanged}
 

@@ -1,5 +1,6 @@
 -- How items are dealt to workers: of N workers, worker W has the items W, W + N, W + 2 N and so on.
-use Rattle.std.specs.Prelude.{◌≡◌, ℕ, ◌+◌, ◌*◌, ◌<◌, ◌≤◌, List, [], map, length, slice_index_or, Option, Some, Result, IfOk, Vec}
+use Rattle.std.specs.Prelude.{◌≡◌, ℕ, ◌+◌, ◌*◌, ◌<◌, ◌≤◌, List, [], map, length, slice_index_or, Option, Some}
+use Rattle.std.specs.Prelude.{Result, IfOk, Vec}
 use Rattle.std.specs.declared.alloc.Global.{Global}
 use Rattle.sha2.specs.Sha256.{sha256}
 use Rattle.w4_defs.specs.declared.batch.BatchRow.{BatchRow}

@@ -1,6 +1,7 @@
 -- The pieces of a film. They are cut at the kept places, and each has the images from its cut to the next. A
 -- film is handed out a piece at a time (project rule): what is left of it, and when it can be gone on with.
-use Rattle.std.specs.Prelude.{◌≡◌, ℕ, ◌+◌, ◌<◌, List, length, slice_index_or, Option, Some, None, min, max, nat_lt, if◌then◌else◌, ◌-◌, ◌≤◌, [], All, slice_get}
+use Rattle.std.specs.Prelude.{◌≡◌, ℕ, ◌+◌, ◌<◌, List, length, slice_index_or, Option, Some, None, min, max}
+use Rattle.std.specs.Prelude.{nat_lt, if◌then◌else◌, ◌-◌, ◌≤◌, [], All, slice_get}
 use Rattle.w4_defs.specs.KeptList.{Entry, place_at, state_at}
 use Rattle.w4_defs.specs.Run.{run_state}
 use Rattle.w4_editor.specs.Editor.{Editing, editing_setup}

@@ -1,5 +1,6 @@
 -- What a worker that films is given, and what it does with it.
-use Rattle.std.specs.Prelude.{◌≡◌, ℕ, ◌+◌, ◌-◌, ◌≤◌, ◌<◌, List, [], flat_map, length, Option, Some, None, vec_capacity}
+use Rattle.std.specs.Prelude.{◌≡◌, ℕ, ◌+◌, ◌-◌, ◌≤◌, ◌<◌, List, [], flat_map, length, Option, Some, None}
+use Rattle.std.specs.Prelude.{vec_capacity}
 use Rattle.w4_defs.specs.declared.console.Input.{Input}
 use Rattle.w4_defs.specs.Image.{image}
 use Rattle.w4_defs.specs.Reset.{Setup}

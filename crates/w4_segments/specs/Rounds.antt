@@ -1,5 +1,6 @@
 -- A round of settling: how segments are dealt and played, and how what was played is taken over.
-use Rattle.std.specs.Prelude.{◌≡◌, ◌≤◌, List, length, slice_range, Some, ◌≢◌, ℕ, ◌+◌, ◌<◌, ◌⊎◌, true, All, slice_index_or, Option, None, IsFalse}
+use Rattle.std.specs.Prelude.{◌≡◌, ◌≤◌, List, length, slice_range, Some, ◌≢◌, ℕ, ◌+◌, ◌<◌, ◌⊎◌, true, All}
+use Rattle.std.specs.Prelude.{slice_index_or, Option, None, IsFalse}
 use Rattle.w4_defs.specs.declared.console.Input.{Input}
 use Rattle.w4_defs.specs.Module.{WasmModule}
 use Rattle.w4_defs.specs.Reset.{Setup}

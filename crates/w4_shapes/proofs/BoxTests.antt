@@ -1,12 +1,14 @@
 -- Tests of boxes of cells.
-use Rattle.std.proofs.Common.{◌≡◌, ℕ, ◌+◌, ◌<◌, List, length, Bool, true, false, ◌&&◌, ◌||◌, Option, None, refl, ◌∙◌, ap, arith}
+use Rattle.std.proofs.Common.{◌≡◌, ℕ, ◌+◌, ◌<◌, List, length, Bool, true, false, ◌&&◌, ◌||◌, Option, None}
+use Rattle.std.proofs.Common.{refl, ◌∙◌, ap, arith}
 use Rattle.std.specs.Prelude.{◌==◌, nat_le, nat_lt, ℤ, pos, ◌+ℤ◌, ◌-ℤ◌, ◌<ℤ◌, ◌≤ℤ◌, int_le, int_lt}
 use Rattle.std.specs.Option.{option_or}
 use Rattle.std.proofs.lemmas.Bool.Decides.{nat_tests}
 use Rattle.std.proofs.lemmas.Int.{ints}
 use Rattle.w4_defs.specs.Framebuffer.{Painter, paint, over}
 use Rattle.w4_defs.proofs.PaintLaws.{paint-paint, paint_step}
-use Rattle.w4_defs.specs.Shapes.{only_if, is_at, is_inside, span_painter, column_painter, box_painter, outline_painter}
+use Rattle.w4_defs.specs.Shapes.{only_if, is_at, is_inside, span_painter, column_painter, box_painter}
+use Rattle.w4_defs.specs.Shapes.{outline_painter}
 use Rattle.w4_pixels.specs.Clipping.{clipped}
 use Rattle.w4_pixels.proofs.ClippingLaws.{union}
 

@@ -1,5 +1,6 @@
 -- The steps of a line, one by one.
-use Rattle.std.proofs.Common.{◌≡◌, ℕ, zero, suc, ◌+◌, ◌-◌, ◌*◌, ◌/◌, min, max, ◌<◌, ◌≤◌, ◌⊎◌, Bool, true, false, ◌&&◌, ◌||◌, cond, Option, None, refl, sym, ◌∙◌, ap, inl, inr, arith}
+use Rattle.std.proofs.Common.{◌≡◌, ℕ, zero, suc, ◌+◌, ◌-◌, ◌*◌, ◌/◌, min, max, ◌<◌, ◌≤◌, ◌⊎◌, Bool, true}
+use Rattle.std.proofs.Common.{false, ◌&&◌, ◌||◌, cond, Option, None, refl, sym, ◌∙◌, ap, inl, inr, arith}
 use Rattle.std.specs.Prelude.{ℤ, pos, nat_le, ◌==◌}
 use Rattle.std.specs.List.{range_with_len, list_any}
 use Rattle.std.specs.Option.{option_or}
@@ -7,7 +8,8 @@ use Rattle.std.proofs.lemmas.Nat.{div-mul-add}
 use Rattle.std.proofs.Math.Nat.{div-lt_iff_lt-mul, mul-le-mul_right}
 use Rattle.std.proofs.lemmas.Bool.{cases_lt}
 use Rattle.std.proofs.lemmas.Bool.Decides.{nat_tests}
-use Rattle.w4_defs.specs.Shapes.{only_if, is_at, point_painter, points_painter, apart, toward, moved, minor_step}
+use Rattle.w4_defs.specs.Shapes.{only_if, is_at, point_painter, points_painter, apart, toward, moved}
+use Rattle.w4_defs.specs.Shapes.{minor_step}
 use Rattle.w4_shapes.specs.Painted.{is_point, steps_painter}
 use Rattle.w4_pixels.specs.Packed.{dot_painter}
 use Rattle.w4_pixels.proofs.ClippingLaws.{union}

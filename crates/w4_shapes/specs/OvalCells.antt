@@ -1,6 +1,7 @@
 -- The cells of an oval whose sides are not negative. Columns and rows are counted from one left of the screen
 -- and one above it: cell (s, t) is the pixel at column s - 1 and row t - 1.
-use Rattle.std.specs.Prelude.{◌≡◌, ◌<◌, ◌≤◌, ◌+◌, ◌*◌, ◌/◌, ℕ, pos, ◌+ℤ◌, ◌-ℤ◌, ◌<ℤ◌, ◌≤ℤ◌, Bool, ◌&&◌, ◌==◌, nat_le, nat_lt, Option}
+use Rattle.std.specs.Prelude.{◌≡◌, ◌<◌, ◌≤◌, ◌+◌, ◌*◌, ◌/◌, ℕ, pos, ◌+ℤ◌, ◌-ℤ◌, ◌<ℤ◌, ◌≤ℤ◌, Bool, ◌&&◌, ◌==◌}
+use Rattle.std.specs.Prelude.{nat_le, nat_lt, Option}
 use Rattle.w4_defs.specs.Framebuffer.{Painter}
 use Rattle.w4_defs.specs.Shapes.{only_if, aside, is_within, oval_painter}
 use Rattle.w4_shapes.specs.declared.oval_cells.Cells.{Cells}

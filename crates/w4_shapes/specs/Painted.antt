@@ -1,5 +1,6 @@
 -- What a shape has painted once a loop has come so far.
-use Rattle.std.specs.Prelude.{ℕ, ℤ, pos, Bool, ◌≡◌, ◌<◌, ◌≤ℤ◌, ◌<ℤ◌, ◌/◌, ◌%◌, negsuc, ◌&&◌, nat_le, int_le, if◌then◌else◌, Option}
+use Rattle.std.specs.Prelude.{ℕ, ℤ, pos, Bool, ◌≡◌, ◌<◌, ◌≤ℤ◌, ◌<ℤ◌, ◌/◌, ◌%◌, negsuc, ◌&&◌, nat_le, int_le}
+use Rattle.std.specs.Prelude.{if◌then◌else◌, Option}
 use Rattle.std.specs.List.{range_with_len, list_any}
 use Rattle.w4_defs.specs.Framebuffer.{Painter}
 use Rattle.w4_defs.specs.Shapes.{only_if, is_at, toward, moved, apart}

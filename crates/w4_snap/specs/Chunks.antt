@@ -1,6 +1,7 @@
 -- The chunks of a page (project rule): it has 64, and chunk k is its 1,024 bytes from 1,024 * k on. A capture
 -- copies the chunks that differ from those of the snapshot before, and all where there is none.
-use Rattle.std.specs.Prelude.{◌≡◌, ℕ, ◌+◌, ◌*◌, List, [], ◌∷◌, length, slice_range, slice_set, replicate, flat_map, Bool, true, not, All, Option, Some, None, option_map, refl}
+use Rattle.std.specs.Prelude.{◌≡◌, ℕ, ◌+◌, ◌*◌, List, [], ◌∷◌, length, slice_range, slice_set, replicate}
+use Rattle.std.specs.Prelude.{flat_map, Bool, true, not, All, Option, Some, None, option_map, refl}
 use Rattle.std.specs.List.{filter, range_with_len}
 use Rattle.std.specs.Str.{bytes_eq}
 use Rattle.w4_defs.specs.declared.console.Halt.TheVariants.{Running}

@@ -6,8 +6,11 @@ use Rattle.std.proofs.lemmas.List.Elements.{All-from_recursion}
 use Rattle.w4_defs.specs.EncodeNumber.{unsigned_bytes, signed_bytes}
 use Rattle.w4_defs.specs.EncodeType.{vector_bytes, func_type_bytes, limits_bytes, table_type_bytes}
 use Rattle.w4_defs.specs.EncodeInstruction.{list_bytes}
-use Rattle.w4_defs.specs.EncodeModule.{imported_bytes, global_bytes, exported_bytes, element_bytes, body_bytes, data_segment_bytes, function_bytes}
-use Rattle.wasm_write.specs.Fits.{IndexFits, VectorFits, NameFits, ExpressionFits, SectionFits, TypeFits, LimitsFit, ImportFits, GlobalFits, ExportFits, ElementFits, FunctionFits, SegmentFits, ModuleFits}
+use Rattle.w4_defs.specs.EncodeModule.{imported_bytes, global_bytes, exported_bytes, element_bytes}
+use Rattle.w4_defs.specs.EncodeModule.{body_bytes, data_segment_bytes, function_bytes}
+use Rattle.wasm_write.specs.Fits.{IndexFits, VectorFits, NameFits, ExpressionFits, SectionFits, TypeFits}
+use Rattle.wasm_write.specs.Fits.{LimitsFit, ImportFits, GlobalFits, ExportFits, ElementFits, FunctionFits}
+use Rattle.wasm_write.specs.Fits.{SegmentFits, ModuleFits}
 use Rattle.w4_defs.specs.Tree.{done}
 use Rattle.w4_unit_tests.specs.WriteModules.{all_locals, all_sections, constant_list}
 

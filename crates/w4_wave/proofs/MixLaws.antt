@@ -1,5 +1,6 @@
 -- The sums of what four channels give are the samples, and fit 16 bits.
-use Rattle.std.proofs.Common.{◌≡◌, ℕ, ◌<◌, ◌++◌, List, ℤ, pos, negsuc, ◌+ℤ◌, ◌≤ℤ◌, FitsSigned, to_z, of_z, w16, w32, get_or, refl, Bool, ap, ◌∙◌, arith}
+use Rattle.std.proofs.Common.{◌≡◌, ℕ, ◌<◌, ◌++◌, List, ℤ, pos, negsuc, ◌+ℤ◌, ◌≤ℤ◌, FitsSigned, to_z, of_z}
+use Rattle.std.proofs.Common.{w16, w32, get_or, refl, Bool, ap, ◌∙◌, arith}
 use Rattle.std.specs.Int.{cast_unsigned, to_le_bytes}
 use Rattle.std.proofs.lemmas.Int.{ints, to_z-of_z}
 use Rattle.w4_defs.specs.Sound.{Wave, IsWave, after_ticks, sample, sample_bytes, on_left, on_right}

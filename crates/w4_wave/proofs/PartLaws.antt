@@ -1,5 +1,7 @@
 -- The parts of a frame: no tick changes a channel, and each oscillator goes on by itself.
-use Rattle.std.proofs.Common.{◌≡◌, ◌≢◌, ℕ, zero, suc, ◌+◌, ◌*◌, ◌/◌, ◌%◌, ◌<◌, List, [], ◌∷◌, length, All, replicate, Bool, false, cond, nat_lt, ℤ, pos, Option, None, Some, refl, sym, ap, ◌∙◌, subst, arith, add-one, set, below_more, get_or-set_other, get_or-set_same}
+use Rattle.std.proofs.Common.{◌≡◌, ◌≢◌, ℕ, zero, suc, ◌+◌, ◌*◌, ◌/◌, ◌%◌, ◌<◌, List, [], ◌∷◌, length, All}
+use Rattle.std.proofs.Common.{replicate, Bool, false, cond, nat_lt, ℤ, pos, Option, None, Some, refl, sym, ap}
+use Rattle.std.proofs.Common.{◌∙◌, subst, arith, add-one, set, below_more, get_or-set_other, get_or-set_same}
 use Rattle.std.specs.Prelude.{slice_index}
 use Rattle.std.specs.Option.{option_map, is_some}
 use Rattle.std.proofs.lemmas.Bool.{lt-ltb}
@@ -8,10 +10,12 @@ use Rattle.w4_defs.specs.declared.console.Tone.{Tone}
 use Rattle.w4_defs.specs.declared.console.Voice.{Voice}
 use Rattle.w4_defs.specs.declared.console.Sound.{Sound}
 use Rattle.w4_defs.specs.Tones.{sound_of}
-use Rattle.w4_defs.specs.Sound.{Wave, IsWave, heard_voice, channel_output, on_left, on_right, advance, oscillator, noise, next_phase, ticked, after_ticks, ticks_a_second}
+use Rattle.w4_defs.specs.Sound.{Wave, IsWave, heard_voice, channel_output, on_left, on_right, advance}
+use Rattle.w4_defs.specs.Sound.{oscillator, noise, next_phase, ticked, after_ticks, ticks_a_second}
 use Rattle.w4_wave.specs.declared.output.Output.{Output}
 use Rattle.w4_wave.specs.declared.output.Part.{Part}
-use Rattle.w4_wave.specs.Outputs.{oscillator_value, tone_and_sound, output_at, side_output, AreGiven, IsAt, IsPart}
+use Rattle.w4_wave.specs.Outputs.{oscillator_value, tone_and_sound, output_at, side_output, AreGiven, IsAt}
+use Rattle.w4_wave.specs.Outputs.{IsPart}
 
 channels_stay : (wave : Wave) (tick : ℕ) → (after_ticks wave tick).channels ≡ wave.channels
 unfolding after_ticks

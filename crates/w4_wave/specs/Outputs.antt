@@ -1,10 +1,12 @@
 -- What one channel gives: at a tick, by the state of its oscillator, and at each tick of a frame.
-use Rattle.std.specs.Prelude.{◌≡◌, ◌<◌, ℕ, ◌*◌, ◌==◌, nat_lt, if◌then◌else◌, List, Option, None, Some, slice_index, slice_index_or, ℤ, pos, Bool}
+use Rattle.std.specs.Prelude.{◌≡◌, ◌<◌, ℕ, ◌*◌, ◌==◌, nat_lt, if◌then◌else◌, List, Option, None, Some}
+use Rattle.std.specs.Prelude.{slice_index, slice_index_or, ℤ, pos, Bool}
 use Rattle.w4_defs.specs.declared.console.Tone.{Tone}
 use Rattle.w4_defs.specs.declared.console.Voice.{Voice}
 use Rattle.w4_defs.specs.declared.console.Sound.{Sound}
 use Rattle.w4_defs.specs.Tones.{sound_of}
-use Rattle.w4_defs.specs.Sound.{Wave, heard_voice, pulse, triangle, noise, channel_output, on_left, on_right, after_ticks, ticks_a_second}
+use Rattle.w4_defs.specs.Sound.{Wave, heard_voice, pulse, triangle, noise, channel_output, on_left, on_right}
+use Rattle.w4_defs.specs.Sound.{after_ticks, ticks_a_second}
 use Rattle.w4_wave.specs.declared.output.Output.{Output}
 use Rattle.w4_wave.specs.declared.output.Part.{Part}
 

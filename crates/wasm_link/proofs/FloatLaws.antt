@@ -1,5 +1,6 @@
 -- A flattening has a float where its tree has one.
-use Rattle.std.proofs.Common.{◌≡◌, ℕ, zero, suc, ◌+◌, List, [], ◌∷◌, ◌++◌, map, drop, Bool, true, false, Option, Some, None, refl, sym, ◌∙◌, ap, subst}
+use Rattle.std.proofs.Common.{◌≡◌, ℕ, zero, suc, ◌+◌, List, [], ◌∷◌, ◌++◌, map, drop, Bool, true, false}
+use Rattle.std.proofs.Common.{Option, Some, None, refl, sym, ◌∙◌, ap, subst}
 use Rattle.std.specs.Prelude.{◌||◌, slice_get, option_map, filter_map, IfSome}
 use Rattle.std.specs.List.{cons_option, list_any}
 use Rattle.std.proofs.lemmas.List.{map-append}
@@ -12,7 +13,8 @@ use Rattle.w4_defs.specs.declared.operation.Op.TheVariants.{Block, Loop, If, Els
 use Rattle.w4_defs.specs.declared.module.Locals.{Locals}
 use Rattle.w4_defs.specs.declared.module.ImportKind.{ImportKind}
 use Rattle.w4_defs.specs.declared.module.ImportKind.TheVariants as kind
-use Rattle.w4_defs.specs.Tree.{Mark, mark, Expr, done, plain, block, loop, if_then, if_else, span, flat_at, flat}
+use Rattle.w4_defs.specs.Tree.{Mark, mark, Expr, done, plain, block, loop, if_then, if_else, span, flat_at}
+use Rattle.w4_defs.specs.Tree.{flat}
 use Rattle.w4_defs.specs.Flattening.{IsLeaf, IsProper}
 use Rattle.w4_defs.specs.Module.{Function, Imported, Global}
 use Rattle.w4_defs.specs.Floats.{is_float, is_float_result, is_float_operation, has_float, function_has_float}

@@ -1,6 +1,7 @@
 -- A rotation joins two parts whose digits don't meet, so that their `or` is their sum. The machine's
 -- rotation moves by (w - k) % w the other way, which is 0 where k is 0.
-use Rattle.std.proofs.Common.{◌≡◌, ℕ, zero, suc, ◌+◌, ◌-◌, ◌*◌, ◌/◌, ◌%◌, ◌^◌, ◌<◌, bit_or, sym, ap, ap₂, subst, ◌∙◌, arith}
+use Rattle.std.proofs.Common.{◌≡◌, ℕ, zero, suc, ◌+◌, ◌-◌, ◌*◌, ◌/◌, ◌%◌, ◌^◌, ◌<◌, bit_or, sym, ap, ap₂}
+use Rattle.std.proofs.Common.{subst, ◌∙◌, arith}
 use Rattle.std.proofs.lemmas.Nat.{or_shifted, or_comm, mod-pow-add, shl-shr, shr_below}
 use Rattle.std.proofs.Math.Nat.{mul-mod_left, mod-eq_of_lt, mod_self, div-eq_of_lt, sub-zero}
 use Rattle.std.specs.Int.Bits.{or_self}

@@ -4,7 +4,8 @@ use Rattle.std.proofs.lemmas.Nat.{pow_below}
 use Rattle.w4_defs.specs.declared.value.Cause.{Cause}
 use Rattle.w4_defs.specs.declared.value.Cause.TheVariants.{DivideByZero, Overflow}
 use Rattle.w4_defs.specs.declared.integer.Binary.{Binary}
-use Rattle.w4_defs.specs.declared.integer.Binary.TheVariants.{Add, Sub, Mul, DivS, DivU, RemS, RemU, And, Or, Xor, Shl, ShrS, ShrU, Rotl, Rotr}
+use Rattle.w4_defs.specs.declared.integer.Binary.TheVariants.{Add, Sub, Mul, DivS, DivU, RemS, RemU, And, Or}
+use Rattle.w4_defs.specs.declared.integer.Binary.TheVariants.{Xor, Shl, ShrS, ShrU, Rotl, Rotr}
 use Rattle.w4_defs.specs.Integers.{binary}
 use Rattle.wasm_num.specs.Traps.{IsDivision, TrapsExactly}
 

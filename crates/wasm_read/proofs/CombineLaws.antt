@@ -1,5 +1,7 @@
 -- Readers made of exact readers are exact.
-use Rattle.std.proofs.Common.{◌≡◌, ℕ, zero, suc, ◌≤◌, Bool, Decides, true, eqb, ltb, if◌then◌else◌, inl, inr, List, [], ◌∷◌, ◌++◌, length, take, drop, Option, Some, None, refl, ap, sym, ◌∙◌, subst, append_assoc, append-nil, arith, eq-eqb}
+use Rattle.std.proofs.Common.{◌≡◌, ℕ, zero, suc, ◌≤◌, Bool, Decides, true, eqb, ltb, if◌then◌else◌, inl, inr}
+use Rattle.std.proofs.Common.{List, [], ◌∷◌, ◌++◌, length, take, drop, Option, Some, None, refl, ap, sym, ◌∙◌}
+use Rattle.std.proofs.Common.{subst, append_assoc, append-nil, arith, eq-eqb}
 use Rattle.std.proofs.lemmas.Bool.{eqb-true}
 use Rattle.std.proofs.lemmas.List.{nil_from_length, length-take-le, take-append-drop}
 use Rattle.std.proofs.lemmas.Bool.Decides.{nat_tests}
@@ -11,7 +13,8 @@ use Rattle.w4_defs.proofs.ReadingLaws.{front_again}
 use Rattle.w4_defs.proofs.OptionLaws.{bind_some, held_if}
 use Rattle.wasm_read.specs.Reader.{Reader, read_as, Takes, Reads, ReadsWhole, row_of, coded_at}
 use Rattle.wasm_read.specs.ReadNumber.{unsigned_at}
-use Rattle.wasm_read.specs.Combine.{both_at, mapped_at, tested_at, headed_at, items_at, vector_at, whole_at, sized_bytes_at, sized_at}
+use Rattle.wasm_read.specs.Combine.{both_at, mapped_at, tested_at, headed_at, items_at, vector_at, whole_at}
+use Rattle.wasm_read.specs.Combine.{sized_bytes_at, sized_at}
 use Rattle.wasm_read.proofs.Basics.{split_if, same_read, takes_as_read}
 use Rattle.wasm_read.proofs.NumberLaws.{unsigned_reads}
 

@@ -1,5 +1,6 @@
 -- What the second pass makes of marks are the flattenings of trees that the bytes encode.
-use Rattle.std.proofs.Common.{◌≡◌, ℕ, ◌+◌, ◌≤◌, true, if◌then◌else◌, List, [], ◌∷◌, ◌++◌, length, Option, Some, None, refl, ap, sym, ◌∙◌, subst, append_assoc, append-nil, arith}
+use Rattle.std.proofs.Common.{◌≡◌, ℕ, ◌+◌, ◌≤◌, true, if◌then◌else◌, List, [], ◌∷◌, ◌++◌, length, Option}
+use Rattle.std.proofs.Common.{Some, None, refl, ap, sym, ◌∙◌, subst, append_assoc, append-nil, arith}
 use Rattle.std.proofs.lemmas.List.{length-append}
 use Rattle.w4_defs.specs.declared.value.ValType.{ValType}
 use Rattle.w4_defs.specs.declared.operation.Op.{Op}
@@ -7,7 +8,8 @@ use Rattle.w4_defs.specs.declared.operation.Op.TheVariants.{Block, Loop, If, Els
 use Rattle.w4_defs.specs.BinaryText.{Texts, ◌then◌, byte, items}
 use Rattle.w4_defs.specs.BinaryType.{block_type}
 use Rattle.w4_defs.specs.BinaryInstruction.{instruction, list, expression}
-use Rattle.w4_defs.specs.Tree.{Mark, mark, Expr, done, plain, block, loop, if_then, if_else, span, flat_at, flat}
+use Rattle.w4_defs.specs.Tree.{Mark, mark, Expr, done, plain, block, loop, if_then, if_else, span, flat_at}
+use Rattle.w4_defs.specs.Tree.{flat}
 use Rattle.w4_defs.specs.Flattening.{read_flat}
 use Rattle.w4_defs.specs.Reading.{◌>>=◌}
 use Rattle.w4_defs.proofs.ReadBack.{flattening_read_back}
@@ -16,10 +18,12 @@ use Rattle.wasm_tree.specs.Expressions.{IsFlat}
 use Rattle.wasm_read.specs.declared.brackets.Close.{Close}
 use Rattle.wasm_read.specs.declared.brackets.Close.TheVariants.{Ends, Parts}
 use Rattle.wasm_read.specs.Reader.{read_as, Reads}
-use Rattle.wasm_read.specs.ReadExpression.{marks_at, mark_with_positions, marks_with_positions, is_one_end, matched, flattening_at, expression_at}
+use Rattle.wasm_read.specs.ReadExpression.{marks_at, mark_with_positions, marks_with_positions, is_one_end}
+use Rattle.wasm_read.specs.ReadExpression.{matched, flattening_at, expression_at}
 use Rattle.wasm_read.proofs.Basics.{takes_as_read}
 use Rattle.wasm_read.proofs.MarkLaws.{mark_texts, mark_encoding, marks_long}
-use Rattle.wasm_read.proofs.Passes.{filled_as, raw, list_proper, raw_spelled, end_spelled, whole_walks, marks_found, marks_sound, filled_raw}
+use Rattle.wasm_read.proofs.Passes.{filled_as, raw, list_proper, raw_spelled, end_spelled, whole_walks}
+use Rattle.wasm_read.proofs.Passes.{marks_found, marks_sound, filled_raw}
 
 abbrev position_of : Close → ℕ
 position_of (Ends position) = position

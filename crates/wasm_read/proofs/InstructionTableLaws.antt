@@ -1,5 +1,6 @@
 -- Every row of the instruction table is encoded by its code and what stands after it.
-use Rattle.std.proofs.Common.{◌≡◌, ℕ, zero, suc, Bool, true, false, ◌||◌, inl, inr, eqb, List, [], ◌∷◌, map, Option, Some, None, refl, ap, sym, subst}
+use Rattle.std.proofs.Common.{◌≡◌, ℕ, zero, suc, Bool, true, false, ◌||◌, inl, inr, eqb, List, [], ◌∷◌, map}
+use Rattle.std.proofs.Common.{Option, Some, None, refl, ap, sym, subst}
 use Rattle.std.specs.Prelude.{replicate, option_map}
 use Rattle.std.specs.List.{list_all}
 use Rattle.std.proofs.lemmas.Bool.{eqb-true}
@@ -7,16 +8,21 @@ use Rattle.std.proofs.lemmas.Option.{same_Some}
 use Rattle.w4_defs.specs.declared.operation.Op.{Op}
 use Rattle.w4_defs.specs.declared.operation.Op.TheVariants as op
 use Rattle.w4_defs.specs.declared.basic.Basic.{Basic}
-use Rattle.w4_defs.specs.declared.basic.Basic.TheVariants.{F32Const, F64Const, FloatMemory, FloatPlain, FloatCut}
+use Rattle.w4_defs.specs.declared.basic.Basic.TheVariants.{F32Const, F64Const, FloatMemory, FloatPlain}
+use Rattle.w4_defs.specs.declared.basic.Basic.TheVariants.{FloatCut}
 use Rattle.w4_defs.specs.declared.instruction_table.Row.{Row}
-use Rattle.w4_defs.specs.declared.instruction_table.Row.TheVariants.{Const, Test, Compare, Unary, Binary, Wrap, Extend, ExtendWithin, Load, Store, MemorySize, MemoryGrow, MemoryCopy, MemoryFill, Float}
+use Rattle.w4_defs.specs.declared.instruction_table.Row.TheVariants.{Const, Test, Compare, Unary, Binary}
+use Rattle.w4_defs.specs.declared.instruction_table.Row.TheVariants.{Wrap, Extend, ExtendWithin, Load, Store}
+use Rattle.w4_defs.specs.declared.instruction_table.Row.TheVariants.{MemorySize, MemoryGrow, MemoryCopy}
+use Rattle.w4_defs.specs.declared.instruction_table.Row.TheVariants.{MemoryFill, Float}
 use Rattle.w4_defs.specs.InstructionTable.{opcode, row}
 use Rattle.w4_defs.specs.BinaryText.{Texts, ◌then◌, byte}
 use Rattle.w4_defs.specs.BinaryNumber.{unsigned}
 use Rattle.w4_defs.specs.BinaryBasic.{immediate, shaped, basic, IsFloatAccess}
 use Rattle.w4_defs.specs.BinaryInstruction.{operation}
 use Rattle.wasm_read.specs.Reader.{row_of}
-use Rattle.wasm_read.specs.InstructionTable.{rows, control_rows, compare32, compare64, arith32, arith64, conversions, index_rows, loads, stores}
+use Rattle.wasm_read.specs.InstructionTable.{rows, control_rows, compare32, compare64, arith32, arith64}
+use Rattle.wasm_read.specs.InstructionTable.{conversions, index_rows, loads, stores}
 use Rattle.wasm_read.specs.ReadOperation.{first_some, numeric_of, plain_of, is_float_access, access_of}
 use Rattle.wasm_read.proofs.Basics.{split_if, and_true, or_true}
 

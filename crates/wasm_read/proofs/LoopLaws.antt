@@ -1,9 +1,13 @@
 -- One turn of each loop.
-use Rattle.std.proofs.Common.{◌≡◌, ◌≢◌, ℕ, zero, suc, ◌+◌, ◌^◌, ◌<◌, ◌≤◌, nat_lt, eqb, true, false, if◌then◌else◌, List, [], ◌∷◌, ◌++◌, length, take, drop, reverse, get_or, Option, Some, None, option_map, slice_get, slice_set, refl, ap, sym, ◌∙◌, subst, append_assoc, arith, add-one}
+use Rattle.std.proofs.Common.{◌≡◌, ◌≢◌, ℕ, zero, suc, ◌+◌, ◌^◌, ◌<◌, ◌≤◌, nat_lt, eqb, true, false}
+use Rattle.std.proofs.Common.{if◌then◌else◌, List, [], ◌∷◌, ◌++◌, length, take, drop, reverse, get_or, Option}
+use Rattle.std.proofs.Common.{Some, None, option_map, slice_get, slice_set, refl, ap, sym, ◌∙◌, subst}
+use Rattle.std.proofs.Common.{append_assoc, arith, add-one}
 use Rattle.std.proofs.Math.ListN.{drop_of_length-le}
 use Rattle.std.proofs.Math.Seq.{drop-cons}
 use Rattle.std.proofs.lemmas.Bool.{eq-eqb, lt-ltb}
-use Rattle.std.proofs.lemmas.List.{length-take-le, length-reverse, get_or-take, drop-set, take-set, length-set, take-append-drop}
+use Rattle.std.proofs.lemmas.List.{length-take-le, length-reverse, get_or-take, drop-set, take-set}
+use Rattle.std.proofs.lemmas.List.{length-set, take-append-drop}
 use Rattle.std.proofs.lemmas.Option.{slice_get-get_or}
 use Rattle.w4_defs.specs.declared.operation.Op.{Op}
 use Rattle.w4_defs.specs.declared.operation.Op.TheVariants.{Block, Loop, If, End}
@@ -20,7 +24,8 @@ use Rattle.wasm_read.specs.Combine.{items_at, after_items}
 use Rattle.wasm_read.proofs.Passes.{filled_as}
 use Rattle.wasm_read.proofs.ExpressionLaws.{placed_as}
 use Rattle.wasm_read.proofs.Basics.{numbers_differ_tested}
-use Rattle.wasm_read.specs.ReadExpression.{mark_at, depth_after, marks_at, mark_with_positions, marks_with_positions, is_one_end, matched}
+use Rattle.wasm_read.specs.ReadExpression.{mark_at, depth_after, marks_at, mark_with_positions}
+use Rattle.wasm_read.specs.ReadExpression.{marks_with_positions, is_one_end, matched}
 
 pub refused : (M N : Type 0) → (M → N) → (e : ReadRefusal) → IsUnread M e → IsUnread N e
 refused M N f Malformed h = f h

@@ -6,7 +6,8 @@ use Rattle.wasm_read.specs.Combine.{sized_bytes_at, vector_at}
 use Rattle.wasm_read.specs.ReadNumber.{unsigned_at}
 use Rattle.wasm_read.specs.ReadSection.{section_at, rank_after}
 use Rattle.wasm_read.specs.ReadModule.{module_at, sections_at, module_from, front_sections}
-use Rattle.wasm_read.specs.MalformedCases.{MalformedCases, size_too_long, last_byte_wrong, section_past_the_end}
+use Rattle.wasm_read.specs.MalformedCases.{MalformedCases, size_too_long, last_byte_wrong}
+use Rattle.wasm_read.specs.MalformedCases.{section_past_the_end}
 use Rattle.wasm_read.proofs.ModuleLaws.{module_complete, no_module_is_read}
 
 unread : (bytes : List ℕ) → length bytes ≤ 65536 → module_at bytes ≡ None → IsRefused bytes Malformed

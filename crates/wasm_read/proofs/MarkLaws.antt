@@ -1,5 +1,6 @@
 -- A mark of a flattening is read exactly, but for the positions, which are 0 at first.
-use Rattle.std.proofs.Common.{◌≡◌, ℕ, ◌≤◌, eqb, if◌then◌else◌, ◌⊎◌, inl, inr, List, [], ◌∷◌, ◌++◌, length, Option, Some, None, refl, ap, sym, ◌∙◌, arith}
+use Rattle.std.proofs.Common.{◌≡◌, ℕ, ◌≤◌, eqb, if◌then◌else◌, ◌⊎◌, inl, inr, List, [], ◌∷◌, ◌++◌, length}
+use Rattle.std.proofs.Common.{Option, Some, None, refl, ap, sym, ◌∙◌, arith}
 use Rattle.std.proofs.lemmas.Bool.{eqb-true}
 use Rattle.std.proofs.lemmas.List.{length-append}
 use Rattle.w4_defs.specs.declared.value.ValType.{ValType}
@@ -17,7 +18,8 @@ use Rattle.wasm_read.specs.ReadNumber.{unsigned_at}
 use Rattle.wasm_read.specs.Combine.{both_at, mapped_at, vector_at}
 use Rattle.wasm_read.specs.ReadType.{block_type_at}
 use Rattle.wasm_read.specs.ReadOperation.{first_some, operation_at}
-use Rattle.wasm_read.specs.ReadExpression.{block_of, loop_of, if_of, bracket_at, unlabelled_at, with_last, table_at, table_mark, mark_at}
+use Rattle.wasm_read.specs.ReadExpression.{block_of, loop_of, if_of, bracket_at, unlabelled_at, with_last}
+use Rattle.wasm_read.specs.ReadExpression.{table_at, table_mark, mark_at}
 use Rattle.wasm_read.proofs.Basics.{split_if, takes_as_read}
 use Rattle.wasm_read.proofs.NumberLaws.{unsigned_reads}
 use Rattle.wasm_read.proofs.CombineLaws.{both_reads, vector_reads}

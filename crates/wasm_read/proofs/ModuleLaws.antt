@@ -1,5 +1,6 @@
 -- A module is read exactly.
-use Rattle.std.proofs.Common.{◌≡◌, ℕ, ◌≤◌, eqb, if◌then◌else◌, ◌&&◌, true, List, [], ◌∷◌, ◌++◌, length, Option, Some, None, Result, Ok, Err, refl, ap, sym, ◌∙◌, subst, arith, eq-eqb}
+use Rattle.std.proofs.Common.{◌≡◌, ℕ, ◌≤◌, eqb, if◌then◌else◌, ◌&&◌, true, List, [], ◌∷◌, ◌++◌, length}
+use Rattle.std.proofs.Common.{Option, Some, None, Result, Ok, Err, refl, ap, sym, ◌∙◌, subst, arith, eq-eqb}
 use Rattle.std.specs.Prelude.{All}
 use Rattle.std.proofs.lemmas.Bool.{eqb-true}
 use Rattle.std.proofs.lemmas.List.Elements.{All-cons}
@@ -8,7 +9,8 @@ use Rattle.w4_defs.specs.BinaryText.{Texts, items}
 use Rattle.w4_defs.specs.BinaryNumber.{unsigned}
 use Rattle.w4_defs.specs.BinaryType.{vector, func_type, limits, table_type}
 use Rattle.w4_defs.specs.BinarySection.{contents, Part, Alone, Counted}
-use Rattle.w4_defs.specs.BinaryModule.{preamble, imported, global, exported, element, body, segment, SpellsModule}
+use Rattle.w4_defs.specs.BinaryModule.{preamble, imported, global, exported, element, body, segment}
+use Rattle.w4_defs.specs.BinaryModule.{SpellsModule}
 use Rattle.w4_defs.specs.Reading.{◌>>=◌}
 use Rattle.w4_defs.proofs.OptionLaws.{bind_some, held_if}
 use Rattle.wasm_read.specs.declared.refusal.ReadRefusal.{ReadRefusal}
@@ -18,13 +20,16 @@ use Rattle.wasm_read.specs.Combine.{vector_at, whole_at}
 use Rattle.wasm_read.specs.ReadType.{limits_at, table_type_at, func_type_at}
 use Rattle.wasm_read.specs.ReadPart.{import_at, global_at, export_at, element_at, body_at, segment_at}
 use Rattle.wasm_read.specs.ReadSection.{ordered_at, part_at, alone_at, is_number, is_counted}
-use Rattle.wasm_read.specs.ReadModule.{both_some, Contents, Front, front_sections, Middle, middle_sections, Back, back_sections, module_of, module_from, contents_in, sections_at, after_these, module_at}
+use Rattle.wasm_read.specs.ReadModule.{both_some, Contents, Front, front_sections, Middle, middle_sections}
+use Rattle.wasm_read.specs.ReadModule.{Back, back_sections, module_of, module_from, contents_in, sections_at}
+use Rattle.wasm_read.specs.ReadModule.{after_these, module_at}
 use Rattle.wasm_read.specs.Unique.{AtMostOneModule}
 use Rattle.wasm_read.proofs.Basics.{and_true}
 use Rattle.wasm_read.proofs.NumberLaws.{unsigned_reads}
 use Rattle.wasm_read.proofs.CombineLaws.{vector_reads, whole_reads}
 use Rattle.wasm_read.proofs.TypeLaws.{limits_reads, table_type_reads, func_type_reads}
-use Rattle.wasm_read.proofs.PartLaws.{import_reads, global_reads, export_reads, element_reads, body_reads, segment_reads}
+use Rattle.wasm_read.proofs.PartLaws.{import_reads, global_reads, export_reads, element_reads, body_reads}
+use Rattle.wasm_read.proofs.PartLaws.{segment_reads}
 use Rattle.wasm_read.proofs.SectionLaws.{ordered_sound, ordered_complete, contents_found}
 use Rattle.wasm_read.proofs.LoopLaws.{refused}
 

@@ -1,12 +1,15 @@
 -- Numbers are read exactly.
-use Rattle.std.proofs.Common.{◌≡◌, ℕ, ◌+◌, ◌-◌, ◌*◌, ◌^◌, ◌<◌, ◌≤◌, true, false, if◌then◌else◌, nat_lt, nat_le, inl, inr, List, [], ◌∷◌, ◌++◌, Option, Some, None, refl, ap, sym, ◌∙◌, arith}
+use Rattle.std.proofs.Common.{◌≡◌, ℕ, ◌+◌, ◌-◌, ◌*◌, ◌^◌, ◌<◌, ◌≤◌, true, false, if◌then◌else◌, nat_lt}
+use Rattle.std.proofs.Common.{nat_le, inl, inr, List, [], ◌∷◌, ◌++◌, Option, Some, None, refl, ap, sym, ◌∙◌}
+use Rattle.std.proofs.Common.{arith}
 use Rattle.std.proofs.lemmas.Bool.{ltb-true, lt-ltb, le-leb, leb-true, le-ltb}
 use Rattle.std.proofs.lemmas.Bool.Decides.{nat_tests}
 use Rattle.w4_defs.specs.Reading.{◌>>=◌}
 use Rattle.w4_defs.specs.BinaryNumber.{leb, LastUnsigned, LastSigned, unsigned, signed}
 use Rattle.w4_defs.proofs.OptionLaws.{bind_some, held_if}
 use Rattle.wasm_read.specs.Reader.{read_as, Takes, Reads}
-use Rattle.wasm_read.specs.ReadNumber.{last_unsigned, last_signed, with_low_bits, leb_at, unsigned_at, signed_at}
+use Rattle.wasm_read.specs.ReadNumber.{last_unsigned, last_signed, with_low_bits, leb_at, unsigned_at}
+use Rattle.wasm_read.specs.ReadNumber.{signed_at}
 use Rattle.wasm_read.proofs.Basics.{split_if, same_read}
 
 -- the last byte is judged as the grammar has it

@@ -1,11 +1,20 @@
 -- Every encoding of an instruction is read.
-use Rattle.std.proofs.Common.{◌≡◌, ℕ, ◌≤◌, Bool, true, false, ◌||◌, nat_le, inl, inr, List, [], ◌∷◌, ◌++◌, Some, refl, ap, sym, ◌∙◌, subst, append_assoc}
+use Rattle.std.proofs.Common.{◌≡◌, ℕ, ◌≤◌, Bool, true, false, ◌||◌, nat_le, inl, inr, List, [], ◌∷◌, ◌++◌}
+use Rattle.std.proofs.Common.{Some, refl, ap, sym, ◌∙◌, subst, append_assoc}
 use Rattle.std.specs.Int.{w32, w64}
 use Rattle.std.proofs.lemmas.Bool.{le-leb}
 use Rattle.w4_defs.specs.declared.operation.Op.{Op}
-use Rattle.w4_defs.specs.declared.operation.Op.TheVariants.{Block, Loop, If, Else, End, BrTable, Br, BrIf, Call, LocalGet, LocalSet, LocalTee, GlobalGet, GlobalSet, CallIndirect, Basic}
+use Rattle.w4_defs.specs.declared.operation.Op.TheVariants.{Block, Loop, If, Else, End, BrTable, Br, BrIf}
+use Rattle.w4_defs.specs.declared.operation.Op.TheVariants.{Call, LocalGet, LocalSet, LocalTee, GlobalGet}
+use Rattle.w4_defs.specs.declared.operation.Op.TheVariants.{GlobalSet, CallIndirect, Basic}
 use Rattle.w4_defs.specs.declared.basic.Basic as basics
-use Rattle.w4_defs.specs.declared.basic.Basic.TheVariants.{I32Load, I64Load, I32Load8S, I32Load8U, I32Load16S, I32Load16U, I64Load8S, I64Load8U, I64Load16S, I64Load16U, I64Load32S, I64Load32U, I32Store, I64Store, I32Store8, I32Store16, I64Store8, I64Store16, I64Store32, FloatMemory, MemorySize, MemoryGrow, MemoryCopy, MemoryFill, I32Const, I64Const, F32Const, F64Const, FloatPlain, FloatCut}
+use Rattle.w4_defs.specs.declared.basic.Basic.TheVariants.{I32Load, I64Load, I32Load8S, I32Load8U, I32Load16S}
+use Rattle.w4_defs.specs.declared.basic.Basic.TheVariants.{I32Load16U, I64Load8S, I64Load8U, I64Load16S}
+use Rattle.w4_defs.specs.declared.basic.Basic.TheVariants.{I64Load16U, I64Load32S, I64Load32U, I32Store}
+use Rattle.w4_defs.specs.declared.basic.Basic.TheVariants.{I64Store, I32Store8, I32Store16, I64Store8}
+use Rattle.w4_defs.specs.declared.basic.Basic.TheVariants.{I64Store16, I64Store32, FloatMemory, MemorySize}
+use Rattle.w4_defs.specs.declared.basic.Basic.TheVariants.{MemoryGrow, MemoryCopy, MemoryFill, I32Const}
+use Rattle.w4_defs.specs.declared.basic.Basic.TheVariants.{I64Const, F32Const, F64Const, FloatPlain, FloatCut}
 use Rattle.w4_defs.specs.InstructionTable.{opcode}
 use Rattle.w4_defs.specs.BinaryText.{Texts, ◌then◌, byte}
 use Rattle.w4_defs.specs.BinaryNumber.{unsigned, signed, little_endian}
@@ -16,7 +25,8 @@ use Rattle.wasm_read.specs.Reader.{Reader, read_as, Reads, row_of}
 use Rattle.wasm_read.specs.ReadNumber.{unsigned_at, signed_at}
 use Rattle.wasm_read.specs.Combine.{mapped_at}
 use Rattle.wasm_read.specs.InstructionTable.{index_rows}
-use Rattle.wasm_read.specs.ReadOperation.{is_between, is_float_code, access_of, indexed_at, indices_at, access_at, indirect_of, operation_after, operation_at}
+use Rattle.wasm_read.specs.ReadOperation.{is_between, is_float_code, access_of, indexed_at, indices_at}
+use Rattle.wasm_read.specs.ReadOperation.{access_at, indirect_of, operation_after, operation_at}
 use Rattle.wasm_read.proofs.NumberLaws.{unsigned_reads, signed_reads}
 use Rattle.wasm_read.proofs.OperationSound.{number_reads, indices_reads, operation_sound}
 

@@ -1,12 +1,16 @@
 -- An instruction that is read is encoded by the bytes that were taken.
-use Rattle.std.proofs.Common.{◌≡◌, ℕ, ◌≤◌, Bool, true, false, ◌||◌, eqb, nat_le, ltb, if◌then◌else◌, ◌⊎◌, inl, inr, List, [], ◌∷◌, ◌++◌, length, take, drop, Option, Some, None, refl, ap, sym, ◌∙◌, subst, append_assoc, append-nil, arith}
+use Rattle.std.proofs.Common.{◌≡◌, ℕ, ◌≤◌, Bool, true, false, ◌||◌, eqb, nat_le, ltb, if◌then◌else◌, ◌⊎◌, inl}
+use Rattle.std.proofs.Common.{inr, List, [], ◌∷◌, ◌++◌, length, take, drop, Option, Some, None, refl, ap, sym}
+use Rattle.std.proofs.Common.{◌∙◌, subst, append_assoc, append-nil, arith}
 use Rattle.std.specs.Int.{Width, w32, w64, byte_len, from_le_bytes}
 use Rattle.std.proofs.lemmas.Bool.{eqb-true, leb-true}
 use Rattle.std.proofs.lemmas.Bool.Decides.{nat_tests}
 use Rattle.std.proofs.lemmas.List.{length-take-le, take-append-drop}
 use Rattle.w4_defs.specs.declared.operation.Op.{Op}
 use Rattle.w4_defs.specs.declared.operation.Op.TheVariants.{Basic}
-use Rattle.w4_defs.specs.declared.basic.Basic.TheVariants.{I32Const, I64Const, F32Const, F64Const, FloatPlain, FloatCut, MemorySize, MemoryGrow, MemoryCopy, MemoryFill}
+use Rattle.w4_defs.specs.declared.basic.Basic.TheVariants.{I32Const, I64Const, F32Const, F64Const, FloatPlain}
+use Rattle.w4_defs.specs.declared.basic.Basic.TheVariants.{FloatCut, MemorySize, MemoryGrow, MemoryCopy}
+use Rattle.w4_defs.specs.declared.basic.Basic.TheVariants.{MemoryFill}
 use Rattle.w4_defs.specs.BinaryText.{Texts, ◌then◌}
 use Rattle.w4_defs.specs.BinaryNumber.{unsigned, signed, little_endian}
 use Rattle.w4_defs.specs.BinaryBasic.{IsFloatCode}
@@ -18,7 +22,10 @@ use Rattle.wasm_read.specs.Reader.{Reader, read_as, Takes, Reads, row_of}
 use Rattle.wasm_read.specs.ReadNumber.{unsigned_at, signed_at}
 use Rattle.wasm_read.specs.Combine.{mapped_at, headed_at}
 use Rattle.wasm_read.specs.InstructionTable.{index_rows}
-use Rattle.wasm_read.specs.ReadOperation.{always_at, is_between, is_float_code, has_index, plain_of, access_of, indexed_at, indices_at, access_at, indirect_of, constant_at, prefixed_of, prefixed_at, special_after, operation_after, operation_at}
+use Rattle.wasm_read.specs.ReadOperation.{always_at, is_between, is_float_code, has_index, plain_of}
+use Rattle.wasm_read.specs.ReadOperation.{access_of, indexed_at, indices_at, access_at, indirect_of}
+use Rattle.wasm_read.specs.ReadOperation.{constant_at, prefixed_of, prefixed_at, special_after}
+use Rattle.wasm_read.specs.ReadOperation.{operation_after, operation_at}
 use Rattle.wasm_read.proofs.Basics.{split_if, same_read, takes_as_read, and_true, or_true, numbers_differ}
 use Rattle.wasm_read.proofs.NumberLaws.{unsigned_reads, signed_reads}
 use Rattle.wasm_read.proofs.CombineLaws.{both_reads}

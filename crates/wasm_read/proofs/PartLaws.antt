@@ -1,5 +1,6 @@
 -- What the sections hold is read exactly.
-use Rattle.std.proofs.Common.{◌≡◌, ℕ, ◌^◌, ◌<◌, eqb, nat_lt, if◌then◌else◌, inl, inr, List, [], ◌∷◌, ◌++◌, Option, Some, None, refl, ap, ◌∙◌}
+use Rattle.std.proofs.Common.{◌≡◌, ℕ, ◌^◌, ◌<◌, eqb, nat_lt, if◌then◌else◌, inl, inr, List, [], ◌∷◌, ◌++◌}
+use Rattle.std.proofs.Common.{Option, Some, None, refl, ap, ◌∙◌}
 use Rattle.std.proofs.lemmas.Bool.{eqb-true, ltb-true, lt-ltb}
 use Rattle.w4_defs.specs.declared.value.ValType.{ValType}
 use Rattle.w4_defs.specs.declared.value.GlobalType.{GlobalType}
@@ -15,7 +16,8 @@ use Rattle.w4_defs.specs.BinaryText.{Texts, ◌then◌, byte}
 use Rattle.w4_defs.specs.BinaryNumber.{unsigned}
 use Rattle.w4_defs.specs.BinaryType.{vector, bytes, name, value_type, limits, table_type, global_type}
 use Rattle.w4_defs.specs.BinaryInstruction.{expression}
-use Rattle.w4_defs.specs.BinaryModule.{import_kind, imported, global, export_kind, exported, element, locals_run, function, body, segment}
+use Rattle.w4_defs.specs.BinaryModule.{import_kind, imported, global, export_kind, exported, element}
+use Rattle.w4_defs.specs.BinaryModule.{locals_run, function, body, segment}
 use Rattle.w4_defs.specs.Reading.{◌>>=◌}
 use Rattle.w4_defs.proofs.OptionLaws.{bind_some, held_if}
 use Rattle.wasm_read.specs.Reader.{Reader, read_as, Takes, Reads, row_of}
@@ -23,11 +25,16 @@ use Rattle.wasm_read.specs.ReadNumber.{unsigned_at}
 use Rattle.wasm_read.specs.Combine.{both_at, mapped_at, vector_at, whole_at, sized_bytes_at}
 use Rattle.wasm_read.specs.ReadType.{name_at, value_type_at, limits_at, table_type_at, global_type_at}
 use Rattle.wasm_read.specs.ReadExpression.{expression_at}
-use Rattle.wasm_read.specs.ReadPart.{import_kind_at, imported_of, import_at, global_of, global_at, export_kinds, export_kind_at, exported_of, export_at, element_of, element_at, locals_of, run_at, function_of, function_at, body_at, segment_of, segment_at}
+use Rattle.wasm_read.specs.ReadPart.{import_kind_at, imported_of, import_at, global_of, global_at}
+use Rattle.wasm_read.specs.ReadPart.{export_kinds, export_kind_at, exported_of, export_at, element_of}
+use Rattle.wasm_read.specs.ReadPart.{element_at, locals_of, run_at, function_of, function_at, body_at}
+use Rattle.wasm_read.specs.ReadPart.{segment_of, segment_at}
 use Rattle.wasm_read.proofs.Basics.{split_if, takes_as_read}
 use Rattle.wasm_read.proofs.NumberLaws.{unsigned_reads}
-use Rattle.wasm_read.proofs.CombineLaws.{both_reads, mapped_reads, tested_reads, vector_reads, whole_reads, cut_reads, sized_reads, coded_reads}
-use Rattle.wasm_read.proofs.TypeLaws.{value_type_reads, limits_reads, table_type_reads, global_type_reads, name_reads}
+use Rattle.wasm_read.proofs.CombineLaws.{both_reads, mapped_reads, tested_reads, vector_reads, whole_reads}
+use Rattle.wasm_read.proofs.CombineLaws.{cut_reads, sized_reads, coded_reads}
+use Rattle.wasm_read.proofs.TypeLaws.{value_type_reads, limits_reads, table_type_reads, global_type_reads}
+use Rattle.wasm_read.proofs.TypeLaws.{name_reads}
 use Rattle.wasm_read.proofs.ExpressionLaws.{expression_reads}
 
 -- a value after its code

@@ -1,5 +1,7 @@
 -- The marks of a tree, before their positions are known, and what the two passes make of them.
-use Rattle.std.proofs.Common.{◌≡◌, ◌≢◌, ℕ, zero, suc, ◌+◌, ◌-◌, ◌≤◌, eqb, true, false, if◌then◌else◌, ◌⊎◌, inl, inr, List, [], ◌∷◌, ◌++◌, length, Option, Some, None, refl, ap, sym, ◌∙◌, subst, append_assoc, append-nil, arith}
+use Rattle.std.proofs.Common.{◌≡◌, ◌≢◌, ℕ, zero, suc, ◌+◌, ◌-◌, ◌≤◌, eqb, true, false, if◌then◌else◌, ◌⊎◌}
+use Rattle.std.proofs.Common.{inl, inr, List, [], ◌∷◌, ◌++◌, length, Option, Some, None, refl, ap, sym, ◌∙◌}
+use Rattle.std.proofs.Common.{subst, append_assoc, append-nil, arith}
 use Rattle.std.proofs.lemmas.Bool.{eq-eqb}
 use Rattle.w4_defs.specs.declared.operation.Op.{Op}
 use Rattle.w4_defs.specs.declared.operation.Op.TheVariants.{Block, Loop, If, Else, End}
@@ -13,9 +15,11 @@ use Rattle.w4_defs.proofs.OptionLaws.{bind_some}
 use Rattle.wasm_read.specs.declared.brackets.Close.{Close}
 use Rattle.wasm_read.specs.declared.brackets.Close.TheVariants.{Ends, Parts}
 use Rattle.wasm_read.specs.Reader.{Takes}
-use Rattle.wasm_read.specs.ReadExpression.{mark_at, depth_after, marks_at, mark_with_positions, marks_with_positions}
+use Rattle.wasm_read.specs.ReadExpression.{mark_at, depth_after, marks_at, mark_with_positions}
+use Rattle.wasm_read.specs.ReadExpression.{marks_with_positions}
 use Rattle.wasm_read.proofs.Basics.{split_if, takes_as_read, numbers_differ_tested}
-use Rattle.wasm_read.proofs.MarkLaws.{mark_texts, mark_encoding, instruction_mark, instruction_leaf, mark_reads}
+use Rattle.wasm_read.proofs.MarkLaws.{mark_texts, mark_encoding, instruction_mark, instruction_leaf}
+use Rattle.wasm_read.proofs.MarkLaws.{mark_reads}
 
 abbrev pub raw : Op → Expr → List Mark
 raw close done = mark close ∷ []

@@ -1,5 +1,6 @@
 -- How large the reserves of an accepted cart's functions can be.
-use Rattle.std.proofs.Common.{◌≡◌, ℕ, zero, suc, ◌+◌, ◌<◌, ◌≤◌, nat_lt, Bool, true, false, List, [], ◌∷◌, ◌++◌, length, slice_get, Option, Some, None, refl, ap, sym, ◌∙◌, subst, arith}
+use Rattle.std.proofs.Common.{◌≡◌, ℕ, zero, suc, ◌+◌, ◌<◌, ◌≤◌, nat_lt, Bool, true, false, List, [], ◌∷◌}
+use Rattle.std.proofs.Common.{◌++◌, length, slice_get, Option, Some, None, refl, ap, sym, ◌∙◌, subst, arith}
 use Rattle.std.specs.List.{list_any}
 use Rattle.std.specs.Prelude.{◌==◌, if◌then◌else◌, ◌||◌, zip}
 use Rattle.std.proofs.lemmas.List.{length-append}
@@ -17,7 +18,9 @@ use Rattle.w4_defs.specs.BinaryText.{items}
 use Rattle.w4_defs.specs.BinaryInstruction.{list}
 use Rattle.w4_defs.specs.BinarySection.{Section, section, contents, Part}
 use Rattle.w4_defs.specs.BinaryModule.{preamble, body, SpellsModule}
-use Rattle.w4_defs.specs.Program.{Own, Callee, own_function, host_function, no_function, instructions, reserve_of, own_callee, own_callees, imported_callee, with_import, imported_callees, callees}
+use Rattle.w4_defs.specs.Program.{Own, Callee, own_function, host_function, no_function, instructions}
+use Rattle.w4_defs.specs.Program.{reserve_of, own_callee, own_callees, imported_callee, with_import}
+use Rattle.w4_defs.specs.Program.{imported_callees, callees}
 use Rattle.w4_defs.specs.Profile.{param_count, has_many_locals, if_so, first_cause, causes, profile_refusal}
 use Rattle.w4_defs.specs.Cart.{IsCart}
 use Rattle.w4_defs.proofs.CauseLaws.{none_there, not_so}

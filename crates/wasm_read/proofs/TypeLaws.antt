@@ -1,5 +1,6 @@
 -- Names and types are read exactly.
-use Rattle.std.proofs.Common.{◌≡◌, ℕ, ◌≤◌, Bool, true, false, eqb, if◌then◌else◌, nat_le, inl, inr, List, [], ◌∷◌, ◌++◌, length, Option, Some, None, refl, ap, sym, ◌∙◌, subst}
+use Rattle.std.proofs.Common.{◌≡◌, ℕ, ◌≤◌, Bool, true, false, eqb, if◌then◌else◌, nat_le, inl, inr, List, []}
+use Rattle.std.proofs.Common.{◌∷◌, ◌++◌, length, Option, Some, None, refl, ap, sym, ◌∙◌, subst}
 use Rattle.std.specs.Prelude.{IsUtf8}
 use Rattle.std.specs.Str.{is_utf8}
 use Rattle.std.proofs.lemmas.Bool.{eqb-true, leb-true, le-leb}
@@ -10,15 +11,20 @@ use Rattle.w4_defs.specs.declared.value.Limits.{Limits}
 use Rattle.w4_defs.specs.Module.{Signature}
 use Rattle.w4_defs.specs.BinaryText.{Texts, ◌then◌, byte}
 use Rattle.w4_defs.specs.BinaryNumber.{unsigned}
-use Rattle.w4_defs.specs.BinaryType.{vector, utf8, name, value_type, func_type, sizes, limits, table_type, mutability, global_type, block_type}
+use Rattle.w4_defs.specs.BinaryType.{vector, utf8, name, value_type, func_type, sizes, limits, table_type}
+use Rattle.w4_defs.specs.BinaryType.{mutability, global_type, block_type}
 use Rattle.w4_defs.proofs.OptionLaws.{bind_some, held_if}
 use Rattle.wasm_read.specs.Reader.{read_as, Takes, Reads, ReadsWhole, row_of, coded_at}
 use Rattle.wasm_read.specs.ReadNumber.{unsigned_at}
 use Rattle.wasm_read.specs.Combine.{both_at, mapped_at, headed_at, vector_at}
-use Rattle.wasm_read.specs.ReadType.{utf8_at, name_at, value_type_codes, value_type_at, block_type_codes, block_type_at, mutability_codes, global_type_of, global_type_at, open_limits, closed_limits, limits_at, table_type_at, func_type_of, func_type_at}
+use Rattle.wasm_read.specs.ReadType.{utf8_at, name_at, value_type_codes, value_type_at, block_type_codes}
+use Rattle.wasm_read.specs.ReadType.{block_type_at, mutability_codes, global_type_of, global_type_at}
+use Rattle.wasm_read.specs.ReadType.{open_limits, closed_limits, limits_at, table_type_at, func_type_of}
+use Rattle.wasm_read.specs.ReadType.{func_type_at}
 use Rattle.wasm_read.proofs.Basics.{split_if, takes_as_read}
 use Rattle.wasm_read.proofs.NumberLaws.{unsigned_reads}
-use Rattle.wasm_read.proofs.CombineLaws.{both_reads, mapped_reads, tested_reads, headed_reads, vector_reads, sized_reads, coded_reads}
+use Rattle.wasm_read.proofs.CombineLaws.{both_reads, mapped_reads, tested_reads, headed_reads, vector_reads}
+use Rattle.wasm_read.proofs.CombineLaws.{sized_reads, coded_reads}
 
 value_type_found : (t : ValType) (text : List ℕ) → value_type t text → (b : ℕ) × (text ≡ b ∷ [])
     × (row_of value_type_codes b ≡ Some t)

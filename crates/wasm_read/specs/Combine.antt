@@ -1,6 +1,7 @@
 -- Readers made of readers, as the grammar's forms are made of each other (Core Specification, sections
 -- 5.1 and 5.2): sequences, sizes, vectors.
-use Rattle.std.specs.Prelude.{ℕ, zero, suc, ◌==◌, Bool, if◌then◌else◌, List, [], ◌∷◌, ◌++◌, length, Option, Some, None}
+use Rattle.std.specs.Prelude.{ℕ, zero, suc, ◌==◌, Bool, if◌then◌else◌, List, [], ◌∷◌, ◌++◌, length, Option}
+use Rattle.std.specs.Prelude.{Some, None}
 use Rattle.w4_defs.specs.Reading.{◌>>=◌, front_at}
 use Rattle.wasm_read.specs.Reader.{Reader}
 use Rattle.wasm_read.specs.ReadNumber.{unsigned_at}

@@ -2,7 +2,8 @@
 -- and what they hold.
 use Rattle.std.specs.Prelude.{ℕ, ◌==◌, ◌&&◌, if◌then◌else◌, List, [], ◌∷◌, length, Option, Some, None}
 use Rattle.w4_defs.specs.declared.value.Limits.{Limits}
-use Rattle.w4_defs.specs.Module.{Signature, Imported, Exported, Global, ElementSegment, DataSegment, Function, WasmModule}
+use Rattle.w4_defs.specs.Module.{Signature, Imported, Exported, Global, ElementSegment, DataSegment, Function}
+use Rattle.w4_defs.specs.Module.{WasmModule}
 use Rattle.w4_defs.specs.BinaryModule.{preamble}
 use Rattle.w4_defs.specs.Reading.{◌>>=◌}
 use Rattle.wasm_read.specs.ReadNumber.{unsigned_at}

@@ -1,17 +1,21 @@
 -- Reading of an instruction that holds no list and has no labels (Core Specification, section 5.4): its
 -- code tells what follows.
-use Rattle.std.specs.Prelude.{ℕ, ◌==◌, ◌||◌, ◌&&◌, nat_le, Bool, if◌then◌else◌, [], ◌∷◌, Option, Some, None, option_map}
+use Rattle.std.specs.Prelude.{ℕ, ◌==◌, ◌||◌, ◌&&◌, nat_le, Bool, if◌then◌else◌, [], ◌∷◌, Option, Some, None}
+use Rattle.std.specs.Prelude.{option_map}
 use Rattle.std.specs.Int.{w32, w64}
 use Rattle.w4_defs.specs.declared.operation.Op.{Op}
 use Rattle.w4_defs.specs.declared.operation.Op.TheVariants.{CallIndirect}
 use Rattle.w4_defs.specs.declared.operation.Op.TheVariants as op
 use Rattle.w4_defs.specs.declared.basic.Basic.{Basic}
-use Rattle.w4_defs.specs.declared.basic.Basic.TheVariants.{I32Const, I64Const, F32Const, F64Const, FloatMemory, FloatPlain, FloatCut, MemorySize, MemoryGrow, MemoryCopy, MemoryFill}
+use Rattle.w4_defs.specs.declared.basic.Basic.TheVariants.{I32Const, I64Const, F32Const, F64Const}
+use Rattle.w4_defs.specs.declared.basic.Basic.TheVariants.{FloatMemory, FloatPlain, FloatCut, MemorySize}
+use Rattle.w4_defs.specs.declared.basic.Basic.TheVariants.{MemoryGrow, MemoryCopy, MemoryFill}
 use Rattle.w4_defs.specs.Reading.{◌>>=◌, little_endian_at}
 use Rattle.wasm_read.specs.Reader.{Reader, row_of}
 use Rattle.wasm_read.specs.ReadNumber.{unsigned_at, signed_at}
 use Rattle.wasm_read.specs.Combine.{both_at, mapped_at, headed_at}
-use Rattle.wasm_read.specs.InstructionTable.{rows, control_rows, compare32, compare64, arith32, arith64, conversions, index_rows, loads, stores}
+use Rattle.wasm_read.specs.InstructionTable.{rows, control_rows, compare32, compare64, arith32, arith64}
+use Rattle.wasm_read.specs.InstructionTable.{conversions, index_rows, loads, stores}
 
 -- this value, without any bytes
 abbrev pub always_at : {A : Type 0} → A → Reader A

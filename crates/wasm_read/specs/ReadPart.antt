@@ -12,7 +12,8 @@ use Rattle.w4_defs.specs.Module.{Imported, Exported, Global, ElementSegment, Dat
 use Rattle.w4_defs.specs.Tree.{Expr}
 use Rattle.wasm_read.specs.Reader.{Reader, coded_at}
 use Rattle.wasm_read.specs.ReadNumber.{unsigned_at}
-use Rattle.wasm_read.specs.Combine.{both_at, mapped_at, tested_at, vector_at, whole_at, sized_bytes_at, sized_at}
+use Rattle.wasm_read.specs.Combine.{both_at, mapped_at, tested_at, vector_at, whole_at, sized_bytes_at}
+use Rattle.wasm_read.specs.Combine.{sized_at}
 use Rattle.wasm_read.specs.ReadType.{name_at, value_type_at, limits_at, table_type_at, global_type_at}
 use Rattle.wasm_read.specs.ReadExpression.{expression_at}
 

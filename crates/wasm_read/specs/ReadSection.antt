@@ -1,6 +1,7 @@
 -- Reading of sections as they stand, of their order, and of their contents (Core Specification,
 -- section 5.5).
-use Rattle.std.specs.Prelude.{ℕ, zero, suc, ◌==◌, nat_le, nat_lt, Bool, true, false, if◌then◌else◌, List, [], ◌∷◌, Option, Some, None}
+use Rattle.std.specs.Prelude.{ℕ, zero, suc, ◌==◌, nat_le, nat_lt, Bool, true, false, if◌then◌else◌, List, []}
+use Rattle.std.specs.Prelude.{◌∷◌, Option, Some, None}
 use Rattle.w4_defs.specs.BinarySection.{Section, rank}
 use Rattle.w4_defs.specs.Reading.{◌>>=◌}
 use Rattle.wasm_read.specs.Reader.{Reader}

@@ -1,6 +1,7 @@
 -- Reading from the front of bytes: a reader gives a value and the bytes after it, or None. An exact
 -- reader gives a value if and only if the bytes begin with a text of that value.
-use Rattle.std.specs.Prelude.{◌≡◌, ℕ, ◌==◌, if◌then◌else◌, List, [], ◌∷◌, ◌++◌, Option, Some, None, Result, Ok, Err}
+use Rattle.std.specs.Prelude.{◌≡◌, ℕ, ◌==◌, if◌then◌else◌, List, [], ◌∷◌, ◌++◌, Option, Some, None, Result}
+use Rattle.std.specs.Prelude.{Ok, Err}
 use Rattle.w4_defs.specs.BinaryText.{Texts}
 use Rattle.w4_defs.specs.Reading.{◌>>=◌}
 use Rattle.wasm_read.specs.declared.refusal.ReadRefusal.{ReadRefusal}

@@ -1,5 +1,7 @@
 -- Each body stands where its position says, and the functions are read back from there.
-use Rattle.std.proofs.Common.{◌≡◌, ℕ, zero, suc, ◌+◌, ◌<◌, List, [], ◌∷◌, ◌++◌, length, map, take, drop, get_or, Some, refl, sym, subst, ◌∙◌, ap, append_assoc, append-nil, length-append, arith}
+use Rattle.std.proofs.Common.{◌≡◌, ℕ, zero, suc, ◌+◌, ◌<◌, List, [], ◌∷◌, ◌++◌, length, map, take, drop}
+use Rattle.std.proofs.Common.{get_or, Some, refl, sym, subst, ◌∙◌, ap, append_assoc, append-nil}
+use Rattle.std.proofs.Common.{length-append, arith}
 use Rattle.std.specs.Prelude.{slice_get, option_map}
 use Rattle.std.proofs.Math.Seq.{drop-append_seam, take-append_seam}
 use Rattle.std.proofs.lemmas.List.Elements.{All-tail, All-push}
@@ -9,7 +11,8 @@ use Rattle.w4_defs.specs.Flattening.{IsProper, read_flat}
 use Rattle.w4_defs.specs.Module.{Function}
 use Rattle.w4_defs.proofs.ReadBack.{flattening_read_back}
 use Rattle.wasm_tree.specs.Shifting.{shifted_mark, within}
-use Rattle.wasm_tree.specs.Layout.{Placed, mark_count, laid_from, placed_from, starts_from, placed_function, functions_of, AreProper, AreLaid, StandsAt}
+use Rattle.wasm_tree.specs.Layout.{Placed, mark_count, laid_from, placed_from, starts_from, placed_function}
+use Rattle.wasm_tree.specs.Layout.{functions_of, AreProper, AreLaid, StandsAt}
 use Rattle.wasm_tree.proofs.ShiftLaws.{flattening_shifted, all_back, length_flat}
 
 -- where one list stands between two others

@@ -1,5 +1,6 @@
 -- The abstract stack of a list decides its typing: by induction on the list, from any abstract stack.
-use Rattle.std.proofs.Common.{◌≡◌, Bool, true, false, ◌&&◌, ◌||◌, cond, List, [], ◌∷◌, ◌++◌, reverse, Option, Some, None, option_and_then, refl, sym, ap, ◌∙◌, subst}
+use Rattle.std.proofs.Common.{◌≡◌, Bool, true, false, ◌&&◌, ◌||◌, cond, List, [], ◌∷◌, ◌++◌, reverse, Option}
+use Rattle.std.proofs.Common.{Some, None, option_and_then, refl, sym, ap, ◌∙◌, subst}
 use Rattle.std.proofs.lemmas.Bool.{and_parts, and_from, or_parts}
 use Rattle.std.proofs.lemmas.List.{reverse-reverse}
 use Rattle.w4_defs.specs.declared.value.ValType.{ValType}
@@ -8,10 +9,13 @@ use Rattle.w4_defs.specs.Tree.{Expr, done, plain, block, loop, if_then, if_else}
 use Rattle.w4_defs.specs.Floats.{has_float, is_float_result, is_float_operation}
 use Rattle.w4_defs.specs.Typing.{Context, with_label, HasType, AreInt}
 use Rattle.w4_defs.specs.ValueTypes.{result_types}
-use Rattle.w4_defs.specs.AbstractStack.{AbstractStack, agree, empty, stands, stands_in, taken, given, step, stack_after}
-use Rattle.wasm_valid.specs.AbstractStackLaw.{HasNoFloat, AreIntOperands, LeadsFrom, StackDecides, StackDecidesFrom}
+use Rattle.w4_defs.specs.AbstractStack.{AbstractStack, agree, empty, stands, stands_in, taken, given, step}
+use Rattle.w4_defs.specs.AbstractStack.{stack_after}
+use Rattle.wasm_valid.specs.AbstractStackLaw.{HasNoFloat, AreIntOperands, LeadsFrom, StackDecides}
+use Rattle.wasm_valid.specs.AbstractStackLaw.{StackDecidesFrom}
 use Rattle.wasm_valid.proofs.IntLaws.{joined_int, left_int, result_int, label_has_no_float}
-use Rattle.wasm_valid.proofs.TakenLaws.{taken_stands, stands_taken, given_stands, stands_given, taken_int, given_int}
+use Rattle.wasm_valid.proofs.TakenLaws.{taken_stands, stands_taken, given_stands, stands_given, taken_int}
+use Rattle.wasm_valid.proofs.TakenLaws.{given_int}
 use Rattle.wasm_valid.proofs.StepLaws.{step_begins, step_int, step_follows}
 
 stands_through : (g : AbstractStack → Option AbstractStack) (o : Option AbstractStack) (outs : List ValType)

@@ -9,7 +9,8 @@ use Rattle.w4_defs.specs.declared.value.ValType.TheVariants.{I32, I64, F32, F64}
 use Rattle.w4_defs.specs.declared.module.Locals.{Locals}
 use Rattle.w4_defs.specs.Module.{Signature, Function, WasmModule}
 use Rattle.w4_defs.specs.Lookup.{global_types, local_types}
-use Rattle.w4_defs.specs.Floats.{is_float, has_float, signature_has_float, function_has_float, module_has_float}
+use Rattle.w4_defs.specs.Floats.{is_float, has_float, signature_has_float, function_has_float}
+use Rattle.w4_defs.specs.Floats.{module_has_float}
 use Rattle.w4_defs.specs.Typing.{IsInt, AreInt, HasType, body_context}
 use Rattle.wasm_valid.specs.AbstractStackLaw.{HasNoFloat, StackDecidesBodies}
 use Rattle.wasm_valid.proofs.IntLaws.{joined_int}

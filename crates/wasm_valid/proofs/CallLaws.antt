@@ -1,5 +1,7 @@
 -- The calls of a module, one after the other.
-use Rattle.std.proofs.Common.{◌≡◌, inl, inr, ℕ, zero, suc, ◌+◌, ◌<◌, ◌≤◌, List, [], ◌∷◌, ◌++◌, length, take, get_or, Bool, true, false, Option, Some, None, refl, sym, subst, ◌∙◌, ap, append_assoc, arith}
+use Rattle.std.proofs.Common.{◌≡◌, inl, inr, ℕ, zero, suc, ◌+◌, ◌<◌, ◌≤◌, List, [], ◌∷◌, ◌++◌, length, take}
+use Rattle.std.proofs.Common.{get_or, Bool, true, false, Option, Some, None, refl, sym, subst, ◌∙◌, ap}
+use Rattle.std.proofs.Common.{append_assoc, arith}
 use Rattle.std.specs.Prelude.{not, nat_eq, IfSome, slice_get, option_map, nat_lt, zip, All}
 use Rattle.std.specs.List.{AllZip, count_by}
 use Rattle.std.proofs.lemmas.Bool.{not-false}
@@ -16,7 +18,8 @@ use Rattle.w4_defs.specs.ImportNames.{import_named}
 use Rattle.w4_defs.specs.Lookup.{local_count, imported_function}
 use Rattle.w4_defs.specs.Module.{Signature, Function, Imported, WasmModule}
 use Rattle.w4_defs.specs.Profile.{profile_refusal, has_many_locals, param_count, is_right}
-use Rattle.w4_defs.specs.Program.{instructions, Callee, own_function, host_function, own_callee, own_callees, imported_callee, imported_callees, with_import}
+use Rattle.w4_defs.specs.Program.{instructions, Callee, own_function, host_function, own_callee, own_callees}
+use Rattle.w4_defs.specs.Program.{imported_callee, imported_callees, with_import}
 use Rattle.wasm_tree.specs.Layout.{marks, IsBody, StandsAt}
 use Rattle.wasm_tree.proofs.MarkLaws.{got_all}
 use Rattle.wasm_valid.specs.declared.call.Call.{Call}

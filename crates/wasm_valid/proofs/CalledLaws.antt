@@ -1,6 +1,7 @@
 -- What a function index names, by the index of its type: the module's own functions with their bodies, and
 -- imports.
-use Rattle.std.proofs.Common.{◌≡◌, ℕ, zero, suc, List, [], ◌∷◌, ◌++◌, length, Option, Some, None, refl, sym, ap, ◌∙◌, subst}
+use Rattle.std.proofs.Common.{◌≡◌, ℕ, zero, suc, List, [], ◌∷◌, ◌++◌, length, Option, Some, None, refl, sym}
+use Rattle.std.proofs.Common.{ap, ◌∙◌, subst}
 use Rattle.std.specs.Prelude.{slice_get, filter_map}
 use Rattle.std.specs.List.{AllZip, cons_option}
 use Rattle.w4_defs.specs.declared.console.Import.{Import}
@@ -9,7 +10,8 @@ use Rattle.w4_defs.specs.declared.module.ImportKind.TheVariants.{Func, Table, Me
 use Rattle.w4_defs.specs.ImportNames.{import_named}
 use Rattle.w4_defs.specs.Lookup.{imported_function, function_indices}
 use Rattle.w4_defs.specs.Module.{Signature, Imported, Function, WasmModule}
-use Rattle.w4_defs.specs.Program.{Own, Callee, own_function, host_function, no_function, own_callee, own_callees, imported_callee, with_import, imported_callees, callees}
+use Rattle.w4_defs.specs.Program.{Own, Callee, own_function, host_function, no_function, own_callee}
+use Rattle.w4_defs.specs.Program.{own_callees, imported_callee, with_import, imported_callees, callees}
 use Rattle.wasm_valid.specs.declared.call.Call.{Call}
 use Rattle.wasm_valid.specs.declared.call.Call.TheVariants as call
 use Rattle.wasm_valid.specs.Calls.{IsCall}

@@ -1,14 +1,18 @@
 -- The open lists in one stack of operand types: what a write to the stack or the frames makes of them.
-use Rattle.std.proofs.Common.{◌≡◌, ℕ, suc, ◌+◌, ◌-◌, ◌<◌, ◌≤◌, Bool, true, false, List, [], ◌∷◌, ◌++◌, length, map, take, drop, reverse, get_or, Option, Some, None, option_map, refl, sym, ap, ◌∙◌, arith, length-append, inl, inr, subst}
+use Rattle.std.proofs.Common.{◌≡◌, ℕ, suc, ◌+◌, ◌-◌, ◌<◌, ◌≤◌, Bool, true, false, List, [], ◌∷◌, ◌++◌, length}
+use Rattle.std.proofs.Common.{map, take, drop, reverse, get_or, Option, Some, None, option_map, refl, sym, ap}
+use Rattle.std.proofs.Common.{◌∙◌, arith, length-append, inl, inr, subst}
 use Rattle.std.specs.Prelude.{slice_get, IsSome, option_to_list, ◌⊎◌}
 use Rattle.std.proofs.Math.Seq.{drop-append_seam}
-use Rattle.std.proofs.lemmas.List.{reverse-append, length-reverse, length-map, length-drop, take-append-drop, get_or-reverse}
+use Rattle.std.proofs.lemmas.List.{reverse-append, length-reverse, length-map, length-drop, take-append-drop}
+use Rattle.std.proofs.lemmas.List.{get_or-reverse}
 use Rattle.std.proofs.lemmas.Option.{slice_get_past, slice_get-get_or, slice_get-map}
 use Rattle.w4_defs.specs.declared.value.ValType.{ValType}
 use Rattle.w4_defs.specs.AbstractStack.{OperandType, topmost}
 use Rattle.wasm_valid.specs.Pass.{OpenBlock, label_types}
 use Rattle.wasm_valid.specs.declared.control_stack.ControlFrame.{ControlFrame}
-use Rattle.wasm_valid.specs.ControlStack.{on_top, without_operands, with_operand, popped, block_of_frame, blocks_of_frames, all_frames, AreNested}
+use Rattle.wasm_valid.specs.ControlStack.{on_top, without_operands, with_operand, popped, block_of_frame}
+use Rattle.wasm_valid.specs.ControlStack.{blocks_of_frames, all_frames, AreNested}
 
 -- the lists of some frames, where so many operand types are the innermost list's own
 abbrev blocks_cut_at : ControlFrame → List ControlFrame → List OperandType → ℕ → List OpenBlock

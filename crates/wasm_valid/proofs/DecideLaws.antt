@@ -1,5 +1,6 @@
 -- Tests that are made one after the other, and lists in two parts.
-use Rattle.std.proofs.Common.{◌≡◌, List, [], ◌∷◌, ◌++◌, Bool, true, false, Option, Some, None, refl, sym, subst, ◌∙◌}
+use Rattle.std.proofs.Common.{◌≡◌, List, [], ◌∷◌, ◌++◌, Bool, true, false, Option, Some, None, refl, sym}
+use Rattle.std.proofs.Common.{subst, ◌∙◌}
 use Rattle.std.specs.Prelude.{All, IfSome, filter_map}
 use Rattle.std.specs.List.{cons_option}
 use Rattle.std.specs.Bool.{Decides}

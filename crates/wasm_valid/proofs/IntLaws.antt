@@ -1,5 +1,7 @@
 -- No float comes to an abstract stack from a context without floats.
-use Rattle.std.proofs.Common.{◌≡◌, Bool, true, false, ◌&&◌, cond, nat_le, nat_lt, ℕ, zero, suc, ◌^◌, length, List, [], ◌∷◌, ◌++◌, map, reverse, Option, Some, None, option_and_then, refl, sym, subst}
+use Rattle.std.proofs.Common.{◌≡◌, Bool, true, false, ◌&&◌, cond, nat_le, nat_lt, ℕ, zero, suc, ◌^◌, length}
+use Rattle.std.proofs.Common.{List, [], ◌∷◌, ◌++◌, map, reverse, Option, Some, None, option_and_then, refl}
+use Rattle.std.proofs.Common.{sym, subst}
 use Rattle.std.specs.Prelude.{All, IfSome, slice_get}
 use Rattle.std.proofs.lemmas.Bool.{and_from, and_parts}
 use Rattle.std.proofs.lemmas.List.{reverse-append}
@@ -20,7 +22,8 @@ use Rattle.w4_defs.specs.Module.{WasmModule}
 use Rattle.w4_defs.specs.Lookup.{signature_of, global_types, tables_of, memories_of, function_indices}
 use Rattle.w4_defs.specs.Floats.{is_float_result}
 use Rattle.w4_defs.specs.OperandTypes.{StackType, stack_type_if, row_type, gives, unary_type}
-use Rattle.w4_defs.specs.Typing.{Context, with_label, IsInt, AreInt, only_type, consumes, sets, branches, calls, calls_indirectly}
+use Rattle.w4_defs.specs.Typing.{Context, with_label, IsInt, AreInt, only_type, consumes, sets, branches}
+use Rattle.w4_defs.specs.Typing.{calls, calls_indirectly}
 use Rattle.w4_defs.specs.AbstractStack.{OperandType, agrees, agree, below, below_all, topmost, common_type}
 use Rattle.wasm_valid.specs.AbstractStackLaw.{HasNoFloat, IsIntOperand, AreIntOperands}
 use Rattle.wasm_valid.proofs.OperandTypeLaws.{some_and_then, some_if_true}

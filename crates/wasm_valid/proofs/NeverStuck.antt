@@ -1,5 +1,6 @@
 -- A run of an entry function of an accepted module has a meaning, and leaves globals of their types.
-use Rattle.std.proofs.Common.{◌≡◌, ◌≢◌, ℕ, zero, suc, Bool, true, false, cond, nat_le, List, [], ◌∷◌, ◌++◌, length, map, reverse, Some, None, refl, sym, ap, ◌∙◌, subst, arith}
+use Rattle.std.proofs.Common.{◌≡◌, ◌≢◌, ℕ, zero, suc, Bool, true, false, cond, nat_le, List, [], ◌∷◌, ◌++◌}
+use Rattle.std.proofs.Common.{length, map, reverse, Some, None, refl, sym, ap, ◌∙◌, subst, arith}
 use Rattle.w4_defs.specs.declared.value.ValType.{ValType}
 use Rattle.w4_defs.specs.declared.value.Cause.TheVariants.{Stack}
 use Rattle.w4_defs.specs.declared.console.Import.{Import}
@@ -11,8 +12,10 @@ use Rattle.w4_defs.specs.Imports.{import_type}
 use Rattle.w4_defs.specs.Profile.{profile_refusal}
 use Rattle.w4_defs.specs.Typing.{Context, body_context}
 use Rattle.w4_defs.specs.Validity.{IsValid}
-use Rattle.w4_defs.specs.Outcome.{Store, HostFunctions, Outcome, Falls, Branch, Returns, Trap, Spent, Stuck, Ended, RunDone, RunTrap, RunSpent, RunStuck}
-use Rattle.w4_defs.specs.Program.{Callee, own_function, host_function, no_function, zeros, reserve_of, Prog, program}
+use Rattle.w4_defs.specs.Outcome.{Store, HostFunctions, Outcome, Falls, Branch, Returns, Trap, Spent, Stuck}
+use Rattle.w4_defs.specs.Outcome.{Ended, RunDone, RunTrap, RunSpent, RunStuck}
+use Rattle.w4_defs.specs.Program.{Callee, own_function, host_function, no_function, zeros, reserve_of, Prog}
+use Rattle.w4_defs.specs.Program.{program}
 use Rattle.w4_defs.specs.Control.{leave}
 use Rattle.w4_defs.specs.Evaluation.{body_env, eval, run_own, ended, enter_own, enter, run_entry}
 use Rattle.w4_defs.specs.RunLaws.{types_of}

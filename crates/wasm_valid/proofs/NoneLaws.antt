@@ -1,5 +1,6 @@
 -- Lists of which no item passes a test, and lists of which all keep a rule.
-use Rattle.std.proofs.Common.{◌≡◌, ℕ, zero, suc, ◌+◌, List, [], ◌∷◌, map, cond, Bool, true, false, Option, Some, None, refl, sym, subst, ◌∙◌, ap}
+use Rattle.std.proofs.Common.{◌≡◌, ℕ, zero, suc, ◌+◌, List, [], ◌∷◌, map, cond, Bool, true, false, Option}
+use Rattle.std.proofs.Common.{Some, None, refl, sym, subst, ◌∙◌, ap}
 use Rattle.std.specs.Prelude.{◌||◌, slice_get, position, All, IfSome}
 use Rattle.std.specs.List.{list_any, position_from}
 use Rattle.std.proofs.lemmas.Bool.{or_parts, or_from}

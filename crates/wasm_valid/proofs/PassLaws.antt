@@ -1,5 +1,6 @@
 -- The pass over the flattening of a list computes the abstract stack of the list.
-use Rattle.std.proofs.Common.{◌≡◌, ℕ, ◌+◌, Bool, true, false, ◌&&◌, cond, List, [], ◌∷◌, ◌++◌, Option, Some, None, option_map, option_and_then, refl, sym, ap, ◌∙◌}
+use Rattle.std.proofs.Common.{◌≡◌, ℕ, ◌+◌, Bool, true, false, ◌&&◌, cond, List, [], ◌∷◌, ◌++◌, Option, Some}
+use Rattle.std.proofs.Common.{None, option_map, option_and_then, refl, sym, ap, ◌∙◌}
 use Rattle.std.proofs.lemmas.List.{append_assoc, append-nil}
 use Rattle.w4_defs.specs.declared.value.ValType.{ValType}
 use Rattle.w4_defs.specs.declared.value.ValType.TheVariants.{I32}
@@ -9,8 +10,10 @@ use Rattle.w4_defs.specs.Tree.{Mark, mark, Expr, done, plain, block, loop, if_th
 use Rattle.w4_defs.specs.Flattening.{IsLeaf, IsProper}
 use Rattle.w4_defs.specs.Typing.{Context, body_context}
 use Rattle.w4_defs.specs.ValueTypes.{result_types}
-use Rattle.w4_defs.specs.AbstractStack.{AbstractStack, empty, stands, stands_in, taken, given, step, stack_after}
-use Rattle.wasm_valid.specs.Pass.{OpenBlock, opened, with_stack, context, blocks_after_mark, blocks_after, PassDecidesBodies}
+use Rattle.w4_defs.specs.AbstractStack.{AbstractStack, empty, stands, stands_in, taken, given, step}
+use Rattle.w4_defs.specs.AbstractStack.{stack_after}
+use Rattle.wasm_valid.specs.Pass.{OpenBlock, opened, with_stack, context, blocks_after_mark, blocks_after}
+use Rattle.wasm_valid.specs.Pass.{PassDecidesBodies}
 
 -- the pass goes on where the innermost list has this abstract stack
 abbrev pub resumed : Context → OpenBlock → List OpenBlock → List Mark → Option AbstractStack

@@ -1,6 +1,7 @@
 -- What a module within the profile imports: the memory, and functions that have the types of their names; so
 -- no table and no global.
-use Rattle.std.proofs.Common.{◌≡◌, ◌⊎◌, inl, inr, ℕ, ◌<◌, Bool, true, false, ◌||◌, cond, List, [], ◌∷◌, ◌++◌, length, map, Option, Some, None, refl, ap, ◌∙◌, arith, length-append}
+use Rattle.std.proofs.Common.{◌≡◌, ◌⊎◌, inl, inr, ℕ, ◌<◌, Bool, true, false, ◌||◌, cond, List, [], ◌∷◌, ◌++◌}
+use Rattle.std.proofs.Common.{length, map, Option, Some, None, refl, ap, ◌∙◌, arith, length-append}
 use Rattle.std.specs.Prelude.{slice_get, nat_lt, filter_map, IsSome}
 use Rattle.std.specs.List.{list_any, cons_option}
 use Rattle.std.proofs.lemmas.Bool.{lt-ltb, or_parts, not-false}
@@ -9,10 +10,12 @@ use Rattle.w4_defs.specs.declared.console.Import.{Import}
 use Rattle.w4_defs.specs.declared.module.ImportKind.{ImportKind}
 use Rattle.w4_defs.specs.declared.module.ImportKind.TheVariants.{Func, Table, Memory, Global}
 use Rattle.w4_defs.specs.Module.{Signature, Imported, WasmModule}
-use Rattle.w4_defs.specs.Lookup.{imported_table, imported_memory, imported_global, tables_of, memories_of, global_types}
+use Rattle.w4_defs.specs.Lookup.{imported_table, imported_memory, imported_global, tables_of, memories_of}
+use Rattle.w4_defs.specs.Lookup.{global_types}
 use Rattle.w4_defs.specs.ImportNames.{import_named}
 use Rattle.w4_defs.specs.Imports.{import_type}
-use Rattle.w4_defs.specs.Profile.{is_memory, is_right, is_right_memory, is_right_function, has_type_of, profile_refusal}
+use Rattle.w4_defs.specs.Profile.{is_memory, is_right, is_right_memory, is_right_function, has_type_of}
+use Rattle.w4_defs.specs.Profile.{profile_refusal}
 use Rattle.wasm_valid.proofs.ProfileFacts.{is_wrong, no_cause}
 use Rattle.wasm_valid.proofs.TypeLaws.{same_signature_is}
 

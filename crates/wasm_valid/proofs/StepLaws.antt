@@ -1,5 +1,6 @@
 -- One instruction: what its step of the abstract stack says of its typing.
-use Rattle.std.proofs.Common.{◌≡◌, ℕ, ◌<◌, Bool, true, cond, length, List, [], ◌∷◌, ◌++◌, reverse, Option, Some, None, option_map, option_and_then, refl, sym, ap, ◌∙◌, subst, arith}
+use Rattle.std.proofs.Common.{◌≡◌, ℕ, ◌<◌, Bool, true, cond, length, List, [], ◌∷◌, ◌++◌, reverse, Option}
+use Rattle.std.proofs.Common.{Some, None, option_map, option_and_then, refl, sym, ap, ◌∙◌, subst, arith}
 use Rattle.std.specs.Prelude.{slice_get}
 use Rattle.std.specs.List.{list_all}
 use Rattle.std.proofs.lemmas.Bool.{and_parts, and_from}
@@ -10,12 +11,18 @@ use Rattle.w4_defs.specs.declared.operation.Op.{Op}
 use Rattle.w4_defs.specs.declared.operation.Op.TheVariants as op
 use Rattle.w4_defs.specs.OperandTypes.{StackType}
 use Rattle.w4_defs.specs.Typing.{Context, IsInt, AreInt, AreLabels, Leads, only_type}
-use Rattle.w4_defs.specs.AbstractStack.{OperandType, AbstractStack, agrees, agree, anything, stands, with_operands, taken, given, passed, topmost, common_type, dropped, select_with, selected, after_branch, is_label, common_label, step}
+use Rattle.w4_defs.specs.AbstractStack.{OperandType, AbstractStack, agrees, agree, anything, stands}
+use Rattle.w4_defs.specs.AbstractStack.{with_operands, taken, given, passed, topmost, common_type, dropped}
+use Rattle.w4_defs.specs.AbstractStack.{select_with, selected, after_branch, is_label, common_label, step}
 use Rattle.wasm_valid.specs.AbstractStackLaw.{HasNoFloat, AreIntOperands}
-use Rattle.wasm_valid.proofs.OperandTypeLaws.{some_and_then, some_then, map_some, some_map, some_if_true, some_if, same_types_are, same_types_self, anything_agrees, top_agrees, agrees_top, common_agrees, agrees_common}
-use Rattle.wasm_valid.proofs.IntLaws.{joined_int, left_int, right_int, top_int, common_int, some_type, stack_type_int, stack_type_ints}
+use Rattle.wasm_valid.proofs.OperandTypeLaws.{some_and_then, some_then, map_some, some_map, some_if_true}
+use Rattle.wasm_valid.proofs.OperandTypeLaws.{some_if, same_types_are, same_types_self, anything_agrees}
+use Rattle.wasm_valid.proofs.OperandTypeLaws.{top_agrees, agrees_top, common_agrees, agrees_common}
+use Rattle.wasm_valid.proofs.IntLaws.{joined_int, left_int, right_int, top_int, common_int, some_type}
+use Rattle.wasm_valid.proofs.IntLaws.{stack_type_int, stack_type_ints}
 use Rattle.wasm_valid.proofs.NoneLaws.{all_at}
-use Rattle.wasm_valid.proofs.TakenLaws.{taken_stands, stands_taken, given_stands, stands_given, taken_int, given_int, some_ints, uncut}
+use Rattle.wasm_valid.proofs.TakenLaws.{taken_stands, stands_taken, given_stands, stands_given, taken_int}
+use Rattle.wasm_valid.proofs.TakenLaws.{given_int, some_ints, uncut}
 
 -- from some int types for which s stands the operation leads to outs
 abbrev pub Begins : Context → Op → List ℕ → AbstractStack → List ValType → Type 0

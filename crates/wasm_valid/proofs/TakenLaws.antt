@@ -5,7 +5,8 @@ use Rattle.w4_defs.specs.declared.value.ValType.{ValType}
 use Rattle.w4_defs.specs.Typing.{AreInt}
 use Rattle.w4_defs.specs.AbstractStack.{AbstractStack, agree, stands, below_all, with_operands, taken, given}
 use Rattle.wasm_valid.specs.AbstractStackLaw.{AreIntOperands}
-use Rattle.wasm_valid.proofs.OperandTypeLaws.{map_some, some_map, all_below_agree, agree_all_below, known_agree, agree_known}
+use Rattle.wasm_valid.proofs.OperandTypeLaws.{map_some, some_map, all_below_agree, agree_all_below}
+use Rattle.wasm_valid.proofs.OperandTypeLaws.{known_agree, agree_known}
 use Rattle.wasm_valid.proofs.IntLaws.{reversed_int, joined_kinds, known_int, all_below_int, some_types}
 
 map_joined : {A B : Type 0} (f : A → B) (xs ys : List A) → map f (xs ++ ys) ≡ map f xs ++ map f ys

@@ -1,5 +1,7 @@
 -- Calls of typed programs: the callee finds its arguments, and its results go onto the caller's operands.
-use Rattle.std.proofs.Common.{◌≡◌, ◌⊎◌, inl, inr, ◌↔◌, ℕ, zero, suc, ◌<◌, ◌≤◌, ◌-◌, true, false, nat_lt, List, [], ◌∷◌, ◌++◌, length, map, reverse, Option, Some, None, refl, sym, ap, ◌∙◌, subst, arith}
+use Rattle.std.proofs.Common.{◌≡◌, ◌⊎◌, inl, inr, ◌↔◌, ℕ, zero, suc, ◌<◌, ◌≤◌, ◌-◌, true, false, nat_lt, List}
+use Rattle.std.proofs.Common.{[], ◌∷◌, ◌++◌, length, map, reverse, Option, Some, None, refl, sym, ap, ◌∙◌}
+use Rattle.std.proofs.Common.{subst, arith}
 use Rattle.std.specs.Prelude.{slice_get, IsSome}
 use Rattle.w4_defs.specs.declared.value.Val.{Val}
 use Rattle.w4_defs.specs.declared.value.ValType.{ValType}
@@ -16,12 +18,15 @@ use Rattle.w4_defs.specs.Imports.{import_type}
 use Rattle.w4_defs.specs.Program.{Own, Callee, own_function, host_function, no_function, zeros, Prog}
 use Rattle.w4_defs.specs.Outcome.{Store, Called, HostFunctions, Outcome, Spent, Stuck, Trap}
 use Rattle.w4_defs.specs.Control.{where_some, with_arguments, leave}
-use Rattle.w4_defs.specs.Evaluation.{Env, Evaluator, allowed, called_env, after_import, with_result, call_import, call_own, call, call_typed, call_table_element, call_indirect}
+use Rattle.w4_defs.specs.Evaluation.{Env, Evaluator, allowed, called_env, after_import, with_result}
+use Rattle.w4_defs.specs.Evaluation.{call_import, call_own, call, call_typed, call_table_element}
+use Rattle.w4_defs.specs.Evaluation.{call_indirect}
 use Rattle.w4_defs.specs.RunLaws.{types_of}
 use Rattle.w4_defs.specs.TypeSoundness.{AnswersByType}
 use Rattle.wasm_valid.proofs.TypeLaws.{same_signature_is}
 use Rattle.wasm_valid.proofs.TypedValues.{types_joined}
-use Rattle.wasm_valid.proofs.TypedLists.{OutcomeFits, global_values, on_i32_fits, where_some_fits, cond_fits, with_arguments_fits, leave_fits}
+use Rattle.wasm_valid.proofs.TypedLists.{OutcomeFits, global_values, on_i32_fits, where_some_fits, cond_fits}
+use Rattle.wasm_valid.proofs.TypedLists.{with_arguments_fits, leave_fits}
 
 -- a callee of a valid module: a typed body, whose locals begin with their types, or an import of its type
 abbrev pub IsReady : WasmModule → Callee → Type 0

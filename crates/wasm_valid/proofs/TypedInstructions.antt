@@ -1,5 +1,7 @@
 -- Each typed instruction that holds no list finds what it takes and leaves what it gives.
-use Rattle.std.proofs.Common.{◌≡◌, ℕ, zero, suc, ◌<◌, ◌-◌, Bool, true, false, cond, if◌then◌else◌, nat_eq, min, List, [], ◌∷◌, ◌++◌, length, reverse, Option, Some, option_map, slice_set, refl, sym, ap, ◌∙◌, subst, arith}
+use Rattle.std.proofs.Common.{◌≡◌, ℕ, zero, suc, ◌<◌, ◌-◌, Bool, true, false, cond, if◌then◌else◌, nat_eq}
+use Rattle.std.proofs.Common.{min, List, [], ◌∷◌, ◌++◌, length, reverse, Option, Some, option_map, slice_set}
+use Rattle.std.proofs.Common.{refl, sym, ap, ◌∙◌, subst, arith}
 use Rattle.std.specs.Prelude.{slice_get}
 use Rattle.std.proofs.lemmas.List.{reverse-append, append_assoc}
 use Rattle.std.proofs.lemmas.Option.{slice_get-map}
@@ -15,11 +17,13 @@ use Rattle.w4_defs.specs.Typing.{Context, AreLabels}
 use Rattle.w4_defs.specs.Outcome.{Store, Falls, Branch, Returns, Stuck}
 use Rattle.w4_defs.specs.Control.{on_i32, on_value, where_some, with_top}
 use Rattle.w4_defs.specs.Effects.{Effect, Does, Lacks, local_get, local_set, local_tee, select, effect}
-use Rattle.w4_defs.specs.Evaluation.{Env, with_globals, branch, branch_if, branch_table, return, get_global, set_global}
+use Rattle.w4_defs.specs.Evaluation.{Env, with_globals, branch, branch_if, branch_table, return, get_global}
+use Rattle.w4_defs.specs.Evaluation.{set_global}
 use Rattle.w4_defs.specs.InstructionSoundness.{Suits}
 use Rattle.w4_defs.specs.RunLaws.{types_of}
 use Rattle.wasm_valid.proofs.TypedValues.{typed_at, types_set, same_kinds}
-use Rattle.wasm_valid.proofs.TypedLists.{OutcomeFits, global_values, on_i32_fits, where_some_fits, cond_fits, holds_fits, with_top_fits}
+use Rattle.wasm_valid.proofs.TypedLists.{OutcomeFits, global_values, on_i32_fits, where_some_fits, cond_fits}
+use Rattle.wasm_valid.proofs.TypedLists.{holds_fits, with_top_fits}
 use Rattle.wasm_valid.proofs.TypedCalls.{Matches}
 
 -- ---- effects

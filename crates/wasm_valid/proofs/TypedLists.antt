@@ -1,5 +1,7 @@
 -- What a typed list comes to, and how that passes through the ends of lists into one another.
-use Rattle.std.proofs.Common.{◌≡◌, ℕ, zero, suc, ◌<◌, ◌≤◌, ◌-◌, Bool, true, false, cond, nat_le, nat_lt, List, [], ◌∷◌, ◌++◌, length, map, take, drop, reverse, Option, Some, None, option_to_list, refl, sym, ap, ◌∙◌, subst}
+use Rattle.std.proofs.Common.{◌≡◌, ℕ, zero, suc, ◌<◌, ◌≤◌, ◌-◌, Bool, true, false, cond, nat_le, nat_lt, List}
+use Rattle.std.proofs.Common.{[], ◌∷◌, ◌++◌, length, map, take, drop, reverse, Option, Some, None}
+use Rattle.std.proofs.Common.{option_to_list, refl, sym, ap, ◌∙◌, subst}
 use Rattle.std.specs.Prelude.{slice_get}
 use Rattle.std.proofs.lemmas.List.{reverse-reverse}
 use Rattle.w4_defs.specs.declared.value.Val.{Val}
@@ -11,7 +13,8 @@ use Rattle.w4_defs.specs.Lookup.{global_types}
 use Rattle.w4_defs.specs.ValueTypes.{have_types, result_types}
 use Rattle.w4_defs.specs.Typing.{Context, with_label, body_context}
 use Rattle.w4_defs.specs.Outcome.{Store, Outcome, Falls, Branch, Returns, Trap, Spent, Stuck}
-use Rattle.w4_defs.specs.Control.{Next, on_i32, where_some, with_top, with_arguments, and_then, close, close_loop, leave}
+use Rattle.w4_defs.specs.Control.{Next, on_i32, where_some, with_top, with_arguments, and_then, close}
+use Rattle.w4_defs.specs.Control.{close_loop, leave}
 use Rattle.w4_defs.specs.Effects.{Effect, Does, Traps, Lacks}
 use Rattle.w4_defs.specs.Evaluation.{with_page, outcome_of_effect, outcome_after_units}
 use Rattle.w4_defs.specs.InstructionSoundness.{Suits}

@@ -1,5 +1,6 @@
 -- What the functions and the table of an accepted module name: typed bodies, and imports of their types.
-use Rattle.std.proofs.Common.{◌≡◌, ℕ, zero, suc, ◌+◌, ◌<◌, List, [], ◌∷◌, length, replicate, get_or, Option, Some, None, slice_set, refl, sym, ap, ◌∙◌, subst, arith}
+use Rattle.std.proofs.Common.{◌≡◌, ℕ, zero, suc, ◌+◌, ◌<◌, List, [], ◌∷◌, length, replicate, get_or, Option}
+use Rattle.std.proofs.Common.{Some, None, slice_set, refl, sym, ap, ◌∙◌, subst, arith}
 use Rattle.std.specs.Prelude.{slice_get, All}
 use Rattle.std.specs.List.{list_any}
 use Rattle.std.proofs.lemmas.Bool.{or_parts}
@@ -12,7 +13,8 @@ use Rattle.w4_defs.specs.Floats.{is_float, has_float, function_has_float}
 use Rattle.w4_defs.specs.Profile.{profile_refusal}
 use Rattle.w4_defs.specs.Typing.{HasType, body_context}
 use Rattle.w4_defs.specs.Validity.{IsElementSegment, IsValid}
-use Rattle.w4_defs.specs.Program.{own_function, own_callee, own_callees, callees, zeros, constant_of, put_functions, fill_table, empty_table, program}
+use Rattle.w4_defs.specs.Program.{own_function, own_callee, own_callees, callees, zeros, constant_of}
+use Rattle.w4_defs.specs.Program.{put_functions, fill_table, empty_table, program}
 use Rattle.w4_defs.specs.Outcome.{HostFunctions}
 use Rattle.w4_defs.specs.RunLaws.{types_of}
 use Rattle.w4_defs.specs.TypeSoundness.{AnswersByType}

@@ -1,5 +1,7 @@
 -- A typed list fits, one step over another: its first instruction, and the lists that follow from it.
-use Rattle.std.proofs.Common.{◌≡◌, ℕ, zero, suc, ◌<◌, Bool, true, false, cond, if◌then◌else◌, nat_eq, nat_lt, List, [], ◌∷◌, ◌++◌, length, reverse, Option, Some, None, option_and_then, option_to_list, refl, sym, ap, ◌∙◌, subst, arith}
+use Rattle.std.proofs.Common.{◌≡◌, ℕ, zero, suc, ◌<◌, Bool, true, false, cond, if◌then◌else◌, nat_eq, nat_lt}
+use Rattle.std.proofs.Common.{List, [], ◌∷◌, ◌++◌, length, reverse, Option, Some, None, option_and_then}
+use Rattle.std.proofs.Common.{option_to_list, refl, sym, ap, ◌∙◌, subst, arith}
 use Rattle.std.specs.Prelude.{slice_get}
 use Rattle.std.proofs.lemmas.Bool.{ltb-true}
 use Rattle.std.proofs.lemmas.List.{reverse-append, append-nil}
@@ -16,20 +18,26 @@ use Rattle.w4_defs.specs.Module.{WasmModule}
 use Rattle.w4_defs.specs.Lookup.{signature_of, global_types, tables_of, memories_of}
 use Rattle.w4_defs.specs.ValueTypes.{result_arity, result_types}
 use Rattle.w4_defs.specs.OperandTypes.{stack_type_if, gives, unary_type, basic_type}
-use Rattle.w4_defs.specs.Typing.{Context, with_label, HasType, OperationHasType, branches, calls, calls_indirectly, consumes, sets}
+use Rattle.w4_defs.specs.Typing.{Context, with_label, HasType, OperationHasType, branches, calls}
+use Rattle.w4_defs.specs.Typing.{calls_indirectly, consumes, sets}
 use Rattle.w4_defs.specs.Outcome.{Store, Stuck}
 use Rattle.w4_defs.specs.Program.{Prog}
 use Rattle.w4_defs.specs.Control.{close}
 use Rattle.w4_defs.specs.Effects.{Does, local_get, local_set, local_tee, select, effect}
-use Rattle.w4_defs.specs.Evaluation.{Env, Evaluator, inside, further_units, outcome_of_effect, call, simple, act, eval}
+use Rattle.w4_defs.specs.Evaluation.{Env, Evaluator, inside, further_units, outcome_of_effect, call, simple}
+use Rattle.w4_defs.specs.Evaluation.{act, eval}
 use Rattle.w4_defs.specs.RunLaws.{types_of}
 use Rattle.w4_defs.proofs.PlainSound.{plain_sound}
 use Rattle.w4_defs.proofs.Budgets.{Keeps, simple_most, body_most, eval_keeps}
 use Rattle.w4_defs.proofs.Unfolding.{eval_unfolds}
 use Rattle.wasm_valid.proofs.OperandTypeLaws.{some_and_then}
-use Rattle.wasm_valid.proofs.TypedLists.{OutcomeFits, global_values, on_i32_fits, where_some_fits, and_then_fits, close_fits, step_fits, settle_fits, settle_after_fits}
+use Rattle.wasm_valid.proofs.TypedLists.{OutcomeFits, global_values, on_i32_fits, where_some_fits}
+use Rattle.wasm_valid.proofs.TypedLists.{and_then_fits, close_fits, step_fits, settle_fits, settle_after_fits}
 use Rattle.wasm_valid.proofs.TypedCalls.{Linked, Matches, Evaluates, call_fits, call_indirect_fits}
-use Rattle.wasm_valid.proofs.TypedInstructions.{topmost_part, local_get_suits, local_set_suits, local_tee_suits, select_suits, drop_suits, branch_fits, branch_if_fits, branch_table_fits, return_fits, get_global_fits, set_global_fits}
+use Rattle.wasm_valid.proofs.TypedInstructions.{topmost_part, local_get_suits, local_set_suits}
+use Rattle.wasm_valid.proofs.TypedInstructions.{local_tee_suits, select_suits, drop_suits, branch_fits}
+use Rattle.wasm_valid.proofs.TypedInstructions.{branch_if_fits, branch_table_fits, return_fits}
+use Rattle.wasm_valid.proofs.TypedInstructions.{get_global_fits, set_global_fits}
 
 where_true : {A : Type 0} (b : Bool) (o : Option A) (x : A) → cond b o None ≡ Some x
     → (b ≡ true) × (o ≡ Some x)

@@ -8,7 +8,8 @@ use Rattle.w4_defs.specs.Floats.{has_float, module_has_float}
 use Rattle.w4_defs.specs.Module.{Signature, Function, WasmModule}
 use Rattle.w4_defs.specs.Lookup.{global_types}
 use Rattle.w4_defs.specs.Typing.{Context, HasType, IsInt, AreInt, body_context, BodyHasType}
-use Rattle.w4_defs.specs.AbstractStack.{OperandType, AbstractStack, stack_after, abstract_stack, stands, stands_in}
+use Rattle.w4_defs.specs.AbstractStack.{OperandType, AbstractStack, stack_after, abstract_stack, stands}
+use Rattle.w4_defs.specs.AbstractStack.{stands_in}
 
 -- no f32 or f64 stands in the context
 pub record HasNoFloat (c : Context) : Type 0 where

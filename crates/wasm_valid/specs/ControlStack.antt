@@ -1,6 +1,8 @@
 -- The open blocks of a pass over a body: how each part of a step changes them, and how the control stack
 -- stands for them (as in the Core Specification's appendix on validation).
-use Rattle.std.specs.Prelude.{◌≡◌, ℕ, ◌-◌, ◌≤◌, Bool, true, false, cond, if◌then◌else◌, slice_get, List, [], ◌∷◌, length, take, drop, reverse, Option, Some, None, option_map, option_and_then}
+use Rattle.std.specs.Prelude.{◌≡◌, ℕ, ◌-◌, ◌≤◌, Bool, true, false, cond, if◌then◌else◌, slice_get, List, []}
+use Rattle.std.specs.Prelude.{◌∷◌, length, take, drop, reverse, Option, Some, None, option_map}
+use Rattle.std.specs.Prelude.{option_and_then}
 use Rattle.std.specs.List.{list_all}
 use Rattle.w4_defs.specs.declared.value.ValType.{ValType}
 use Rattle.w4_defs.specs.declared.value.ValType.TheVariants.{I32}
@@ -8,8 +10,10 @@ use Rattle.w4_defs.specs.declared.operation.Op.{Op}
 use Rattle.w4_defs.specs.declared.operation.Op.TheVariants.{BrIf, CallIndirect}
 use Rattle.w4_defs.specs.OperandTypes.{StackType}
 use Rattle.w4_defs.specs.Typing.{Context, only_type}
-use Rattle.w4_defs.specs.AbstractStack.{OperandType, AbstractStack, topmost, with_operands, stands, taken, passed, is_label, step}
-use Rattle.wasm_valid.specs.Pass.{OpenBlock, opened, with_stack, context, label_types, chosen_list, closed, blocks_after_mark}
+use Rattle.w4_defs.specs.AbstractStack.{OperandType, AbstractStack, topmost, with_operands, stands, taken}
+use Rattle.w4_defs.specs.AbstractStack.{passed, is_label, step}
+use Rattle.wasm_valid.specs.Pass.{OpenBlock, opened, with_stack, context, label_types, chosen_list, closed}
+use Rattle.wasm_valid.specs.Pass.{blocks_after_mark}
 use Rattle.wasm_valid.specs.declared.control_stack.ControlFrame.{ControlFrame}
 
 -- the innermost abstract stack is replaced by what the function gives, if it gives one

@@ -4,7 +4,8 @@ use Rattle.w4_defs.specs.declared.module.ImportKind.{ImportKind}
 use Rattle.w4_defs.specs.declared.module.ImportKind.TheVariants.{Func, Table, Memory, Global}
 use Rattle.w4_defs.specs.declared.module.ExportKind.{ExportKind}
 use Rattle.w4_defs.specs.declared.module.ExportKind.TheVariants as kind
-use Rattle.w4_defs.specs.Lookup.{function_indices, tables_of, memories_of, global_types, imported_function, imported_table, imported_memory, imported_global}
+use Rattle.w4_defs.specs.Lookup.{function_indices, tables_of, memories_of, global_types, imported_function}
+use Rattle.w4_defs.specs.Lookup.{imported_table, imported_memory, imported_global}
 use Rattle.w4_defs.specs.Module.{Imported, WasmModule}
 use Rattle.wasm_valid.specs.declared.counts.Counts.{Counts}
 

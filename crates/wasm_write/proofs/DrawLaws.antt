@@ -1,10 +1,12 @@
 -- Draws that are counted from a later number.
-use Rattle.std.proofs.Common.{◌≡◌, ℕ, zero, suc, ◌+◌, ◌*◌, ◌/◌, ◌%◌, ◌^◌, List, [], ◌∷◌, ◌++◌, map, refl, ap, sym, ◌∙◌, arith}
+use Rattle.std.proofs.Common.{◌≡◌, ℕ, zero, suc, ◌+◌, ◌*◌, ◌/◌, ◌%◌, ◌^◌, List, [], ◌∷◌, ◌++◌, map, refl, ap}
+use Rattle.std.proofs.Common.{sym, ◌∙◌, arith}
 use Rattle.std.specs.List.{range_with_len}
 use Rattle.std.proofs.lemmas.List.FromFn.{map-range_with_len_more}
 use Rattle.w4_defs.specs.declared.console.Input.{Input}
 use Rattle.w4_defs.specs.Module.{Function}
-use Rattle.w4_defs.specs.Generator.{seed_after, draw, small_functions, small_function, made_frames, made_input, made_inputs}
+use Rattle.w4_defs.specs.Generator.{seed_after, draw, small_functions, small_function, made_frames}
+use Rattle.w4_defs.specs.Generator.{made_input, made_inputs}
 use Rattle.wasm_write.specs.Draws.{function_of_draws, input_of_draw, inputs_from}
 
 seed_after-add : (n k j : ℕ) → seed_after (seed_after n k) j ≡ seed_after n (k + j)

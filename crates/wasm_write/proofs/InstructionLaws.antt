@@ -1,5 +1,6 @@
 -- The bytes of instructions and of lists of them encode them.
-use Rattle.std.proofs.Common.{◌≡◌, ℕ, ◌-◌, ◌^◌, ◌<◌, ◌≤◌, List, [], ◌∷◌, ◌++◌, length, Option, Some, None, refl, ap, sym, subst, ◌∙◌, append_assoc, append-nil, length-append, arith}
+use Rattle.std.proofs.Common.{◌≡◌, ℕ, ◌-◌, ◌^◌, ◌<◌, ◌≤◌, List, [], ◌∷◌, ◌++◌, length, Option, Some, None}
+use Rattle.std.proofs.Common.{refl, ap, sym, subst, ◌∙◌, append_assoc, append-nil, length-append, arith}
 use Rattle.std.specs.Prelude.{flat_map, All}
 use Rattle.std.specs.List.{AllByRecursion}
 use Rattle.std.proofs.lemmas.List.Elements.{All-from_recursion, recursion_from_All}
@@ -15,7 +16,8 @@ use Rattle.w4_defs.specs.BinaryInstruction.{table_labels, with_labels, instructi
 use Rattle.w4_defs.specs.Tree.{Expr, done, plain, block, loop, if_then, if_else}
 use Rattle.w4_defs.specs.EncodeNumber.{unsigned_bytes}
 use Rattle.w4_defs.specs.EncodeType.{vector_bytes, value_type_bytes, block_type_code}
-use Rattle.w4_defs.specs.EncodeInstruction.{labels_bytes, labelled_bytes, instruction_bytes, list_bytes, expression_bytes}
+use Rattle.w4_defs.specs.EncodeInstruction.{labels_bytes, labelled_bytes, instruction_bytes, list_bytes}
+use Rattle.w4_defs.specs.EncodeInstruction.{expression_bytes}
 use Rattle.wasm_write.specs.Fits.{IndexFits, LabelledFits, ExpressionFits}
 use Rattle.wasm_write.proofs.NumberLaws.{unsigned_encodes}
 use Rattle.wasm_write.proofs.CombineLaws.{two_in_turn, after_byte, vector_encodes}

@@ -1,5 +1,6 @@
 -- The bytes of types and of the items of sections encode them.
-use Rattle.std.proofs.Common.{ℕ, ◌^◌, ◌<◌, Bool, true, false, List, [], ◌∷◌, length, Option, Some, None, refl, arith}
+use Rattle.std.proofs.Common.{ℕ, ◌^◌, ◌<◌, Bool, true, false, List, [], ◌∷◌, length, Option, Some, None, refl}
+use Rattle.std.proofs.Common.{arith}
 use Rattle.std.specs.Prelude.{IfSome}
 use Rattle.std.proofs.lemmas.List.Elements.{All-from_recursion}
 use Rattle.std.specs.List.{AllByRecursion}
@@ -13,17 +14,25 @@ use Rattle.w4_defs.specs.declared.module.ExportKind.TheVariants as exports
 use Rattle.w4_defs.specs.declared.module.Locals.{Locals}
 use Rattle.w4_defs.specs.BinaryText.{◌then◌, itself}
 use Rattle.w4_defs.specs.BinaryNumber.{unsigned}
-use Rattle.w4_defs.specs.BinaryType.{vector, bytes, utf8, name, value_type, func_type, sizes, limits, table_type, mutability, global_type}
+use Rattle.w4_defs.specs.BinaryType.{vector, bytes, utf8, name, value_type, func_type, sizes, limits}
+use Rattle.w4_defs.specs.BinaryType.{table_type, mutability, global_type}
 use Rattle.w4_defs.specs.BinaryInstruction.{expression}
-use Rattle.w4_defs.specs.BinaryModule.{import_kind, imported, global, export_kind, exported, element, locals_run, function, body, segment}
+use Rattle.w4_defs.specs.BinaryModule.{import_kind, imported, global, export_kind, exported, element}
+use Rattle.w4_defs.specs.BinaryModule.{locals_run, function, body, segment}
 use Rattle.w4_defs.specs.Module.{Signature, Imported, Exported, Global, ElementSegment, DataSegment, Function}
 use Rattle.w4_defs.specs.EncodeNumber.{unsigned_bytes}
-use Rattle.w4_defs.specs.EncodeType.{vector_bytes, sized_bytes, value_type_bytes, func_type_bytes, sizes_bytes, limits_bytes, table_type_bytes, mutability_code, global_type_bytes}
+use Rattle.w4_defs.specs.EncodeType.{vector_bytes, sized_bytes, value_type_bytes, func_type_bytes}
+use Rattle.w4_defs.specs.EncodeType.{sizes_bytes, limits_bytes, table_type_bytes, mutability_code}
+use Rattle.w4_defs.specs.EncodeType.{global_type_bytes}
 use Rattle.w4_defs.specs.EncodeInstruction.{expression_bytes}
-use Rattle.w4_defs.specs.EncodeModule.{import_kind_bytes, imported_bytes, global_bytes, export_kind_code, exported_bytes, element_bytes, locals_bytes, function_bytes, body_bytes, data_segment_bytes}
-use Rattle.wasm_write.specs.Fits.{IndexFits, VectorFits, NameFits, TypeFits, LimitsFit, ImportKindFits, ImportFits, GlobalFits, ExportFits, ElementFits, FunctionFits, SegmentFits}
+use Rattle.w4_defs.specs.EncodeModule.{import_kind_bytes, imported_bytes, global_bytes, export_kind_code}
+use Rattle.w4_defs.specs.EncodeModule.{exported_bytes, element_bytes, locals_bytes, function_bytes}
+use Rattle.w4_defs.specs.EncodeModule.{body_bytes, data_segment_bytes}
+use Rattle.wasm_write.specs.Fits.{IndexFits, VectorFits, NameFits, TypeFits, LimitsFit, ImportKindFits}
+use Rattle.wasm_write.specs.Fits.{ImportFits, GlobalFits, ExportFits, ElementFits, FunctionFits, SegmentFits}
 use Rattle.wasm_write.proofs.NumberLaws.{unsigned_encodes}
-use Rattle.wasm_write.proofs.CombineLaws.{two_in_turn, three_in_turn, after_byte, vector_encodes, sized_encodes}
+use Rattle.wasm_write.proofs.CombineLaws.{two_in_turn, three_in_turn, after_byte, vector_encodes}
+use Rattle.wasm_write.proofs.CombineLaws.{sized_encodes}
 use Rattle.wasm_write.proofs.InstructionLaws.{value_type_encodes, expression_encodes}
 
 -- ---- names and types

@@ -1,6 +1,8 @@
 -- The binary format can encode a made module, and its encoding has at most 65,536 bytes: it is a cart.
 use lib.Utf8.{encode}
-use Rattle.std.proofs.Common.{◌≡◌, refl, ℕ, zero, suc, ◌+◌, ◌*◌, ◌%◌, ◌^◌, ◌<◌, ◌≤◌, List, [], ◌∷◌, ◌++◌, length, map, replicate, Some, ap, sym, subst, arith, append_assoc, length-append}
+use Rattle.std.proofs.Common.{◌≡◌, refl, ℕ, zero, suc, ◌+◌, ◌*◌, ◌%◌, ◌^◌, ◌<◌, ◌≤◌, List, [], ◌∷◌, ◌++◌}
+use Rattle.std.proofs.Common.{length, map, replicate, Some, ap, sym, subst, arith, append_assoc}
+use Rattle.std.proofs.Common.{length-append}
 use Rattle.std.specs.Prelude.{flat_map, IsUtf8, codes}
 use Rattle.std.specs.List.{range_with_len, AllByRecursion}
 use Rattle.std.proofs.lemmas.List.Elements.{All-from_recursion}
@@ -12,13 +14,18 @@ use Rattle.w4_defs.specs.BinaryNumber.{LastUnsigned, LastSigned}
 use Rattle.w4_defs.specs.BinaryModule.{preamble}
 use Rattle.w4_defs.specs.Tree.{Expr, mark, sequence}
 use Rattle.w4_defs.specs.Module.{Function}
-use Rattle.w4_defs.specs.Generator.{draw, operations, chosen, small_function, step_of, byte_at, update_function, made_types, made_imports, made_module}
+use Rattle.w4_defs.specs.Generator.{draw, operations, chosen, small_function, step_of, byte_at}
+use Rattle.w4_defs.specs.Generator.{update_function, made_types, made_imports, made_module}
 use Rattle.w4_defs.proofs.GeneratorLaws.{draws_are_small, made_modules_are_accepted}
 use Rattle.w4_defs.specs.EncodeNumber.{unsigned_bytes, signed_bytes}
 use Rattle.w4_defs.specs.EncodeType.{vector_bytes, func_type_bytes, limits_bytes, table_type_bytes}
 use Rattle.w4_defs.specs.EncodeInstruction.{instruction_bytes, list_bytes, expression_bytes}
-use Rattle.w4_defs.specs.EncodeModule.{imported_bytes, global_bytes, exported_bytes, element_bytes, data_segment_bytes, locals_bytes, function_bytes, body_bytes, section_bytes, first_sections, last_sections, module_bytes}
-use Rattle.wasm_write.specs.Fits.{IndexFits, NameFits, LabelledFits, ExpressionFits, SectionFits, TypeFits, LimitsFit, ImportFits, GlobalFits, ExportFits, ElementFits, FunctionFits, SegmentFits, ModuleFits}
+use Rattle.w4_defs.specs.EncodeModule.{imported_bytes, global_bytes, exported_bytes, element_bytes}
+use Rattle.w4_defs.specs.EncodeModule.{data_segment_bytes, locals_bytes, function_bytes, body_bytes}
+use Rattle.w4_defs.specs.EncodeModule.{section_bytes, first_sections, last_sections, module_bytes}
+use Rattle.wasm_write.specs.Fits.{IndexFits, NameFits, LabelledFits, ExpressionFits, SectionFits, TypeFits}
+use Rattle.wasm_write.specs.Fits.{LimitsFit, ImportFits, GlobalFits, ExportFits, ElementFits, FunctionFits}
+use Rattle.wasm_write.specs.Fits.{SegmentFits, ModuleFits}
 use Rattle.wasm_write.specs.Laws.{MadeModulesAreCarts}
 use Rattle.wasm_write.proofs.NumberLaws.{unsigned_encodes, signed_encodes}
 use Rattle.wasm_write.proofs.ModuleLaws.{leb_is_short, module_encodes}

@@ -1,20 +1,27 @@
 -- The bytes of a module encode it.
-use Rattle.std.proofs.Common.{◌≡◌, ℕ, ◌+◌, ◌-◌, ◌*◌, ◌≤◌, inl, inr, List, [], ◌∷◌, ◌++◌, length, Option, Some, None, refl, ap, sym, subst, ◌∙◌, append_assoc, append-nil, arith}
+use Rattle.std.proofs.Common.{◌≡◌, ℕ, ◌+◌, ◌-◌, ◌*◌, ◌≤◌, inl, inr, List, [], ◌∷◌, ◌++◌, length, Option, Some}
+use Rattle.std.proofs.Common.{None, refl, ap, sym, subst, ◌∙◌, append_assoc, append-nil, arith}
 use Rattle.std.specs.Prelude.{flat_map, IfSome, option_map}
 use Rattle.w4_defs.specs.BinaryText.{Texts}
 use Rattle.w4_defs.specs.BinaryNumber.{leb, LastUnsigned, unsigned}
 use Rattle.w4_defs.specs.BinaryType.{func_type, limits, table_type}
 use Rattle.w4_defs.specs.BinarySection.{contents, Part, Alone, Counted}
-use Rattle.w4_defs.specs.BinaryModule.{preamble, imported, global, exported, element, body, segment, Collects, SpellsModule}
+use Rattle.w4_defs.specs.BinaryModule.{preamble, imported, global, exported, element, body, segment, Collects}
+use Rattle.w4_defs.specs.BinaryModule.{SpellsModule}
 use Rattle.w4_defs.specs.Module.{WasmModule}
 use Rattle.w4_defs.specs.EncodeNumber.{unsigned_bytes}
 use Rattle.w4_defs.specs.EncodeType.{func_type_bytes, limits_bytes, table_type_bytes}
-use Rattle.w4_defs.specs.EncodeModule.{imported_bytes, global_bytes, exported_bytes, element_bytes, body_bytes, data_segment_bytes, part, section_bytes, first_sections, last_sections, module_bytes}
-use Rattle.wasm_write.specs.Fits.{IndexFits, SectionFits, TypeFits, LimitsFit, ImportFits, GlobalFits, ExportFits, ElementFits, FunctionFits, SegmentFits, ModuleFits}
+use Rattle.w4_defs.specs.EncodeModule.{imported_bytes, global_bytes, exported_bytes, element_bytes}
+use Rattle.w4_defs.specs.EncodeModule.{body_bytes, data_segment_bytes, part, section_bytes, first_sections}
+use Rattle.w4_defs.specs.EncodeModule.{last_sections, module_bytes}
+use Rattle.wasm_write.specs.Fits.{IndexFits, SectionFits, TypeFits, LimitsFit, ImportFits, GlobalFits}
+use Rattle.wasm_write.specs.Fits.{ExportFits, ElementFits, FunctionFits, SegmentFits, ModuleFits}
 use Rattle.wasm_write.specs.Sections.{slots, present, held, IdsRise}
 use Rattle.wasm_write.proofs.NumberLaws.{unsigned_encodes}
 use Rattle.wasm_write.proofs.CombineLaws.{vector_encodes}
-use Rattle.wasm_write.proofs.ItemLaws.{func_type_encodes, limits_encode, table_type_encodes, import_encodes, global_encodes, export_encodes, element_encodes, body_encodes, segment_encodes}
+use Rattle.wasm_write.proofs.ItemLaws.{func_type_encodes, limits_encode, table_type_encodes, import_encodes}
+use Rattle.wasm_write.proofs.ItemLaws.{global_encodes, export_encodes, element_encodes, body_encodes}
+use Rattle.wasm_write.proofs.ItemLaws.{segment_encodes}
 use Rattle.wasm_write.proofs.SectionLaws.{in_order, contents_present, SlotsFit, slot_bytes, sections_encode}
 
 -- ---- sizes

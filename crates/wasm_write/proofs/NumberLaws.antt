@@ -1,10 +1,13 @@
 -- The shortest encodings of numbers: a byte at a time, and that they encode the number.
-use Rattle.std.proofs.Common.{◌≡◌, ℕ, zero, suc, ◌+◌, ◌-◌, ◌*◌, ◌/◌, ◌%◌, ◌^◌, ◌<◌, ◌≤◌, Bool, true, false, nat_lt, nat_le, inl, inr, List, [], ◌∷◌, ◌++◌, ◌⊎◌, append_assoc, refl, ap, sym, ◌∙◌, arith}
+use Rattle.std.proofs.Common.{◌≡◌, ℕ, zero, suc, ◌+◌, ◌-◌, ◌*◌, ◌/◌, ◌%◌, ◌^◌, ◌<◌, ◌≤◌, Bool, true, false}
+use Rattle.std.proofs.Common.{nat_lt, nat_le, inl, inr, List, [], ◌∷◌, ◌++◌, ◌⊎◌, append_assoc, refl, ap, sym}
+use Rattle.std.proofs.Common.{◌∙◌, arith}
 use Rattle.std.proofs.lemmas.Bool.{cases_lt, lt-ltb, ltb-true, le-leb, leb-true, le-ltb}
 use Rattle.std.proofs.lemmas.Nat.{pow-add}
 use Rattle.std.proofs.Math.Pow.{pow_mono}
 use Rattle.w4_defs.specs.BinaryNumber.{LastSigned, unsigned, signed}
-use Rattle.w4_defs.specs.EncodeNumber.{unsigned_in, unsigned_bytes, is_last, last_byte, signed_in, signed_bytes}
+use Rattle.w4_defs.specs.EncodeNumber.{unsigned_in, unsigned_bytes, is_last, last_byte, signed_in}
+use Rattle.w4_defs.specs.EncodeNumber.{signed_bytes}
 
 -- ---- unsigned numbers
 

@@ -1,12 +1,15 @@
 -- What is still to be written of open lists.
-use Rattle.std.proofs.Common.{◌≡◌, ℕ, ◌<◌, ◌≤◌, List, [], ◌∷◌, ◌++◌, length, get_or, take, drop, ◌-◌, ap, sym, refl, ◌∙◌, append_assoc, append-nil, length-append, arith}
+use Rattle.std.proofs.Common.{◌≡◌, ℕ, ◌<◌, ◌≤◌, List, [], ◌∷◌, ◌++◌, length, get_or, take, drop, ◌-◌, ap, sym}
+use Rattle.std.proofs.Common.{refl, ◌∙◌, append_assoc, append-nil, length-append, arith}
 use Rattle.std.proofs.lemmas.List.{take_all}
 use Rattle.w4_defs.specs.declared.instruction.Instr.{Instr}
 use Rattle.w4_defs.specs.Tree.{Expr}
 use Rattle.w4_defs.specs.View.{before, expression_of}
 use Rattle.wasm_write.specs.declared.expression.OpenList.{OpenList}
 use Rattle.wasm_write.specs.declared.instruction_table.Encoding.{Encoding}
-use Rattle.wasm_write.specs.declared.instruction_table.Encoding.TheVariants.{Code, One, Two, Three, Signed32, Signed64, Bits32, Bits64, Labels, Choice}
+use Rattle.wasm_write.specs.declared.instruction_table.Encoding.TheVariants.{Code, One, Two, Three, Signed32}
+use Rattle.wasm_write.specs.declared.instruction_table.Encoding.TheVariants.{Signed64, Bits32, Bits64, Labels}
+use Rattle.wasm_write.specs.declared.instruction_table.Encoding.TheVariants.{Choice}
 use Rattle.wasm_write.specs.declared.instruction_table.Encoding.TheVariants as encoding
 use Rattle.w4_defs.specs.EncodeInstruction.{list_bytes}
 use Rattle.wasm_write.specs.EncodingForms.{head_bytes}

@@ -4,19 +4,25 @@ use Rattle.std.specs.Int.{w32, w64, to_le_bytes}
 use Rattle.std.proofs.lemmas.Nat.{from_le_bytes-to_le_bytes_4, from_le_bytes-to_le_bytes_8}
 use Rattle.w4_defs.specs.declared.operation.Op.{Op}
 use Rattle.w4_defs.specs.declared.operation.Op.TheVariants as op
-use Rattle.w4_defs.specs.declared.operation.Op.TheVariants.{Block, Loop, If, Else, End, BrTable, Unreachable, Nop, Br, BrIf, Return, Call, CallIndirect, Drop, Select, LocalGet, LocalSet, LocalTee, GlobalGet, GlobalSet}
+use Rattle.w4_defs.specs.declared.operation.Op.TheVariants.{Block, Loop, If, Else, End, BrTable, Unreachable}
+use Rattle.w4_defs.specs.declared.operation.Op.TheVariants.{Nop, Br, BrIf, Return, Call, CallIndirect, Drop}
+use Rattle.w4_defs.specs.declared.operation.Op.TheVariants.{Select, LocalGet, LocalSet, LocalTee, GlobalGet}
+use Rattle.w4_defs.specs.declared.operation.Op.TheVariants.{GlobalSet}
 use Rattle.w4_defs.specs.declared.basic.Basic.{Basic}
-use Rattle.w4_defs.specs.declared.basic.Basic.TheVariants.{F32Const, F64Const, FloatMemory, FloatPlain, FloatCut}
+use Rattle.w4_defs.specs.declared.basic.Basic.TheVariants.{F32Const, F64Const, FloatMemory, FloatPlain}
+use Rattle.w4_defs.specs.declared.basic.Basic.TheVariants.{FloatCut}
 use Rattle.w4_defs.specs.declared.instruction_table.IntegerType.{IntegerType}
 use Rattle.w4_defs.specs.declared.instruction_table.IntegerType.TheVariants.{I32, I64}
 use Rattle.w4_defs.specs.declared.instruction_table.Row.{Row}
-use Rattle.w4_defs.specs.declared.instruction_table.Row.TheVariants.{Const, Load, Store, MemorySize, MemoryGrow, MemoryCopy, MemoryFill}
+use Rattle.w4_defs.specs.declared.instruction_table.Row.TheVariants.{Const, Load, Store, MemorySize}
+use Rattle.w4_defs.specs.declared.instruction_table.Row.TheVariants.{MemoryGrow, MemoryCopy, MemoryFill}
 use Rattle.w4_defs.specs.InstructionTable.{opcode, row}
 use Rattle.w4_defs.specs.BinaryNumber.{unsigned, little_endian}
 use Rattle.w4_defs.specs.BinaryBasic.{immediate, number, shaped, basic}
 use Rattle.w4_defs.specs.BinaryInstruction.{operation}
 use Rattle.w4_defs.specs.EncodeNumber.{unsigned_bytes, signed_bytes}
-use Rattle.w4_defs.specs.EncodeInstruction.{immediate_bytes, number_bytes, shaped_bytes, basic_bytes, operation_bytes}
+use Rattle.w4_defs.specs.EncodeInstruction.{immediate_bytes, number_bytes, shaped_bytes, basic_bytes}
+use Rattle.w4_defs.specs.EncodeInstruction.{operation_bytes}
 use Rattle.wasm_write.specs.Fits.{ImmediateFits, RowFits, BasicFits, OperationFits}
 use Rattle.wasm_write.proofs.NumberLaws.{unsigned_encodes, signed_encodes}
 use Rattle.wasm_write.proofs.CombineLaws.{two_in_turn}

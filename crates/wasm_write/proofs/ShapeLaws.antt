@@ -1,7 +1,8 @@
 -- An instruction without floats is encoded by its code and its row.
 use Rattle.std.proofs.Common.{◌≡◌, ℕ, refl}
 use Rattle.w4_defs.specs.declared.basic.Basic.{Basic}
-use Rattle.w4_defs.specs.declared.basic.Basic.TheVariants.{F32Const, F64Const, FloatMemory, FloatPlain, FloatCut}
+use Rattle.w4_defs.specs.declared.basic.Basic.TheVariants.{F32Const, F64Const, FloatMemory, FloatPlain}
+use Rattle.w4_defs.specs.declared.basic.Basic.TheVariants.{FloatCut}
 use Rattle.w4_defs.specs.InstructionTable.{opcode, row}
 use Rattle.w4_defs.specs.EncodeInstruction.{shaped_bytes, basic_bytes}
 

@@ -1,10 +1,13 @@
 -- No encoding of a number has fewer bytes than the one that is written.
-use Rattle.std.proofs.Common.{◌≡◌, ℕ, ◌+◌, ◌-◌, ◌*◌, ◌/◌, ◌^◌, ◌<◌, ◌≤◌, true, inl, inr, List, [], ◌∷◌, length, ap, ◌∙◌, arith}
+use Rattle.std.proofs.Common.{◌≡◌, ℕ, ◌+◌, ◌-◌, ◌*◌, ◌/◌, ◌^◌, ◌<◌, ◌≤◌, true, inl, inr, List, [], ◌∷◌}
+use Rattle.std.proofs.Common.{length, ap, ◌∙◌, arith}
 use Rattle.std.proofs.lemmas.Bool.{cases_lt, lt-ltb, le-leb}
 use Rattle.w4_defs.specs.BinaryNumber.{LastSigned, unsigned, signed}
 use Rattle.w4_defs.specs.EncodeNumber.{unsigned_bytes, is_last, signed_bytes}
 use Rattle.wasm_write.specs.Laws.{AreBytes, UnsignedAreShortest, SignedAreShortest}
-use Rattle.wasm_write.proofs.NumberLaws.{bool_cases, is_last-low, is_last-high, rest_fits, unsigned-last, unsigned-more, unsigned_encodes, signed-last, signed-more, signed_encodes}
+use Rattle.wasm_write.proofs.NumberLaws.{bool_cases, is_last-low, is_last-high, rest_fits, unsigned-last}
+use Rattle.wasm_write.proofs.NumberLaws.{unsigned-more, unsigned_encodes, signed-last, signed-more}
+use Rattle.wasm_write.proofs.NumberLaws.{signed_encodes}
 
 unsigned_short : (w n : ℕ) (text : List ℕ) → AreBytes text → unsigned w n text
     → length (unsigned_bytes n) ≤ length text

@@ -7,7 +7,9 @@ use Rattle.w4_defs.specs.declared.instruction_table.Row.TheVariants.{Const}
 use Rattle.w4_defs.specs.Tree.{Expr}
 use Rattle.w4_defs.specs.View.{before, expression_of}
 use Rattle.wasm_write.specs.declared.instruction_table.Encoding.{Encoding}
-use Rattle.wasm_write.specs.declared.instruction_table.Encoding.TheVariants.{Code, One, Two, Three, Signed32, Signed64, Bits32, Bits64, Labels, Choice}
+use Rattle.wasm_write.specs.declared.instruction_table.Encoding.TheVariants.{Code, One, Two, Three, Signed32}
+use Rattle.wasm_write.specs.declared.instruction_table.Encoding.TheVariants.{Signed64, Bits32, Bits64, Labels}
+use Rattle.wasm_write.specs.declared.instruction_table.Encoding.TheVariants.{Choice}
 use Rattle.wasm_write.specs.declared.instruction_table.Encoding.TheVariants as encoding
 use Rattle.w4_defs.specs.EncodeNumber.{unsigned_bytes, signed_bytes}
 use Rattle.w4_defs.specs.EncodeType.{block_type_code}

@@ -6,9 +6,12 @@ use Rattle.std.specs.Prelude.{◌≡◌, ℕ, ◌^◌, ◌<◌, ◌≤◌, List,
 use Rattle.w4_defs.specs.declared.value.Limits.{Limits}
 use Rattle.w4_defs.specs.declared.operation.Op.{Op}
 use Rattle.w4_defs.specs.declared.operation.Op.TheVariants as op
-use Rattle.w4_defs.specs.declared.operation.Op.TheVariants.{Block, Loop, If, Else, End, BrTable, Br, BrIf, Call, CallIndirect, LocalGet, LocalSet, LocalTee, GlobalGet, GlobalSet}
+use Rattle.w4_defs.specs.declared.operation.Op.TheVariants.{Block, Loop, If, Else, End, BrTable, Br, BrIf}
+use Rattle.w4_defs.specs.declared.operation.Op.TheVariants.{Call, CallIndirect, LocalGet, LocalSet, LocalTee}
+use Rattle.w4_defs.specs.declared.operation.Op.TheVariants.{GlobalGet, GlobalSet}
 use Rattle.w4_defs.specs.declared.basic.Basic.{Basic}
-use Rattle.w4_defs.specs.declared.basic.Basic.TheVariants.{F32Const, F64Const, FloatMemory, FloatPlain, FloatCut}
+use Rattle.w4_defs.specs.declared.basic.Basic.TheVariants.{F32Const, F64Const, FloatMemory, FloatPlain}
+use Rattle.w4_defs.specs.declared.basic.Basic.TheVariants.{FloatCut}
 use Rattle.w4_defs.specs.declared.instruction_table.IntegerType.TheVariants.{I32, I64}
 use Rattle.w4_defs.specs.declared.instruction_table.Row.{Row}
 use Rattle.w4_defs.specs.declared.instruction_table.Row.TheVariants.{Const, Load, Store}
@@ -17,11 +20,13 @@ use Rattle.w4_defs.specs.declared.module.ImportKind.TheVariants as imports
 use Rattle.w4_defs.specs.BinaryBasic.{IsFloatCode, IsFloatAccess}
 use Rattle.w4_defs.specs.InstructionTable.{row}
 use Rattle.w4_defs.specs.Lookup.{local_count}
-use Rattle.w4_defs.specs.Module.{Signature, Imported, Exported, Global, ElementSegment, DataSegment, Function, WasmModule}
+use Rattle.w4_defs.specs.Module.{Signature, Imported, Exported, Global, ElementSegment, DataSegment, Function}
+use Rattle.w4_defs.specs.Module.{WasmModule}
 use Rattle.w4_defs.specs.Tree.{Expr, done, plain, block, loop, if_then, if_else}
 use Rattle.w4_defs.specs.EncodeNumber.{unsigned_bytes}
 use Rattle.w4_defs.specs.EncodeType.{vector_bytes, func_type_bytes, limits_bytes, table_type_bytes}
-use Rattle.w4_defs.specs.EncodeModule.{imported_bytes, global_bytes, exported_bytes, element_bytes, function_bytes, body_bytes, data_segment_bytes}
+use Rattle.w4_defs.specs.EncodeModule.{imported_bytes, global_bytes, exported_bytes, element_bytes}
+use Rattle.w4_defs.specs.EncodeModule.{function_bytes, body_bytes, data_segment_bytes}
 
 -- an index, a count or a size
 abbrev pub IndexFits : ℕ → Type 0

@@ -4,7 +4,8 @@ use Rattle.w4_defs.specs.BinarySection.{Section}
 use Rattle.w4_defs.specs.Module.{WasmModule}
 use Rattle.w4_defs.specs.EncodeNumber.{unsigned_bytes}
 use Rattle.w4_defs.specs.EncodeType.{func_type_bytes, limits_bytes, table_type_bytes}
-use Rattle.w4_defs.specs.EncodeModule.{imported_bytes, global_bytes, exported_bytes, element_bytes, body_bytes, data_segment_bytes, part}
+use Rattle.w4_defs.specs.EncodeModule.{imported_bytes, global_bytes, exported_bytes, element_bytes}
+use Rattle.w4_defs.specs.EncodeModule.{body_bytes, data_segment_bytes, part}
 
 -- an id, and the contents where there are any
 abbrev pub Slot : Type 0

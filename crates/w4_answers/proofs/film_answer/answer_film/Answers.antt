@@ -12,7 +12,8 @@ use Rattle.w4_editor.proofs.EditorPlaceLaws.{same_recording}
 use Rattle.w4_answers.proofs.WritingLaws.{out_none, there_is}
 use Rattle.w4_answers.proofs.ScriptAnswerLaws.{on_ok}
 use Rattle.w4_answers.proofs.FilmAnswerLaws.{film_shown, film_refused, film_past, film_of_none}
-use Rattle.w4_answers.proofs.DeskSessionLaws.{appends_nothing, only_shows, refused_place, shows_none, told, answered_on}
+use Rattle.w4_answers.proofs.DeskSessionLaws.{appends_nothing, only_shows, refused_place, shows_none, told}
+use Rattle.w4_answers.proofs.DeskSessionLaws.{answered_on}
 use Rattle.w4_answers.proofs.film_answer.answer_film.Goals as goal
 
 pub returns-then-to-last_place-clause-answered : goal.returns-then-to-last_place-clause-answered
@@ -68,7 +69,8 @@ returns-in-Err-NoFrame-clause-answered g c =
     refused)
     (on_ok c.refuse-in-Err-NoFrame.result (only_shows old new c.in-Err-NoFrame.ensures.keeps.recording))
     (same_recording old new c.in-Err-NoFrame.ensures.keeps.recording)
-    (there_is (λ out. Written before after c.refuse-in-Err-NoFrame.result out) (Some (g.S.Shape.form no_frame))
+    (there_is (λ out. Written before after c.refuse-in-Err-NoFrame.result out)
+    (Some (g.S.Shape.form no_frame))
     (g.S.Shape.form no_frame) refl
     c.refuse-in-Err-NoFrame.ensures.out)
 

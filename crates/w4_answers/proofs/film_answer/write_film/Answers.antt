@@ -3,7 +3,8 @@ use Rattle.std.proofs.lemmas.Result.{err_from_is_err_and}
 use Rattle.w4_defs.specs.Image.{image}
 use Rattle.w4_answers.specs.Writing.{AppendsOut, StopsWriting}
 use Rattle.w4_house.proofs.WorldLaws.{writing_none, writing_then}
-use Rattle.w4_answers.proofs.WritingLaws.{out_none, OwesThere, there_begins, there_begun, there_is, there_less, there_nothing, there_stopped}
+use Rattle.w4_answers.proofs.WritingLaws.{out_none, OwesThere, there_begins, there_begun, there_is}
+use Rattle.w4_answers.proofs.WritingLaws.{there_less, there_nothing, there_stopped}
 use Rattle.w4_segments.specs.FilmPieces.{images_left, piece_of}
 use Rattle.w4_answers.specs.FilmAnswer.{images_in}
 use Rattle.w4_defs.specs.Endings.{manner_of}
@@ -13,7 +14,8 @@ use Rattle.w4_answers.proofs.film_answer.write_film.Goals as goal
 pub loop-image_bytes-init : goal.loop-image_bytes-init
 loop-image_bytes-init g c =
     let begin = g.H.House.world c.args.house.now in (
-      there_begins begin (option_map (images_in g.S.Shape.form) (images_left c.args.film.now c.args.editor.now)),
+      there_begins begin (option_map (images_in g.S.Shape.form)
+          (images_left c.args.film.now c.args.editor.now)),
       c.requires,
       writing_none begin,
     )

@@ -17,7 +17,8 @@ loop-screen-preserved g c =
     let screens = c.args.screens.now in
     let at = c.loop-screen.screen-index in
     let image_bytes = c.screen_into.new.out in (
-      owes_less first now next (form image_bytes) (flat_map formed (drop (at + 1) screens)) (flat_map formed screens)
+      owes_less first now next (form image_bytes) (flat_map formed (drop (at + 1) screens))
+          (flat_map formed screens)
           c.in_ok-write.ensures.out
           (subst (λ owed. Owes first now owed (flat_map formed screens))
           (next_image form screens at _ image_bytes c.loop-screen-test.true refl c.screen_into.ensures)

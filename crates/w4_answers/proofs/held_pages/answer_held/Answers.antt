@@ -9,7 +9,8 @@ use Rattle.w4_answers.proofs.WritingLaws.{there_as}
 use Rattle.w4_answers.proofs.RamAnswerLaws.{held_on, same_editor_pages}
 use Rattle.w4_answers.proofs.ScriptAnswerLaws.{on_ok_map}
 use Rattle.w4_answers.proofs.held_pages.answer_held.Goals as goal
-use Rattle.w4_answers.proofs.held_pages.answer_held.Goals.{in_default-via-in-Some+else-are_at, in_default-via-in_default}
+use Rattle.w4_answers.proofs.held_pages.answer_held.Goals.{in_default-via-in-Some+else-are_at}
+use Rattle.w4_answers.proofs.held_pages.answer_held.Goals.{in_default-via-in_default}
 
 pub returns-in_default-clause-out : goal.returns-in_default-clause-out
 returns-in_default-clause-out g c =

@@ -1,15 +1,18 @@
 use Rattle.std.proofs.Common.{sym, ◌∙◌}
 use Rattle.std.proofs.lemmas.Result.{err_from_is_err_and}
 use Rattle.w4_script.specs.Live.{asked_view}
-use Rattle.w4_answers.proofs.LiveAnswerLaws.{asks_save_is, pieces_line, pieces_stopped, save_line, serving_then, serving_writing}
+use Rattle.w4_answers.proofs.LiveAnswerLaws.{asks_save_is, pieces_line, pieces_stopped, save_line}
+use Rattle.w4_answers.proofs.LiveAnswerLaws.{serving_then, serving_writing}
 use Rattle.w4_answers.proofs.live_answer.answer_live_line.Goals as goal
 
 pub returns-then-is_save-clause-answers : goal.returns-then-is_save-clause-answers
 returns-then-is_save-clause-answers g c = λ o s meant named sits.
-    save_line c.answer_save.result (g.H.House.world c.args.house.now) (g.H.House.world c.answer_save.new.house)
+    save_line c.answer_save.result (g.H.House.world c.args.house.now)
+    (g.H.House.world c.answer_save.new.house)
     o s c.args.line.now c.args.desk.now.counted.editor c.args.search.now
     (sym c.read_live_line-asked.ensures.asked
-    ∙ asks_save_is (asked_view c.read_live_line-asked.result) (sym c.is_save.ensures ∙ c.if-is_save.true)) sits
+    ∙ asks_save_is (asked_view c.read_live_line-asked.result) (sym c.is_save.ensures ∙ c.if-is_save.true))
+    sits
     (c.answer_save.ensures.saves o s named sits.recording)
 
 pub returns-clause-answers : goal.returns-clause-answers

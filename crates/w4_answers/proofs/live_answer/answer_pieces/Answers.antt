@@ -1,7 +1,8 @@
 use Rattle.std.specs.Prelude.{codes}
 use Rattle.w4_defs.specs.Live.{framed}
 use Rattle.w4_defs.specs.ScriptAnswers.{refused_line}
-use Rattle.w4_answers.proofs.LiveAnswerLaws.{nothing_gives, own_gives, own_order, piece_gives, query_gives, script_gives}
+use Rattle.w4_answers.proofs.LiveAnswerLaws.{nothing_gives, own_gives, own_order, piece_gives, query_gives}
+use Rattle.w4_answers.proofs.LiveAnswerLaws.{script_gives}
 use Rattle.w4_answers.proofs.live_answer.answer_pieces.Goals as goal
 
 pub returns-in-Nothing-clause-gives : goal.returns-in-Nothing-clause-gives

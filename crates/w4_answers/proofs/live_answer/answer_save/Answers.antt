@@ -4,7 +4,8 @@ use Rattle.w4_defs.specs.Endings.{manner_of}
 use Rattle.w4_defs.specs.Recording.{encoding}
 use Rattle.w4_editor.specs.Editor.{current_recording}
 use Rattle.w4_answers.specs.Saving.{StopsSaving}
-use Rattle.w4_answers.proofs.LiveAnswerLaws.{other_manner, save_refused, save_replaced, save_stopped, serving_saving, serving_then, serving_writing}
+use Rattle.w4_answers.proofs.LiveAnswerLaws.{other_manner, save_refused, save_replaced, save_stopped}
+use Rattle.w4_answers.proofs.LiveAnswerLaws.{serving_saving, serving_then, serving_writing}
 use Rattle.w4_answers.proofs.live_answer.answer_save.Goals as goal
 
 pub returns-in-Ok-clause-saves : goal.returns-in-Ok-clause-saves

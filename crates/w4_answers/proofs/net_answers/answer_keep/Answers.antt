@@ -3,7 +3,8 @@ use Rattle.w4_netplay.specs.Replica.{predicted_draft}
 use Rattle.w4_defs.specs.ScriptAnswers.{refused_line}
 use Rattle.w4_defs.specs.LogAnswers.{answer_keep, net_words}
 use Rattle.w4_answers.specs.NetAnswers.{net_session}
-use Rattle.w4_answers.proofs.NetAnswerLaws.{heard_alone, net_refused_on_text, keep_refused, place_kept, rest_kept, same_netplay}
+use Rattle.w4_answers.proofs.NetAnswerLaws.{heard_alone, net_refused_on_text, keep_refused, place_kept}
+use Rattle.w4_answers.proofs.NetAnswerLaws.{rest_kept, same_netplay}
 use Rattle.w4_answers.proofs.net_answers.answer_keep.Goals as goal
 
 pub returns-in-Ok-clause-heard : goal.returns-in-Ok-clause-heard

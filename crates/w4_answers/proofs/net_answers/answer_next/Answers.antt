@@ -1,7 +1,8 @@
 use Rattle.w4_defs.specs.ScriptAnswers.{refused_line}
 use Rattle.w4_defs.specs.LogAnswers.{answer_next, net_words}
 use Rattle.w4_answers.specs.NetAnswers.{net_session}
-use Rattle.w4_answers.proofs.NetAnswerLaws.{frame_passed, full_recording_refused, heard_alone, heard_on_text, same_netplay, same_rest, same_editor}
+use Rattle.w4_answers.proofs.NetAnswerLaws.{frame_passed, full_recording_refused, heard_alone, heard_on_text}
+use Rattle.w4_answers.proofs.NetAnswerLaws.{same_netplay, same_rest, same_editor}
 use Rattle.w4_answers.proofs.net_answers.answer_next.Goals as goal
 
 pub returns-in-Ok-clause-heard : goal.returns-in-Ok-clause-heard

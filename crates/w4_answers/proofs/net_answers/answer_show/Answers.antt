@@ -5,7 +5,8 @@ use Rattle.w4_defs.specs.ScriptAnswers.{refused_line}
 use Rattle.w4_defs.specs.Answers.{answer_text}
 use Rattle.w4_defs.specs.LogAnswers.{if_passed, net_words, predicted_image}
 use Rattle.w4_answers.specs.NetAnswers.{net_session}
-use Rattle.w4_answers.proofs.NetAnswerLaws.{heard_on_text, net_refused_on_text, image_answered, not_passed, passed_text, same_netplay}
+use Rattle.w4_answers.proofs.NetAnswerLaws.{heard_on_text, net_refused_on_text, image_answered, not_passed}
+use Rattle.w4_answers.proofs.NetAnswerLaws.{passed_text, same_netplay}
 use Rattle.w4_answers.proofs.net_answers.answer_show.Goals as goal
 
 pub returns-in-Ok-clause-heard : goal.returns-in-Ok-clause-heard

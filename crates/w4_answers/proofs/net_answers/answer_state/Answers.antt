@@ -7,7 +7,8 @@ use Rattle.w4_defs.specs.ScriptAnswers.{refused_line}
 use Rattle.w4_defs.specs.Answers.{answer_text}
 use Rattle.w4_defs.specs.LogAnswers.{if_passed, net_words, predicted_state}
 use Rattle.w4_answers.specs.NetAnswers.{net_session}
-use Rattle.w4_answers.proofs.NetAnswerLaws.{heard_on_text, net_refused_on_text, not_passed, passed_text, same_netplay, state_answered}
+use Rattle.w4_answers.proofs.NetAnswerLaws.{heard_on_text, net_refused_on_text, not_passed, passed_text}
+use Rattle.w4_answers.proofs.NetAnswerLaws.{same_netplay, state_answered}
 use Rattle.w4_answers.proofs.net_answers.answer_state.Goals as goal
 
 pub returns-in_ok-line-in-Ok-clause-heard : goal.returns-in_ok-line-in-Ok-clause-heard

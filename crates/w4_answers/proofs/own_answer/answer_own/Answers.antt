@@ -15,7 +15,8 @@ returns-in-Units-clause-out g c =
     let b = c.in-Units.b in
     let form = g.S.Shape.form in
     rw c.in-Units.is (λ s same. subst (λ (x : Session ℕ).
-    ForSome (if_place form x b (place_texts (units_at form (editing_setup e) e.disk x.current.inputs) a (b - a)))
+    ForSome (if_place form x b (place_texts (units_at form (editing_setup e) e.disk x.current.inputs) a
+    (b - a)))
     (λ text. Written (g.H.House.world c.args.house.now) (g.H.House.world c.answer_units.new.house)
     c.answer_units.result text)) same c.answer_units.ensures.out)
 

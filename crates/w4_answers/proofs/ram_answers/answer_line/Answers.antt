@@ -28,9 +28,11 @@ returns-in-List-clause-told g c =
     let before = g.H.House.world c.args.house.now in
     let after = g.H.House.world c.answer_list.new.house in
     rw c.in-List.is
-    (line_answered_on c.answer_list.result before after old old search (Some (g.S.Shape.form (list_text search)))
+    (line_answered_on c.answer_list.result before after old old search
+    (Some (g.S.Shape.form (list_text search)))
     (answer_text search (Some (g.S.Shape.form (list_text search)))) refl
-    (there_is (λ text. Written before after c.answer_list.result text) (Some (g.S.Shape.form (list_text search)))
+    (there_is (λ text. Written before after c.answer_list.result text)
+    (Some (g.S.Shape.form (list_text search)))
     (g.S.Shape.form (list_text search))
     refl c.answer_list.ensures.out)
     (on_ok c.answer_list.result (shows_none old)) refl)

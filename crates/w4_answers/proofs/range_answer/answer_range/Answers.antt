@@ -22,5 +22,6 @@ returns-clause-answered g c =
     answered_on c.write_all.result (g.H.House.world c.args.house.now) (g.H.House.world c.write_all.new.house)
     old
     c.write_all.new.desk.counted.editor text (if_place g.S.Shape.form s c.args.b text)
-    (if_place-within g.S.Shape.form s c.args.b text (rw (← c.last_place.ensures.last) c.if-b-last_place.false))
+    (if_place-within g.S.Shape.form s c.args.b text
+    (rw (← c.last_place.ensures.last) c.if-b-last_place.false))
     c.write_all.ensures.shows c.write_all.ensures.recording c.write_all.ensures.out

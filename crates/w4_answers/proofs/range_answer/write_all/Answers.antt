@@ -16,7 +16,8 @@ pub loop-place-init : goal.loop-place-init
 loop-place-init g c =
     let first = c.args.desk.now.counted.editor in
     let begin = g.H.House.world c.args.house.now in (
-      there_begins begin (place_texts (text_by g.S.Shape.form first c.args.wanted) c.args.a (c.args.b + 1 - c.args.a)),
+      there_begins begin (place_texts (text_by g.S.Shape.form first c.args.wanted) c.args.a
+          (c.args.b + 1 - c.args.a)),
       shows_none first,
       writing_none begin,
       run_begins (lead_of c.args.wanted) c.args.a (c.args.b + 1) c.args.desk.now.counted.steps first,
@@ -35,7 +36,8 @@ loop-place-preserved g c =
     let shows = c.loop-place.invariant.1 in (
       texts-more begin before after text (place_texts text c.args.a (c.args.b + 1 - c.args.a)) at
           (c.args.b + 1) c.loop-place-test.true
-          (there_as (λ bytes. AppendsOut before.events after.events bytes) (text_by g.S.Shape.form now c.args.wanted at) (text at)
+          (there_as (λ bytes. AppendsOut before.events after.events bytes)
+          (text_by g.S.Shape.form now c.args.wanted at) (text at)
           (sym (same_text g.S.Shape.form first now c.args.wanted at shows)) c.in_ok-write_one.ensures.out)
           c.loop-place.invariant.0,
       shows_then first now next shows c.in_ok-write_one.ensures.shows,
@@ -67,8 +69,10 @@ returns-in_err-write_one-clause-out g c =
     (texts-stop (g.H.House.world c.args.house.now) before after why text
     (place_texts text c.args.a (c.args.b + 1 - c.args.a)) at (c.args.b + 1) c.loop-place-test.true
     c.loop-place.invariant.2.later c.loop-place.invariant.0
-    (there_as (λ bytes. StopsWriting before after why bytes) (text_by g.S.Shape.form now c.args.wanted at) (text at)
-    (sym (same_text g.S.Shape.form first now c.args.wanted at c.loop-place.invariant.1)) c.in_err-write_one.ensures.out))
+    (there_as (λ bytes. StopsWriting before after why bytes) (text_by g.S.Shape.form now c.args.wanted at)
+    (text at)
+    (sym (same_text g.S.Shape.form first now c.args.wanted at c.loop-place.invariant.1))
+    c.in_err-write_one.ensures.out))
 
 pub returns-clause-recording : goal.returns-clause-recording
 returns-clause-recording g c =

@@ -16,7 +16,8 @@ returns-in_ok-make_image-in-Image-clause-out g c =
     (text_by g.S.Shape.form c.args.desk.now.counted.editor Image c.args.place)
     (g.S.Shape.form c.make_image.new.self.image.value)
     (text_formed g.S.Shape.form Image c.args.place (run_at c.args.desk.now.counted.editor c.args.place)
-    c.make_image.new.self.image.value c.in_ok-make_image-in-Image.ensures.image) (rw (← c.made_image.ensures) c.write.ensures.out))
+    c.make_image.new.self.image.value c.in_ok-make_image-in-Image.ensures.image)
+    (rw (← c.made_image.ensures) c.write.ensures.out))
 
 pub returns-in_ok-text-in-Schedule-clause-out : goal.returns-in_ok-text-in-Schedule-clause-out
 returns-in_ok-text-in-Schedule-clause-out g c =

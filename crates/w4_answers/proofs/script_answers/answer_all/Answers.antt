@@ -5,7 +5,9 @@ use Rattle.w4_house.proofs.WorldLaws.{writing_none, writing_then}
 use Rattle.w4_defs.specs.PlaceTexts.{as_it_stands}
 use Rattle.w4_defs.specs.ScriptAnswers.{answer, answers}
 use Rattle.w4_defs.specs.Endings.{manner_of}
-use Rattle.w4_answers.proofs.ScriptAnswerLaws.{past_end, answered_at_first, stopped_at_first, answers-out-step, answers-session-step, answers-stop, answers-done}
+use Rattle.w4_answers.proofs.ScriptAnswerLaws.{past_end, answered_at_first, stopped_at_first}
+use Rattle.w4_answers.proofs.ScriptAnswerLaws.{answers-out-step, answers-session-step, answers-stop}
+use Rattle.w4_answers.proofs.ScriptAnswerLaws.{answers-done}
 use Rattle.w4_answers.proofs.WritingLaws.{there_begins}
 use Rattle.w4_editor.proofs.EditorPlaceLaws.{rest_none, rest_then}
 use Rattle.w4_answers.proofs.script_answers.answer_all.Goals as goal

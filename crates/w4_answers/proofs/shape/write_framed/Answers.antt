@@ -17,7 +17,8 @@ returns-in_err-write_bytes-clause-out g c =
     let piece = c.args.piece.now in
     let line : List ℕ = decimal (length piece) ++ line_end in
     rw (p.1, p.2)
-    (subst (λ bytes. StopsWriting before after why bytes) (append_assoc (decimal (length piece)) line_end piece)
+    (subst (λ bytes. StopsWriting before after why bytes)
+    (append_assoc (decimal (length piece)) line_end piece)
     (stops_more before after why line piece
     (subst (λ bytes. StopsWriting before after why bytes) (c.as_slice.ensures.value ∙ c.in_ok-line.ensures)
     c.in_err-write_bytes.ensures.out)))
@@ -32,6 +33,7 @@ returns-clause-out g c =
     subst (λ bytes. Written before after c.write_bytes-2.result bytes)
     (append_assoc (decimal (length piece)) line_end piece)
     (written_then c.write_bytes-2.result before mid after line piece c.in_ok-write_bytes.ensures.rest.later
-    (subst (λ bytes. AppendsOut before.events mid.events bytes) (c.as_slice.ensures.value ∙ c.in_ok-line.ensures)
+    (subst (λ bytes. AppendsOut before.events mid.events bytes) (c.as_slice.ensures.value
+    ∙ c.in_ok-line.ensures)
     c.in_ok-write_bytes.ensures.out)
     c.write_bytes-2.ensures.out)

@@ -19,7 +19,8 @@ returns-then-place-count-clause-answered g c =
     let text = state_answer g.S.Shape.form (editing_setup old) old.disk s c.args.p in
     refused_place c.refuse.result (g.H.House.world c.args.house.now) (g.H.House.world c.refuse.new.house) old
     (g.S.Shape.form no_frame) (if_place g.S.Shape.form s c.args.p text)
-    (if_place-past g.S.Shape.form s c.args.p text (rw (← c.last_place-count.ensures.last) c.if-place-count.true))
+    (if_place-past g.S.Shape.form s c.args.p text
+    (rw (← c.last_place-count.ensures.last) c.if-place-count.true))
     c.refuse.ensures.out
 
 pub returns-clause-answered : goal.returns-clause-answered
@@ -36,11 +37,13 @@ returns-clause-answered g c =
     let after = g.H.House.world c.write.new.house in
     answered_on c.write.result before after old new
     (Some (g.S.Shape.form c.as_slice.result.now)) (if_place g.S.Shape.form s c.args.p text)
-    (if_place-within g.S.Shape.form s c.args.p text (rw (← c.last_place-count.ensures.last) c.if-place-count.false)
+    (if_place-within g.S.Shape.form s c.args.p text
+    (rw (← c.last_place-count.ensures.last) c.if-place-count.false)
     ∙ line_of_state g.S.Shape.form c.args.p count s.current.kept
     (run (editing_setup old) old.disk s.current.inputs c.args.p) found.0 found.1
     ∙ (λ i. Some
-    (g.S.Shape.form (state_line c.args.p (sym c.last_place-count.ensures.last i) found.0 (sym same i).current.kept)))
+    (g.S.Shape.form (state_line c.args.p (sym c.last_place-count.ensures.last i) found.0
+    (sym same i).current.kept)))
     ∙ ap (λ (bytes : List ℕ). Some (g.S.Shape.form bytes)) (sym line ∙ sym c.as_slice.ensures.value))
     (on_ok c.write.result c.in_ok-facts.ensures.shows) c.in_ok-facts.ensures.recording
     (there_is (λ out. Written before after c.write.result out) (Some (g.S.Shape.form c.as_slice.result.now))

@@ -36,7 +36,8 @@ loop-k-preserved g c =
     let shows = c.loop-k.invariant.1 in (
       texts-more begin before after text (place_texts text c.args.a (c.args.b - c.args.a)) at
           c.args.b c.loop-k-test.true
-          (there_as (λ bytes. AppendsOut before.events after.events bytes) (units_by g.S.Shape.form now at) (text at)
+          (there_as (λ bytes. AppendsOut before.events after.events bytes) (units_by g.S.Shape.form now at)
+          (text at)
           (sym (same_units g.S.Shape.form first now at shows)) c.in_ok-write_units.ensures.out)
           c.loop-k.invariant.0,
       shows_then first now next shows c.in_ok-write_units.ensures.shows,
@@ -88,9 +89,11 @@ returns-clause-frames_run g c =
     let now = c.loop-k.desk.counted.editor in
     let begin : c.args.a + 1 - 1 ≡ c.args.a = omega arith in
     let many : c.args.b + 1 - (c.args.a + 1) ≡ c.args.b - c.args.a = omega arith in
-    subst (λ p. RunsOn p (c.args.b - c.args.a) c.args.desk.now.counted.steps c.loop-k.desk.counted.steps first now)
+    subst (λ p. RunsOn p (c.args.b - c.args.a) c.args.desk.now.counted.steps c.loop-k.desk.counted.steps first
+    now)
     begin
-    (subst (λ n. RunsOn (c.args.a + 1 - 1) n c.args.desk.now.counted.steps c.loop-k.desk.counted.steps first now)
+    (subst (λ n. RunsOn (c.args.a + 1 - 1) n c.args.desk.now.counted.steps c.loop-k.desk.counted.steps first
+    now)
     many
     (run_all 1 (c.args.a + 1) (c.args.b + 1) (c.loop-k.k + 1) c.args.desk.now.counted.steps
     c.loop-k.desk.counted.steps first now c.loop-k.invariant.3))

@@ -1,6 +1,7 @@
 use Rattle.std.proofs.Common.{◌≡◌, ℕ, ◌+◌, ◌-◌, ◌*◌, ◌/◌, ◌%◌, ◌^◌, ◌∙◌, sym, ap, inl, inr, arith}
 use Rattle.std.proofs.lemmas.Bool.{cases_lt}
-use Rattle.w4_blit.proofs.StripLaws.{is_mask_digit, left_digit, mask_digit, left_none, past_sixteen, right_digit}
+use Rattle.w4_blit.proofs.StripLaws.{is_mask_digit, left_digit, mask_digit, left_none, past_sixteen}
+use Rattle.w4_blit.proofs.StripLaws.{right_digit}
 use Rattle.w4_blit.proofs.strips.moved.Goals as goal
 
 pub returns-clause-digits : goal.returns-clause-digits

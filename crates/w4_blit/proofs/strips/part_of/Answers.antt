@@ -1,6 +1,7 @@
 use Rattle.std.proofs.Common.{◌∙◌, inl, inr, arith}
 use Rattle.std.proofs.lemmas.Bool.{cases_lt}
-use Rattle.w4_blit.proofs.StripLaws.{below_digit, high_digit, is_mask_digit, low_digit, mask_digit, masked_same, past_digit, zero_digit}
+use Rattle.w4_blit.proofs.StripLaws.{below_digit, high_digit, is_mask_digit, low_digit, mask_digit}
+use Rattle.w4_blit.proofs.StripLaws.{masked_same, past_digit, zero_digit}
 use Rattle.w4_blit.proofs.strips.part_of.Goals as goal
 
 pub returns-clause-inside : goal.returns-clause-inside

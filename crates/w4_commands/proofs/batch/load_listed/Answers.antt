@@ -6,7 +6,8 @@ use Rattle.w4_house.proofs.WorldLaws.{reading_then}
 use Rattle.w4_commands.specs.Load.{ResultsIn, Stops}
 use Rattle.w4_defs.specs.Endings.{manner_of}
 use Rattle.w4_defs.specs.Output.{reading}
-use Rattle.w4_commands.proofs.BatchListLaws.{owes_fewer, owes_no_file, owes_stops, named_item, past_all_names, within_all}
+use Rattle.w4_commands.proofs.BatchListLaws.{owes_fewer, owes_no_file, owes_stops, named_item, past_all_names}
+use Rattle.w4_commands.proofs.BatchListLaws.{within_all}
 use Rattle.w4_commands.proofs.batch.load_listed.Goals as goal
 
 pub loop-name-preserved : goal.loop-name-preserved

@@ -20,7 +20,9 @@ pub returns-in-Compare-clause-ends : goal.returns-in-Compare-clause-ends
 returns-in-Compare-clause-ends g c = rw c.in-Compare.is c.run_compare.ensures.ends
 
 pub returns-in-OnCart-clause-ends : goal.returns-in-OnCart-clause-ends
-returns-in-OnCart-clause-ends g c = rw (c.in-OnCart.is, c.finish-in-OnCart.ensures) c.judge_and_run.ensures.ends
+returns-in-OnCart-clause-ends g c = rw (c.in-OnCart.is, c.finish-in-OnCart.ensures)
+    c.judge_and_run.ensures.ends
 
 pub returns-in-InEditor-clause-ends : goal.returns-in-InEditor-clause-ends
-returns-in-InEditor-clause-ends g c = rw (c.in-InEditor.is, c.finish-in-InEditor.ensures) c.run_in_editor.ensures.ends
+returns-in-InEditor-clause-ends g c = rw (c.in-InEditor.is, c.finish-in-InEditor.ensures)
+    c.run_in_editor.ensures.ends

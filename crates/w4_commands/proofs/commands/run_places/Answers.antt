@@ -26,7 +26,8 @@ returns-clause-ends g c =
     let to = c.args.places.to in
     let run = run_files_view c.in_ok-run.run' in
     ends_printed (g.H.House.world c.args.house.now) (g.H.House.world c.load_run_to.new.house)
-    (g.H.House.world c.write_run.new.house) (λ files. run_files_to cart.digest (run_view c.args.names) to files)
+    (g.H.House.world c.write_run.new.house) (λ files. run_files_to cart.digest (run_view c.args.names) to
+    files)
     run (λ p. place_texts_from c.args.text cart.cart p from (to + 1 - from)) c.in_ok-run.ensures.rest
     c.write_run.ensures.rest c.in_ok-run.ensures.gives
     (place_texts_there cart.cart cart.meaning c.args.text run from (to + 1 - from)) c.write_run.result

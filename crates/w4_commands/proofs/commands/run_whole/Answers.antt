@@ -21,7 +21,8 @@ returns-clause-ends g c =
     let cart = c.args.file.now in
     let run = run_files_view c.in_ok-run.run' in
     ends_printed (g.H.House.world c.args.house.now) (g.H.House.world c.load_run.new.house)
-    (g.H.House.world c.write_whole.new.house) (λ files. run_files cart.digest (run_view c.args.names) files) run
+    (g.H.House.world c.write_whole.new.house) (λ files. run_files cart.digest (run_view c.args.names) files)
+    run
     (whole_text c.args.text cart.cart) c.in_ok-run.ensures.rest c.write_whole.ensures.rest
     c.in_ok-run.ensures.gives (whole_text_there cart.cart cart.meaning c.args.text run) c.write_whole.result
     c.write_whole.ensures.out

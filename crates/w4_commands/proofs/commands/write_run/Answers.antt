@@ -10,9 +10,10 @@ use Rattle.w4_commands.proofs.commands.write_run.Goals as goal
 pub returns-clause-out : goal.returns-clause-out
 returns-clause-out g c =
     let wanted = c.args.wanted in
-    subst (λ (side : Side). ForSome (run_texts as_it_stands wanted.text side.setup side.disk side.inputs wanted.from
+    subst (λ (side : Side). ForSome (run_texts as_it_stands wanted.text side.setup side.disk side.inputs
+    wanted.from
     (wanted.to + 1 - wanted.from)) (λ text. Written (g.H.House.world c.args.house.now)
-    (g.H.House.world c.write_places.new.house) c.write_places.result text))
+    (g.H.House.world c.write_places-end.new.house) c.write_places-end.result text))
     (ap (scene_side c.of_recording-scene.result) (c.as_slice-inputs.ensures.value
     ∙ ap (λ (r : Recording). r.frames) c.recording.view_is) ∙ c.of_recording-scene.ensures)
-    c.write_places.ensures.out
+    c.write_places-end.ensures.out

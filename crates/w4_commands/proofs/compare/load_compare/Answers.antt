@@ -26,14 +26,16 @@ returns-in_err-first-clause-gives g c = λ code other_code.
 pub returns-in_err-second-clause-gives : goal.returns-in_err-second-clause-gives
 unfolding compare_files
 returns-in_err-second-clause-gives g c = λ code other_code.
-    let p = err_from_is_err_and c.from_residual-in_err-second.result c.from_residual-in_err-second.ensures.1 in
+    let p = err_from_is_err_and c.from_residual-in_err-second.result c.from_residual-in_err-second.ensures.1
+    in
     let first = c.in_ok-first.first in
     let old = g.H.House.world c.args.house.now in
     let now = g.H.House.world c.load_recording.new.house in
     let new = g.H.House.world c.load_recording-2.new.house in
     let why = manner_of c.in_err-second.field-0.0 in
     rw (p.1, p.2)
-    (stops_later old now new why (λ files. recording_in c.args.digest.now files c.args.names.recording.now) first
+    (stops_later old now new why (λ files. recording_in c.args.digest.now files c.args.names.recording.now)
+    first
     (λ files first. recording_in c.args.other_digest.now files c.args.names.other_recording.now >>= λ second.
     font_in files c.args.names.font.now >>= λ font.
     Ok (record {
@@ -62,7 +64,8 @@ returns-in_err-font-clause-gives g c = λ code other_code.
     let new = g.H.House.world c.load_font.new.house in
     let why = manner_of c.in_err-font.field-0.0 in
     rw (p.1, p.2)
-    (stops_later old now new why (λ files. recording_in c.args.digest.now files c.args.names.recording.now) first
+    (stops_later old now new why (λ files. recording_in c.args.digest.now files c.args.names.recording.now)
+    first
     (λ files first. recording_in c.args.other_digest.now files c.args.names.other_recording.now >>= λ second.
     font_in files c.args.names.font.now >>= λ font.
     Ok (record {

@@ -17,7 +17,8 @@ returns-clause-carried g c =
     let after = g.H.House.world c.save_recording.new.house in
     let answered = c.in_ok-answer_all.ensures.answered in
     λ out is.
-    carried_saved c.save_recording.result before mid after out c.args.out.now (encoding 2 (current_recording left))
+    carried_saved c.save_recording.result before mid after out c.args.out.now
+    (encoding 2 (current_recording left))
     (encoding 2 (recording_by editor orders)) c.in_ok-answer_all.ensures.rest (answered.out out is)
     (ap (λ (r : Recording). encoding 2 r) (recording_left before mid editor left orders answered))
     c.save_recording.ensures.saved
@@ -28,5 +29,6 @@ returns-in_err-answer_all-clause-carried g c =
     λ out is. rw (p.1, p.2)
     (carries_stopped (g.H.House.world c.args.house.now) (g.H.House.world c.answer_all.new.house)
     (manner_of c.in_err-answer_all.field-0.0) out c.args.out.now
-    (encoding 2 (recording_by c.args.desk.now.counted.editor c.args.orders.now)) c.in_err-answer_all.ensures.rest
+    (encoding 2 (recording_by c.args.desk.now.counted.editor c.args.orders.now))
+    c.in_err-answer_all.ensures.rest
     (c.in_err-answer_all.ensures.answered out is))

@@ -22,5 +22,5 @@ returns c =
     c.zero_font-font.ensures c.requires.budget
     (c.as_slice.ensures.value ∙ c.requires.inputs) c.requires.shortest
     (ap (λ (items : List ℕ). length items) c.as_slice-bytes.ensures.value) c.run_to.ensures.0 in
-    if_ok_map c.summary_of.result (λ text h. told ∙ ap (λ (lines : List ℕ). Some lines) (sym h))
-    c.summary_of.ensures
+    if_ok_map c.summary_of-lines.result (λ text h. told ∙ ap (λ (lines : List ℕ). Some lines) (sym h))
+    c.summary_of-lines.ensures

@@ -9,5 +9,6 @@ returns-clause-ends g c =
     let number = c.args.number in
     let frames = c.accepted_runs_have_meaning.ensures (module_bytes (made_module number)) (made_module number)
     (c.made_modules_are_carts.ensures number) in
-    ends_made (g.H.House.world c.args.house.now) (g.H.House.world c.write_made.new.house) c.write_made.result number
+    ends_made (g.H.House.world c.args.house.now) (g.H.House.world c.write_made.new.house) c.write_made.result
+    number
     (made_text_there number frames.runs) c.write_made.ensures.rest c.write_made.ensures.out

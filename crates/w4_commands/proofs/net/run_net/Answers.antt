@@ -1,6 +1,10 @@
+use Rattle.std.proofs.Common.{List, subst}
 use Rattle.std.proofs.lemmas.Result.{err_from_is_err_and}
+use Rattle.std.specs.Option.{ForSome}
+use Rattle.w4_defs.specs.declared.netplay.NetOrder.{NetOrder}
 use Rattle.w4_defs.specs.ToolOutputs.{net_files, net_output, net_text}
 use Rattle.w4_defs.proofs.OutputsThereLaws.{net_text_there}
+use Rattle.w4_answers.specs.Writing.{Written}
 use Rattle.w4_commands.specs.Net.{net_loaded_view}
 use Rattle.w4_commands.specs.Forms.{net_view}
 use Rattle.w4_commands.proofs.CommandLaws.{ends_unprinted, ends_printed}
@@ -12,12 +16,26 @@ returns-in_err-loaded-clause-ends g c =
     let p = err_from_is_err_and c.from_residual.result c.from_residual.ensures.1 in
     rw (p.1, p.2)
     (ends_unprinted (g.H.House.world c.args.house.now) (g.H.House.world c.load_net.new.house)
-    c.in_err-loaded.field-0.0 (λ files. net_files (net_view c.args.names) files) (λ l. net_text c.args.file.cart c.args.names.budget.units l) c.in_err-loaded.ensures.rest
+    c.in_err-loaded.field-0.0 (λ files. net_files (net_view c.args.names) files)
+    (λ l. net_text c.args.file.cart c.args.names.budget.units l) c.in_err-loaded.ensures.rest
     c.in_err-loaded.ensures.gives)
 
 pub returns-clause-ends : goal.returns-clause-ends
 unfolding net_output
 returns-clause-ends g c =
+    let cart = c.args.file.cart in
+    let units = c.args.names.budget.units in
+    let font = c.in_ok-loaded.loaded.font in
+    let before = g.H.House.world c.load_net.new.house in
+    let after = g.H.House.world c.answer_log.new.house in
+    let out =
+    subst (λ (orders : List NetOrder). ForSome (net_text cart units (record { font = font; orders = orders }))
+    (λ text. Written before after c.answer_log.result text))
+    c.as_slice.ensures.value c.answer_log.ensures.out in
     ends_printed (g.H.House.world c.args.house.now) (g.H.House.world c.load_net.new.house)
-    (g.H.House.world c.answer_log.new.house) (λ files. net_files (net_view c.args.names) files) (net_loaded_view c.in_ok-loaded.loaded) (λ l. net_text c.args.file.cart c.args.names.budget.units l) c.in_ok-loaded.ensures.rest
-    c.answer_log.ensures.rest c.in_ok-loaded.ensures.gives (net_text_there c.args.file.cart c.args.file.meaning c.args.names.budget.units (net_loaded_view c.in_ok-loaded.loaded)) c.answer_log.result c.answer_log.ensures.out
+    (g.H.House.world c.answer_log.new.house) (λ files. net_files (net_view c.args.names) files)
+    (net_loaded_view c.in_ok-loaded.loaded) (λ l. net_text c.args.file.cart c.args.names.budget.units l)
+    c.in_ok-loaded.ensures.rest
+    c.answer_log.ensures.rest c.in_ok-loaded.ensures.gives
+    (net_text_there c.args.file.cart c.args.file.meaning c.args.names.budget.units
+    (net_loaded_view c.in_ok-loaded.loaded)) c.answer_log.result out

@@ -12,11 +12,13 @@ invariant-loop-place g l =
     OwesThere (g.H.House.world l.fn.house) (g.H.House.world l.house)
     (place_texts
     (λ place.
-    place_text as_it_stands l.fn.wanted.text place (run (scene_setup l.scene) l.scene.disk.now l.inputs place))
+    place_text as_it_stands l.fn.wanted.text place (run (scene_setup l.scene) l.scene.disk.now l.inputs
+    place))
     (l.place + 1) (l.fn.wanted.to + 1 - (l.place + 1)))
     (place_texts
     (λ place.
-    place_text as_it_stands l.fn.wanted.text place (run (scene_setup l.scene) l.scene.disk.now l.inputs place))
+    place_text as_it_stands l.fn.wanted.text place (run (scene_setup l.scene) l.scene.disk.now l.inputs
+    place))
     l.fn.wanted.from (l.fn.wanted.to + 1 - l.fn.wanted.from))
     × (l.place ≤ l.fn.wanted.to)
     × IsAtPlace l.scene l.inputs l.place l.stage

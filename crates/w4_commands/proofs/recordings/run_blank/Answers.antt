@@ -10,7 +10,8 @@ pub returns-clause-ends : goal.returns-clause-ends
 returns-clause-ends g c =
     let old = g.H.House.world c.args.house.now in
     let new = g.H.House.world c.write_blank.new.house in
-    ends_written (g.H.House.world c.args.house.now) (g.H.House.world c.write_blank.new.house) c.write_blank.result
+    ends_written (g.H.House.world c.args.house.now) (g.H.House.world c.write_blank.new.house)
+    c.write_blank.result
     (encoding 2 (blank_recording c.args.file.now.digest c.args.budget.units []))
     c.write_blank.ensures.rest
     (subst (λ disk. Written old new c.write_blank.result

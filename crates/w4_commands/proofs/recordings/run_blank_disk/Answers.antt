@@ -10,7 +10,8 @@ unfolding blank_disk_output
 returns-clause-ends g c =
     ends_written_of (g.H.House.world c.args.house.now) (g.H.House.world c.load_disk.new.house)
     (g.H.House.world c.write_blank.new.house) (λ files. disk_in files c.args.disk.now)
-    (λ disk. encoding 2 (blank_recording c.args.file.now.digest c.args.budget.units disk)) c.in_ok-bytes.bytes.items c.in_ok-bytes.ensures.rest c.write_blank.ensures.rest
+    (λ disk. encoding 2 (blank_recording c.args.file.now.digest c.args.budget.units disk))
+    c.in_ok-bytes.bytes.items c.in_ok-bytes.ensures.rest c.write_blank.ensures.rest
     c.in_ok-bytes.ensures.gives c.write_blank.result c.write_blank.ensures.out
 
 pub returns-in_err-bytes-clause-ends : goal.returns-in_err-bytes-clause-ends
@@ -20,4 +21,5 @@ returns-in_err-bytes-clause-ends g c =
     rw (p.1, p.2)
     (ends_unwritten (g.H.House.world c.args.house.now) (g.H.House.world c.load_disk.new.house)
     c.in_err-bytes.field-0.0 (λ files. disk_in files c.args.disk.now)
-    (λ disk. encoding 2 (blank_recording c.args.file.now.digest c.args.budget.units disk)) c.in_err-bytes.ensures.rest c.in_err-bytes.ensures.gives)
+    (λ disk. encoding 2 (blank_recording c.args.file.now.digest c.args.budget.units disk))
+    c.in_err-bytes.ensures.rest c.in_err-bytes.ensures.gives)

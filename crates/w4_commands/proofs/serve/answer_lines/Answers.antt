@@ -4,7 +4,8 @@ use Rattle.std.proofs.lemmas.Result.{err_from_is_err_and}
 use Rattle.w4_defs.specs.Endings.{manner_of}
 use Rattle.w4_defs.specs.Live.{first_live_session}
 use Rattle.w4_editor.specs.Editor.{current_recording}
-use Rattle.w4_commands.proofs.ServeLaws.{line_stopped, lines_ended, lines_lost, serves_line, serves_none, serving_none, serving_then, taking_serves}
+use Rattle.w4_commands.proofs.ServeLaws.{line_stopped, lines_ended, lines_lost, serves_line, serves_none}
+use Rattle.w4_commands.proofs.ServeLaws.{serving_none, serving_then, taking_serves}
 use Rattle.w4_commands.proofs.serve.answer_lines.Goals as goal
 
 pub loop-init : goal.loop-init
@@ -21,7 +22,8 @@ returns-in_err-take_line-clause-answers g c =
     let new = g.H.House.world c.take_line.new.house in
     rw (p.1, p.2) (λ o meant out sits.
     let so_far = c.loop.invariant.0 o meant out sits in
-    lines_lost old now new o so_far.0 so_far.1 c.in_err-take_line.ensures.rest (manner_of c.in_err-take_line.field-0.0)
+    lines_lost old now new o so_far.0 so_far.1 c.in_err-take_line.ensures.rest
+    (manner_of c.in_err-take_line.field-0.0)
     (current_recording c.loop.desk.counted.editor) so_far.2.recording c.loop.invariant.1.reads
     c.in_err-take_line.ensures.lost)
 

@@ -62,7 +62,8 @@ returns-clause-out g c =
     let disk = c.args.scene.now.disk.now in
     let inputs = c.args.inputs.now in
     texts-all (g.H.House.world c.args.house.now) (g.H.House.world c.loop-place.house)
-    (units_at as_it_stands setup disk inputs) (units_text setup disk inputs) c.loop-place.place (length inputs)
+    (units_at as_it_stands setup disk inputs) (units_text setup disk inputs) c.loop-place.place
+    (length inputs)
     (omega (arith, c.loop-place-test.false)) c.loop-place.invariant.0
 
 pub returns-in_err-write_start-clause-out : goal.returns-in_err-write_start-clause-out

@@ -6,7 +6,8 @@ use Rattle.w4_house.proofs.WorldLaws.{writing_then}
 use Rattle.w4_defs.specs.Endings.{manner_of}
 use Rattle.w4_commands.specs.Wave.{scene_record, scene_records}
 use Rattle.w4_commands.specs.Stage.{stage_moment}
-use Rattle.w4_commands.proofs.WaveLaws.{samples_at, samples_of, samples-begin, samples-go_on, samples-stop_first, samples-stop, samples-end}
+use Rattle.w4_commands.proofs.WaveLaws.{samples_at, samples_of, samples-begin, samples-go_on}
+use Rattle.w4_commands.proofs.WaveLaws.{samples-stop_first, samples-stop, samples-end}
 use Rattle.w4_commands.proofs.wave.write_samples.Goals as goal
 
 pub loop-place-init : goal.loop-place-init

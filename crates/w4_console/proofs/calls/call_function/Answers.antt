@@ -9,7 +9,7 @@ use Rattle.w4_defs.specs.RunLaws.{types_of}
 use Rattle.w4_defs.specs.State.{Board, State, LoggedState}
 use Rattle.w4_devices.specs.declared.frame_record.FrameRecord.{FrameRecord as Record}
 use Rattle.w4_console.specs.Calls.{so_far}
-use Rattle.w4_console.specs.Logs.{record_in}
+use Rattle.w4_console.specs.CurrentRecord.{record_in}
 use Rattle.w4_console.proofs.CallLaws.{called, still_runs, units_taken}
 use Rattle.w4_console.proofs.StartLaws.{values_as_long}
 use Rattle.w4_console.proofs.calls.call_function.Goals as goal
@@ -34,9 +34,10 @@ types_kept c =
     ∙ c.deref_mut.ensures.len)
 
 -- the record that the board is given
-record_given : (c : goal.After-rest_after) → c.in-Some.frame_record.value ≡ c.args.logs.now
+record_given : (c : goal.After-rest_after) → c.in-Some.frame_record.value ≡ c.args.current.now
 record_given c =
-    ap (λ o. record_in (option_map (λ b. b.value) o)) (sym c.in-Some.is ∙ c.take.ensures.value) ∙ c.logs.view_is
+    ap (λ o. record_in (option_map (λ b. b.value) o)) (sym c.in-Some.is ∙ c.take.ensures.value)
+    ∙ c.current.view_is
 
 store_given : (c : goal.After-rest_after)
     → record {
@@ -44,7 +45,7 @@ store_given : (c : goal.After-rest_after)
       globals = c.board_of-board.new.state.globals;
       host = c.board_of-board.result;
     }
-    ≡ store_of c.args.setup.now.font.now (so_far c.args.state.now c.args.logs.now)
+    ≡ store_of c.args.setup.now.font.now (so_far c.args.state.now c.args.current.now)
 store_given c =
     c.board_of-board.ensures
     ∙ ap (λ (r : Record). store_of c.args.setup.now.font.now (so_far c.args.state.now r)) (record_given c)
@@ -52,7 +53,8 @@ store_given c =
 pub returns-clause-called : goal.returns-clause-called
 returns-clause-called c =
     called c.args.setup.now.cart.now c.args.setup.now.font.now c.args.function
-    (so_far c.args.state.now c.args.logs.now) (so_far c.put_back.new.state c.put_back.result.value) c.args.budget c.invoke-ending.result
+    (so_far c.args.state.now c.args.current.now) (so_far c.put_back.new.state c.put_back.result.value)
+    c.args.budget c.invoke-ending.result
     c.board_of-board.new.state c.state.inside.page c.invoke-ending.new.page c.deref_mut.result.now
     c.invoke-ending.new.globals (with_items c.state.inside.globals c.invoke-ending.new.globals).items
     c.board_of-board.result c.invoke-ending.new.host c.rest_after.result c.halt_after.result
@@ -62,7 +64,8 @@ returns-clause-called c =
 pub returns-clause-taken : goal.returns-clause-taken
 returns-clause-taken c =
     units_taken c.args.setup.now.cart.now c.args.setup.now.font.now c.args.function
-    (so_far c.args.state.now c.args.logs.now) (so_far c.put_back.new.state c.put_back.result.value) c.args.budget c.invoke-ending.result
+    (so_far c.args.state.now c.args.current.now) (so_far c.put_back.new.state c.put_back.result.value)
+    c.args.budget c.invoke-ending.result
     c.board_of-board.new.state c.state.inside.page c.invoke-ending.new.page c.deref_mut.result.now
     c.invoke-ending.new.globals (with_items c.state.inside.globals c.invoke-ending.new.globals).items
     c.board_of-board.result c.invoke-ending.new.host c.rest_after.result c.halt_after.result

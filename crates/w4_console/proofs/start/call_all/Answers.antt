@@ -22,8 +22,8 @@ returns-in_err-rest-clause-called c =
     let cart = c.args.setup.now.cart.now in
     let font = c.args.setup.now.font.now in
     let budget = c.args.setup.now.budget in
-    let before = so_far c.args.state.now c.args.logs.now in
-    let first = so_far c.call_if_there.new.state c.call_if_there.new.logs in
+    let before = so_far c.args.state.now c.args.current.now in
+    let first = so_far c.call_if_there.new.state c.call_if_there.new.current in
     let why : Stop = c.in_err-rest.field-0.0 in
     stops cart font budget c.start.result cart.start (after_first cart) before first c.args.setup.now.budget
     c.start.ensures.value why c.in_err-rest.ensures.called
@@ -33,11 +33,12 @@ returns-in_err-rest-2-clause-called c =
     let cart = c.args.setup.now.cart.now in
     let font = c.args.setup.now.font.now in
     let budget = c.args.setup.now.budget in
-    let before = so_far c.args.state.now c.args.logs.now in
-    let first = so_far c.call_if_there.new.state c.call_if_there.new.logs in
-    let second = so_far c.call_if_there-2.new.state c.call_if_there-2.new.logs in
+    let before = so_far c.args.state.now c.args.current.now in
+    let first = so_far c.call_if_there.new.state c.call_if_there.new.current in
+    let second = so_far c.call_if_there-2.new.state c.call_if_there-2.new.current in
     let why : Stop = c.in_err-rest-2.field-0.0 in
-    calls_go_on cart font budget c.start.result cart.start (after_first cart) before first c.args.setup.now.budget
+    calls_go_on cart font budget c.start.result cart.start (after_first cart) before first
+    c.args.setup.now.budget
     c.start.ensures.value second c.in_ok-rest.rest c.in_ok-rest.ensures.called
     (stops cart font budget c.entry-crt_start.result (exported_function cart (codes "_start"))
     (after_second cart) first second c.in_ok-rest.rest c.entry-crt_start.ensures.value why
@@ -48,12 +49,13 @@ returns-in_err-rest-3-clause-called c =
     let cart = c.args.setup.now.cart.now in
     let font = c.args.setup.now.font.now in
     let budget = c.args.setup.now.budget in
-    let before = so_far c.args.state.now c.args.logs.now in
-    let first = so_far c.call_if_there.new.state c.call_if_there.new.logs in
-    let second = so_far c.call_if_there-2.new.state c.call_if_there-2.new.logs in
-    let third = so_far c.call_if_there-3.new.state c.call_if_there-3.new.logs in
+    let before = so_far c.args.state.now c.args.current.now in
+    let first = so_far c.call_if_there.new.state c.call_if_there.new.current in
+    let second = so_far c.call_if_there-2.new.state c.call_if_there-2.new.current in
+    let third = so_far c.call_if_there-3.new.state c.call_if_there-3.new.current in
     let why : Stop = c.in_err-rest-3.field-0.0 in
-    calls_go_on cart font budget c.start.result cart.start (after_first cart) before first c.args.setup.now.budget
+    calls_go_on cart font budget c.start.result cart.start (after_first cart) before first
+    c.args.setup.now.budget
     c.start.ensures.value third c.in_ok-rest.rest c.in_ok-rest.ensures.called
     (calls_go_on cart font budget c.entry-crt_start.result (exported_function cart (codes "_start"))
     (after_second cart) first second c.in_ok-rest.rest c.entry-crt_start.ensures.value third
@@ -67,12 +69,13 @@ returns-clause-called c =
     let cart = c.args.setup.now.cart.now in
     let font = c.args.setup.now.font.now in
     let budget = c.args.setup.now.budget in
-    let before = so_far c.args.state.now c.args.logs.now in
-    let first = so_far c.call_if_there.new.state c.call_if_there.new.logs in
-    let second = so_far c.call_if_there-2.new.state c.call_if_there-2.new.logs in
-    let third = so_far c.call_if_there-3.new.state c.call_if_there-3.new.logs in
-    let last = so_far c.call_if_there-4.new.state c.call_if_there-4.new.logs in
-    calls_go_on cart font budget c.start.result cart.start (after_first cart) before first c.args.setup.now.budget
+    let before = so_far c.args.state.now c.args.current.now in
+    let first = so_far c.call_if_there.new.state c.call_if_there.new.current in
+    let second = so_far c.call_if_there-2.new.state c.call_if_there-2.new.current in
+    let third = so_far c.call_if_there-3.new.state c.call_if_there-3.new.current in
+    let last = so_far c.call_if_there-4.new.state c.call_if_there-4.new.current in
+    calls_go_on cart font budget c.start.result cart.start (after_first cart) before first
+    c.args.setup.now.budget
     c.start.ensures.value last c.in_ok-rest.rest c.in_ok-rest.ensures.called
     (calls_go_on cart font budget c.entry-crt_start.result (exported_function cart (codes "_start"))
     (after_second cart) first second c.in_ok-rest.rest c.entry-crt_start.ensures.value last
@@ -81,15 +84,16 @@ returns-clause-called c =
     (after_third cart) second third c.in_ok-rest-2.rest c.entry-initialize.ensures.value last
     c.in_ok-rest-3.rest c.in_ok-rest-3.ensures.called
     (calls_end cart font budget c.entry-start.result (exported_function cart (codes "start")) third last
-    c.in_ok-rest-3.rest c.call_if_there-4.result c.entry-start.ensures.value c.call_if_there-4.ensures.called)))
+    c.in_ok-rest-3.rest c.call_if_there-4.result c.entry-start.ensures.value
+    c.call_if_there-4.ensures.called)))
 
 pub returns-in_err-rest-clause-taken : goal.returns-in_err-rest-clause-taken
 returns-in_err-rest-clause-taken c =
     let cart = c.args.setup.now.cart.now in
     let font = c.args.setup.now.font.now in
     let budget = c.args.setup.now.budget in
-    let before = so_far c.args.state.now c.args.logs.now in
-    let first = so_far c.call_if_there.new.state c.call_if_there.new.logs in
+    let before = so_far c.args.state.now c.args.current.now in
+    let first = so_far c.call_if_there.new.state c.call_if_there.new.current in
     let why : Stop = c.in_err-rest.field-0.0 in
     let same : c.from_residual.result ≡ Err why = search rules in
     units_at_stop cart font budget c.start.result cart.start (after_first cart) before first
@@ -101,13 +105,14 @@ returns-in_err-rest-2-clause-taken c =
     let cart = c.args.setup.now.cart.now in
     let font = c.args.setup.now.font.now in
     let budget = c.args.setup.now.budget in
-    let before = so_far c.args.state.now c.args.logs.now in
-    let first = so_far c.call_if_there.new.state c.call_if_there.new.logs in
-    let second = so_far c.call_if_there-2.new.state c.call_if_there-2.new.logs in
+    let before = so_far c.args.state.now c.args.current.now in
+    let first = so_far c.call_if_there.new.state c.call_if_there.new.current in
+    let second = so_far c.call_if_there-2.new.state c.call_if_there-2.new.current in
     let why : Stop = c.in_err-rest-2.field-0.0 in
     let taken = taken_by_calls_of budget (Err why) in
     let same : c.from_residual-in_err-rest-2.result ≡ Err why = search rules in
-    taken_go_on cart font budget c.start.result cart.start (after_first cart) before first c.args.setup.now.budget
+    taken_go_on cart font budget c.start.result cart.start (after_first cart) before first
+    c.args.setup.now.budget
     c.start.ensures.value taken c.in_ok-rest.rest c.in_ok-rest.ensures.taken
     (units_at_stop cart font budget c.entry-crt_start.result (exported_function cart (codes "_start"))
     (after_second cart) first second c.in_ok-rest.rest c.entry-crt_start.ensures.value why
@@ -119,14 +124,15 @@ returns-in_err-rest-3-clause-taken c =
     let cart = c.args.setup.now.cart.now in
     let font = c.args.setup.now.font.now in
     let budget = c.args.setup.now.budget in
-    let before = so_far c.args.state.now c.args.logs.now in
-    let first = so_far c.call_if_there.new.state c.call_if_there.new.logs in
-    let second = so_far c.call_if_there-2.new.state c.call_if_there-2.new.logs in
-    let third = so_far c.call_if_there-3.new.state c.call_if_there-3.new.logs in
+    let before = so_far c.args.state.now c.args.current.now in
+    let first = so_far c.call_if_there.new.state c.call_if_there.new.current in
+    let second = so_far c.call_if_there-2.new.state c.call_if_there-2.new.current in
+    let third = so_far c.call_if_there-3.new.state c.call_if_there-3.new.current in
     let why : Stop = c.in_err-rest-3.field-0.0 in
     let taken = taken_by_calls_of budget (Err why) in
     let same : c.from_residual-in_err-rest-3.result ≡ Err why = search rules in
-    taken_go_on cart font budget c.start.result cart.start (after_first cart) before first c.args.setup.now.budget
+    taken_go_on cart font budget c.start.result cart.start (after_first cart) before first
+    c.args.setup.now.budget
     c.start.ensures.value taken c.in_ok-rest.rest c.in_ok-rest.ensures.taken
     (taken_go_on cart font budget c.entry-crt_start.result (exported_function cart (codes "_start"))
     (after_second cart) first second c.in_ok-rest.rest c.entry-crt_start.ensures.value taken
@@ -141,13 +147,14 @@ returns-clause-taken c =
     let cart = c.args.setup.now.cart.now in
     let font = c.args.setup.now.font.now in
     let budget = c.args.setup.now.budget in
-    let before = so_far c.args.state.now c.args.logs.now in
-    let first = so_far c.call_if_there.new.state c.call_if_there.new.logs in
-    let second = so_far c.call_if_there-2.new.state c.call_if_there-2.new.logs in
-    let third = so_far c.call_if_there-3.new.state c.call_if_there-3.new.logs in
-    let last = so_far c.call_if_there-4.new.state c.call_if_there-4.new.logs in
+    let before = so_far c.args.state.now c.args.current.now in
+    let first = so_far c.call_if_there.new.state c.call_if_there.new.current in
+    let second = so_far c.call_if_there-2.new.state c.call_if_there-2.new.current in
+    let third = so_far c.call_if_there-3.new.state c.call_if_there-3.new.current in
+    let last = so_far c.call_if_there-4.new.state c.call_if_there-4.new.current in
     let taken = taken_by_calls_of budget c.call_if_there-4.result in
-    taken_go_on cart font budget c.start.result cart.start (after_first cart) before first c.args.setup.now.budget
+    taken_go_on cart font budget c.start.result cart.start (after_first cart) before first
+    c.args.setup.now.budget
     c.start.ensures.value taken c.in_ok-rest.rest c.in_ok-rest.ensures.taken
     (taken_go_on cart font budget c.entry-crt_start.result (exported_function cart (codes "_start"))
     (after_second cart) first second c.in_ok-rest.rest c.entry-crt_start.ensures.value taken
@@ -156,4 +163,5 @@ returns-clause-taken c =
     (after_third cart) second third c.in_ok-rest-2.rest c.entry-initialize.ensures.value taken
     c.in_ok-rest-3.rest c.in_ok-rest-3.ensures.taken
     (taken_end cart font budget c.entry-start.result (exported_function cart (codes "start")) third last
-    c.in_ok-rest-3.rest c.call_if_there-4.result c.entry-start.ensures.value c.call_if_there-4.ensures.taken)))
+    c.in_ok-rest-3.rest c.call_if_there-4.result c.entry-start.ensures.value
+    c.call_if_there-4.ensures.taken)))

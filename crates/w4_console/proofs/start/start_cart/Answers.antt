@@ -14,8 +14,9 @@ returns-clause-start c =
     (λ (now : LoggedState).
     call_all (setup_of c.args.setup.now) (start_functions c.args.setup.now.cart.now)
     now c.args.setup.now.budget
-    ≡ Some (so_far c.call_all-rest.new.state c.call_all-rest.new.logs))
-    (frame_begins c.put_fresh.new.state (fresh c.args.setup.now.cart.now c.args.state.now.disk) c.clear.new.self
+    ≡ Some (so_far c.call_all-rest.new.state c.call_all-rest.new.current))
+    (frame_begins c.put_fresh.new.state (fresh c.args.setup.now.cart.now c.args.state.now.disk)
+    c.clear.new.self
     c.put_fresh.ensures.state c.clear.ensures)
     c.call_all-rest.ensures.called
 
@@ -23,7 +24,9 @@ pub returns-clause-taken : goal.returns-clause-taken
 unfolding start_units
 returns-clause-taken c =
     let setup = setup_of c.args.setup.now in
-    ap (λ (now : LoggedState). taken_by_calls setup (start_functions c.args.setup.now.cart.now) now c.args.setup.now.budget)
-    (sym (frame_begins c.put_fresh.new.state (fresh c.args.setup.now.cart.now c.args.state.now.disk) c.clear.new.self
+    ap (λ (now : LoggedState). taken_by_calls setup (start_functions c.args.setup.now.cart.now) now
+    c.args.setup.now.budget)
+    (sym (frame_begins c.put_fresh.new.state (fresh c.args.setup.now.cart.now c.args.state.now.disk)
+    c.clear.new.self
     c.put_fresh.ensures.state c.clear.ensures))
     ∙ c.call_all-rest.ensures.taken ∙ ap Some (sym c.taken_by_calls.ensures)

@@ -44,7 +44,8 @@ loop-place-preserved g c =
           c.in_ok-keep_wanted.ensures.rest,
       (
         so_far.0 ++ more.0,
-        kept_then so_far.0 more.0 c.args.steps.now c.loop-place.steps c.keep_wanted.new.steps c.loop-place.copied
+        kept_then so_far.0 more.0 c.args.steps.now c.loop-place.steps c.keep_wanted.new.steps
+            c.loop-place.copied
             c.from.result c.args.editor.now c.loop-place.editor c.keep_wanted.new.editor so_far.1
             (subst (λ (n : ℕ). AreKeptInTurn more.0 c.loop-place.steps c.keep_wanted.new.steps n
             c.loop-place.editor c.keep_wanted.new.editor) (sym c.from.ensures) more.1),

@@ -37,14 +37,13 @@ returns-in-Ok-clause-copied g c =
     one_kept c.args.place c.args.steps.now c.keep.new.steps c.in-Ok.copied c.args.editor.now c.keep.new.self
     c.in-Ok.ensures.ok
 
-pub returns-in-OutOfMemory-clause-recording : goal.returns-in-OutOfMemory-clause-recording
-returns-in-OutOfMemory-clause-recording g c =
+pub returns-in-Err-clause-recording : goal.returns-in-Err-clause-recording
+returns-in-Err-clause-recording g c =
     same_recording c.args.editor.now c.keep.new.self c.in-Err.ensures.err
 
-pub unreachable-requires : goal.unreachable-requires
-unreachable-requires g c =
+pub only_memory-requires : goal.only_memory-requires
+only_memory-requires g c =
     let draft = c.args.editor.now.session.current in
     let fresh = sym (sym c.if-not-is_wanted.false ∙ c.is_wanted.ensures) in
     let none = may_keep_multiple c.args.every c.args.place draft c.requires.place fresh c.requires.room in
-    c.in_default.not-OutOfMemory
-    (memory_alone (keep_refusal kept_entries c.args.place draft) c.in-Err.refusal none c.in-Err.ensures.refused)
+    memory_alone (keep_refusal kept_entries c.args.place draft) c.in-Err.refusal none c.in-Err.ensures.refused

@@ -7,8 +7,10 @@ use Rattle.w4_defs.specs.Rollback.{net_input}
 use Rattle.w4_editor.specs.Editor.{Editing}
 use Rattle.w4_netplay.specs.Pads.{known_in}
 use Rattle.w4_netplay.proofs.PadLaws.{net_input_of, pads_after}
-use Rattle.w4_netplay.proofs.RollbackLaws.{IsRolling, rolling_none, rolling_right, rolling_wrong, run_within, run_written}
-use Rattle.w4_netplay.proofs.rollback.roll_back.Goals.{then-has_input+in_ok-write_run, else-has_input+in_ok-push}
+use Rattle.w4_netplay.proofs.RollbackLaws.{IsRolling, rolling_none, rolling_right, rolling_wrong, run_within}
+use Rattle.w4_netplay.proofs.RollbackLaws.{run_written}
+use Rattle.w4_netplay.proofs.rollback.roll_back.Goals.{then-has_input+in_ok-write_run}
+use Rattle.w4_netplay.proofs.rollback.roll_back.Goals.{else-has_input+in_ok-push}
 use Rattle.w4_netplay.proofs.rollback.roll_back.Goals as goal
 
 pub loop-frame-init : goal.loop-frame-init

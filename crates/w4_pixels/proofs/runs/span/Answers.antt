@@ -5,7 +5,8 @@ use Rattle.std.proofs.lemmas.Int.{ints, to_z-of_z}
 use Rattle.w4_defs.proofs.PaintLaws.{paint_off, paint_ext}
 use Rattle.w4_pixels.proofs.PackedLaws.{span_row}
 use Rattle.w4_pixels.proofs.runs.span.Goals as goal
-use Rattle.w4_pixels.proofs.runs.span.Goals.{else-y-ge0-via-then-y-ge0+else-y-lt160, else-y-ge0-via-else-y-ge0}
+use Rattle.w4_pixels.proofs.runs.span.Goals.{else-y-ge0-via-then-y-ge0+else-y-lt160}
+use Rattle.w4_pixels.proofs.runs.span.Goals.{else-y-ge0-via-else-y-ge0}
 
 pub returns-then-y-lt160 : goal.returns-then-y-lt160
 returns-then-y-lt160 c = c.fill.ensures ∙ paint_ext c.args.page.now _ _ c.told-page (λ u v hu hv.

@@ -1,5 +1,6 @@
 use Rattle.w4_record.specs.Frames.{version_number}
-use Rattle.w4_record.proofs.FrameLaws.{frames_of-step, frames_of-some, frames_of-end, some_mapped, mapped_value}
+use Rattle.w4_record.proofs.FrameLaws.{frames_of-step, frames_of-some, frames_of-end, some_mapped}
+use Rattle.w4_record.proofs.FrameLaws.{mapped_value}
 use Rattle.w4_record.proofs.frames.frames_of.Goals as goal
 
 pub unwrap-requires : goal.unwrap-requires

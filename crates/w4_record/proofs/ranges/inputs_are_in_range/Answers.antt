@@ -1,5 +1,6 @@
 use Rattle.std.proofs.lemmas.List.{get_or_default}
-use Rattle.std.proofs.lemmas.List.Elements.{AllWithin-more, All-from_all_within, AllWithin-upto, at_read, recursion_from_All}
+use Rattle.std.proofs.lemmas.List.Elements.{AllWithin-more, All-from_all_within, AllWithin-upto, at_read}
+use Rattle.std.proofs.lemmas.List.Elements.{recursion_from_All}
 use Rattle.std.proofs.Common.{length}
 use Rattle.w4_defs.specs.Recording.{IsInput}
 use Rattle.w4_record.proofs.ranges.inputs_are_in_range.Goals as goal

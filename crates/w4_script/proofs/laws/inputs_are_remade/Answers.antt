@@ -1,4 +1,5 @@
-use Rattle.w4_script.proofs.InputsTextRemadeLaws.{lines_are_carried_out, lines_remake_inputs, script_remakes_inputs}
+use Rattle.w4_script.proofs.InputsTextRemadeLaws.{lines_are_carried_out, lines_remake_inputs}
+use Rattle.w4_script.proofs.InputsTextRemadeLaws.{script_remakes_inputs}
 use Rattle.w4_script.proofs.laws.inputs_are_remade.Goals as goal
 
 pub returns-clause-script : goal.returns-clause-script

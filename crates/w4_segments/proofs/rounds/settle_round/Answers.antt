@@ -5,7 +5,8 @@ use Rattle.w4_defs.specs.Recording.{Recording}
 use Rattle.w4_defs.specs.Reset.{Setup}
 use Rattle.w4_segments.specs.Rounds.{CanPlay, HasPlayed}
 use Rattle.w4_segments.specs.Worker.{EachDid}
-use Rattle.w4_segments.proofs.RoundLaws.{all_before, idle_linked, dealt_can_play, dealt_computed, front_lengthens}
+use Rattle.w4_segments.proofs.RoundLaws.{all_before, idle_linked, dealt_can_play, dealt_computed}
+use Rattle.w4_segments.proofs.RoundLaws.{front_lengthens}
 use Rattle.w4_segments.proofs.rounds.settle_round.Goals as goal
 
 pub returns-then-is_idle-clause-none : goal.returns-then-is_idle-clause-none

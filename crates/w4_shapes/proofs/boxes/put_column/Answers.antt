@@ -5,7 +5,8 @@ use Rattle.std.proofs.lemmas.Int.{ints, to_z-of_z}
 use Rattle.w4_defs.proofs.PaintLaws.{paint_off, paint_ext}
 use Rattle.w4_shapes.proofs.BoxTests.{column_all}
 use Rattle.w4_shapes.proofs.boxes.put_column.Goals as goal
-use Rattle.w4_shapes.proofs.boxes.put_column.Goals.{else-x-ge0-via-then-x-ge0+else-x-lt160, else-x-ge0-via-else-x-ge0}
+use Rattle.w4_shapes.proofs.boxes.put_column.Goals.{else-x-ge0-via-then-x-ge0+else-x-lt160}
+use Rattle.w4_shapes.proofs.boxes.put_column.Goals.{else-x-ge0-via-else-x-ge0}
 
 pub returns-then-x-lt160 : goal.returns-then-x-lt160
 returns-then-x-lt160 c =

@@ -1,4 +1,5 @@
-use Rattle.std.proofs.Common.{ℕ, ◌≡◌, ◌+◌, ◌-◌, ◌*◌, ◌/◌, ◌%◌, ◌<◌, min, max, Some, ap, subst, sym, arith, rules, w32, w64, to_z, of_z, ◌∙◌}
+use Rattle.std.proofs.Common.{ℕ, ◌≡◌, ◌+◌, ◌-◌, ◌*◌, ◌/◌, ◌%◌, ◌<◌, min, max, Some, ap, subst, sym, arith}
+use Rattle.std.proofs.Common.{rules, w32, w64, to_z, of_z, ◌∙◌}
 use Rattle.std.specs.Prelude.{ℤ}
 use Rattle.std.specs.Option.{option_or}
 use Rattle.std.proofs.lemmas.Int.{ints}
@@ -8,7 +9,8 @@ use Rattle.w4_defs.proofs.PaintLaws.{paint_off, paint_step}
 use Rattle.w4_pixels.specs.Packed.{dot_painter}
 use Rattle.w4_shapes.specs.Painted.{IsPixel, OnAxis, steps_painter}
 use Rattle.w4_shapes.proofs.CourseLaws.{next_pixel, slope_moved}
-use Rattle.w4_shapes.proofs.StepLaws.{dot_point, lesser_moved, lesser_small, one_more_step, steps_more, steps_none}
+use Rattle.w4_shapes.proofs.StepLaws.{dot_point, lesser_moved, lesser_small, one_more_step, steps_more}
+use Rattle.w4_shapes.proofs.StepLaws.{steps_none}
 use Rattle.w4_shapes.proofs.lines.put_steps.Goals as goal
 
 pub axis_at-x-requires : goal.axis_at-x-requires

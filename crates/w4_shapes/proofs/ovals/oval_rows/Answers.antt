@@ -8,7 +8,8 @@ use Rattle.w4_pixels.proofs.ClippingLaws.{boxed_all, boxed_none, boxed_no_row}
 use Rattle.w4_shapes.specs.OvalCells.{painter_of}
 use Rattle.w4_shapes.proofs.CellTests.{kept_once, last_cell}
 use Rattle.w4_shapes.proofs.ovals.oval_rows.Goals as goal
-use Rattle.w4_shapes.proofs.ovals.oval_rows.Goals.{else-columns-via-then-columns+else-rows, else-columns-via-else-columns}
+use Rattle.w4_shapes.proofs.ovals.oval_rows.Goals.{else-columns-via-then-columns+else-rows}
+use Rattle.w4_shapes.proofs.ovals.oval_rows.Goals.{else-columns-via-else-columns}
 
 pub put_rows-requires-clause-last_cell : goal.put_rows-requires-clause-last_cell
 put_rows-requires-clause-last_cell c =

@@ -1,4 +1,5 @@
-use Rattle.std.proofs.Common.{◌≡◌, ℕ, ℤ, pos, negsuc, suc, ◌*◌, ◌/◌, ◌≤◌, ◌*ℤ◌, ◌≤ℤ◌, int_div, to_z, of_z, w16, w32, sym, ap, ◌∙◌, subst, arith, FitsSigned}
+use Rattle.std.proofs.Common.{◌≡◌, ℕ, ℤ, pos, negsuc, suc, ◌*◌, ◌/◌, ◌≤◌, ◌*ℤ◌, ◌≤ℤ◌, int_div, to_z, of_z}
+use Rattle.std.proofs.Common.{w16, w32, sym, ap, ◌∙◌, subst, arith, FitsSigned}
 use Rattle.std.proofs.lemmas.Int.{ints, to_z-of_z}
 use Rattle.std.proofs.lemmas.Nat.{mul-le}
 use Rattle.std.proofs.Math.Nat.{div-le_of_le-mul}

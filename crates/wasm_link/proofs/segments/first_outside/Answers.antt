@@ -1,5 +1,6 @@
 use Rattle.std.proofs.Common.{sym, ◌∙◌}
-use Rattle.wasm_link.proofs.SegmentLaws.{element_outside, data_outside, none_outside, position_small, data_test}
+use Rattle.wasm_link.proofs.SegmentLaws.{element_outside, data_outside, none_outside, position_small}
+use Rattle.wasm_link.proofs.SegmentLaws.{data_test}
 use Rattle.wasm_link.proofs.segments.first_outside.Goals as goal
 
 pub segment_after-requires : goal.segment_after-requires

@@ -1,7 +1,8 @@
 use Rattle.std.proofs.Common.{◌∙◌, ◌+◌, sym, arith, drop, refl}
 use Rattle.std.specs.Prelude.{slice_get}
 use Rattle.wasm_valid.specs.BodyMarks.{body_marks}
-use Rattle.wasm_valid.proofs.BodyMarkLaws.{as_many, mark_next, mark_stop, mark_on, stopped, ended_with_none_open, past_all}
+use Rattle.wasm_valid.proofs.BodyMarkLaws.{as_many, mark_next, mark_stop, mark_on, stopped}
+use Rattle.wasm_valid.proofs.BodyMarkLaws.{ended_with_none_open, past_all}
 use Rattle.wasm_valid.proofs.body.goes_through.Goals as goal
 
 pub labels-requires : goal.labels-requires

@@ -15,8 +15,8 @@ returns-clause-frame g c =
     ≡ Some (moment c.record.new.state c.record.new.frame_record))
     c.self.view_is
     (framed setup c.self.inside.state c.args.input.now (so_far c.begin_frame-start.new.state
-    c.begin_frame-start.new.logs)
-    (so_far c.update-update.new.state c.update-update.new.logs)
+    c.begin_frame-start.new.current)
+    (so_far c.update-update.new.state c.update-update.new.current)
     (moment c.record.new.state c.record.new.frame_record)
     c.begin_frame-start.ensures.begun c.update-update.ensures.update c.record.ensures.recorded)
 
@@ -26,5 +26,5 @@ returns-clause-update g c =
     let told = taken_of c.update-update.result in
     subst (λ (s : State). frame_units setup s c.args.input.now ≡ Some told) c.self.view_is
     (frame_taken setup c.self.inside.state c.args.input.now (so_far c.begin_frame-start.new.state
-    c.begin_frame-start.new.logs)
+    c.begin_frame-start.new.current)
     told c.begin_frame-start.ensures.begun c.update-update.ensures.taken)

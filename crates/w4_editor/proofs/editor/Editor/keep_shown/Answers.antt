@@ -3,7 +3,8 @@ use Rattle.w4_defs.specs.KeptList.{IsConsistent}
 use Rattle.w4_editor.specs.Player.{player_setup}
 use Rattle.w4_editor.specs.Editor.{Editing}
 use Rattle.w4_editor.specs.Playing.{CanKeep, IsPut}
-use Rattle.w4_editor.proofs.EditorLaws.{stays, place_shown, run_here, within_here, put_consistent, view, is_put}
+use Rattle.w4_editor.proofs.EditorLaws.{stays, place_shown, run_here, within_here, put_consistent, view}
+use Rattle.w4_editor.proofs.EditorLaws.{is_put}
 use Rattle.w4_editor.proofs.editor.Editor.keep_shown.Goals as goal
 
 pub invariant_of-self-2 : goal.invariant_of-self-2

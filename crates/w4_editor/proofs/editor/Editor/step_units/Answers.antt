@@ -6,7 +6,8 @@ use Rattle.w4_devices.specs.Records.{record_of}
 use Rattle.w4_editor.specs.Player.{player_setup}
 use Rattle.w4_editor.specs.Editor.{Editing, editing_setup}
 use Rattle.w4_editor.specs.Playing.{IsAtEnd, IsStepped}
-use Rattle.w4_editor.proofs.EditorLaws.{stays, place_shown, nowhere_or_at_end, run_here, within_here, view, is_stepped}
+use Rattle.w4_editor.proofs.EditorLaws.{stays, place_shown, nowhere_or_at_end, run_here, within_here, view}
+use Rattle.w4_editor.proofs.EditorLaws.{is_stepped}
 use Rattle.w4_editor.proofs.editor.Editor.step_units.Goals as goal
 
 pub returns-in_default-clause-refused : goal.returns-in_default-clause-refused
@@ -43,7 +44,8 @@ returns-clause-ok g c =
     (view c.move_on-taken.new.player inside.recording inside.kept.items inside.older inside.newer
     (Some (p + 1)))) c.self.view_is
     (is_stepped inside.player inside.recording inside.kept.items inside.older inside.newer inside.at
-    inside.reset_frame c.self.invariant c.move_on-taken.new.player c.move_on-taken.ensures.same p here.0 here.1
+    inside.reset_frame c.self.invariant c.move_on-taken.new.player c.move_on-taken.ensures.same p here.0
+    here.1
     (record_of c.move_on-taken.new.frame_record)
     (ap (option_map (λ (m : Moment). m.frame_record)) next))
 

@@ -2,7 +2,8 @@ use Rattle.std.proofs.Common.{◌≡◌, None, refl, sym, ◌∙◌, subst}
 use Rattle.std.proofs.lemmas.Result.{err_from_is_err_and}
 use Rattle.w4_defs.specs.Session.{keep_refusal, places_alone}
 use Rattle.w4_netplay.specs.Replica.{Netplay, predicted_draft, IsRolled}
-use Rattle.w4_netplay.proofs.ReplicaLaws.{netplay_view, still_keeps, keeps_place, same_keep_refusal, memory_alone, memory_refused}
+use Rattle.w4_netplay.proofs.ReplicaLaws.{netplay_view, still_keeps, keeps_place, same_keep_refusal}
+use Rattle.w4_netplay.proofs.ReplicaLaws.{memory_alone, memory_refused}
 use Rattle.w4_netplay.proofs.replica.Replica.keep.Goals.{in-Ok, in-Err}
 use Rattle.w4_netplay.proofs.replica.Replica.keep.Goals as goal
 

@@ -3,7 +3,8 @@ use Rattle.w4_defs.specs.declared.editing.EditRefusal.TheVariants as edit
 use Rattle.w4_defs.specs.Session.{keep_refusal, places_alone}
 use Rattle.w4_defs.specs.declared.net_refusal.NetRefusal.TheVariants.{NoFrame, Kept, FullSnapshots}
 use Rattle.w4_netplay.specs.Replica.{Netplay, IsNetRefusal, predicted_draft}
-use Rattle.w4_netplay.proofs.ReplicaLaws.{frame_beyond, already, too_many, may_be_kept, refused_for, netplay_view}
+use Rattle.w4_netplay.proofs.ReplicaLaws.{frame_beyond, already, too_many, may_be_kept, refused_for}
+use Rattle.w4_netplay.proofs.ReplicaLaws.{netplay_view}
 use Rattle.w4_netplay.proofs.replica.Replica.keep_refusal.Goals as goal
 
 pub returns-then-p-self-clause-some : goal.returns-then-p-self-clause-some

@@ -5,7 +5,9 @@ use Rattle.w4_defs.specs.Session.{place_refusal}
 use Rattle.w4_editor.specs.Playing.{IsShown, KeepsRecording}
 use Rattle.w4_defs.specs.declared.net_refusal.NetRefusal.TheVariants.{NoFrame}
 use Rattle.w4_netplay.specs.Replica.{Netplay, IsNetRefusal, predicted_draft, IsRolled}
-use Rattle.w4_netplay.proofs.ReplicaLaws.{netplay_view, keeps_same, still_keeps, shows_place, predicted_run_state, same_place_refusal, no_place, some_place, refused_for, memory_alone, memory_refused}
+use Rattle.w4_netplay.proofs.ReplicaLaws.{netplay_view, keeps_same, still_keeps, shows_place}
+use Rattle.w4_netplay.proofs.ReplicaLaws.{predicted_run_state, same_place_refusal, no_place, some_place}
+use Rattle.w4_netplay.proofs.ReplicaLaws.{refused_for, memory_alone, memory_refused}
 use Rattle.w4_netplay.proofs.replica.Replica.show.Goals.{in-Ok, in-Err}
 use Rattle.w4_netplay.proofs.replica.Replica.show.Goals as goal
 

@@ -6,21 +6,21 @@ ghost use Rattle.w4_devices.specs.Records.{record_of};
 
 use std::alloc::Global;
 use std::marker::Model;
-use w4_defs::{OutOfMemory, Sound};
+use w4_defs::OutOfMemory;
 use w4_devices::FrameRecord;
 
 /// The record of the frame that is under way, in a box: a board is given the box and gives it back, so that
-/// no log is copied. A contract sees the record.
+/// no log is copied. It has no sounds: these are taken when the frame ends. A contract sees the record.
 #[derive(Drop)]
-pub struct Logs {
+pub struct CurrentRecord {
     /// There but while a function runs.
     pub(crate) frame_record: Option<Box<FrameRecord>>,
 }
 
-impl Model for Logs {
+impl Model for CurrentRecord {
     ghost use Rattle.std.specs.Prelude.{IsSome, option_map};
     ghost use Rattle.w4_devices.specs.declared.frame_record.FrameRecord.{FrameRecord as Record};
-    ghost use Rattle.w4_console.specs.Logs.{record_in};
+    ghost use Rattle.w4_console.specs.CurrentRecord.{record_in};
 
     ghost Value = { Record };
 
@@ -29,12 +29,12 @@ impl Model for Logs {
     ghost invariant = { λ l. IsSome l.frame_record };
 }
 
-impl Logs {
+impl CurrentRecord {
     /// Without tones, lines and sounds.
-    pub(crate) fn new(alloc: Global) -> Result<Logs, OutOfMemory>
-        ensures { IfOk result (λ logs. record_of logs ≡ empty_record) }
+    pub(crate) fn new(alloc: Global) -> Result<CurrentRecord, OutOfMemory>
+        ensures { IfOk result (λ current. record_of current ≡ empty_record) }
     {
-        Ok(Logs {
+        Ok(CurrentRecord {
             frame_record: Some(Box::new(alloc, FrameRecord::new())?),
         })
     }
