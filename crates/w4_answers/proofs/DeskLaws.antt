@@ -19,9 +19,6 @@ use Rattle.w4_answers.specs.ScriptAnswers.{AnswersWithin}
 
 -- ---- one place
 
-pub none_run : (place more ticks : ℕ) (e : Editing) → RunsOn place more ticks ticks e e
-none_run place more ticks e = omega arith
-
 pub shown_runs : (place ticks_before ticks_after : ℕ) (old new : Editing)
     → IsShown place ticks_before ticks_after old new → RunsOn place 0 ticks_before ticks_after old new
 shown_runs place ticks_before ticks_after old new shown =

@@ -218,15 +218,6 @@ asks_save_is (Asks (live.Inputs a b)) is = absurd cc
 asks_save_is (Asks (live.Units a b)) is = absurd cc
 asks_save_is (Asks live.Save) is = refl
 
-pub other_order : (o : LiveOrder) → o ≢ live.Save → asks_save (Asks o) ≡ false
-other_order (live.Script o) other = refl
-other_order (live.Query ask) other = refl
-other_order (live.PageAt p) other = refl
-other_order (live.GlobalsAt p) other = refl
-other_order (live.Inputs a b) other = refl
-other_order (live.Units a b) other = refl
-other_order live.Save other = absurd (other refl)
-
 -- ---- pieces and their end
 
 some_value : {A : Type 0} (x : Option A) → IsSome x → (value : A) × (x ≡ Some value)

@@ -313,15 +313,3 @@ place_not_refused address width refusal same is =
     let past = first_true false (nat_lt 65536 (address + width))
     (subst (λ r. IsRefusal (outside_refusal address width) r) same is) in
     cc
-
--- the same watch of the editor before, at the places that the pages are of
-pub watched_before : {X : Type 0} (result : Result X Refusal) (before after : World) (old new : Editing)
-    (read : ReadPages) (address width a b : ℕ) → OnlyShows old new → read.first ≡ a → read.last ≡ b
-    → ForSome (watch_text as_it_stands (editor_pages new) address width read.first read.last)
-    (λ text. Written before after result text)
-    → ForSome (watch_text as_it_stands (editor_pages old) address width a b)
-    (λ text. Written before after result text)
-watched_before result before after old new read address width a b shows first last written =
-    subst (λ (text : Option (List ℕ)). ForSome text (λ text. Written before after result text))
-    (λ i. watch_text as_it_stands (same_editor_pages old new shows i) address width (first i) (last i))
-    written

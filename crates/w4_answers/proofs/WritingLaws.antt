@@ -6,7 +6,7 @@ use Rattle.std.proofs.Common.{[], Some, None, append_assoc}
 use Rattle.w4_defs.specs.World.{Event, World, Rises, Appends, AppendsFront, Does, LeavesReading}
 use Rattle.w4_defs.specs.World.{LeavesWriting, files_after, wrote}
 use Rattle.w4_house.proofs.WorldLaws.{appends_then, appends_then_front, does_wrote, does_wrote_front}
-use Rattle.w4_house.proofs.WorldLaws.{front_of_more, front_none, front_whole, take-wrote, wrote-append}
+use Rattle.w4_house.proofs.WorldLaws.{front_of_more, front_none, take-wrote, wrote-append}
 use Rattle.w4_house.proofs.WorldLaws.{rises_later}
 use Rattle.w4_answers.specs.Writing.{AppendsOut, AppendsOutFront, DoesFront, StopsWriting, Written}
 use Rattle.w4_house.specs.Calls.{write_refusal}
@@ -55,10 +55,6 @@ out_front_of_more old new some more front =
 
 pub out_none : (old new : Option (List Event)) (bytes : List ℕ) → new ≡ old → AppendsOutFront old new bytes
 out_none old new bytes same = front_out old new bytes (front_none old new (wrote bytes) same)
-
-pub out_whole : (old new : Option (List Event)) (bytes : List ℕ) → AppendsOut old new bytes
-    → AppendsOutFront old new bytes
-out_whole old new bytes whole = front_out old new bytes (front_whole old new (wrote bytes) whole)
 
 -- ---- what was done, after files were read
 
@@ -178,11 +174,6 @@ written_then (Ok x) first now next some more le one h =
 written_then (Err why) first now next some more le one h =
     owes_stopped first now next (manner_of why) more (some ++ more) le
     (owes_after first now some more (some ++ more) one refl) h
-
--- the same bytes in other words
-pub stops_as : (old new : World) (why : Manner) (bytes other : List ℕ) → other ≡ bytes
-    → StopsWriting old new why bytes → StopsWriting old new why other
-stops_as old new why bytes other e h = subst (λ xs. StopsWriting old new why xs) (sym e) h
 
 -- ---- what may not be there
 

@@ -47,14 +47,23 @@ impl<L: Ledger> Desk<L> {
         ensures { IfOk result (λ desk. desk.counted.editor ≡ new_editing cart font recording
             (state_at desk.counted.editor.session.current.kept 0)) }
     {
-        let image = Box::new(alloc, [0; IMAGE_LEN])?;
         let editor = Editor::new(alloc, cart, font, recording)?;
+        let Ok(image) = Box::new(alloc, [0; IMAGE_LEN]) else {
+            editor.close();
+            return Err(OutOfMemory);
+        };
         let steps: Steps<L> = Steps::new(blank);
         Ok(Desk {
             counted: CountedEditor { editor, steps },
             frame_record: FrameRecord::new(),
             image,
         })
+    }
+
+    /// Gives its memory back. A function of its own, since each place at which an editor may be dropped costs
+    /// much to prove.
+    pub fn close(self) {
+        self.counted.editor.close();
     }
 
     /// Shows a place, by one frame if the place before it is shown.

@@ -7,6 +7,7 @@ ghost use Rattle.w4_defs.specs.ScriptAnswers.{if_place, range_text};
 ghost use Rattle.w4_defs.specs.Answers.{answer_text};
 ghost use Rattle.w4_answers.specs.Desk.{IsMade, RunsOn, StepsOn, OnlyShows, text_by};
 ghost use Rattle.w4_answers.specs.RangeAnswer.{lead_of};
+ghost use Rattle.w4_answers.specs.RecordText.{text_of_place};
 ghost use Rattle.w4_answers.specs.Writing.{Written};
 ghost use Rattle.w4_answers.specs.ScriptAnswers.{GivesAnswer};
 ghost use Rattle.w4_editor.specs.Editor.{place_session, current_recording, editing_setup};
@@ -100,15 +101,37 @@ fn write_one<S: Shape, L: Ledger, H: House>(
             S::write(alloc, house, desk.made_image())
         }
         PlaceText::Schedule => {
-            let text = desk.frame_text(alloc, RecordText::Schedule, place)?;
-            S::write(alloc, house, text.as_slice())
+            write_record::<S, L, H>(alloc, house, desk, RecordText::Schedule, place)
         }
         PlaceText::Traces => {
-            let text = desk.frame_text(alloc, RecordText::Traces, place)?;
-            S::write(alloc, house, text.as_slice())
+            write_record::<S, L, H>(alloc, house, desk, RecordText::Traces, place)
         }
         PlaceText::DiskBytes => write_disk::<S, L, H>(alloc, house, desk, place),
     }
+}
+
+/// Writes a text of the frame that leads to a place.
+fn write_record<S: Shape, L: Ledger, H: House>(
+    alloc: Global,
+    house: &mut H,
+    desk: &mut Desk<L>,
+    wanted: RecordText,
+    place: usize,
+) -> Result<(), Refusal>
+    requires place { place ≤ length desk.old.counted.editor.session.current.inputs }
+    ensures out { ForSome (text_by S.form desk.old.counted.editor (text_of_place wanted) place)
+        (λ text. Written (H.world house.old) (H.world house.new) result text) }
+    ensures shows { OnOk result (OnlyShows desk.old.counted.editor desk.new.counted.editor) }
+    ensures recording { current_recording desk.new.counted.editor
+        ≡ current_recording desk.old.counted.editor }
+    ensures rest { LeavesWriting (H.world house.old) (H.world house.new) }
+    ensures made { OnOk result (IsMade 1 place desk.old.counted.steps desk.new.counted.steps
+        desk.old.counted.editor desk.new.counted.editor) }
+    ensures steps { OnOk result (StepsOn place desk.old.counted.steps desk.new.counted.steps
+        desk.old.counted.editor desk.new.counted.editor) }
+{
+    let text = desk.frame_text(alloc, wanted, place)?;
+    S::write(alloc, house, text.as_slice())
 }
 
 /// Writes the bytes of the disk at a place.

@@ -30,6 +30,12 @@ pub struct CartFile {
     ghost meaning: { RunsHaveMeaning cart } by { Prim.hlevel props },
 }
 
+impl CartFile {
+    /// Gives its memory back. A function of its own, since each place at which a cart may be dropped costs much
+    /// to prove.
+    pub fn close(self) {}
+}
+
 /// The valid module that the bytes are. The causes of `CartKind` are looked at in their order.
 fn judge(alloc: Global, bytes: &[u8]) -> Result<ValidCart, CartRefusal>
     ensures cart { IfOk result (λ valid. IsCart bytes.now valid) }

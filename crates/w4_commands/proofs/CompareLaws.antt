@@ -3,13 +3,13 @@ use Rattle.std.proofs.Common.{◌≡◌, ◌↔◌, ℕ, suc, ◌+◌, Bool, tru
 use Rattle.std.proofs.Common.{◌++◌, length, map, take, Option, Some, None, option_map, Result, Ok, Err}
 use Rattle.std.proofs.Common.{Decides, refl, sym, ap, subst, ◌∙◌, append_assoc, arith}
 use Rattle.std.proofs.lemmas.List.{append-nil}
-use Rattle.std.specs.Prelude.{IsSome, IsTrue, not, min}
+use Rattle.std.specs.Prelude.{IsSome, IsTrue, not}
 use Rattle.std.specs.List.{position_from, range_with_len}
 use Rattle.std.specs.Option.{ForSome}
 use Rattle.std.proofs.lemmas.Iterator.Adapters.{position_from-zero}
 use Rattle.w4_defs.specs.AllThere.{all_some}
 use Rattle.w4_defs.specs.Causes.{Ends, EndsRefused}
-use Rattle.w4_defs.specs.Comparison.{Both, Compared, Respect, Side, both_at, compared, compared_by}
+use Rattle.w4_defs.specs.Comparison.{Both, Compared, Respect, Side, both_at, compared}
 use Rattle.w4_defs.specs.Comparison.{first_difference, has_same_disk, has_same_image, has_same_state}
 use Rattle.w4_defs.specs.Comparison.{has_same_tones, has_same_traces}
 use Rattle.w4_defs.specs.Endings.{Manner, ReadFailed, InputFailed, WriteFailed, MemoryRefused, Refused}
@@ -28,7 +28,7 @@ use Rattle.w4_commands.specs.Commands.{MakesOf}
 use Rattle.w4_answers.specs.Writing.{StopsWriting}
 use Rattle.w4_commands.specs.Compare.{ComparedTo, WrittenTo}
 use Rattle.w4_commands.specs.Scene.{scene_side}
-use Rattle.w4_commands.specs.Differences.{after_place, both_stages, differences_of, if_differs, listed, noted}
+use Rattle.w4_commands.specs.Differences.{after_place, both_stages, differences_of, if_differs, noted}
 use Rattle.w4_commands.specs.Stage.{IsAtPlace, stage_moment}
 use Rattle.w4_commands.specs.declared.scene.Scene.{Scene}
 use Rattle.w4_commands.specs.declared.stage.Stage.{Stage}
@@ -158,12 +158,6 @@ module _ (one other : Scene) (inputs other_inputs : List Input) where
       subst (ComparedTo (scene_side one inputs) (scene_side other other_inputs) (place + 1)) (sym is)
       (compared_goes_on (scene_side one inputs) (scene_side other other_inputs) place
       (both_stages (place + 1) a b) so_far (both_there (place + 1) a b at other_at) refl before)
-
--- all places that both have: the lines tell of these differences
-pub compared_whole : (one other : Side) (found : Differences)
-    → ComparedTo one other (min (length one.inputs) (length other.inputs)) found
-    → compared one other ≡ Some (compared_by (length one.inputs) (length other.inputs) (listed found))
-compared_whole one other found (places, there, many, is) = rw (there, is) refl
 
 -- lines that were added one after another
 pub lines_in_order : (state image tones traces disk places n m ending : List ℕ)

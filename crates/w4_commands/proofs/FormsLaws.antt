@@ -19,5 +19,7 @@ name_and_rest {X = X} bytes (first ∷ rest) name word some is named =
 
 pub form_named : (words : List (String Global)) (name : String Global) (word : List ℕ) → 1 ≤ length words
     → name ≡ get_or words 0 name → string_bytes name ≡ word
-    → form_of (map string_bytes words) ≡ form_of (word ∷ map string_bytes (take (length words - 1) (drop 1 words)))
-form_named words name word some is named = ap form_of (name_and_rest string_bytes words name word some is named)
+    → form_of (map string_bytes words) ≡
+    form_of (word ∷ map string_bytes (take (length words - 1) (drop 1 words)))
+form_named words name word some is named =
+    ap form_of (name_and_rest string_bytes words name word some is named)

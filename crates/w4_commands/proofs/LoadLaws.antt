@@ -8,9 +8,8 @@ use Rattle.w4_house.proofs.WorldLaws.{rises_later}
 use Rattle.w4_defs.specs.declared.status.Refusal.{Refusal}
 use Rattle.w4_defs.specs.Endings.{Manner, ReadFailed, InputFailed, WriteFailed, MemoryRefused, Refused}
 use Rattle.w4_defs.specs.Endings.{manner_of}
-use Rattle.w4_defs.specs.Output.{◌>>=◌, Output, reading, judged, making, CartFile, CartIn}
+use Rattle.w4_defs.specs.Output.{◌>>=◌, reading, judged, CartFile, CartIn}
 use Rattle.w4_commands.specs.Load.{GivesRefusal, GivesValue, ResultsIn, Stops, StepGives}
-use Rattle.w4_commands.specs.Commands.{MakesOf}
 use Rattle.w4_defs.specs.declared.refusal.CartKind.{CartKind}
 use Rattle.sha2.specs.Sha256.{sha256}
 use Rattle.w4_defs.specs.Cart.{IsCart, IsRefused, IsInvalid}
@@ -36,18 +35,6 @@ stops_first old new ReadFailed step next (inr (files, texts, e)) = inr (files, t
 stops_first old new WriteFailed step next h = h
 stops_first old new MemoryRefused step next h = tt
 stops_first old new (Refused refusal) step next h = λ files texts. rw (h files texts) refl
-
--- and what is made of what it gives
-pub stops_making : {G : Type 0} (old new : World) (why : Manner) (step : Files → Result G Refusal)
-    (make : Files → G → Option Output)
-    → Stops old new why (ResultsIn step)
-    → Stops old new why (MakesOf (λ files. making (step files) (make files)))
-stops_making old new InputFailed step make h = h
-stops_making old new ReadFailed step make (inl rise) = inl rise
-stops_making old new ReadFailed step make (inr (files, texts, e)) = inr (files, texts, rw e refl)
-stops_making old new WriteFailed step make h = h
-stops_making old new MemoryRefused step make h = tt
-stops_making old new (Refused refusal) step make h = λ files texts. rw (h files texts) refl
 
 -- what stops a later step stops what went before it
 pub stops_later : {A B : Type 0} (first second third : World) (why : Manner) (step : Files → Result A Refusal)

@@ -1,9 +1,9 @@
--- What is written of a whole run is there, and the four commands that are named for it have one form.
-use Rattle.std.proofs.Common.{◌≡◌, ◌+◌, ℕ, List, [], ◌∷◌, length, IsSome, Result, Some, refl}
+-- What is written of a whole run is there.
+use Rattle.std.proofs.Common.{◌≡◌, ◌+◌, [], ◌∷◌, length, IsSome, Result}
 use Rattle.w4_defs.specs.declared.place_text.PlaceText.TheVariants.{Schedule, Traces}
 use Rattle.w4_defs.specs.declared.status.Refusal.{Refusal}
 use Rattle.w4_defs.specs.Causes.{Ends}
-use Rattle.w4_defs.specs.Commands.{RunWords, run_words}
+use Rattle.w4_defs.specs.Commands.{RunWords}
 use Rattle.w4_defs.specs.Live.{Talk}
 use Rattle.w4_defs.specs.Meaning.{RunsHaveMeaning}
 use Rattle.w4_defs.specs.Module.{WasmModule}
@@ -15,7 +15,7 @@ use Rattle.w4_defs.specs.World.{World}
 use Rattle.w4_defs.proofs.OutputsThereLaws.{place_texts_there, wave_text_there}
 use Rattle.w4_defs.proofs.UnitsThereLaws.{units_text_there}
 use Rattle.w4_commands.specs.Commands.{EndsDone, MakesOf, finished}
-use Rattle.w4_commands.specs.RunOutputs.{whole_command, whole_form, whole_output, whole_text}
+use Rattle.w4_commands.specs.RunOutputs.{whole_command, whole_output, whole_text}
 use Rattle.w4_commands.specs.declared.forms.WholeText.{WholeText}
 use Rattle.w4_commands.specs.declared.forms.WholeText.TheVariants as whole
 use Rattle.w4_commands.proofs.CommandLaws.{by_any}
@@ -42,11 +42,3 @@ whole_ended old new result whole.Units words cart h =
     by_any old new result (MakesOf (units_output words cart)) h
 whole_ended old new result whole.Wave words cart h =
     by_any old new result (MakesOf (wave_output words cart)) h
-
-pub whole_of_names : (text : WholeText) (cart recording font : List ℕ)
-    → whole_form text (cart ∷ recording ∷ font ∷ [])
-    ≡ Some (whole_command text (run_words cart recording font))
-whole_of_names whole.Tones cart recording font = refl
-whole_of_names whole.Trace cart recording font = refl
-whole_of_names whole.Units cart recording font = refl
-whole_of_names whole.Wave cart recording font = refl

@@ -72,7 +72,9 @@ fn judge_and_run<R: Threads + Sync, H: House, G: Gate + Sync>(
     ensures err { LeavesErr (H.world house.old) (H.world house.new) }
 {
     let file = load_cart(resources.alloc, house, cart_name(&command))?;
-    run_on_cart(resources, house, &file, command)
+    let end = run_on_cart(resources, house, &file, command);
+    file.close();
+    end
 }
 
 /// How a command ends that finds no difference.

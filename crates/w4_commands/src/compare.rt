@@ -72,7 +72,9 @@ pub fn run_compare<H: House>(
     ensures err { LeavesErr (H.world house.old) (H.world house.new) }
 {
     let file = load_cart(alloc, house, names.cart)?;
-    compare_first(alloc, house, &file, names)
+    let end = compare_first(alloc, house, &file, names);
+    file.close();
+    end
 }
 
 /// The rest, with the first cart.
@@ -88,7 +90,9 @@ fn compare_first<H: House>(
     ensures err { LeavesErr (H.world house.old) (H.world house.new) }
 {
     let other = load_cart(alloc, house, names.other_cart)?;
-    compare_carts(alloc, house, file, &other, names)
+    let end = compare_carts(alloc, house, file, &other, names);
+    other.close();
+    end
 }
 
 /// The rest, with both carts.

@@ -12,7 +12,6 @@ ghost use Rattle.w4_commands.specs.Load.{ResultsIn, StepGives, GivesValue, cart_
 ghost use Rattle.w4_console.specs.Counting.{IsBlankOf};
 ghost use Rattle.w4_commands.specs.Forms.{edit_view};
 
-use crate::closing::close_desk;
 use crate::forms::EditNames;
 use crate::lines_refusal::script_refusal;
 use crate::load::{RunFiles, load_run, read_file};
@@ -57,13 +56,20 @@ pub fn run_edit<R: Threads + Sync, H: House, G: Gate + Sync>(
         (MakesOf (λ files. edit_output (edit_view names.entry) (cart_view file) files)) }
     ensures err { LeavesErr (H.world house.old) (H.world house.new) }
 {
-    let loaded = load_edit(resources.alloc, house, &file.digest, names)?;
-    let Loaded { run, orders } = loaded;
-    let task = EditTask {
-        orders: orders.as_slice(),
-        out: names.out,
-    };
-    carry_out::<Brand, R, H, G>(resources, house, file.cart, run, task, Blank::new(1))
+    match load_edit(resources.alloc, house, &file.digest, names) {
+        Ok(loaded) => {
+            let Loaded { run, orders } = loaded;
+            let task = EditTask {
+                orders: orders.as_slice(),
+                out: names.out,
+            };
+            carry_out::<Brand, R, H, G>(resources, house, file.cart, run, task, Blank::new(1))
+        }
+        Err(refusal) => {
+            file.close();
+            Err(refusal)
+        }
+    }
 }
 
 /// Reads what an edit over the cart with this digest is made of.
@@ -119,7 +125,7 @@ fn carry_out<L: Ledger, R: Threads + Sync, H: House, G: Gate + Sync>(
 {
     let mut desk = Desk::<L>::new(resources.alloc, cart, run.font, run.recording, blank)?;
     let end = answer_and_save(resources, house, &mut desk, task.orders, task.out);
-    close_desk(desk);
+    desk.close();
     end
 }
 

@@ -5,7 +5,6 @@
 
 mod batch;
 pub mod budget;
-mod closing;
 pub mod commands;
 mod compare;
 mod differences;

@@ -52,9 +52,16 @@ pub fn run_net<H: House>(
         (MakesOf (λ files. net_output (net_view names.entry) (cart_view file) files)) }
     ensures err { LeavesErr (H.world house.old) (H.world house.new) }
 {
-    let loaded = load_net(alloc, house, names)?;
-    let NetLoaded { font, orders } = loaded;
-    answer_log(alloc, house, file, font, names.budget, orders.as_slice())
+    match load_net(alloc, house, names) {
+        Ok(loaded) => {
+            let NetLoaded { font, orders } = loaded;
+            answer_log(alloc, house, file, font, names.budget, orders.as_slice())
+        }
+        Err(refusal) => {
+            file.close();
+            Err(refusal)
+        }
+    }
 }
 
 /// Reads what a session of rollback is made of.
@@ -107,7 +114,9 @@ fn answer_log<H: House>(
     let CartFile { cart, digest } = file;
     let recording = Recording::new(digest, budget.units, Vec::new(alloc), Vec::new(alloc));
     let mut replica = Replica::new(alloc, cart, font, recording)?;
-    answer_orders::<Brand, H>(alloc, house, &mut replica, orders, Blank::new(1))
+    let end = answer_orders::<Brand, H>(alloc, house, &mut replica, orders, Blank::new(1));
+    replica.close();
+    end
 }
 
 /// Answers all lines. The frames that are run for them are counted by a counter of their own.

@@ -5,6 +5,7 @@ ghost use Rattle.std.specs.Option.{ForSome};
 ghost use Rattle.w4_defs.specs.Run.{run};
 ghost use Rattle.w4_defs.specs.World.{LeavesWriting};
 ghost use Rattle.w4_defs.specs.State.{HasGlobals};
+ghost use Rattle.w4_answers.specs.RecordText.{record_text};
 ghost use Rattle.w4_answers.specs.Writing.{Written};
 ghost use Rattle.w4_commands.specs.Scene.{scene_setup};
 ghost use Rattle.w4_commands.specs.Stage.{stage_moment};
@@ -45,16 +46,26 @@ pub fn write_place<H: House>(
             stage.paint();
             write_bytes(alloc, house, stage.painted())
         }
-        PlaceText::Schedule => {
-            let text = stage.frame_text(alloc, RecordText::Schedule, place)?;
-            write_bytes(alloc, house, text.as_slice())
-        }
-        PlaceText::Traces => {
-            let text = stage.frame_text(alloc, RecordText::Traces, place)?;
-            write_bytes(alloc, house, text.as_slice())
-        }
+        PlaceText::Schedule => write_record(alloc, house, stage, RecordText::Schedule, place),
+        PlaceText::Traces => write_record(alloc, house, stage, RecordText::Traces, place),
         PlaceText::DiskBytes => write_bytes(alloc, house, stage.disk()),
     }
+}
+
+/// Writes a text of the frame that led to the place.
+fn write_record<H: House>(
+    alloc: Global,
+    house: &mut H,
+    stage: &Stage,
+    wanted: RecordText,
+    place: usize,
+) -> Result<(), Refusal>
+    ensures out { Written (H.world house.old) (H.world house.new) result
+        (record_text wanted place (stage_moment stage.now).frame_record) }
+    ensures rest { LeavesWriting (H.world house.old) (H.world house.new) }
+{
+    let text = stage.frame_text(alloc, wanted, place)?;
+    write_bytes(alloc, house, text.as_slice())
 }
 
 /// Writes texts one after another, so that memory doesn't grow with their number.

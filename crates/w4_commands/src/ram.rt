@@ -16,7 +16,6 @@ ghost use Rattle.w4_console.specs.Counting.{IsBlankOf};
 ghost use Rattle.w4_commands.specs.Ram.{ram_loaded_view};
 ghost use Rattle.w4_commands.specs.Forms.{run_view};
 
-use crate::closing::close_editor;
 use crate::forms::RunNames;
 use crate::lines_refusal::script_refusal;
 use crate::load::{RunFiles, load_run, read_file};
@@ -52,6 +51,13 @@ struct QueryDesk<L: Ledger> {
     held: Option<PlacePages>,
 }
 
+impl<L: Ledger> QueryDesk<L> {
+    /// Gives its memory back, as `Desk::close` does.
+    fn close(self) {
+        self.counted.editor.close();
+    }
+}
+
 /// `ram CART REC FONT QUERY`.
 #[tactic(auto, unfolding(w4_defs::specs::ToolOutputs::ram_output))]
 pub fn run_ram<H: House>(
@@ -65,16 +71,17 @@ pub fn run_ram<H: House>(
         (MakesOf (λ files. ram_output (run_view names.entry) query.now (cart_view file) files)) }
     ensures err { LeavesErr (H.world house.old) (H.world house.new) }
 {
-    let loaded = load_ram(alloc, house, &file.digest, names, query)?;
-    let RamLoaded { run, lines } = loaded;
-    answer_query::<Brand, H>(
-        alloc,
-        house,
-        file.cart,
-        run,
-        lines.as_slice(),
-        Blank::new(1),
-    )
+    match load_ram(alloc, house, &file.digest, names, query) {
+        Ok(loaded) => {
+            let RamLoaded { run, lines } = loaded;
+            let lines = lines.as_slice();
+            answer_query::<Brand, H>(alloc, house, file.cart, run, lines, Blank::new(1))
+        }
+        Err(refusal) => {
+            file.close();
+            Err(refusal)
+        }
+    }
 }
 
 /// Reads what a query over a run of the cart with this digest is made of.
@@ -141,13 +148,8 @@ fn answer_query<L: Ledger, H: House>(
         held: None,
     };
     let end = answer_lines(alloc, house, &mut desk, lines);
-    close_query(desk);
+    desk.close();
     end
-}
-
-/// Gives back the memory of an editor with what is held beside it.
-fn close_query<L: Ledger>(desk: QueryDesk<L>) {
-    close_editor(desk.counted.editor);
 }
 
 /// Answers all lines.

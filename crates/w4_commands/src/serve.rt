@@ -25,7 +25,6 @@ ghost use Rattle.w4_console.specs.Counting.{IsBlankOf};
 ghost use Rattle.w4_commands.specs.Load.{cart_view};
 ghost use Rattle.w4_commands.specs.Forms.{serve_view};
 
-use crate::closing::close_desk;
 use crate::forms::ServeNames;
 use crate::load::{RunFiles, load_run};
 use std::alloc::Global;
@@ -52,8 +51,13 @@ pub fn run_serve<R: Threads + Sync, H: House, G: Gate + Sync>(
         × (serve_output (serve_view names.entry) talk (cart_view file) files ≡ Some output)) }
     ensures err { LeavesErr (H.world house.old) (H.world house.new) }
 {
-    let run = load_run(resources.alloc, house, &file.digest, names.run)?;
-    serve_run::<Brand, R, H, G>(resources, house, file, run, names, Blank::new(1))
+    match load_run(resources.alloc, house, &file.digest, names.run) {
+        Ok(run) => serve_run::<Brand, R, H, G>(resources, house, file, run, names, Blank::new(1)),
+        Err(refusal) => {
+            file.close();
+            Err(refusal)
+        }
+    }
 }
 
 /// A session on a recording that was read. However its lines end, the recording left goes to the file. The
@@ -74,7 +78,7 @@ fn serve_run<L: Ledger, R: Threads + Sync, H: House, G: Gate + Sync>(
     let cart = file.cart;
     let mut desk = Desk::<L>::new(resources.alloc, cart, run.font, run.recording, blank)?;
     let end = serve_at(resources, house, &mut desk, names.out);
-    close_desk(desk);
+    desk.close();
     end
 }
 

@@ -47,8 +47,8 @@ impl Stage {
         })
     }
 
-    /// Gives its memory back. A function of its own, since each place at which a stage may be dropped costs much
-    /// to prove.
+    /// Gives its memory back. A function of its own, since each place at which a stage may be dropped costs
+    /// much to prove.
     pub fn close(self) {}
 
     /// Starts the run with a reset, and returns what the reset took of the budget.

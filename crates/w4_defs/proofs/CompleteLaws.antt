@@ -245,8 +245,8 @@ module _ (files : Files) (cart : CartFile) (meant : RunsHaveMeaning cart.code) w
       let found = value_there (compared_runs cart.code other.code p.0)
       (compared_there cart.code other.code meant also p.0) in (
         found.0,
-        making_done (compare_files words cart other files) (compared_runs cart.code other.code) p.0 found.0 p.1
-            found.1,
+        making_done (compare_files words cart other files) (compared_runs cart.code other.code) p.0 found.0
+            p.1 found.1,
       )
 
   edited_done : (words : EditWords) (run : Played) (orders : List Order)
@@ -320,8 +320,8 @@ module _ (files : Files) (cart : CartFile) (meant : RunsHaveMeaning cart.code) w
       printing_done (run_files cart.digest words files) (run_units cart.code) run
       (run_there files words cart.digest run has) (units_text_there cart.code meant run)
   form_done (Compare words) talk law named (other, has_cart, first, second, has, also, font, has_font) =
-      let found = compared_done words other (law has_cart.bytes other.code has_cart.accepted) first second font
-      has also has_font in
+      let found = compared_done words other (law has_cart.bytes other.code has_cart.accepted) first second
+      font has also has_font in
       (found.0, (Ok other, judged_cart files words.other_cart other has_cart, found.1))
   form_done (Rebind name recording) talk law named (r, has) = rebound_done name recording talk r has
   form_done (Inputs recording) talk law named rest = absurd cc

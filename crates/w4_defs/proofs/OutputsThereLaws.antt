@@ -68,7 +68,8 @@ module _ (m : WasmModule) (meant : RunsHaveMeaning m) where
       let r = l.run.recording in
       let setup = run_setup m l.run in
       answers_there (line_answer setup r.disk)
-      (λ session line. live_answer_there as_it_stands setup r.disk (runs_there l.run) session (live_order line))
+      (λ session line.
+      live_answer_there as_it_stands setup r.disk (runs_there l.run) session (live_order line))
       (new_live_session r.frames) l.lines
 
   pub records_there : (p : Played) (places : ℕ) → IsSome (records_of m p places)

@@ -1,11 +1,11 @@
 -- Segments: the single constant of an offset, and the first of two lists.
-use Rattle.std.proofs.Common.{◌≡◌, ℕ, suc, ◌+◌, ◌-◌, ◌<◌, List, [], ◌∷◌, ◌++◌, length, map, get_or, cond}
-use Rattle.std.proofs.Common.{Bool, true, false, Option, Some, None, refl, sym, ◌∙◌, ap, arith, length-append}
+use Rattle.std.proofs.Common.{◌≡◌, ℕ, ◌+◌, ◌-◌, ◌<◌, List, [], ◌∷◌, ◌++◌, length, map, get_or, cond}
+use Rattle.std.proofs.Common.{Bool, true, false, Option, Some, None, refl, sym, ◌∙◌, ap, arith}
 use Rattle.std.specs.Prelude.{option_map, nat_lt, position, slice_get}
 use Rattle.std.specs.List.{position_from, position_or_len}
 use Rattle.w4_defs.specs.declared.operation.Op.{Op}
 use Rattle.w4_defs.specs.declared.operation.Op.TheVariants.{End}
-use Rattle.w4_defs.specs.Tree.{Mark, Expr, done, plain, block, loop, if_then, if_else, span, flat_at, flat}
+use Rattle.w4_defs.specs.Tree.{Expr, done, plain, block, loop, if_then, if_else, span, flat}
 use Rattle.w4_defs.specs.Module.{ElementSegment, DataSegment, WasmModule}
 use Rattle.w4_defs.specs.Profile.{i32_constant, single_constant, exceeds_size, segments_outside, table_size}
 use Rattle.wasm_tree.specs.Pool.{operations_of}

@@ -1,11 +1,11 @@
 -- Lists of i32 alone.
-use Rattle.std.proofs.Common.{◌≡◌, ℕ, zero, suc, List, [], ◌∷◌, length, replicate, Bool, true, false, refl}
+use Rattle.std.proofs.Common.{◌≡◌, ℕ, zero, suc, List, [], ◌∷◌, length, replicate, false, refl}
 use Rattle.std.proofs.Common.{arith}
 use Rattle.std.specs.Prelude.{not}
 use Rattle.std.specs.List.{list_any}
 use Rattle.w4_defs.specs.declared.value.ValType.{ValType}
 use Rattle.w4_defs.specs.declared.value.ValType.TheVariants.{I32, I64, F32, F64}
-use Rattle.w4_defs.specs.ValueTypes.{same_type, same_types}
+use Rattle.w4_defs.specs.ValueTypes.{same_types}
 use Rattle.wasm_link.specs.Judging.{is_other}
 
 pub all_i32 : (ts : List ValType) (n : ℕ) → length ts ≡ n

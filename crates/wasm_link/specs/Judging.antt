@@ -1,8 +1,6 @@
 -- The parts of the profile as the functions of this crate find them, where the profile's definition
 -- speaks of trees or of several lists at once.
-use Rattle.std.specs.Prelude.{ℕ, ◌||◌, Bool, true, false, not, List, [], ◌∷◌, map, Option, Some, None}
-use Rattle.std.specs.Prelude.{option_and_then, slice_get, zip}
-use Rattle.std.specs.List.{list_any}
+use Rattle.std.specs.Prelude.{◌||◌, Bool, false, not, [], ◌∷◌}
 use Rattle.w4_defs.specs.declared.value.ValType.{ValType}
 use Rattle.w4_defs.specs.declared.value.ValType.TheVariants.{I32}
 use Rattle.w4_defs.specs.declared.operation.Op.{Op}

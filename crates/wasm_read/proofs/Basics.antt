@@ -1,6 +1,6 @@
 -- Steps of a reader taken apart.
 use Rattle.std.proofs.Common.{◌≡◌, ◌≢◌, ℕ, Bool, true, false, ◌&&◌, ◌||◌, eqb, if◌then◌else◌, ◌⊎◌, inl, inr}
-use Rattle.std.proofs.Common.{List, Option, Some, None, refl, ap, subst, arith}
+use Rattle.std.proofs.Common.{List, Some, None, refl, ap, subst, arith}
 use Rattle.std.proofs.lemmas.Bool.Decides.{nat_tests}
 use Rattle.w4_defs.specs.BinaryText.{Texts}
 use Rattle.wasm_read.specs.Reader.{read_as, Takes}

@@ -11,10 +11,8 @@ use Rattle.w4_defs.specs.declared.basic.Basic.{Basic}
 use Rattle.w4_defs.specs.declared.basic.Basic.TheVariants.{F32Const, F64Const, FloatMemory, FloatPlain}
 use Rattle.w4_defs.specs.declared.basic.Basic.TheVariants.{FloatCut}
 use Rattle.w4_defs.specs.declared.instruction_table.Row.{Row}
-use Rattle.w4_defs.specs.declared.instruction_table.Row.TheVariants.{Const, Test, Compare, Unary, Binary}
+use Rattle.w4_defs.specs.declared.instruction_table.Row.TheVariants.{Test, Compare, Unary, Binary}
 use Rattle.w4_defs.specs.declared.instruction_table.Row.TheVariants.{Wrap, Extend, ExtendWithin, Load, Store}
-use Rattle.w4_defs.specs.declared.instruction_table.Row.TheVariants.{MemorySize, MemoryGrow, MemoryCopy}
-use Rattle.w4_defs.specs.declared.instruction_table.Row.TheVariants.{MemoryFill, Float}
 use Rattle.w4_defs.specs.InstructionTable.{opcode, row}
 use Rattle.w4_defs.specs.BinaryText.{Texts, ◌then◌, byte}
 use Rattle.w4_defs.specs.BinaryNumber.{unsigned}

@@ -21,8 +21,7 @@ use Rattle.w4_defs.specs.BinaryModule.{preamble, body, SpellsModule}
 use Rattle.w4_defs.specs.Program.{Own, Callee, own_function, host_function, no_function, instructions}
 use Rattle.w4_defs.specs.Program.{reserve_of, own_callee, own_callees, imported_callee, with_import}
 use Rattle.w4_defs.specs.Program.{imported_callees, callees}
-use Rattle.w4_defs.specs.Profile.{param_count, has_many_locals, if_so, first_cause, causes, profile_refusal}
-use Rattle.w4_defs.specs.Cart.{IsCart}
+use Rattle.w4_defs.specs.Profile.{param_count, has_many_locals, causes, profile_refusal}
 use Rattle.w4_defs.proofs.CauseLaws.{none_there, not_so}
 use Rattle.wasm_read.specs.Reserves.{ReservesAreSmall}
 use Rattle.wasm_read.proofs.MarkLaws.{instruction_mark, mark_long}

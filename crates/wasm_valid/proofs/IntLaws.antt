@@ -3,7 +3,7 @@ use Rattle.std.proofs.Common.{◌≡◌, Bool, true, false, ◌&&◌, cond, nat_
 use Rattle.std.proofs.Common.{List, [], ◌∷◌, ◌++◌, map, reverse, Option, Some, None, option_and_then, refl}
 use Rattle.std.proofs.Common.{sym, subst}
 use Rattle.std.specs.Prelude.{All, IfSome, slice_get}
-use Rattle.std.proofs.lemmas.Bool.{and_from, and_parts}
+use Rattle.std.proofs.lemmas.Bool.{and_from}
 use Rattle.std.proofs.lemmas.List.{reverse-append}
 use Rattle.std.proofs.lemmas.List.Elements.{All-cons}
 use Rattle.wasm_tree.proofs.MarkLaws.{got_all}

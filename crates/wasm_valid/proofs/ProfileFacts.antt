@@ -1,16 +1,14 @@
 -- What holds of a module that the profile lets through: none of the nine causes.
-use Rattle.std.proofs.Common.{◌≡◌, ℕ, zero, suc, List, [], ◌∷◌, length, map, cond, Bool, true, false, Option}
+use Rattle.std.proofs.Common.{◌≡◌, ℕ, List, [], ◌∷◌, length, map, cond, Bool, true, false, Option}
 use Rattle.std.proofs.Common.{Some, None, refl, sym, subst, ◌∙◌, ap}
 use Rattle.std.specs.Prelude.{not, ◌&&◌, ◌||◌, bytes_eq, codes, slice_get, position, zip, option_map}
 use Rattle.std.specs.Prelude.{option_and_then, IfSome, IsSome}
 use Rattle.std.specs.List.{list_any}
 use Rattle.std.proofs.lemmas.Bool.{or_parts, not-false, both_ways}
 use Rattle.std.proofs.lemmas.List.Folds.{list_any-append}
-use Rattle.std.proofs.lemmas.Option.{same_Some}
 use Rattle.std.proofs.lemmas.Slice.Eq.{bytes_eq-Decides}
 use Rattle.w4_defs.specs.declared.module.ExportKind.{ExportKind}
 use Rattle.w4_defs.specs.declared.module.ExportKind.TheVariants as exports
-use Rattle.w4_defs.specs.declared.refusal.ProfileRefusal.{ProfileRefusal}
 use Rattle.w4_defs.specs.declared.refusal.ProfileRefusal.TheVariants.{Floats, TooManyLocals, UnknownImport}
 use Rattle.w4_defs.specs.declared.refusal.ProfileRefusal.TheVariants.{WrongImport, NoMemory, NoUpdate}
 use Rattle.w4_defs.specs.declared.refusal.ProfileRefusal.TheVariants.{WrongEntry, SegmentOutside}
@@ -19,7 +17,7 @@ use Rattle.w4_defs.specs.Floats.{module_has_float}
 use Rattle.w4_defs.specs.Lookup.{signature_of}
 use Rattle.w4_defs.specs.Module.{Signature, Imported, Exported, ElementSegment, DataSegment, WasmModule}
 use Rattle.w4_defs.specs.Module.{nothing_to_nothing}
-use Rattle.w4_defs.specs.Profile.{if_so, causes, first_cause, profile_refusal, has_many_locals}
+use Rattle.w4_defs.specs.Profile.{if_so, causes, profile_refusal, has_many_locals}
 use Rattle.w4_defs.specs.Profile.{first_wrong_import, is_known_entry, is_memory, is_update, is_entry_name}
 use Rattle.w4_defs.specs.Profile.{is_wrong_entry, is_entry_function, takes_nothing, segments_outside}
 use Rattle.w4_defs.specs.Profile.{is_right, exceeds_size, single_constant, table_size}

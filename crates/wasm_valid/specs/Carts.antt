@@ -3,7 +3,7 @@
 use Rattle.std.specs.Prelude.{◌≡◌, ℕ, ◌^◌, ◌<◌, List, [], length, map, codes, Option, None}
 use Rattle.w4_defs.specs.declared.value.Val.{Val}
 use Rattle.w4_defs.specs.EntryPoints.{first_globals}
-use Rattle.w4_defs.specs.Module.{Signature, WasmModule}
+use Rattle.w4_defs.specs.Module.{WasmModule}
 use Rattle.w4_defs.specs.Profile.{profile_refusal}
 use Rattle.w4_defs.specs.Program.{callees, table_of}
 use Rattle.w4_defs.specs.Validity.{IsValid}

@@ -20,7 +20,7 @@ use Rattle.w4_defs.specs.InstructionTable.{opcode, row}
 use Rattle.w4_defs.specs.BinaryNumber.{unsigned, little_endian}
 use Rattle.w4_defs.specs.BinaryBasic.{immediate, number, shaped, basic}
 use Rattle.w4_defs.specs.BinaryInstruction.{operation}
-use Rattle.w4_defs.specs.EncodeNumber.{unsigned_bytes, signed_bytes}
+use Rattle.w4_defs.specs.EncodeNumber.{unsigned_bytes}
 use Rattle.w4_defs.specs.EncodeInstruction.{immediate_bytes, number_bytes, shaped_bytes, basic_bytes}
 use Rattle.w4_defs.specs.EncodeInstruction.{operation_bytes}
 use Rattle.wasm_write.specs.Fits.{ImmediateFits, RowFits, BasicFits, OperationFits}

@@ -37,7 +37,9 @@ fn editor(alloc: Global) -> Result<Editor, Fail> {
 /// Tests one thing with an editor of its own.
 pub fn check<R: Threads + Sync + Abort>(rt: &R, alloc: Global, trial: Trial) -> Result<(), Fail> {
     let mut editor = editor(alloc)?;
-    check_lent::<R, Brand>(rt, alloc, &mut editor, trial, Blank::new(1))
+    let end = check_lent::<R, Brand>(rt, alloc, &mut editor, trial, Blank::new(1));
+    editor.close();
+    end
 }
 
 /// Tests one thing with an editor whose places are all kept.

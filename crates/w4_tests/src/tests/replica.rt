@@ -44,6 +44,7 @@ fn roll_back<L: Ledger>(
 fn a_late_pad_is_rolled_back_to_with_ample_memory(rt: HostRuntime) -> Result<(), Fail> {
     let mut replica = replica(rt.alloc())?;
     let rolled = roll_back::<Brand>(rt.alloc(), &mut replica, Blank::new(1));
+    replica.close();
     assert!(rt; rolled.is_ok());
     Ok(())
 }

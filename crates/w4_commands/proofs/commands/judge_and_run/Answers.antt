@@ -8,10 +8,10 @@ use Rattle.w4_commands.proofs.commands.judge_and_run.Goals as goal
 pub returns-clause-ends : goal.returns-clause-ends
 returns-clause-ends g c =
     judged_form (g.H.House.world c.args.house.now) (g.H.House.world c.load_cart.new.house)
-    (g.H.House.world c.run_on_cart.new.house) (finished c.run_on_cart.result)
+    (g.H.House.world c.run_on_cart-end.new.house) (finished c.run_on_cart-end.result)
     (cart_command_view c.args.command)
     c.cart_name.result.now (cart_view c.in_ok-file.file) c.cart_name.ensures c.in_ok-file.ensures.rest
-    c.in_ok-file.ensures.gives c.run_on_cart.ensures.ends
+    c.in_ok-file.ensures.gives c.run_on_cart-end.ensures.ends
 
 pub returns-in_err-file-clause-ends : goal.returns-in_err-file-clause-ends
 returns-in_err-file-clause-ends g c =

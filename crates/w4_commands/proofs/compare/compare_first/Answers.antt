@@ -9,11 +9,11 @@ use Rattle.w4_commands.proofs.compare.compare_first.Goals as goal
 pub returns-clause-ends : goal.returns-clause-ends
 returns-clause-ends g c =
     ends_judged (g.H.House.world c.args.house.now) (g.H.House.world c.load_cart.new.house)
-    (g.H.House.world c.compare_carts.new.house) c.compare_carts.result c.args.names.other_cart.now
+    (g.H.House.world c.compare_carts-end.new.house) c.compare_carts-end.result c.args.names.other_cart.now
     (cart_view c.in_ok-other.other)
     (λ other files output.
     compare_output (compare_view c.args.names) (cart_view c.args.file.now) other files ≡ Some output)
-    c.in_ok-other.ensures.rest c.in_ok-other.ensures.gives c.compare_carts.ensures.ends
+    c.in_ok-other.ensures.rest c.in_ok-other.ensures.gives c.compare_carts-end.ensures.ends
 
 pub returns-in_err-other-clause-ends : goal.returns-in_err-other-clause-ends
 returns-in_err-other-clause-ends g c =

@@ -11,15 +11,15 @@ use Rattle.w4_commands.proofs.compare.run_compare.Goals as goal
 pub returns-clause-ends : goal.returns-clause-ends
 returns-clause-ends g c =
     let old = g.H.House.world c.load_cart.new.house in
-    let new = g.H.House.world c.compare_first.new.house in
+    let new = g.H.House.world c.compare_first-end.new.house in
     let words = compare_view c.args.names in
     let cart = cart_view c.in_ok-file.file in
-    judged_form (g.H.House.world c.args.house.now) old new c.compare_first.result (Compare words) words.cart
+    judged_form (g.H.House.world c.args.house.now) old new c.compare_first-end.result (Compare words) words.cart
     cart
     refl c.in_ok-file.ensures.rest c.in_ok-file.ensures.gives
-    (any_talk old new c.compare_first.result
+    (any_talk old new c.compare_first-end.result
     (OverCart words.other_cart (λ other files output. compare_output words cart other files ≡ Some output))
-    c.compare_first.ensures.ends)
+    c.compare_first-end.ensures.ends)
 
 pub returns-in_err-file-clause-ends : goal.returns-in_err-file-clause-ends
 returns-in_err-file-clause-ends g c =

@@ -1,5 +1,4 @@
 use Rattle.std.proofs.Common.{List, option_map, subst}
-use Rattle.std.proofs.lemmas.Result.{err_from_is_err_and}
 use Rattle.std.specs.Option.{ForSome}
 use Rattle.w4_defs.specs.declared.order.Order.{Order}
 use Rattle.w4_defs.specs.Output.{edit_answers, edit_files, edit_output, edit_result, edited_recording}
@@ -12,22 +11,20 @@ use Rattle.w4_commands.specs.Edit.{Carried, loaded_view, run_and_orders}
 use Rattle.w4_commands.proofs.CommandLaws.{ends_edit, ends_unmade}
 use Rattle.w4_commands.proofs.edit.run_edit.Goals as goal
 
-pub returns-in_err-loaded-clause-ends : goal.returns-in_err-loaded-clause-ends
+pub returns-in-Err-clause-ends : goal.returns-in-Err-clause-ends
 unfolding edit_output
-returns-in_err-loaded-clause-ends g c =
-    let p = err_from_is_err_and c.from_residual.result c.from_residual.ensures.1 in
+returns-in-Err-clause-ends g c =
     let cart = c.args.file.cart in
-    rw (p.1, p.2)
-    (ends_unmade (g.H.House.world c.args.house.now) (g.H.House.world c.load_edit.new.house)
-    c.in_err-loaded.field-0.0 (λ files. edit_files c.args.file.digest (edit_view c.args.names) files)
+    ends_unmade (g.H.House.world c.args.house.now) (g.H.House.world c.load_edit.new.house)
+    c.in-Err.refusal (λ files. edit_files c.args.file.digest (edit_view c.args.names) files)
     (λ l. option_map (edit_result cart l c.args.names.out.now) (edit_answers cart l).out)
-    c.in_err-loaded.ensures.rest c.in_err-loaded.ensures.gives)
+    c.in-Err.ensures.rest c.in-Err.ensures.gives
 
-pub returns-clause-ends : goal.returns-clause-ends
-returns-clause-ends g c =
+pub returns-in-Ok-clause-ends : goal.returns-in-Ok-clause-ends
+returns-in-Ok-clause-ends g c =
     let cart = c.args.file.cart in
-    let loaded = loaded_view c.in_ok-loaded.loaded in
-    let run = c.in_ok-loaded.loaded.run in
+    let loaded = loaded_view c.in-Ok.loaded in
+    let run = c.in-Ok.loaded.run in
     let before = g.H.House.world c.load_edit.new.house in
     let after = g.H.House.world c.carry_out.new.house in
     let carried =
@@ -39,5 +36,5 @@ returns-clause-ends g c =
     in
     ends_edit (g.H.House.world c.args.house.now) (g.H.House.world c.load_edit.new.house)
     after (edit_view c.args.names) (cart_view c.args.file) loaded
-    c.in_ok-loaded.ensures.rest c.in_ok-loaded.ensures.gives told.0 told.1 c.carry_out.result
+    c.in-Ok.ensures.rest c.in-Ok.ensures.gives told.0 told.1 c.carry_out.result
     (carried told.0 told.1)

@@ -30,8 +30,9 @@ returns-in-tones c =
 pub returns-in-trace : goal.returns-in-trace
 unfolding form_of
 returns-in-trace c =
-    c.whole_form-in-trace.ensures ∙ sym (form_named c.args.words.now c.name-item.result _ c.in-len1-up.len_at_least
-    c.name-item.is (sym c.as_str.ensures.value ∙ c.in-trace.is))
+    c.whole_form-in-trace.ensures ∙
+    sym (form_named c.args.words.now c.name-item.result _
+    c.in-len1-up.len_at_least c.name-item.is (sym c.as_str.ensures.value ∙ c.in-trace.is))
 
 pub returns-in-disk : goal.returns-in-disk
 unfolding form_of
@@ -66,8 +67,9 @@ returns-in-ram c =
 pub returns-in-wave : goal.returns-in-wave
 unfolding form_of
 returns-in-wave c =
-    c.whole_form-in-wave.ensures ∙ sym (form_named c.args.words.now c.name-item.result _ c.in-len1-up.len_at_least
-    c.name-item.is (sym c.as_str.ensures.value ∙ c.in-wave.is))
+    c.whole_form-in-wave.ensures ∙
+    sym (form_named c.args.words.now c.name-item.result _
+    c.in-len1-up.len_at_least c.name-item.is (sym c.as_str.ensures.value ∙ c.in-wave.is))
 
 pub returns-in-batch : goal.returns-in-batch
 unfolding form_of
@@ -84,8 +86,9 @@ returns-in-serve c =
 pub returns-in-units : goal.returns-in-units
 unfolding form_of
 returns-in-units c =
-    c.whole_form-in-units.ensures ∙ sym (form_named c.args.words.now c.name-item.result _ c.in-len1-up.len_at_least
-    c.name-item.is (sym c.as_str.ensures.value ∙ c.in-units.is))
+    c.whole_form-in-units.ensures ∙
+    sym (form_named c.args.words.now c.name-item.result _
+    c.in-len1-up.len_at_least c.name-item.is (sym c.as_str.ensures.value ∙ c.in-units.is))
 
 pub returns-in-compare : goal.returns-in-compare
 unfolding form_of

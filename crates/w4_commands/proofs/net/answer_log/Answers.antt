@@ -21,10 +21,10 @@ returns-clause-out g c =
     c.in_ok-replica.ensures.known
     c.in_ok-replica.ensures.frames c.in_ok-replica.ensures.editor in
     let old = g.H.House.world c.args.house.now in
-    let new = g.H.House.world c.answer_orders.new.house in
+    let new = g.H.House.world c.answer_orders-end.new.house in
     let orders = c.args.orders.now in
-    there_as (λ text. Written old new c.answer_orders.result text)
+    there_as (λ text. Written old new c.answer_orders-end.result text)
     (net_answers (editing_setup r.editor) (net_session r) orders).out
     (net_text c.args.file.cart c.args.budget.units (record { font = c.args.font; orders = orders }))
     (λ i. (net_answers (sym first.0 i) (sym first.1 i) orders).out)
-    c.answer_orders.ensures.out
+    c.answer_orders-end.ensures.out

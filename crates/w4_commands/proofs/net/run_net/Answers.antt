@@ -1,5 +1,4 @@
 use Rattle.std.proofs.Common.{List, subst}
-use Rattle.std.proofs.lemmas.Result.{err_from_is_err_and}
 use Rattle.std.specs.Option.{ForSome}
 use Rattle.w4_defs.specs.declared.netplay.NetOrder.{NetOrder}
 use Rattle.w4_defs.specs.ToolOutputs.{net_files, net_output, net_text}
@@ -10,22 +9,20 @@ use Rattle.w4_commands.specs.Forms.{net_view}
 use Rattle.w4_commands.proofs.CommandLaws.{ends_unprinted, ends_printed}
 use Rattle.w4_commands.proofs.net.run_net.Goals as goal
 
-pub returns-in_err-loaded-clause-ends : goal.returns-in_err-loaded-clause-ends
+pub returns-in-Err-clause-ends : goal.returns-in-Err-clause-ends
 unfolding net_output
-returns-in_err-loaded-clause-ends g c =
-    let p = err_from_is_err_and c.from_residual.result c.from_residual.ensures.1 in
-    rw (p.1, p.2)
-    (ends_unprinted (g.H.House.world c.args.house.now) (g.H.House.world c.load_net.new.house)
-    c.in_err-loaded.field-0.0 (λ files. net_files (net_view c.args.names) files)
-    (λ l. net_text c.args.file.cart c.args.names.budget.units l) c.in_err-loaded.ensures.rest
-    c.in_err-loaded.ensures.gives)
+returns-in-Err-clause-ends g c =
+    ends_unprinted (g.H.House.world c.args.house.now) (g.H.House.world c.load_net.new.house)
+    c.in-Err.refusal (λ files. net_files (net_view c.args.names) files)
+    (λ l. net_text c.args.file.cart c.args.names.budget.units l) c.in-Err.ensures.rest
+    c.in-Err.ensures.gives
 
-pub returns-clause-ends : goal.returns-clause-ends
+pub returns-in-Ok-clause-ends : goal.returns-in-Ok-clause-ends
 unfolding net_output
-returns-clause-ends g c =
+returns-in-Ok-clause-ends g c =
     let cart = c.args.file.cart in
     let units = c.args.names.budget.units in
-    let font = c.in_ok-loaded.loaded.font in
+    let font = c.in-Ok.loaded.font in
     let before = g.H.House.world c.load_net.new.house in
     let after = g.H.House.world c.answer_log.new.house in
     let out =
@@ -34,8 +31,8 @@ returns-clause-ends g c =
     c.as_slice.ensures.value c.answer_log.ensures.out in
     ends_printed (g.H.House.world c.args.house.now) (g.H.House.world c.load_net.new.house)
     (g.H.House.world c.answer_log.new.house) (λ files. net_files (net_view c.args.names) files)
-    (net_loaded_view c.in_ok-loaded.loaded) (λ l. net_text c.args.file.cart c.args.names.budget.units l)
-    c.in_ok-loaded.ensures.rest
-    c.answer_log.ensures.rest c.in_ok-loaded.ensures.gives
+    (net_loaded_view c.in-Ok.loaded) (λ l. net_text c.args.file.cart c.args.names.budget.units l)
+    c.in-Ok.ensures.rest
+    c.answer_log.ensures.rest c.in-Ok.ensures.gives
     (net_text_there c.args.file.cart c.args.file.meaning c.args.names.budget.units
-    (net_loaded_view c.in_ok-loaded.loaded)) c.answer_log.result out
+    (net_loaded_view c.in-Ok.loaded)) c.answer_log.result out

@@ -1,5 +1,4 @@
 use Rattle.std.proofs.Common.{List, subst}
-use Rattle.std.proofs.lemmas.Result.{err_from_is_err_and}
 use Rattle.std.specs.Option.{ForSome}
 use Rattle.w4_defs.specs.declared.inspect.QueryLine.{QueryLine}
 use Rattle.w4_defs.specs.ToolOutputs.{ram_files, ram_output, ram_text}
@@ -11,31 +10,29 @@ use Rattle.w4_commands.specs.Forms.{run_view}
 use Rattle.w4_commands.proofs.CommandLaws.{ends_unprinted, ends_printed}
 use Rattle.w4_commands.proofs.ram.run_ram.Goals as goal
 
-pub returns-in_err-loaded-clause-ends : goal.returns-in_err-loaded-clause-ends
+pub returns-in-Err-clause-ends : goal.returns-in-Err-clause-ends
 unfolding ram_output
-returns-in_err-loaded-clause-ends g c =
-    let p = err_from_is_err_and c.from_residual.result c.from_residual.ensures.1 in
-    rw (p.1, p.2)
-    (ends_unprinted (g.H.House.world c.args.house.now) (g.H.House.world c.load_ram.new.house)
-    c.in_err-loaded.field-0.0 (λ files. ram_files c.args.file.digest (run_view c.args.names) c.args.query.now
-    files) (λ l. ram_text c.args.file.cart l) c.in_err-loaded.ensures.rest
-    c.in_err-loaded.ensures.gives)
+returns-in-Err-clause-ends g c =
+    ends_unprinted (g.H.House.world c.args.house.now) (g.H.House.world c.load_ram.new.house)
+    c.in-Err.refusal (λ files. ram_files c.args.file.digest (run_view c.args.names) c.args.query.now
+    files) (λ l. ram_text c.args.file.cart l) c.in-Err.ensures.rest
+    c.in-Err.ensures.gives
 
-pub returns-clause-ends : goal.returns-clause-ends
+pub returns-in-Ok-clause-ends : goal.returns-in-Ok-clause-ends
 unfolding ram_output
-returns-clause-ends g c =
+returns-in-Ok-clause-ends g c =
     let cart = c.args.file.cart in
-    let run = run_files_view c.in_ok-loaded.loaded.run in
+    let run = run_files_view c.in-Ok.loaded.run in
     let before = g.H.House.world c.load_ram.new.house in
     let after = g.H.House.world c.answer_query.new.house in
     let out =
     subst (λ (lines : List QueryLine). ForSome (ram_text cart (record { run = run; lines = lines }))
     (λ text. Written before after c.answer_query.result text))
-    c.as_slice.ensures.value c.answer_query.ensures.out in
+    c.as_slice-lines.ensures.value c.answer_query.ensures.out in
     ends_printed (g.H.House.world c.args.house.now) (g.H.House.world c.load_ram.new.house)
     (g.H.House.world c.answer_query.new.house) (λ files. ram_files c.args.file.digest (run_view c.args.names)
-    c.args.query.now files) (ram_loaded_view c.in_ok-loaded.loaded) (λ l. ram_text c.args.file.cart l)
-    c.in_ok-loaded.ensures.rest
-    c.answer_query.ensures.rest c.in_ok-loaded.ensures.gives
-    (ram_text_there c.args.file.cart c.args.file.meaning (ram_loaded_view c.in_ok-loaded.loaded))
+    c.args.query.now files) (ram_loaded_view c.in-Ok.loaded) (λ l. ram_text c.args.file.cart l)
+    c.in-Ok.ensures.rest
+    c.answer_query.ensures.rest c.in-Ok.ensures.gives
+    (ram_text_there c.args.file.cart c.args.file.meaning (ram_loaded_view c.in-Ok.loaded))
     c.answer_query.result out

@@ -1,6 +1,6 @@
-use Rattle.std.proofs.Common.{arith, refl}
+use Rattle.std.proofs.Common.{refl}
 use Rattle.w4_defs.specs.Floats.{function_has_float}
-use Rattle.wasm_link.proofs.ListSteps.{flag_found, flag_next, flag_end}
+use Rattle.wasm_link.proofs.ListSteps.{flag_found, flag_next}
 use Rattle.wasm_link.proofs.floats.has_float_bodies.Goals as goal
 
 pub returns-then-has_float_body : goal.returns-then-has_float_body

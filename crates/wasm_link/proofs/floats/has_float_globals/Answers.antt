@@ -1,5 +1,5 @@
-use Rattle.std.proofs.Common.{◌≡◌, ap, sym, ◌∙◌, ◌++◌, map}
-use Rattle.std.specs.Prelude.{◌||◌, filter_map}
+use Rattle.std.proofs.Common.{◌≡◌, ap, sym, ◌∙◌, ◌++◌}
+use Rattle.std.specs.Prelude.{◌||◌}
 use Rattle.std.specs.List.{list_any}
 use Rattle.w4_defs.specs.Floats.{is_float}
 use Rattle.wasm_link.specs.Judging.{imports_float}
