@@ -31,8 +31,8 @@ pub struct CartFile {
 }
 
 impl CartFile {
-    /// Gives its memory back. A function of its own, since each place at which a cart may be dropped costs much
-    /// to prove.
+    /// Gives its memory back. A function of its own, since each place at which a cart may be dropped costs
+    /// much to prove.
     pub fn close(self) {}
 }
 

@@ -1,5 +1,5 @@
-//! Calls of a cart's entry functions. The devices are moved into a board and back, and the record in its box,
-//! which takes no memory.
+//! Calls of a cart's entry functions. The devices are moved into a board and back, disk and record in their
+//! boxes, which takes no memory.
 
 ghost use Rattle.std.specs.Option.{IfSome};
 ghost use Rattle.std.specs.Prelude.{◌≡◌, OnOk, Some};
@@ -18,12 +18,12 @@ ghost use Rattle.w4_console.specs.Calls.{
 ghost use Rattle.w4_defs.specs.State.{HasGlobals};
 ghost use Rattle.w4_defs.specs.Module.{nothing_to_nothing};
 
-use crate::current_record::CurrentRecord;
+use crate::current_record::{CurrentRecord, Loan};
 use crate::setup::Setup;
 use crate::taken::Stop;
 use std::mem;
 use w4_defs::Halt;
-use w4_devices::{Disk, FrameRecord};
+use w4_devices::Disk;
 use w4_font::Font;
 use w4_host::Board;
 use w4_map::State;
@@ -75,10 +75,10 @@ pub(crate) fn call_function(
     ensures globals { HasGlobals setup.now.cart.now state.new }
     ensures running { OnOk result (state.new.halt ≡ Running) }
 {
-    let Some(frame_record) = current.frame_record.take() else {
+    let Some(loan) = current.loan.take() else {
         unreachable!()
     };
-    let mut board = board_of(setup.font, state, frame_record);
+    let mut board = board_of(setup.font, state, loan);
     let ending = engine.invoke(
         setup.cart,
         function,
@@ -87,33 +87,35 @@ pub(crate) fn call_function(
         &mut board,
         budget,
     );
-    current.frame_record = Some(put_back(state, board, halt_after(ending)));
+    state.channels = board.channels;
+    let spare_disk = put_back(state, board.disk, halt_after(ending));
+    current.loan = Some(Loan {
+        frame_record: board.frame_record,
+        spare_disk,
+    });
     rest_after(ending)
 }
 
 /// Moves the devices into a board, with the record so far.
-fn board_of<'a>(font: &'a Font, state: &mut State, frame_record: Box<FrameRecord>) -> Board<'a>
+fn board_of<'a>(font: &'a Font, state: &mut State, loan: Loan) -> Board<'a>
     ensures { record { page = state.new.page; globals = state.new.globals; host = result }
-        ≡ store_of font.now (so_far state.old frame_record.value) }
+        ≡ store_of font.now (so_far state.old loan.frame_record.value) }
 {
     Board {
         font,
         channels: state.channels,
-        disk: mem::replace(&mut state.disk, Disk::new(&[])),
-        frame_record,
+        disk: mem::replace(&mut state.disk, loan.spare_disk),
+        frame_record: loan.frame_record,
     }
 }
 
-/// Moves the devices back and sets halt, and gives the record back.
-fn put_back(state: &mut State, board: Board<'_>, halt: Halt) -> Box<FrameRecord>
-    ensures { so_far state.new result.value
-        ≡ logged_state_after
-        (record { page = state.old.page; globals = state.old.globals; host = board.entry }) halt }
+/// Puts the disk back in the place of the spare one, which it returns, and sets halt.
+fn put_back(state: &mut State, disk: Box<Disk>, halt: Halt) -> Box<Disk>
+    ensures { state.new
+        ≡ record state.old { disk = disk.value; halt = halt } }
 {
-    state.channels = board.channels;
-    state.disk = board.disk;
     state.halt = halt;
-    board.frame_record
+    mem::replace(&mut state.disk, disk)
 }
 
 fn halt_after(ending: Ending) -> Halt

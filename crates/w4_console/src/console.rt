@@ -77,7 +77,7 @@ impl Console {
         ensures globals { HasGlobals cart.now self.new }
     {
         let (engine, state, current) = (&mut self.engine, &mut self.state, &mut self.current);
-        state.disk = Disk::new(disk);
+        *state.disk = Disk::new(disk);
         let setup = Setup { cart, font, budget };
         let taken = start_cart(engine, state, &setup, current);
         record(state, current, frame_record);

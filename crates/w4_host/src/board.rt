@@ -14,13 +14,13 @@ use w4_font::Font;
 use w4_tone::{Channels, decode};
 use wasm_tree::Host;
 
-/// The font, the channels, the disk, and the record of the frame that is under way: in a box, so that a board
-/// is given it and gives it back without a copy.
+/// The font, the channels, the disk, and the record of the frame that is under way: both in boxes, so that a
+/// board is given them and gives them back without a copy.
 #[derive(Drop)]
 pub struct Board<'a> {
     pub font: &'a Font,
     pub channels: Channels,
-    pub disk: Disk,
+    pub disk: Box<Disk>,
     pub frame_record: Box<FrameRecord>,
 }
 
@@ -32,7 +32,7 @@ impl<'a> Model for Board<'a> {
     ghost view = { λ b. record {
       font = b.font.now;
       channels = b.channels;
-      disk = b.disk;
+      disk = b.disk.value;
       tones = b.frame_record.value.tones;
       traces = b.frame_record.value.traces;
     } };

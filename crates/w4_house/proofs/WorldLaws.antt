@@ -2,12 +2,12 @@
 use Rattle.std.proofs.Common.{◌≡◌, ◌≤◌, ℕ, zero, suc, ◌+◌, List, [], ◌∷◌, ◌++◌, take, length, Option, Some}
 use Rattle.std.proofs.Common.{None, option_map, refl, sym, subst, ◌∙◌, ap, append_assoc, append-nil, drop}
 use Rattle.std.proofs.Common.{arith}
-use Rattle.std.proofs.Math.Seq.{take-append-add, take-append_seam, take-length}
+use Rattle.std.proofs.Math.Seq.{take-append-add, take-append_seam}
 use Rattle.std.proofs.lemmas.List.{take-append-drop}
 use Rattle.std.specs.FinMap.{insert}
 use Rattle.w4_defs.specs.World.{World, Files, Event, Took, InputEnded, InputLost, Wrote, Saved, NotSaved}
 use Rattle.w4_defs.specs.World.{wrote, files_after, Rises, Appends, AppendsFront, Does, LeavesReading}
-use Rattle.w4_defs.specs.World.{LeavesWriting, LeavesReporting, LeavesTaking, LeavesSaving}
+use Rattle.w4_defs.specs.World.{LeavesWriting}
 
 -- A count that rose stays risen while it doesn't fall, and one that rises later has risen from before.
 pub rises_on : (first second third : ℕ) → Rises first second → second ≤ third → Rises first third
@@ -40,34 +40,6 @@ pub writing_then : (first second third : World) → LeavesWriting first second �
     → LeavesWriting first third
 writing_then first second third one next = record {
   files = next.files ∙ one.files;
-  err = next.err ∙ one.err;
-  reads = next.reads ∙ one.reads;
-  later = let before = one.later in let after = next.later in omega arith;
-  errs = next.errs ∙ one.errs;
-}
-
-pub reporting_then : (first second third : World) → LeavesReporting first second
-    → LeavesReporting second third → LeavesReporting first third
-reporting_then first second third one next = record {
-  files = next.files ∙ one.files;
-  events = next.events ∙ one.events;
-  reads = next.reads ∙ one.reads;
-  writes = next.writes ∙ one.writes;
-  later = let before = one.later in let after = next.later in omega arith;
-}
-
-pub taking_then : (first second third : World) → LeavesTaking first second → LeavesTaking second third
-    → LeavesTaking first third
-taking_then first second third one next = record {
-  err = next.err ∙ one.err;
-  later = let before = one.later in let after = next.later in omega arith;
-  writes = next.writes ∙ one.writes;
-  errs = next.errs ∙ one.errs;
-}
-
-pub saving_then : (first second third : World) → LeavesSaving first second → LeavesSaving second third
-    → LeavesSaving first third
-saving_then first second third one next = record {
   err = next.err ∙ one.err;
   reads = next.reads ∙ one.reads;
   later = let before = one.later in let after = next.later in omega arith;
@@ -111,14 +83,6 @@ module _ {A : Type 0} where
   -- Nothing appended is a first part of any items, and all of some items is a first part of them.
   pub front_none : (old new : Option (List A)) (items : List A) → new ≡ old → AppendsFront old new items
   front_none old new items same = (0, λ before told. same ∙ told ∙ ap Some (sym (append-nil before)))
-
-  pub front_whole : (old new : Option (List A)) (items : List A) → Appends old new items
-      → AppendsFront old new items
-  front_whole old new items whole = (
-    length items,
-    λ before told.
-        whole before told ∙ ap (λ part. Some (before ++ part)) (sym (take-length items)),
-  )
 
 -- The events that write two pieces are those of the first, and then those of the second.
 pub wrote-append : (some more : List ℕ) → wrote (some ++ more) ≡ wrote some ++ wrote more

@@ -11,13 +11,14 @@ use w4_tone::Channels;
 use wasm_page::Page;
 
 /// The page, the cart's globals, the four channels, the disk, and whether the cart still runs. It has no
-/// number of its frame, so that equal states go on alike.
+/// number of its frame, so that equal states go on alike. The disk is in a box, so that a call of the cart is
+/// given it without a copy.
 #[derive(Drop)]
 pub struct State {
     pub page: Page,
     pub globals: Vec<Val>,
     pub channels: Channels,
-    pub disk: Disk,
+    pub disk: Box<Disk>,
     pub halt: Halt,
 }
 
@@ -30,7 +31,7 @@ impl Model for State {
       page = s.page;
       globals = s.globals.items;
       channels = s.channels;
-      disk = s.disk;
+      disk = s.disk.value;
       halt = s.halt;
     } };
 }
@@ -45,7 +46,7 @@ impl State {
             page: Page::new(alloc)?,
             globals: Vec::from_slice(alloc, cart_globals)?,
             channels: Channels::new(),
-            disk: Disk::new(&[]),
+            disk: Box::new(alloc, Disk::new(&[]))?,
             halt: Halt::Running,
         })
     }

@@ -82,7 +82,7 @@ impl Snap {
         let globals = self.globals.as_slice();
         into.globals.as_mut_slice().copy_from_slice(globals);
         into.channels = self.channels;
-        into.disk = Disk::new(self.disk.bytes());
+        *into.disk = Disk::new(self.disk.bytes());
         into.halt = self.halt;
     }
 

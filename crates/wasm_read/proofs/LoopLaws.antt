@@ -5,7 +5,7 @@ use Rattle.std.proofs.Common.{Some, None, option_map, slice_get, slice_set, refl
 use Rattle.std.proofs.Common.{append_assoc, arith, add-one}
 use Rattle.std.proofs.Math.ListN.{drop_of_length-le}
 use Rattle.std.proofs.Math.Seq.{drop-cons}
-use Rattle.std.proofs.lemmas.Bool.{eq-eqb, lt-ltb}
+use Rattle.std.proofs.lemmas.Bool.{lt-ltb}
 use Rattle.std.proofs.lemmas.List.{length-take-le, length-reverse, get_or-take, drop-set, take-set}
 use Rattle.std.proofs.lemmas.List.{length-set, take-append-drop}
 use Rattle.std.proofs.lemmas.Option.{slice_get-get_or}
@@ -75,26 +75,11 @@ marks_more ms m depth n k bytes after all inv e h open_left =
     sym (after_more ms m (marks_at k (depth_after m.0 depth) after)) ∙ sym step
     ∙ ap (λ i. after_items ms (marks_at i depth bytes)) (sym e) ∙ inv
 
-pub marks_last : (ms : List Mark) (m : Mark) (depth n k : ℕ) (bytes after : List ℕ)
-    (all : Option (List Mark × List ℕ))
-    → after_items ms (marks_at n depth bytes) ≡ all → n ≡ suc k → mark_at bytes ≡ Some (m, after)
-    → depth_after m.0 depth ≡ 0
-    → all ≡ read_as (ms ++ m ∷ []) after
-marks_last ms m depth n k bytes after all inv e h closed =
-    let test : eqb (depth_after m.0 depth) 0 ≡ true = eq-eqb (depth_after m.0 depth) 0 closed in
-    let step : after_items ms (marks_at (suc k) depth bytes) ≡ read_as (ms ++ m ∷ []) after =
-    rw (h, test) refl in
-    sym inv ∙ ap (λ i. after_items ms (marks_at i depth bytes)) e ∙ step
-
 pub marks_none : (ms : List Mark) (depth n k : ℕ) (bytes : List ℕ) (all : Option (List Mark × List ℕ))
     → after_items ms (marks_at n depth bytes) ≡ all → n ≡ suc k → mark_at bytes ≡ None → all ≡ None
 marks_none ms depth n k bytes all inv e h =
     let step : after_items ms (marks_at (suc k) depth bytes) ≡ None = rw h refl in
     sym inv ∙ ap (λ i. after_items ms (marks_at i depth bytes)) e ∙ step
-
-pub marks_over : (ms : List Mark) (depth n : ℕ) (bytes : List ℕ) (all : Option (List Mark × List ℕ))
-    → after_items ms (marks_at n depth bytes) ≡ all → n ≡ 0 → all ≡ None
-marks_over ms depth n bytes all inv e = sym inv ∙ ap (λ i. after_items ms (marks_at i depth bytes)) e
 
 -- the positions, from the last mark to the first
 take_fewer : (i : ℕ) (xs : List Mark) → take i (take (suc i) xs) ≡ take i xs

@@ -54,14 +54,6 @@ contents_more n m id found bs contents after all inv e h other =
     let step : contents_at (suc m) id bs ≡ contents_at m id after = rw (h, test) refl in
     sym step ∙ ap (λ k. contents_at k id bs) (sym e) ∙ inv
 
-pub ordered_more : (n m last r : ℕ) (bs after : List ℕ) (s : Section) (all : Option ℕ)
-    → ordered_at n last bs ≡ all → n ≡ suc m → 0 < length bs
-    → section_at bs ≡ Some (s, after) → rank_after last s ≡ Some r → ordered_at m r after ≡ all
-ordered_more n m last r [] after s all inv e some h k = absurd (omega arith)
-ordered_more n m last r (b ∷ bs) after s all inv e some h k =
-    let step : ordered_at (suc m) last (b ∷ bs) ≡ ordered_at m r after = rw (h, k) refl in
-    sym step ∙ ap (λ i. ordered_at i last (b ∷ bs)) (sym e) ∙ inv
-
 -- one more section
 abbrev NextSection : ℕ → Section → ℕ → Type 0
 NextSection last s r =

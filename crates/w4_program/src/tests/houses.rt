@@ -2,10 +2,8 @@
 
 use crate::run::w4_run;
 use std::alloc::Global;
-use std::process::Abort;
 use std::test::Fail;
-use std::thread::Threads;
-use w4_commands::{RecordingKind, Status};
+use w4_commands::Status;
 use w4_defs::OutOfMemory;
 use w4_house::{MemoryHouse, SureHouse};
 use w4_tests::carts::PAINTING;
@@ -55,33 +53,6 @@ fn an_edit_is_done_where_no_call_fails(rt: HostRuntime) -> Result<(), Fail> {
     Ok(())
 }
 
-/// A house with the cart and a recording of another one.
-fn house_with_another_recording(alloc: Global) -> Result<MemoryHouse, OutOfMemory> {
-    let mut house = MemoryHouse::new(alloc);
-    let mut recording = RECORDING;
-    recording[5] = 0xce;
-    house.put_file("c", &PAINTING)?;
-    house.put_file("r", &recording)?;
-    Ok(house)
-}
-
-#[test]
-fn a_recording_of_another_cart_is_refused(rt: HostRuntime) -> Result<(), Fail> {
-    let house = house_with_another_recording(rt.alloc())?;
-    let refused = Status::RecordingRefused(RecordingKind::WrongCart);
-    let line = "w4: recording: wrong cart\n";
-    check_fault(&rt, rt.alloc(), house, refused, line, 0)
-}
-
-#[test]
-fn a_refusal_stays_where_its_line_is_not_written(rt: HostRuntime) -> Result<(), Fail> {
-    let mut house = house_with_another_recording(rt.alloc())?;
-    // after two reads
-    house.fail_at(3)?;
-    let refused = Status::RecordingRefused(RecordingKind::WrongCart);
-    check_fault(&rt, rt.alloc(), house, refused, "", 0)
-}
-
 /// A house with the files of the edit but its script.
 pub(super) fn house_without_script(alloc: Global) -> Result<MemoryHouse, OutOfMemory> {
     let mut house = MemoryHouse::new(alloc);
@@ -89,30 +60,4 @@ pub(super) fn house_without_script(alloc: Global) -> Result<MemoryHouse, OutOfMe
     house.put_file("r", &RECORDING)?;
     house.put_file("f", &[0; 1792])?;
     Ok(house)
-}
-
-/// Tests that the edit over this house ends so, with this line and that many bytes written, and makes no
-/// file.
-fn check_fault<R: Threads + Sync + Abort>(
-    rt: &R,
-    alloc: Global,
-    mut house: MemoryHouse,
-    expected: Status,
-    line: &str,
-    written: usize,
-) -> Result<(), Fail> {
-    let words = edit(alloc)?;
-    let status = w4_run(rt, alloc, words.as_slice(), &mut house);
-    assert_eq!(rt; status, expected);
-    assert!(rt; house.err() == line.as_bytes());
-    assert_eq!(rt; house.out().len(), written);
-    assert!(rt; house.file("o").is_none());
-    Ok(())
-}
-
-#[test]
-fn an_absent_script_is_a_read_fault(rt: HostRuntime) -> Result<(), Fail> {
-    let house = house_without_script(rt.alloc())?;
-    let read = Status::ReadFault;
-    check_fault(&rt, rt.alloc(), house, read, "w4: cannot read\n", 0)
 }

@@ -22,7 +22,8 @@ returns-clause-out g c =
     (c.state.ensures c.args.place c.in_ok-go_on.ensures.at))
     (subst (λ (bytes : List ℕ).
     Written (g.H.House.world c.args.house.now) (g.H.House.world c.write.new.house) c.write.result
-    (g.S.Shape.form bytes)) (c.bytes.ensures.bytes ∙ ap (λ (s : State). s.disk) c.behind-desk.view_is)
+    (g.S.Shape.form bytes)) (c.bytes.ensures.bytes ∙ c.deref.ensures
+    ∙ ap (λ (s : State). s.disk) c.behind-desk.view_is)
     c.write.ensures.out)
 
 pub returns-clause-shows : goal.returns-clause-shows

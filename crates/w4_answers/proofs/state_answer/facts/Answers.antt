@@ -15,7 +15,7 @@ returns-clause-facts g c =
           ∙ c.state-state.ensures c.args.place shown.at,
       ap (λ (s : State). s.halt) (sym c.state.view_is),
       ap (λ (s : State). length s.disk) (sym c.state.view_is)
-          ∙ ap (λ (bytes : List ℕ). length bytes) (sym c.bytes.ensures.bytes),
+          ∙ ap (λ (bytes : List ℕ). length bytes) (sym (c.bytes.ensures.bytes ∙ c.deref.ensures)),
     )
 
 pub returns-clause-shows : goal.returns-clause-shows

@@ -14,7 +14,8 @@ returns-clause-ends g c =
     let new = g.H.House.world c.compare_first-end.new.house in
     let words = compare_view c.args.names in
     let cart = cart_view c.in_ok-file.file in
-    judged_form (g.H.House.world c.args.house.now) old new c.compare_first-end.result (Compare words) words.cart
+    judged_form (g.H.House.world c.args.house.now) old new c.compare_first-end.result (Compare words)
+    words.cart
     cart
     refl c.in_ok-file.ensures.rest c.in_ok-file.ensures.gives
     (any_talk old new c.compare_first-end.result

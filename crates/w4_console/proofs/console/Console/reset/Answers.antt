@@ -12,5 +12,5 @@ returns-clause-reset c =
     (moment c.record.new.state c.record.new.frame_record)
     (subst (λ (disk : List ℕ). start setup disk ≡ Some (so_far c.start_cart-taken.new.state
     c.start_cart-taken.new.current))
-    c.new-state-inside.ensures c.start_cart-taken.ensures.start)
+    c.new.ensures c.start_cart-taken.ensures.start)
     c.record.ensures.recorded
