@@ -86,7 +86,8 @@ returns-clause-taken c =
 
 pub returns-clause-running : goal.returns-clause-running
 returns-clause-running c =
-    still_runs c.invoke-ending.result c.rest_after.result c.halt_after.result c.put_back-spare_disk.new.state.halt
+    still_runs c.invoke-ending.result c.rest_after.result c.halt_after.result
+    c.put_back-spare_disk.new.state.halt
     c.rest_after.ensures c.halt_after.ensures (ap (λ (u : LoggedState). u.state.halt) (given_back c))
 
 pub returns-clause-globals : goal.returns-clause-globals
