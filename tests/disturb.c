@@ -6,6 +6,7 @@
 #include <dlfcn.h>
 #include <errno.h>
 #include <fcntl.h>
+#include <libgen.h>
 #include <signal.h>
 #include <stdarg.h>
 #include <stdlib.h>
@@ -16,6 +17,7 @@
 #define NEXT(name) ((__typeof__(&name))dlsym(RTLD_NEXT, #name))
 
 static int calls, failing, error, shortened, interrupted = -1, was_interrupted, names = -1;
+static struct stat renamed;
 static ssize_t (*next_write)(int, const void *, size_t);
 
 static int number_of(const char *name, int otherwise) {
@@ -50,12 +52,24 @@ static int is_disturbed(const char *name, int may_be_interrupted) {
     return was_interrupted;
 }
 
+static int is_folder(const char *path) {
+    struct stat found;
+    return NEXT(stat)(path, &found) == 0 && S_ISDIR(found.st_mode);
+}
+
+/* Whether it is open for the folder in which the last rename was. */
+static int is_renamed_in(int file) {
+    struct stat found;
+    return NEXT(fstat)(file, &found) == 0 && found.st_dev == renamed.st_dev && found.st_ino == renamed.st_ino;
+}
+
 int open(const char *path, int flags, ...) {
     va_list more;
     va_start(more, flags);
     mode_t mode = flags & O_CREAT ? va_arg(more, mode_t) : 0;
     va_end(more);
-    const char *name = (flags & O_ACCMODE) == O_RDONLY ? "open" : "open to write";
+    const char *to_read = is_folder(path) ? "open a folder" : "open";
+    const char *name = (flags & O_ACCMODE) == O_RDONLY ? to_read : "open to write";
     return is_disturbed(flags & O_CREAT ? "create" : name, 1) ? -1 : NEXT(open)(path, flags, mode);
 }
 
@@ -85,10 +99,13 @@ int fchmod(int file, mode_t mode) {
 }
 
 int fsync(int file) {
-    return is_disturbed("fsync", 1) ? -1 : NEXT(fsync)(file);
+    return is_disturbed(is_renamed_in(file) ? "fsync the folder" : "fsync", 1) ? -1 : NEXT(fsync)(file);
 }
 
 int rename(const char *from, const char *to) {
+    char *path = strdup(to);
+    if (!path || NEXT(stat)(dirname(path), &renamed) < 0) _exit(99);
+    free(path);
     return is_disturbed("rename", 0) ? -1 : NEXT(rename)(from, to);
 }
 
