@@ -3,6 +3,27 @@
 #pragma once
 #include <stdint.h>
 
+// What the console never takes, where clang's macros tell that it may occur. Multiple results and reference types don't
+// stand here: newer compilers allow them by default, and make none of them of a game in C.
+#ifdef __wasm64__
+#error "a cart has addresses of 32 bits: build with --target=wasm32, as examples/c/build does"
+#endif
+#ifdef __wasm_simd128__
+#error "the console has no vectors: build without -msimd128, with -mcpu=mvp, as examples/c/build does"
+#endif
+#ifdef __wasm_atomics__
+#error "the console has no threads and no atomics: build without -matomics and -pthread, with -mcpu=mvp"
+#endif
+#ifdef __wasm_exception_handling__
+#error "the console has no exceptions: build without -mexception-handling and -fwasm-exceptions"
+#endif
+#ifdef __wasm_tail_call__
+#error "the console has no tail calls: build without -mtail-call, with -mcpu=mvp, as examples/c/build does"
+#endif
+#ifdef __wasm_multimemory__
+#error "a cart has one memory: build without -mmultimemory, with -mcpu=mvp, as examples/c/build does"
+#endif
+
 #define IMPORT(name) __attribute__((import_module("env"), import_name(name)))
 #define EXPORT(name) __attribute__((export_name(name)))
 
