@@ -5,7 +5,8 @@ import asyncio
 import collections
 import contextlib
 
-from recording_files import Refusal, program
+from recording_files import program
+from refusal import Refusal
 
 BUFFER = 1 << 20  # bytes of answers that are read ahead
 USAGE = 2  # the status where the words match no command

@@ -8,12 +8,9 @@ import struct
 import subprocess
 import time
 
+from refusal import Refusal
+
 TOP = pathlib.Path(__file__).resolve().parent.parent
-LONGEST = 361_071  # bytes of a recording
-
-
-class Refusal(Exception):
-    """Something that was asked for can't be done; the text says why."""
 
 
 def program():

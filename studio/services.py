@@ -7,7 +7,8 @@ import pathlib
 import tempfile
 
 import media
-from recording_files import Refusal, run_program
+from recording_files import run_program
+from refusal import Refusal
 
 
 def stretch(request):

@@ -10,7 +10,8 @@ import urllib.parse
 
 import websocket
 from live_session import Receiver
-from recording_files import LONGEST, Refusal
+from refusal import Refusal
+from whole_files import LONGEST
 
 PAGE = pathlib.Path(__file__).resolve().parent / "page"
 TYPES = {".html": "text/html; charset=utf-8", ".js": "text/javascript; charset=utf-8",
