@@ -6,7 +6,8 @@ import subprocess
 import tempfile
 
 import moving_png
-from recording_files import Refusal, program
+import programs
+from refusal import Refusal
 
 WAV_HEADER, PLACE_SOUND = 44, 2_940  # bytes of a WAV file's header, and of the sound of a place
 BLOCK = 1 << 16
@@ -15,8 +16,8 @@ SIZE = "scale=640:640:flags=neighbor"
 
 def start(*words):
     """A command of w4 whose output is read."""
-    return subprocess.Popen([program(), *map(str, words)], stdin=subprocess.DEVNULL, stdout=subprocess.PIPE,
-                            stderr=subprocess.DEVNULL)
+    return programs.start([programs.program(), *words], stdin=subprocess.DEVNULL, stdout=subprocess.PIPE,
+                          stderr=subprocess.DEVNULL)
 
 
 def skip(stream, count):
@@ -27,7 +28,7 @@ def skip(stream, count):
 def wave(files, first, last):
     """A WAV file of the sound of places, cut out of that of the whole recording."""
     length = (last - first + 1) * PLACE_SOUND
-    with start("wave", files.cart, files.recording, files.font) as process:
+    with start("wave", files.cart, files.draft, files.font) as process:
         header = process.stdout.read(WAV_HEADER)
         skip(process.stdout, first * PLACE_SOUND)
         samples = process.stdout.read(length)
@@ -41,7 +42,7 @@ def film(files, first, last):
     """Type and bytes of a film of places: a moving PNG without sound where ffmpeg isn't installed."""
     if shutil.which("ffmpeg"):
         return "video/mp4", film_with_sound(files, first, last)
-    with start("frames", files.cart, files.recording, files.font, first, last) as images:
+    with start("frames", files.cart, files.draft, files.font, first, last) as images:
         return "image/png", moving_png.of_images(images.stdout, last - first + 1)
 
 
@@ -50,12 +51,13 @@ def film_with_sound(files, first, last):
     with tempfile.TemporaryDirectory() as room:
         sound, joined = pathlib.Path(room, "sound.wav"), pathlib.Path(room, "film.mp4")
         sound.write_bytes(wave(files, first, last))
-        with start("frames", files.cart, files.recording, files.font, first, last) as images:
-            made = subprocess.run(
+        with start("frames", files.cart, files.draft, files.font, first, last) as images:
+            joining = programs.start(
                 ["ffmpeg", "-y", "-loglevel", "error", "-f", "image2pipe", "-framerate", "60", "-c:v", "ppm",
                  "-i", "-", "-i", sound, "-vf", SIZE, "-pix_fmt", "yuv420p", joined],
-                stdin=images.stdout, stderr=subprocess.PIPE, check=False)
+                stdin=images.stdout, stderr=subprocess.PIPE)
+            errors = joining.communicate()[1]
             images.kill()
-        if made.returncode:
-            raise Refusal(made.stderr.decode("utf-8", "replace").strip() or "ffmpeg failed")
+        if joining.returncode:
+            raise Refusal(errors.decode("utf-8", "replace").strip() or "ffmpeg failed")
         return joined.read_bytes()

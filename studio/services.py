@@ -1,5 +1,5 @@
 """What the page gets beside the orders of the session: branches, watches, comparisons, sound and films. What
-shows a run is made by a command of w4 over the saved recording.
+shows a run is made by a command of w4 over the draft, which is the recording as it was saved last.
 """
 import asyncio
 import json
@@ -56,7 +56,7 @@ class Services:
         if path.exists():
             raise Refusal(f"there is a branch {path.stem} already")
         await self.session.save()
-        path.write_bytes(self.files.recording.read_bytes())
+        path.write_bytes(self.files.draft.read_bytes())
         return await self.branch_list(request)
 
     async def remove_branch(self, request):
@@ -75,7 +75,7 @@ class Services:
 
     async def recording(self, request):
         await self.session.save()
-        return "application/octet-stream", self.files.recording.read_bytes()
+        return "application/octet-stream", self.files.draft.read_bytes()
 
     async def compare(self, request):
         """The first places at which the recording differs from a branch, or from one that was sent."""
@@ -90,7 +90,7 @@ class Services:
     async def compare_with(self, other):
         cart, font = self.files.cart, self.files.font
         status, output, line = await asyncio.to_thread(
-            run_program, "compare", cart, self.files.recording, cart, other, font)
+            run_program, "compare", cart, self.files.draft, cart, other, font)
         if status == 2:
             raise Refusal("this w4 doesn't know the command compare")
         if status not in (0, 1):

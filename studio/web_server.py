@@ -9,7 +9,7 @@ import secrets
 import urllib.parse
 
 import websocket
-from live_session import Receiver
+from asked_orders import Receiver
 from refusal import Refusal
 from whole_files import LONGEST
 
@@ -99,7 +99,7 @@ class WebServer:
     async def stop(self):
         self.listener.close()
         if self.page:
-            await self.page.close()
+            self.page.writer.transport.abort()
 
     async def handle(self, reader, writer):
         """Answers the requests of one connection."""
@@ -190,6 +190,7 @@ class WebServer:
     async def carry(self, page):
         """Takes the page's orders, of which a message may have several lines."""
         self.session.on_end = lambda why: self.spawn(page.send_text(f"ended {why}"))
+        self.session.on_note = lambda text: self.spawn(page.send_text(f"note {text}"))
         try:
             if self.session.ended is not None:
                 await self.session.start()
@@ -197,19 +198,19 @@ class WebServer:
             answers = PageAnswers(page)
             while True:
                 for line in (await page.receive()).decode("utf-8", "replace").split("\n"):
-                    self.session.send(line, answers)
+                    await self.session.send(line, answers)
         except Refusal as refusal:
             await page.send_text(f"ended {refusal}")
             await page.close()
         except (websocket.Closed, OSError):
             pass
         finally:
-            self.session.on_end = None
+            self.session.on_end = self.session.on_note = None
 
     async def save_quietly(self):
         """Saves when the page goes; where that fails, the end of the session tries again."""
         try:
-            await self.session.save()
+            await self.session.save_edits()
         except Refusal:
             pass
 
