@@ -64,15 +64,28 @@ class Studio:
         self.recording = pathlib.Path(self.room.name, recording.name if recording else "new.w4rec")
         if recording:
             self.recording.write_bytes(recording.read_bytes())
+        self.folder = self.recording.with_name(self.recording.name + ".studio")
         self.process = None
         self.address = ""
 
-    def start(self):
-        words = [STUDIO / "run", "--no-browser", self.cart, self.recording, self.font]
-        self.process = subprocess.Popen(words, stdout=subprocess.PIPE, text=True)
-        self.address = self.process.stdout.readline().strip()
-        assert self.address, "the studio didn't start"
+    def start(self, *flags, **more):
+        """Starts it; `more` is for its process."""
+        words = [STUDIO / "run", *(flags or ["--no-browser"]), self.cart, self.recording, self.font]
+        more.setdefault("stdout", subprocess.PIPE)
+        self.process = subprocess.Popen(words, text=True, **more)
+        if self.process.stdout:
+            self.address = self.process.stdout.readline().strip()
+            assert self.address, "the studio didn't start"
         return self
+
+    def children(self):
+        """The ids of the program and of the guard that the studio started."""
+        words = ["pgrep", "-P", str(self.process.pid)]
+        found = [int(word) for word in subprocess.run(words, stdout=subprocess.PIPE, check=True).stdout.split()]
+        guards = [each for each in found if b"guard.py" in pathlib.Path(f"/proc/{each}/cmdline").read_bytes()]
+        [program_id] = set(found) - set(guards)
+        [guard_id] = guards
+        return program_id, guard_id
 
     def stop(self):
         self.process.terminate()
@@ -80,16 +93,23 @@ class Studio:
 
     def wait_for_file(self, wanted):
         """Waits until the recording has these bytes."""
-        wait_until(lambda: self.recording.read_bytes() == wanted, "the file isn't what was to be saved")
+        wait_until(lambda: self.recording.exists() and self.recording.read_bytes() == wanted,
+                   "the file isn't what was to be saved")
 
     def __enter__(self):
         return self.start()
 
-    def __exit__(self, *_):
-        if self.process.poll() is None:
+    def close(self):
+        """Ends it where it runs, and removes its files."""
+        if self.process and self.process.poll() is None:
             self.stop()
-        self.process.stdout.close()
+        for stream in (self.process.stdout, self.process.stderr) if self.process else ():
+            if stream:
+                stream.close()
         self.room.cleanup()
+
+    def __exit__(self, *_):
+        self.close()
 
 
 def open_chromium(width=1500, height=900, tries=3):

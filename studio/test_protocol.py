@@ -46,19 +46,19 @@ def received(frames, count):
     return asyncio.run(receive())
 
 
-def test_messages_of_each_length_are_received(studio, page):
+def test_messages_of_each_length_are_received():
     for length in (0, 1, 3, 4, 125, 126, 65535, 65536, 100_000):
         data = bytes(at % 251 for at in range(length))
         assert received(masked_frame(data), 1) == ([data], b"")
 
 
-def test_messages_in_parts_and_pings(studio, page):
+def test_messages_in_parts_and_pings():
     frames = (masked_frame(b"show ", 0x01) + masked_frame(b"beat", 0x89) + masked_frame(b"70", 0x80)
               + masked_frame(b"state 0"))
     assert received(frames, 2) == ([b"show 70", b"state 0"], b"\x8a\x04beat")
 
 
-def test_what_is_no_message_ends_the_connection(studio, page):
+def test_what_is_no_message_ends_the_connection():
     for frames in (b"", b"\x81", masked_frame(b"show 70")[:-1], b"\x81\x02ab", masked_frame(b"", 0x88)):
         try:
             received(frames, 1)
@@ -67,7 +67,7 @@ def test_what_is_no_message_ends_the_connection(studio, page):
         raise AssertionError(frames)
 
 
-def test_messages_of_each_length_are_sent(studio, page):
+def test_messages_of_each_length_are_sent():
     """The example of the standard, and lengths around each change of the head."""
     async def send(data):
         writer = Writer()
