@@ -2,6 +2,7 @@
 import contextlib
 import os
 import pathlib
+import re
 import signal
 import subprocess
 import tempfile
@@ -92,7 +93,7 @@ def test_a_killed_server_leaves_no_orphan_and_no_edit_unsaved():
         studio.process.kill()
         studio.process.wait()
         line = refusal_of(studio.cart, studio.recording)
-        assert str(studio.recording) in line and {f"{program_id}", f"{guard_id}"} <= set(line.split()), line
+        assert str(studio.recording) in line and {f"{program_id}", f"{guard_id}"} <= set(re.findall("[0-9]+", line)), line
         assert "'kill -9 " in line, line
         wait_until(lambda: not is_there(program_id) and not is_there(guard_id), "they end by themselves", SOON)
         assert studio.recording.read_bytes() == ENDLESS_EDITED
