@@ -1,8 +1,5 @@
-"""The files of a studio: cart, recording and font, and a folder that has branches and watches."""
-import json
+"""The files of a studio: cart, recording and font, and the names of its own in the folder beside the recording."""
 import os
-import pathlib
-import re
 import stat
 import struct
 
@@ -129,48 +126,3 @@ class RecordingFiles:
             "w4: usage": "this w4 doesn't know the command serve: the studio needs a later one",
         }
         return next((text for start, text in meanings.items() if line.startswith(start)), line)
-
-    def branch_file(self, name):
-        """The file of a branch. A name is plain, so that it can't lead out of the folder."""
-        if not re.fullmatch(r"[\w][\w .,+-]{0,79}", name):
-            raise Refusal("a name has letters, digits, spaces and . , + - _, at most 80")
-        if name in (self.base.stem, self.draft.stem):
-            raise Refusal(f"{name} is a name of the studio's own: choose another")
-        return self.folder / f"{name}.w4rec"
-
-    def existing_branch(self, name):
-        """The file of a branch that is there."""
-        path = self.branch_file(name)
-        if not path.is_file():
-            raise Refusal(f"there is no branch {name}")
-        return path
-
-    def watches(self):
-        """The watches as the page stored them, as JSON."""
-        path = self.folder / "watches.json"
-        return path.read_bytes() if path.exists() else b"[]"
-
-    def store_watches(self, text):
-        """Replaces the watches; each is an address, a width and a name."""
-        try:
-            rows = [{"address": int(row["address"]), "width": int(row["width"]), "name": str(row["name"])}
-                    for row in json.loads(text)]
-        except (ValueError, TypeError, KeyError):
-            raise Refusal("those aren't watches") from None
-        (self.folder / "watches.json").write_text(json.dumps(rows, indent=1) + "\n", encoding="utf-8")
-
-    def branch_list(self):
-        """Names, frames and times of the branches, the newest first."""
-        rows = []
-        for path in set(self.folder.glob("*.w4rec")) - {self.base, self.draft}:
-            try:
-                frames = len(parse_recording(path.read_bytes())[1])
-            except Refusal:
-                continue
-            rows.append({"name": path.stem, "frames": frames, "time": path.stat().st_mtime})
-        return sorted(rows, key=lambda row: -row["time"])
-
-    def branch_text(self, name):
-        """A branch as the lines that the order `inputs` would write."""
-        _, inputs = parse_recording(self.existing_branch(name).read_bytes())
-        return "".join(f"set {number} {text}\n" for number, text in enumerate(inputs))

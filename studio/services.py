@@ -7,6 +7,7 @@ import pathlib
 import tempfile
 
 import media
+from folder_files import FolderFiles
 from recording_files import run_program
 from refusal import Refusal
 
@@ -27,6 +28,7 @@ class Services:
 
     def __init__(self, session, files):
         self.session, self.files = session, files
+        self.folder = FolderFiles(files)
         self.table = {
             ("GET", "branches"): self.branch_list, ("POST", "branches"): self.branch,
             ("DELETE", "branches"): self.remove_branch, ("GET", "branch"): self.branch_text,
@@ -48,11 +50,11 @@ class Services:
         return {"cart": files.cart.name, "recording": str(files.recording), "budget": files.budget}
 
     async def branch_list(self, request):
-        return "application/json", json.dumps(self.files.branch_list()).encode()
+        return "application/json", json.dumps(self.folder.branch_list()).encode()
 
     async def branch(self, request):
         """Saves, and copies the recording."""
-        path = self.files.branch_file(request.query.get("name", ""))
+        path = self.folder.branch_file(request.query.get("name", ""))
         if path.exists():
             raise Refusal(f"there is a branch {path.stem} already")
         await self.session.save()
@@ -60,17 +62,17 @@ class Services:
         return await self.branch_list(request)
 
     async def remove_branch(self, request):
-        self.files.branch_file(request.query.get("name", "")).unlink(missing_ok=True)
+        self.folder.branch_file(request.query.get("name", "")).unlink(missing_ok=True)
         return await self.branch_list(request)
 
     async def branch_text(self, request):
-        return "text/plain; charset=utf-8", self.files.branch_text(request.query.get("name", "")).encode()
+        return "text/plain; charset=utf-8", self.folder.branch_text(request.query.get("name", "")).encode()
 
     async def watches(self, request):
-        return "application/json", self.files.watches()
+        return "application/json", self.folder.watches()
 
     async def store_watches(self, request):
-        self.files.store_watches(request.body)
+        self.folder.store_watches(request.body)
         return await self.watches(request)
 
     async def recording(self, request):
@@ -81,7 +83,7 @@ class Services:
         """The first places at which the recording differs from a branch, or from one that was sent."""
         await self.session.save()
         if "name" in request.query:
-            return await self.compare_with(self.files.existing_branch(request.query["name"]))
+            return await self.compare_with(self.folder.existing_branch(request.query["name"]))
         with tempfile.NamedTemporaryFile(suffix=".w4rec") as sent:
             sent.write(request.body)
             sent.flush()
