@@ -12,16 +12,13 @@ import urllib.request
 
 from browser import STUDIO, TOP, Studio, wait_until
 from plain_page import Gone, PlainPage
-from recordings import RIGHT, frame, garden_frames, recording
+from recordings import RIGHT, frame, recording
+from trials import EDIT, EDITED, SOON, end_all, is_there, refusal_of
 
-FRAMES = garden_frames()
-EDITED = FRAMES[:60] + [frame(RIGHT)] + FRAMES[61:]
-EDIT = f"set 60 {RIGHT} 0 0 0 32767 32767 0"
 ENDLESS = TOP / "cases/inputs/carts/endless-loop.wasm"
 BUDGET = 200_000_000  # a frame of the endless cart takes a second or more
 RESETS = [frame(0, reset=True)] * 60
 LONG = "state 60"
-SOON = 25  # seconds that an end may take on a busy machine; what is computed takes longer
 
 
 @contextlib.contextmanager
@@ -41,38 +38,6 @@ def endless_studio(**more):
 
 
 ENDLESS_EDITED = recording(RESETS[:9] + [frame(7, mouse=(1, 2, 3))] + RESETS[10:], ENDLESS, BUDGET)
-
-
-def end_all(studio):
-    """Ends a studio and what it started, by their ids."""
-    left = []
-    if studio.process.poll() is None:
-        with contextlib.suppress(subprocess.CalledProcessError, ValueError):
-            left = studio.children()
-        for each in (studio.process.pid, *left):
-            with contextlib.suppress(ProcessLookupError):
-                os.kill(each, signal.SIGKILL)
-        studio.process.wait()
-        wait_until(lambda: not any(map(is_there, left)), "what was killed ends")
-    studio.close()
-
-
-def is_there(process_id):
-    """Whether a process runs."""
-    try:
-        text = pathlib.Path(f"/proc/{process_id}/stat").read_text(encoding="ascii", errors="replace")
-    except OSError:
-        return False
-    return text.rsplit(")", 1)[1].split()[0] != "Z"
-
-
-def refusal_of(*words, **more):
-    """What studio/run says before it ends, with a status other than 0."""
-    ran = subprocess.run([STUDIO / "run", "--no-browser", *map(str, words)], capture_output=True, text=True,
-                         timeout=100, check=False, **more)
-    assert ran.returncode != 0 and not ran.stdout, ran
-    assert "Traceback" not in ran.stderr, ran.stderr
-    return ran.stderr.strip()
 
 
 def saved_by_the_next_start(studio):

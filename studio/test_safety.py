@@ -2,10 +2,9 @@
 import http.client
 import os
 import signal
-import subprocess
 import urllib.parse
 
-from browser import PATIENCE, STUDIO, Page
+from browser import PATIENCE, Page
 from recordings import RIGHT, frame, garden_frames, image, recording
 
 EDITED = garden_frames()[:60] + [frame(RIGHT)] + garden_frames()[61:]
@@ -66,6 +65,9 @@ def test_it_is_saved_when_the_page_closes(studio, page):
 
 def test_what_was_opened_is_kept_as_a_branch(studio, page):
     folder = studio.recording.with_name("game.w4rec.studio")
+    change_frame_60(page)
+    assert not list(folder.glob("opened *.w4rec")), "nothing is written before anything is saved"
+    page.save()
     [path] = folder.glob("opened *.w4rec")
     assert len(path.read_bytes()) == 47 + 9 * 240 and path.read_bytes()[47:56] == frame(0)[:9]
 
@@ -80,17 +82,14 @@ def test_a_killed_server_loses_nothing(studio, page):
     assert page.value("document.getElementById('fault').hidden")
 
 
-def test_an_ended_program_is_told_and_begun_anew(studio, page):
+def test_a_killed_program_goes_on(studio, page):
+    do_not_save_after_a_while(page)
     change_frame_60(page)
-    page.save()
-    studio.wait_for_file(recording(EDITED))
-    words = ["pgrep", "-P", str(studio.process.pid)]
-    [child] = subprocess.run(words, stdout=subprocess.PIPE, check=True).stdout.split()
-    os.kill(int(child), signal.SIGKILL)
-    page.wait("document.getElementById('fault').textContent.includes('Reload')")
-    page.open(studio.address)
+    os.kill(studio.children()[0], signal.SIGKILL)
     page.go_to(70)
     assert page.image() == image(EDITED, 70)
+    page.save()
+    assert studio.recording.read_bytes() == recording(EDITED)
 
 
 def test_the_server_saves_when_it_is_ended(studio, page):
@@ -111,33 +110,6 @@ def test_a_second_page_is_told(studio, page):
         driver.close()
         driver.switch_to.window(first)
     assert Page(driver).answer("state 0").startswith("state 0 of 240 ")
-
-
-def refusal_of(*words):
-    """What studio/run says before it ends, with a status other than 0."""
-    ran = subprocess.run([STUDIO / "run", "--no-browser", *map(str, words)], capture_output=True, text=True,
-                         timeout=PATIENCE, check=False)
-    assert ran.returncode != 0 and not ran.stdout
-    return ran.stderr.strip()
-
-
-def test_a_second_studio_is_refused(studio, page):
-    line = refusal_of(studio.cart, studio.recording)
-    assert line == "studio: another studio has this recording open"
-
-
-def test_files_that_are_refused(studio, page):
-    empty = studio.recording.with_name("empty")
-    empty.write_bytes(b"")
-    short = studio.recording.with_name("short.w4rec")
-    short.write_bytes(studio.recording.read_bytes()[:-1])
-    other = studio.recording.with_name("other.w4rec")
-    other.write_bytes(recording([frame(0)], cart=STUDIO / "run"))
-    assert refusal_of(empty, empty.with_suffix(".w4rec")) == "studio: w4: cart: malformed"
-    assert not empty.with_suffix(".w4rec").exists()
-    assert refusal_of(studio.cart, short) == "studio: that isn't a recording"
-    assert refusal_of(studio.cart, other) == "studio: w4: recording: wrong cart"
-    assert refusal_of(studio.cart, other.with_name("new.w4rec"), empty) == "studio: w4: font: not 1792 bytes"
 
 
 def status_of(studio, path, headers):
@@ -184,5 +156,4 @@ def test_only_this_machine_is_listened_to(studio, page):
 
 
 # The browser's log has a line where the server is gone, or a page is told to go.
-WITH_FAULTS = (test_a_killed_server_loses_nothing, test_an_ended_program_is_told_and_begun_anew,
-               test_a_second_page_is_told, test_the_server_saves_when_it_is_ended)
+WITH_FAULTS = (test_a_killed_server_loses_nothing, test_a_second_page_is_told, test_the_server_saves_when_it_is_ended)

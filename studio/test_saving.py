@@ -1,0 +1,374 @@
+"""Tests of what is written and what isn't: the recording, its folder, and what stands in the way."""
+import contextlib
+import os
+import pathlib
+import resource
+import shutil
+import signal
+import stat
+import subprocess
+import tempfile
+import time
+import urllib.request
+
+from browser import FONT, GARDEN, STUDIO, Missing, Studio, wait_until
+from plain_page import PlainPage
+from recordings import RIGHT, frame, recording
+from trials import EDIT, EDITED, FRAMES, SOON, end_all, refusal_of
+
+OTHER = recording(FRAMES[:7] + [frame(2)])
+HOME = pathlib.Path(tempfile.gettempdir())
+
+
+def mode_of(path):
+    return stat.S_IMODE(os.lstat(path).st_mode)
+
+
+def end_of(studio):
+    """Ends a studio; its status, and what it said of that."""
+    studio.process.terminate()
+    _, said = studio.process.communicate(timeout=SOON)
+    return studio.process.returncode, said
+
+
+@contextlib.contextmanager
+def begun(studio, **more):
+    """A studio that says on a pipe what it has to say."""
+    try:
+        yield studio.start(stderr=subprocess.PIPE, **more)
+    finally:
+        end_all(studio)
+
+
+# ---- one recording is one studio's
+
+def test_one_recording_under_two_names_is_one(studio):
+    link = studio.recording.with_name("link.w4rec")
+    link.symlink_to(studio.recording.name)
+    around = studio.recording.parent / "inner" / ".." / studio.recording.name
+    (studio.recording.parent / "inner").mkdir()
+    for name in (studio.recording, link, around):
+        line = refusal_of(studio.cart, name)
+        assert line == (f"studio: another studio has {studio.recording.resolve()} open, process {studio.process.pid}: end "
+                        f"it by Ctrl-C in its terminal, or by 'kill {studio.process.pid}'"), line
+    assert sorted(path.name for path in studio.recording.parent.iterdir()) == [
+        studio.recording.name, studio.folder.name, "inner", "link.w4rec"]
+
+
+def test_a_link_to_a_recording_stays_a_link():
+    studio = Studio()
+    link = studio.recording.with_name("link.w4rec")
+    link.symlink_to(studio.recording.name)
+    target, studio.recording = studio.recording, link
+    with studio:
+        assert PlainPage(studio.address).ask(EDIT) == b""
+        assert studio.stop() == 0
+        assert link.is_symlink() and target.read_bytes() == recording(EDITED)
+
+
+# ---- nothing edited, nothing written
+
+def facts_of(path):
+    facts = os.lstat(path)
+    return facts.st_ino, facts.st_mtime_ns, facts.st_ctime_ns, path.read_bytes()
+
+
+def test_where_nothing_is_edited_nothing_is_written():
+    with Studio() as studio:
+        before = facts_of(studio.recording)
+        page = PlainPage(studio.address)
+        assert page.ask("save") == b"" and page.ask("state 3").startswith(b"state 3 of 240 ")
+        assert urllib.request.urlopen(f"{studio.address}recording", timeout=SOON).read() == recording(FRAMES)
+        page.close()
+        assert studio.stop() == 0
+        assert facts_of(studio.recording) == before
+        assert not studio.folder.exists()
+
+
+def test_an_edit_that_is_taken_back_leaves_the_version():
+    with Studio() as studio:
+        before = facts_of(studio.recording)
+        page = PlainPage(studio.address)
+        old = page.ask("inputs 60 61").decode().strip()
+        for order in (EDIT, old, "save"):
+            assert page.ask(order) == b""
+        assert studio.stop() == 0
+        assert facts_of(studio.recording) == before
+
+
+def test_a_new_recording_is_there_once_it_is_edited():
+    with Studio(recording=None) as studio:
+        assert studio.stop() == 0
+        assert not list(studio.recording.parent.iterdir())
+        studio.start()
+        assert PlainPage(studio.address).ask(f"insert 0 {RIGHT} 0 0 0 32767 32767 0") == b""
+        assert studio.stop() == 0
+        assert studio.recording.read_bytes() == recording([frame(RIGHT)], budget=1_000_000)
+
+
+def test_a_refused_studio_leaves_nothing(studio):
+    room = studio.recording.with_name("room")
+    room.mkdir()
+    empty, short, other = room / "empty", room / "short.w4rec", room / "other.w4rec"
+    empty.write_bytes(b"")
+    short.write_bytes(studio.recording.read_bytes()[:-1])
+    other.write_bytes(recording([frame(0)], cart=STUDIO / "run"))
+    port = studio.address.split(":")[2].split("/")[0]
+    rows = [
+        ((empty, room / "new.w4rec"), [str(empty), "w4: cart: malformed"]),
+        ((studio.cart, short), [str(short), "isn't a recording"]),
+        ((studio.cart, other), [str(other), str(studio.cart), "w4: recording: wrong cart"]),
+        ((studio.cart, room / "new.w4rec", empty), [str(empty), "w4: font: not 1792 bytes"]),
+        ((room / "gone.wasm", room / "new.w4rec"), [f"{room / 'gone.wasm'} can't be read: No such file or directory"]),
+        ((studio.cart, room / "new.w4rec", room / "font"), [f"{room / 'font'} can't be read: No such file"]),
+        ((studio.cart, room / "no" / "new.w4rec"), [str(room / "no" / "new.w4rec.studio"), "can't be made"]),
+        ((studio.cart, room), [str(room), "isn't a plain file"]),
+        (("--port", port, studio.cart, room / "new.w4rec"), [f"port {port} ", "Address already in use"]),
+    ]
+    for words, parts in rows:
+        line = refusal_of(*words)
+        assert line.startswith("studio: ") and line.count("\n") == 0, line
+        assert all(part in line for part in parts), line
+        assert sorted(path.name for path in room.iterdir()) == ["empty", "other.w4rec", "short.w4rec"], words
+    assert not room.with_name("room.studio").exists()
+
+
+def test_words_that_are_wrong_are_told():
+    for flag, number, limits in (("--budget", "0", "1 to 4294967295"), ("--budget", "4294967296", "1 to 4294967295"),
+                                 ("--budget", "x", "1 to 4294967295"), ("--port", "99999", "0 to 65535"),
+                                 ("--port", "-1", "0 to 65535")):
+        line = refusal_of(f"{flag}={number}", GARDEN / "cart.wasm").split("\n")[-1]
+        assert line == f"studio: error: argument {flag}: '{number}' is no number from {limits}", line
+
+
+# ---- another program replaces the recording
+
+def test_a_recording_that_was_replaced_becomes_a_branch(studio):
+    page = PlainPage(studio.address)
+    assert page.ask(EDIT) == b""
+    studio.recording.write_bytes(OTHER)
+    assert page.ask("save") == b""
+    assert studio.recording.read_bytes() == recording(EDITED)
+    [found] = studio.folder.glob("found *.w4rec")
+    assert found.read_bytes() == OTHER
+    assert found.stem in page.wait_for_note()
+    assert page.ask("save") == b"" and not page.notes
+    assert len(list(studio.folder.glob("found *.w4rec"))) == 1
+
+
+def test_a_recording_that_was_replaced_stays_where_nothing_is_edited(studio):
+    studio.recording.write_bytes(OTHER)
+    page = PlainPage(studio.address)
+    assert page.ask("save") == b""
+    assert urllib.request.urlopen(f"{studio.address}recording", timeout=SOON).read() == recording(FRAMES)
+    assert studio.stop() == 0
+    assert studio.recording.read_bytes() == OTHER and not studio.folder.exists()
+
+
+def test_a_recording_that_is_gone_is_written_anew(studio):
+    page = PlainPage(studio.address)
+    assert page.ask(EDIT) == b""
+    studio.recording.unlink()
+    assert page.ask("save") == b""
+    assert studio.recording.read_bytes() == recording(EDITED)
+
+
+# ---- rights
+
+def test_what_is_made_has_the_rights_of_the_recording():
+    for mode, folder in ((0o600, 0o700), (0o640, 0o750), (0o664, 0o775)):
+        studio = Studio()
+        studio.recording.chmod(mode)
+        with studio:
+            page = PlainPage(studio.address)
+            assert page.ask(EDIT) == b"" and page.ask("save") == b"" and page.ask(EDIT) == b""
+            assert mode_of(studio.recording) == mode and mode_of(studio.folder) == folder
+            for path in studio.folder.iterdir():
+                assert mode_of(path) & ~mode == 0, (path, oct(mode_of(path)))
+
+
+# ---- saves that fail
+
+def limit_files():
+    """What is started may write no file of more bytes: the recording as it is, but not in version 2."""
+    resource.setrlimit(resource.RLIMIT_FSIZE, (2300, 2300))
+
+
+def test_a_save_that_fails_is_told_and_nothing_is_lost():
+    with begun(Studio(), preexec_fn=limit_files) as studio:
+        before = studio.recording.read_bytes()
+        page = PlainPage(studio.address)
+        assert page.ask(EDIT) == b""
+        assert page.ask("save") == b"refused cannot write\n"
+        assert page.ask("state 0").startswith(b"state 0 of 240 ")
+        status, said = end_of(studio)
+        assert status == 1 and studio.recording.read_bytes() == before
+        assert f"{studio.recording} isn't saved" in said and str(studio.folder / "journal") in said, said
+        studio.start()
+        assert studio.recording.read_bytes() == recording(EDITED)
+
+
+def test_the_last_save_that_fails_puts_the_inputs_elsewhere():
+    with begun(Studio()) as studio:
+        page = PlainPage(studio.address)
+        assert page.ask(EDIT) == b""
+        studio.recording.unlink()
+        studio.recording.mkdir()
+        status, said = end_of(studio)
+        [place] = [word.strip(".,;:") for word in said.split() if word.startswith(f"{HOME}/game-")]
+        assert status == 1 and f"{studio.recording} isn't saved" in said
+        assert pathlib.Path(place).read_bytes() == recording(EDITED) and mode_of(place) == 0o600
+        os.unlink(place)
+        studio.recording.rmdir()
+        studio.start()
+        assert studio.recording.read_bytes() == recording(EDITED)
+
+
+@contextlib.contextmanager
+def small_disk(size):
+    """A folder that holds so many bytes."""
+    with tempfile.TemporaryDirectory() as room:
+        mounted = subprocess.run(["mount", "-t", "tmpfs", "-o", f"size={size}", "tmpfs", room], check=False,
+                                 stderr=subprocess.DEVNULL)
+        if mounted.returncode:
+            raise Missing("a file system can only be mounted by root")
+        try:
+            yield pathlib.Path(room)
+        finally:
+            subprocess.run(["umount", room], check=True)
+
+
+def test_a_full_disk_takes_nothing():
+    with small_disk(256 << 10) as disk:
+        path = disk / "game.w4rec"
+        shutil.copy(GARDEN / "game.w4rec", path)
+        studio = Studio()
+        studio.recording, studio.folder = path, disk / "game.w4rec.studio"
+        with begun(studio):
+            page = PlainPage(studio.address)
+            with contextlib.suppress(OSError), open(disk / "fill", "wb", buffering=0) as file:
+                while True:
+                    file.write(bytes(512))
+            assert page.ask(EDIT) == b""
+            assert page.ask("save") == b"refused cannot write\n"
+            status, said = end_of(studio)
+            [place] = [word.strip(".,;:") for word in said.split() if word.startswith(f"{HOME}/game-")]
+            assert status == 1 and "No space left on device" in said, said
+            assert pathlib.Path(place).read_bytes() == recording(EDITED)
+            os.unlink(place)
+            assert path.read_bytes() == (GARDEN / "game.w4rec").read_bytes()
+
+
+# ---- what the folder may have
+
+def test_what_others_put_into_the_folder_is_left_alone():
+    with tempfile.TemporaryDirectory() as room:
+        precious = pathlib.Path(room, "precious")
+        precious.write_bytes(b"precious")
+        for name in ("lock", "journal", "base.w4rec", "draft.w4rec"):
+            studio = Studio()
+            studio.folder.mkdir()
+            (studio.folder / name).symlink_to(precious)
+            if name == "lock":
+                assert str(studio.folder / "lock") in refusal_of(studio.cart, studio.recording)
+            else:
+                with studio:
+                    assert PlainPage(studio.address).ask(EDIT) == b""
+                    assert studio.stop() == 0
+                    assert studio.recording.read_bytes() == recording(EDITED)
+            assert precious.read_bytes() == b"precious", name
+            studio.close()
+
+
+def test_a_pipe_in_the_folder_does_not_hold_up_the_start():
+    for name in ("lock", "journal", "base.w4rec"):
+        studio = Studio()
+        studio.folder.mkdir()
+        os.mkfifo(studio.folder / name)
+        if name == "lock":
+            assert f"{studio.folder / name} isn't a plain file" in refusal_of(studio.cart, studio.recording)
+        else:
+            with studio:
+                assert PlainPage(studio.address).ask(EDIT) == b""
+                assert studio.stop() == 0
+        studio.close()
+
+
+def test_a_journal_without_its_base_is_not_lost():
+    studio = Studio()
+    studio.folder.mkdir()
+    journal = studio.folder / "journal"
+    journal.write_text(f"# base {'0' * 64} recording {'0' * 64} saved\n{EDIT}\n", encoding="utf-8")
+    before = journal.read_bytes()
+    line = refusal_of(studio.cart, studio.recording)
+    assert str(journal) in line and str(studio.folder / "base.w4rec") in line
+    assert journal.read_bytes() == before and studio.recording.read_bytes() == (GARDEN / "game.w4rec").read_bytes()
+    studio.close()
+
+
+# ---- start and end without a terminal
+
+def waits_for_ever(room):
+    """A program in the place of w4 that never answers."""
+    path = pathlib.Path(room, "waits")
+    path.write_text("#!/bin/sh\nexec sleep 1000\n", encoding="utf-8")
+    path.chmod(0o755)
+    return path
+
+
+def test_a_signal_during_the_start_gives_a_line():
+    for number in (signal.SIGINT, signal.SIGTERM):
+        with tempfile.TemporaryDirectory() as room:
+            path = pathlib.Path(room, "game.w4rec")
+            shutil.copy(GARDEN / "game.w4rec", path)
+            process = subprocess.Popen([STUDIO / "run", "--no-browser", GARDEN / "cart.wasm", path],
+                                       env=dict(os.environ, W4=str(waits_for_ever(room))), stdout=subprocess.PIPE,
+                                       stderr=subprocess.PIPE, text=True)
+            wait_until((pathlib.Path(room, "game.w4rec.studio") / "draft.w4rec").exists, "it begins")
+            process.send_signal(number)
+            written, said = process.communicate(timeout=SOON)
+            assert (process.returncode, written, said) == (1, "", "studio: ended before it began\n")
+            assert sorted(os.listdir(room)) == ["game.w4rec", "waits"]
+
+
+def test_streams_that_are_full_or_closed_are_no_fault():
+    for lines in ("exec 2>/dev/full", "exec 2>&-", "exec >&- 2>&-", "exec >/dev/full 2>/dev/full", "exec <&- >&- 2>&-"):
+        studio = Studio()
+        words = ["sh", "-c", f'{lines}; exec "$0" "$@"', STUDIO / "run", "--no-browser", studio.cart, studio.recording]
+        process = subprocess.Popen(words, stdout=subprocess.DEVNULL, stderr=subprocess.DEVNULL)
+        wait_until((studio.folder / "draft.w4rec").exists, "it begins")
+        time.sleep(0.5)
+        studio.recording.unlink()
+        studio.recording.mkdir()
+        process.terminate()
+        assert process.wait(SOON) == 0, lines
+        assert (studio.folder / "lock").exists() is False
+        studio.close()
+
+
+def test_the_browser_is_not_given_the_address():
+    with tempfile.TemporaryDirectory() as room:
+        taken, runtime = pathlib.Path(room, "taken"), pathlib.Path(room, "runtime")
+        runtime.mkdir(mode=0o700)
+        tool = pathlib.Path(room, "tool")
+        tool.write_text(f'#!/bin/sh\nprintf "%s\\n" "$@" >{taken}.new && mv {taken}.new {taken}\n', encoding="utf-8")
+        tool.chmod(0o755)
+        studio = Studio()
+        with begun_with_browser(studio, dict(os.environ, BROWSER=str(tool), XDG_RUNTIME_DIR=str(runtime))):
+            wait_until(taken.exists, "a browser is opened")
+            line = taken.read_text(encoding="utf-8").strip()
+            token = studio.address.rstrip("/").rsplit("/", 1)[1]
+            assert line.startswith(f"file://{runtime}/") and token not in line, line
+            page = pathlib.Path(line[len("file://"):])
+            assert (mode_of(page), mode_of(page.parent)) == (0o600, 0o700)
+            assert f'content="0; url={studio.address}"' in page.read_text(encoding="utf-8")
+            assert studio.stop() == 0
+            assert not list(runtime.iterdir())
+
+
+@contextlib.contextmanager
+def begun_with_browser(studio, environment):
+    try:
+        yield studio.start("--port=0", env=environment)
+    finally:
+        end_all(studio)
