@@ -105,8 +105,8 @@ class Saving:
         try:
             edited = replayed(self.files, left.base, left.orders)
         except Refusal as refusal:
-            raise Refusal(f"{self.files.journal} has edits that a studio which was killed hadn't saved, and they can't "
-                          f"be made again: {refusal}. Without them it opens once the file is moved away") from None
+            raise Refusal(f"{self.files.journal} has edits that an earlier studio hadn't saved, and they can't be "
+                          f"made again: {refusal}. Without them it opens once the file is moved away") from None
         self.known = left.known_of(self.files.read_recording())
         note = self.publish(edited)
-        return "the edits that a studio which was killed had left are saved" + (f"; {note}" if note else "")
+        return "edits that an earlier studio had left unsaved are saved now" + (f"; {note}" if note else "")

@@ -63,7 +63,7 @@ def test_a_killed_server_leaves_no_orphan_and_no_edit_unsaved():
         wait_until(lambda: not is_there(program_id) and not is_there(guard_id), "they end by themselves", SOON)
         assert studio.recording.read_bytes() == ENDLESS_EDITED
         assert not (studio.folder / "journal").exists()
-        assert "the edits that a studio which was killed had left are saved" in studio.process.stderr.read()
+        assert "edits that an earlier studio had left unsaved are saved now" in studio.process.stderr.read()
 
 
 def test_a_killed_server_of_an_idle_program_leaves_no_edit_unsaved(studio):

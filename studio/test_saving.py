@@ -5,10 +5,10 @@ import pathlib
 import resource
 import shutil
 import signal
+import socket
 import stat
 import subprocess
 import tempfile
-import time
 import urllib.request
 
 from browser import FONT, GARDEN, STUDIO, Missing, Studio, wait_until
@@ -17,7 +17,20 @@ from recordings import RIGHT, frame, recording
 from trials import EDIT, EDITED, FRAMES, SOON, end_all, refusal_of
 
 OTHER = recording(FRAMES[:7] + [frame(2)])
-HOME = pathlib.Path(tempfile.gettempdir())
+
+
+def elsewhere(studio):
+    """An environment whose folder for temporary files is one of the studio's room."""
+    room = pathlib.Path(studio.room.name, "elsewhere")
+    room.mkdir()
+    return dict(os.environ, TMPDIR=str(room))
+
+
+def inputs_elsewhere(studio, said):
+    """The recording that was put into that folder, and named."""
+    [place] = pathlib.Path(studio.room.name, "elsewhere").iterdir()
+    assert str(place) in said and mode_of(place) == 0o600, said
+    return place.read_bytes()
 
 
 def mode_of(path):
@@ -209,16 +222,15 @@ def test_a_save_that_fails_is_told_and_nothing_is_lost():
 
 
 def test_the_last_save_that_fails_puts_the_inputs_elsewhere():
-    with begun(Studio()) as studio:
+    studio = Studio()
+    with begun(studio, env=elsewhere(studio)):
         page = PlainPage(studio.address)
         assert page.ask(EDIT) == b""
         studio.recording.unlink()
         studio.recording.mkdir()
         status, said = end_of(studio)
-        [place] = [word.strip(".,;:") for word in said.split() if word.startswith(f"{HOME}/game-")]
         assert status == 1 and f"{studio.recording} isn't saved" in said
-        assert pathlib.Path(place).read_bytes() == recording(EDITED) and mode_of(place) == 0o600
-        os.unlink(place)
+        assert inputs_elsewhere(studio, said) == recording(EDITED)
         studio.recording.rmdir()
         studio.start()
         assert studio.recording.read_bytes() == recording(EDITED)
@@ -244,7 +256,7 @@ def test_a_full_disk_takes_nothing():
         shutil.copy(GARDEN / "game.w4rec", path)
         studio = Studio()
         studio.recording, studio.folder = path, disk / "game.w4rec.studio"
-        with begun(studio):
+        with begun(studio, env=elsewhere(studio)):
             page = PlainPage(studio.address)
             with contextlib.suppress(OSError), open(disk / "fill", "wb", buffering=0) as file:
                 while True:
@@ -252,10 +264,8 @@ def test_a_full_disk_takes_nothing():
             assert page.ask(EDIT) == b""
             assert page.ask("save") == b"refused cannot write\n"
             status, said = end_of(studio)
-            [place] = [word.strip(".,;:") for word in said.split() if word.startswith(f"{HOME}/game-")]
             assert status == 1 and "No space left on device" in said, said
-            assert pathlib.Path(place).read_bytes() == recording(EDITED)
-            os.unlink(place)
+            assert inputs_elsewhere(studio, said) == recording(EDITED)
             assert path.read_bytes() == (GARDEN / "game.w4rec").read_bytes()
 
 
@@ -331,19 +341,47 @@ def test_a_signal_during_the_start_gives_a_line():
             assert sorted(os.listdir(room)) == ["game.w4rec", "waits"]
 
 
-def test_streams_that_are_full_or_closed_are_no_fault():
-    for lines in ("exec 2>/dev/full", "exec 2>&-", "exec >&- 2>&-", "exec >/dev/full 2>/dev/full", "exec <&- >&- 2>&-"):
-        studio = Studio()
-        words = ["sh", "-c", f'{lines}; exec "$0" "$@"', STUDIO / "run", "--no-browser", studio.cart, studio.recording]
-        process = subprocess.Popen(words, stdout=subprocess.DEVNULL, stderr=subprocess.DEVNULL)
-        wait_until((studio.folder / "draft.w4rec").exists, "it begins")
-        time.sleep(0.5)
-        studio.recording.unlink()
-        studio.recording.mkdir()
-        process.terminate()
-        assert process.wait(SOON) == 0, lines
-        assert (studio.folder / "lock").exists() is False
-        studio.close()
+def test_a_full_standard_error_hides_no_failure():
+    studio = Studio()
+    with open("/dev/full", "wb", buffering=0) as full:
+        try:
+            studio.start(stderr=full, env=elsewhere(studio))
+            assert PlainPage(studio.address).ask(EDIT) == b""
+            studio.recording.unlink()
+            studio.recording.mkdir()
+            assert studio.stop() == 1
+            [place] = pathlib.Path(studio.room.name, "elsewhere").iterdir()
+            assert place.read_bytes() == recording(EDITED)
+        finally:
+            end_all(studio)
+
+
+def free_port():
+    with socket.create_server(("127.0.0.1", 0)) as listener:
+        return listener.getsockname()[1]
+
+
+def answers(port):
+    try:
+        socket.create_connection(("127.0.0.1", port), SOON).close()
+    except OSError:
+        return False
+    return True
+
+
+def test_streams_that_are_closed_are_no_fault():
+    for closed in ("2>/dev/full", "2>&-", ">&- 2>&-", ">/dev/full 2>/dev/full", "<&- >&- 2>&-"):
+        studio, port = Studio(), free_port()
+        words = ["sh", "-c", f'exec {closed}; exec "$0" "$@"', STUDIO / "run", "--no-browser", f"--port={port}"]
+        studio.process = subprocess.Popen([*words, studio.cart, studio.recording], stdout=subprocess.DEVNULL,
+                                          stderr=subprocess.DEVNULL)
+        try:
+            wait_until(lambda: answers(port), "it listens")
+            assert (studio.folder / "lock").read_bytes() == b""
+            assert studio.stop() == 0, closed
+            assert not studio.folder.exists()
+        finally:
+            end_all(studio)
 
 
 def test_the_browser_is_not_given_the_address():
