@@ -73,8 +73,13 @@ class HistoryAnswer(HeldAnswer):
     lead to is what the journal begins from, before they are answered.
     """
 
+    def __init__(self, receiver):
+        super().__init__(receiver)
+        self.is_complete = False
+
     async def end(self):
         """It is passed on by the DraftAnswer behind it."""
+        self.is_complete = True
 
 
 class DraftAnswer(Receiver):
@@ -106,6 +111,18 @@ class Asked:
             return
         await self.receiver.piece(data)
         self.passed += 1
+
+    def needed_again(self):
+        """What another program has to be asked for it. The server makes its own orders anew, but for a draft, which
+        needs the order before it again if that was answered.
+        """
+        if not isinstance(self.receiver, DraftAnswer):
+            return [] if self.is_own else [self]
+        held = self.receiver.held
+        if held.is_complete:
+            held.parts = []
+            return [Asked(self.receiver.order, held, is_own=True), self]
+        return [self]
 
     def ask_again(self):
         """It is given to another program; the answers are the same again."""

@@ -92,13 +92,16 @@ class FolderLock:
     def open_lock(self):
         """The lock's file, open; it may have been put there by others, as a link or a pipe."""
         flags = os.O_RDWR | os.O_CREAT | os.O_NOFOLLOW | os.O_NONBLOCK | os.O_CLOEXEC
+        mode = 0o600 | self.files.mode()
         try:
-            number = os.open(self.path, flags, 0o600)
+            number = os.open(self.path, flags, mode)
         except OSError as fault:
             raise Refusal(f"{self.path} can't be opened ({fault.strerror}): move it away") from None
         if not stat.S_ISREG(os.fstat(number).st_mode):
             os.close(number)
             raise Refusal(f"{self.path} isn't a plain file: move it away")
+        with contextlib.suppress(OSError):  # another user's stays as it is
+            os.fchmod(number, mode)
         return number
 
     def is_in_place(self, number):

@@ -8,11 +8,14 @@ import contextlib
 import hashlib
 import os
 import re
+import time
 
 from recording_files import parts_of
 from refusal import Refusal
 from whole_files import put_whole, regular_bytes
 
+AGAIN = 1  # seconds until a file that can't be written is tried again
+LONGEST_LINE = 1024  # bytes of an order
 LONGEST_JOURNAL = 1 << 28  # bytes that are read of one
 ABSENT = "absent"
 NUMBER = "([0-9]{1,10})"
@@ -24,6 +27,8 @@ RANGES = [(0, (1 << 32) - 1)] + [(0, 255)] * 4 + [(-(1 << 15), (1 << 15) - 1)] *
 
 def edit_of(line):
     """The edit that an order is, as a script has it; None for any other order, and for what is none."""
+    if len(line.encode()) > LONGEST_LINE:
+        return None
     for form in EDITS:
         if found := form.fullmatch(line):
             kind, *words = found.groups()
@@ -49,7 +54,8 @@ class Journal:
         self.is_saved = True  # the base has nothing that the recording on the disk hasn't
         self.known = None  # the recording on the disk as it was last read or written
         self.number = None  # of the journal's open file; None where the files are behind
-        self.fault = None
+        self.fault = self.told = None
+        self.next_try = 0.0
 
     @property
     def is_edited(self):
@@ -66,7 +72,8 @@ class Journal:
         """Takes an order in, before the program gets it."""
         self.orders.append(order)
         if self.number is None:
-            self.write_whole()
+            if time.monotonic() >= self.next_try:
+                self.write_whole()
             return
         data = order.encode() + b"\n"
         try:
@@ -85,6 +92,7 @@ class Journal:
             put_whole(self.files.base, self.base, mode, is_synchronised=False)
             put_whole(path, "\n".join(lines).encode(), mode, is_synchronised=False)
             self.number = os.open(path, os.O_WRONLY | os.O_APPEND | os.O_NOFOLLOW | os.O_CLOEXEC)
+            self.told = None
         except Refusal as refusal:
             self.close(str(refusal))
         except OSError as fault:
@@ -93,14 +101,18 @@ class Journal:
     def close(self, fault):
         """The file is written no more; the next order writes it whole, as all of it is in memory."""
         if fault:
+            self.next_try = time.monotonic() + AGAIN
             self.fault = f"{self.files.journal} can't be written ({fault}): if the studio is killed, edits are lost"
         if self.number is not None:
             os.close(self.number)
             self.number = None
 
     def take_fault(self):
-        """What went wrong since this was asked last, once."""
+        """What went wrong, once for as long as it does."""
         fault, self.fault = self.fault, None
+        if fault is None or self.told:
+            return None
+        self.told = fault
         return fault
 
     def remove(self):

@@ -40,7 +40,7 @@ class LiveSession:
         self.room = asyncio.Semaphore(AT_ONCE)
         self.is_open = asyncio.Event()  # not while a save is made, or the program is started anew
         self.ended = None  # why the process is gone, as text
-        self.is_ending = False
+        self.is_ending = self.is_killed = False
         self.died_at = None  # the order at which the program ended last
         self.is_starting = False
         self.on_end = None  # called once it is gone
@@ -73,12 +73,14 @@ class LiveSession:
         self.guard.watch(self.process.pid)
         self.errors = asyncio.create_task(self.process.stderr.read())
         self.ask_all(up)
+        if self.is_killed:
+            self.process.kill()
         if self.is_ending:
             self.process.stdin.close()
 
     def ask_all(self, up):
         """Gives a new program all that it has to know. The last orders of the journal may be among those asked."""
-        asked = [each for each in self.waiting if not each.is_own or isinstance(each.receiver, DraftAnswer)]
+        asked = [each for waiting in self.waiting for each in waiting.needed_again()]
         unanswered = sum(edit_of(each.line) is not None for each in asked)
         known = self.journal.orders[:len(self.journal.orders) - unanswered]
         own = [Asked(order, Receiver(), is_own=True) for order in known] + [Asked("", up, is_own=True)]
@@ -107,7 +109,7 @@ class LiveSession:
 
     def kill(self):
         """Ends the program at once. The journal has what it was told."""
-        self.is_ending = True
+        self.is_ending = self.is_killed = True
         with contextlib.suppress(AttributeError, ProcessLookupError):
             self.process.kill()
 
@@ -213,6 +215,7 @@ class LiveSession:
         """Passes answers on, and starts the program anew where it was killed, until the session's end."""
         while True:
             await self.pass_answers()
+            self.is_open.clear()
             why, status = await self.reason()
             if self.is_ending or not (status < 0 or status in FAULTS) or self.has_died_here():
                 break

@@ -6,7 +6,7 @@ OUTPUT, ERRORS = 1, 2  # numbers of the standard streams
 
 
 def hold_standard_streams():
-    """Gives a stream that is closed to /dev/null, so that no file of the studio gets its number, and messages with it."""
+    """Gives a stream that is closed to /dev/null, so that no file of the studio gets its number, and its messages."""
     number = os.open(os.devnull, os.O_RDWR)
     while number <= ERRORS:
         number = os.open(os.devnull, os.O_RDWR)

@@ -17,7 +17,7 @@ PAGE = """<!DOCTYPE html>
 
 
 def private_room():
-    """A new folder of mode 700, where the system has one for what lives as long as a login, else among temporary files."""
+    """A new folder of mode 700, in the one for what lives as long as a login, or else among temporary files."""
     runtime = os.environ.get("XDG_RUNTIME_DIR")
     if runtime and os.path.isdir(runtime) and os.access(runtime, os.W_OK | os.X_OK):
         return pathlib.Path(tempfile.mkdtemp(prefix="w4-studio-", dir=runtime))

@@ -1,6 +1,7 @@
 """The studio from its start to its end: lock, guard, session and server, and the signals that end them."""
 import asyncio
 import contextlib
+import logging
 import os
 import signal
 
@@ -35,15 +36,17 @@ class Ending:
         self.asked = asyncio.Event()
         self.session = None
         self.count = 0
+        # An order that is written to a program which was just killed is asked again, and worth no line.
+        logging.getLogger("asyncio").setLevel(logging.ERROR)
         for number in (signal.SIGINT, signal.SIGTERM, signal.SIGHUP):
             asyncio.get_running_loop().add_signal_handler(number, self.take, number)
 
     def take(self, number):
         self.count += 1
         self.asked.set()
-        if self.count == 2:
+        if self.count > 1:
             self.kill_session()
-        elif self.count > 2:
+        if self.count > 2:
             programs.running.end()
         if number == signal.SIGHUP:
             asyncio.get_running_loop().call_later(HUNG_UP, self.kill_session)
@@ -112,8 +115,8 @@ class StudioProcess:
         try:
             address = await server.start(words.port)
         except OSError as fault:
-            raise Refusal(f"port {words.port} of 127.0.0.1 can't be had ({os.strerror(fault.errno)}): name another by --port, "
-                          "or none") from None
+            raise Refusal(f"port {words.port} of 127.0.0.1 can't be had ({os.strerror(fault.errno)}): name another by "
+                          "--port, or none") from None
         self.server = server
         write_line(address)
         if not words.no_browser:

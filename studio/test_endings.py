@@ -1,4 +1,4 @@
-"""Tests of what is left of a session where something ends: the server, the program, the guard, by a signal or at once."""
+"""Tests of what is left of a session where something ends: the server, the program, the guard, or all of them."""
 import contextlib
 import os
 import pathlib
@@ -58,7 +58,8 @@ def test_a_killed_server_leaves_no_orphan_and_no_edit_unsaved():
         studio.process.kill()
         studio.process.wait()
         line = refusal_of(studio.cart, studio.recording)
-        assert str(studio.recording) in line and {f"{program_id}", f"{guard_id}"} <= set(re.findall("[0-9]+", line)), line
+        assert str(studio.recording) in line, line
+        assert {f"{program_id}", f"{guard_id}"} <= set(re.findall("[0-9]+", line)), line
         assert "'kill -9 " in line, line
         wait_until(lambda: not is_there(program_id) and not is_there(guard_id), "they end by themselves", SOON)
         assert studio.recording.read_bytes() == ENDLESS_EDITED

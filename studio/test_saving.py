@@ -62,8 +62,9 @@ def test_one_recording_under_two_names_is_one(studio):
     (studio.recording.parent / "inner").mkdir()
     for name in (studio.recording, link, around):
         line = refusal_of(studio.cart, name)
-        assert line == (f"studio: another studio has {studio.recording.resolve()} open, process {studio.process.pid}: end "
-                        f"it by Ctrl-C in its terminal, or by 'kill {studio.process.pid}'"), line
+        process = studio.process.pid
+        assert line == (f"studio: another studio has {studio.recording.resolve()} open, process {process}: end it by "
+                        f"Ctrl-C in its terminal, or by 'kill {process}'"), line
     assert sorted(path.name for path in studio.recording.parent.iterdir()) == [
         studio.recording.name, studio.folder.name, "inner", "link.w4rec"]
 

@@ -12,7 +12,7 @@ LONGEST = 361_071  # bytes of a recording
 
 
 def regular_bytes(path, most=LONGEST):
-    """The bytes of a plain file that has at most so many; None for anything else, such as a link, a pipe or a folder."""
+    """The bytes of a plain file that has at most so many; None for anything else, as a link, a pipe or a folder."""
     try:
         number = os.open(path, os.O_RDONLY | os.O_NOFOLLOW | os.O_NONBLOCK | os.O_CLOEXEC)
     except OSError:
