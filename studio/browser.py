@@ -85,7 +85,7 @@ class Studio:
             assert self.address, "the studio didn't start"
         return self
 
-    def children(self):
+    def program_and_guard(self):
         """The ids of the program and of the guard that the studio started."""
         words = ["pgrep", "-P", str(self.process.pid)]
         found = [int(word) for word in subprocess.run(words, stdout=subprocess.PIPE, check=True).stdout.split()]

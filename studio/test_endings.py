@@ -54,7 +54,7 @@ def saved_by_the_next_start(studio):
 
 def test_a_killed_server_leaves_no_orphan_and_no_edit_unsaved():
     with endless_studio() as (studio, page):
-        program_id, guard_id = studio.children()
+        program_id, guard_id = studio.program_and_guard()
         studio.process.kill()
         studio.process.wait()
         line = refusal_of(studio.cart, studio.recording)
@@ -69,7 +69,7 @@ def test_a_killed_server_leaves_no_orphan_and_no_edit_unsaved():
 
 def test_a_killed_server_of_an_idle_program_leaves_no_edit_unsaved(studio):
     assert PlainPage(studio.address).ask(EDIT) == b""
-    ids = studio.children()
+    ids = studio.program_and_guard()
     studio.process.kill()
     studio.process.wait()
     wait_until(lambda: not any(map(is_there, ids)), "they end by themselves", SOON)
@@ -79,7 +79,7 @@ def test_a_killed_server_of_an_idle_program_leaves_no_edit_unsaved(studio):
 
 def test_where_all_are_killed_the_next_start_saves():
     with endless_studio() as (studio, _):
-        for each in (*studio.children()[::-1], studio.process.pid):
+        for each in (*studio.program_and_guard()[::-1], studio.process.pid):
             os.kill(each, signal.SIGKILL)
         studio.process.wait()
         assert studio.recording.read_bytes() == recording(RESETS, ENDLESS, BUDGET)
@@ -88,7 +88,7 @@ def test_where_all_are_killed_the_next_start_saves():
 
 def test_a_killed_guard_takes_nothing_with_it(studio):
     page = PlainPage(studio.address)
-    os.kill(studio.children()[1], signal.SIGKILL)
+    os.kill(studio.program_and_guard()[1], signal.SIGKILL)
     assert page.ask(EDIT) == b"" and page.ask("state 0").startswith(b"state 0 of 240 ")
     assert studio.stop() == 0
     assert studio.recording.read_bytes() == recording(EDITED)
@@ -99,7 +99,7 @@ def test_a_killed_program_is_a_pause(studio):
     assert page.ask(EDIT) == b"" and page.ask("save") == b""
     assert page.ask(f"insert 240 {RIGHT} 0 0 0 32767 32767 0") == b""
     for _ in range(2):
-        os.kill(studio.children()[0], signal.SIGKILL)
+        os.kill(studio.program_and_guard()[0], signal.SIGKILL)
         assert page.ask("inputs 60 61") == f"{EDIT}\n".encode()
         assert "started anew" in page.wait_for_note()
     assert page.ask("state 241").startswith(b"state 241 of 241 ")
@@ -117,7 +117,7 @@ def test_a_program_that_is_killed_at_work_gives_the_same_answers_once():
             page.give("units 0 60", "set 0 1 0 0 0 0 0 0", "inputs 0 1")
             kind, first = page.message()
             assert (kind, first[:8]) == (2, b"units 0 ")
-            os.kill(studio.children()[0], signal.SIGKILL)
+            os.kill(studio.program_and_guard()[0], signal.SIGKILL)
             others = page.pieces()
             assert [b"units %d " % number for number in range(1, 60)] == [
                 piece[:len(b"units %d " % number)] for number, piece in enumerate(others, 1)]
@@ -127,11 +127,11 @@ def test_a_program_that_is_killed_at_work_gives_the_same_answers_once():
 
 def test_a_program_that_is_killed_twice_at_an_order_ends_the_session():
     with endless_studio() as (studio, page):
-        first = studio.children()[0]
+        first = studio.program_and_guard()[0]
         os.kill(first, signal.SIGKILL)
         assert "started anew" in page.wait_for_note()
-        wait_until(lambda: studio.children()[0] != first, "another program")
-        os.kill(studio.children()[0], signal.SIGKILL)
+        wait_until(lambda: studio.program_and_guard()[0] != first, "another program")
+        os.kill(studio.program_and_guard()[0], signal.SIGKILL)
         try:
             page.pieces()
             raise AssertionError("it was answered")
@@ -146,7 +146,7 @@ def test_a_signal_to_all_processes_loses_no_edit():
     for number in (signal.SIGTERM, signal.SIGINT, signal.SIGHUP):
         with Studio() as studio:
             assert PlainPage(studio.address).ask(EDIT) == b""
-            for each in (*studio.children(), studio.process.pid):
+            for each in (*studio.program_and_guard(), studio.process.pid):
                 os.kill(each, number)
             assert studio.process.wait(SOON) == 0
             assert studio.recording.read_bytes() == recording(EDITED), number
@@ -175,7 +175,7 @@ def test_a_page_that_does_not_read_does_not_hold_up_the_end(studio):
     page = PlainPage(studio.address)
     assert page.ask(EDIT) == b""
     page.give(*["film 0 240 1"] * 40)
-    wait_until(lambda: is_asleep(studio.children()[0]), "the program waits for a reader")
+    wait_until(lambda: is_asleep(studio.program_and_guard()[0]), "the program waits for a reader")
     studio.process.send_signal(signal.SIGTERM)
     studio.process.wait(SOON)
     assert studio.recording.read_bytes() == recording(EDITED)
@@ -235,11 +235,11 @@ def test_undo_and_redo_outlive_the_program(studio):
     page = PlainPage(studio.address)
     for order in (EDIT, "save", "delete 0", "save", "undo"):
         assert page.ask(order) == b"", order
-    os.kill(studio.children()[0], signal.SIGKILL)
+    os.kill(studio.program_and_guard()[0], signal.SIGKILL)
     assert page.ask("inputs 60 61") == f"{EDIT}\n".encode()
     for order in ("delete 0", "undo", "redo"):
         assert page.ask(order) == b"", order
-    os.kill(studio.children()[0], signal.SIGKILL)
+    os.kill(studio.program_and_guard()[0], signal.SIGKILL)
     assert page.ask("state 0").startswith(b"state 0 of 239 ")
     assert studio.stop() == 0
     assert studio.recording.read_bytes() == recording(EDITED[1:])

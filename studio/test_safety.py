@@ -85,7 +85,7 @@ def test_a_killed_server_loses_nothing(studio, page):
 def test_a_killed_program_goes_on(studio, page):
     do_not_save_after_a_while(page)
     change_frame_60(page)
-    os.kill(studio.children()[0], signal.SIGKILL)
+    os.kill(studio.program_and_guard()[0], signal.SIGKILL)
     page.go_to(70)
     assert page.image() == image(EDITED, 70)
     page.save()

@@ -19,7 +19,7 @@ def end_all(studio):
     left = []
     if studio.process.poll() is None:
         with contextlib.suppress(subprocess.CalledProcessError, ValueError):
-            left = studio.children()
+            left = studio.program_and_guard()
         for each in (studio.process.pid, *left):
             with contextlib.suppress(ProcessLookupError):
                 os.kill(each, signal.SIGKILL)
