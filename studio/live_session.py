@@ -63,17 +63,21 @@ class LiveSession:
         self.reader = asyncio.create_task(self.read_answers())
         await self.wait_for_answer("state 0")
 
-    def send(self, line, receiver):
-        """Asks for an order's answer. Line breaks were parted before, since each line is an order."""
+    async def send(self, line, receiver):
+        """Asks for an order's answer, and waits while the program is behind. Line breaks were parted before, since each
+        line is an order.
+        """
         if self.ended is not None:
             raise Refusal(self.ended)
         self.waiting.append(receiver)
         self.process.stdin.write(line.encode() + b"\n")
+        with contextlib.suppress(OSError):  # the reader tells why the program is gone
+            await self.process.stdin.drain()
 
     async def wait_for_answer(self, line):
         """The whole answer of an order, behind all that was asked for before."""
         answer = WholeAnswer()
-        self.send(line, answer)
+        await self.send(line, answer)
         return await answer.future
 
     async def save(self):

@@ -6,7 +6,8 @@ import subprocess
 import tempfile
 
 import moving_png
-from recording_files import Refusal, program
+import programs
+from refusal import Refusal
 
 WAV_HEADER, PLACE_SOUND = 44, 2_940  # bytes of a WAV file's header, and of the sound of a place
 BLOCK = 1 << 16
@@ -15,8 +16,8 @@ SIZE = "scale=640:640:flags=neighbor"
 
 def start(*words):
     """A command of w4 whose output is read."""
-    return subprocess.Popen([program(), *map(str, words)], stdin=subprocess.DEVNULL, stdout=subprocess.PIPE,
-                            stderr=subprocess.DEVNULL)
+    return programs.start([programs.program(), *words], stdin=subprocess.DEVNULL, stdout=subprocess.PIPE,
+                          stderr=subprocess.DEVNULL)
 
 
 def skip(stream, count):
@@ -51,11 +52,17 @@ def film_with_sound(files, first, last):
         sound, joined = pathlib.Path(room, "sound.wav"), pathlib.Path(room, "film.mp4")
         sound.write_bytes(wave(files, first, last))
         with start("frames", files.cart, files.recording, files.font, first, last) as images:
-            made = subprocess.run(
-                ["ffmpeg", "-y", "-loglevel", "error", "-f", "image2pipe", "-framerate", "60", "-c:v", "ppm",
-                 "-i", "-", "-i", sound, "-vf", SIZE, "-pix_fmt", "yuv420p", joined],
-                stdin=images.stdout, stderr=subprocess.PIPE, check=False)
+            status, errors = join(images.stdout, sound, joined)
             images.kill()
-        if made.returncode:
-            raise Refusal(made.stderr.decode("utf-8", "replace").strip() or "ffmpeg failed")
+        if status:
+            raise Refusal(errors or f"ffmpeg failed (status {status})")
         return joined.read_bytes()
+
+
+def join(images, sound, joined):
+    """Runs ffmpeg; its status, and what it says."""
+    words = ["ffmpeg", "-y", "-loglevel", "error", "-f", "image2pipe", "-framerate", "60", "-c:v", "ppm", "-i", "-",
+             "-i", sound, "-vf", SIZE, "-pix_fmt", "yuv420p", joined]
+    with programs.start(words, stdin=images, stderr=subprocess.PIPE) as made:
+        _, errors = made.communicate()
+    return made.returncode, errors.decode("utf-8", "replace").strip()

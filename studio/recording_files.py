@@ -1,25 +1,10 @@
 """The files of a studio: cart, recording and font, and the folder beside the recording."""
 import fcntl
 import os
-import pathlib
 import struct
-import subprocess
 
+from programs import program, run_program  # noqa: F401: the names by which others know them
 from refusal import Refusal
-
-TOP = pathlib.Path(__file__).resolve().parent.parent
-
-
-def program():
-    """Where the program is: one setting for the whole studio."""
-    return os.environ.get("W4") or str(TOP / "w4")
-
-
-def run_program(*words):
-    """Status, output and the line on standard error of a command of w4."""
-    ran = subprocess.run([program(), *map(str, words)], stdin=subprocess.DEVNULL, capture_output=True,
-                         check=False)
-    return ran.returncode, ran.stdout, ran.stderr.decode("utf-8", "replace").strip()
 
 
 def parse_recording(data):
@@ -45,6 +30,10 @@ class RecordingFiles:
         self.folder = recording.with_name(recording.name + ".studio")
         self.budget = 0
         self.lock_file = None
+
+    def mode(self):
+        """The rights of the recording, which what is kept beside it gets too."""
+        return os.stat(self.recording).st_mode & 0o777
 
     def lock(self):
         """Refuses a second studio on the recording, since each would save over the other."""
