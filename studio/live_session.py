@@ -9,6 +9,7 @@ from recording_files import program
 from refusal import Refusal
 
 BUFFER = 1 << 20  # bytes of answers that are read ahead
+AT_ONCE = 256  # orders that await their answers; who has more waits until there is room
 USAGE = 2  # the status where the words match no command
 
 
@@ -46,6 +47,7 @@ class LiveSession:
         self.reader = None
         self.errors = None  # what the program writes to standard error
         self.waiting = collections.deque()
+        self.room = asyncio.Semaphore(AT_ONCE)
         self.ended = None  # why the process is gone, as text
         self.on_end = None  # called once it is gone
 
@@ -59,6 +61,7 @@ class LiveSession:
             start_new_session=True)
         self.ended = None
         self.waiting.clear()
+        self.room = asyncio.Semaphore(AT_ONCE)
         self.errors = asyncio.create_task(self.process.stderr.read())
         self.reader = asyncio.create_task(self.read_answers())
         await self.wait_for_answer("state 0")
@@ -67,7 +70,9 @@ class LiveSession:
         """Asks for an order's answer, and waits while the program is behind. Line breaks were parted before, since each
         line is an order.
         """
+        await self.room.acquire()
         if self.ended is not None:
+            self.room.release()
             raise Refusal(self.ended)
         self.waiting.append(receiver)
         self.process.stdin.write(line.encode() + b"\n")
@@ -96,6 +101,7 @@ class LiveSession:
                     await self.waiting[0].piece(await output.readexactly(length))
                 else:
                     await self.waiting.popleft().end()
+                    self.room.release()
         except (asyncio.IncompleteReadError, OSError, ValueError, IndexError):
             # A pipe that breaks is the end of a process as well, which may be gone by now.
             with contextlib.suppress(ProcessLookupError):
@@ -115,6 +121,7 @@ class LiveSession:
         """The process is gone: whoever waits for a whole answer is told why."""
         while self.waiting:
             receiver = self.waiting.popleft()
+            self.room.release()
             if isinstance(receiver, WholeAnswer) and not receiver.future.done():
                 receiver.future.set_exception(Refusal(self.ended))
         if self.on_end:

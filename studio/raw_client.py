@@ -68,10 +68,10 @@ class Client:
             connection.sendall(data)
             return read_answer(connection)
 
-    def ask(self, name, method="GET", body=b"", **query):
+    def ask(self, what, method="GET", body=b"", **query):
         """Status and body of the answer to a request as a page makes it."""
         words = urllib.parse.urlencode(query)
-        head = self.head(name + ("?" + words if words else ""), method, {"Content-Length": str(len(body))})
+        head = self.head(what + ("?" + words if words else ""), method, {"Content-Length": str(len(body))})
         status, _, data = self.answer(head + body)
         return status, data
 

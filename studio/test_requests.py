@@ -325,7 +325,7 @@ def test_a_page_that_goes_leaves_its_orders():
             page.send("\n".join(edits))
         with client.open_page() as page:
             page.greeting()
-            assert page.ask("inputs").count(b"set ") == 10 and page.ask("save") == b""
+            assert page.ask("save") == b""
         wanted = [frame(number, mouse=(0, 0, 0)) for number in range(10)]
         assert studio.recording.read_bytes() == recording(wanted, ENDLESS, SLOW_BUDGET)
 

@@ -10,6 +10,7 @@ GOING_AWAY, WRONG, WRONG_KIND, NO_TEXT, TOO_LONG = 1001, 1002, 1003, 1007, 1009 
 KEY_TAIL = b"258EAFA5-E914-47DA-95CA-C5AB0DC85B11"
 LONGEST_MESSAGE = 1 << 22  # bytes; a recording's inputs as orders have some 2,500,000
 LONGEST_CONTROL = 125
+BEHIND = 1 << 16  # bytes that wait for the other side, above which is waited for it; no more than the loop's own
 UNREAD = 10  # seconds after which a side that doesn't read is dropped
 
 
@@ -56,7 +57,7 @@ class WebSocket:
         if self.writer.is_closing():
             raise ConnectionResetError
         self.writer.write(framed(kind, data))
-        if not self.writer.transport.get_write_buffer_size():
+        if self.writer.transport.get_write_buffer_size() <= BEHIND:
             return
         try:
             await asyncio.wait_for(self.writer.drain(), UNREAD)

@@ -17,10 +17,11 @@ def regular_bytes(path, most=LONGEST):
         number = os.open(path, os.O_RDONLY | os.O_NOFOLLOW | os.O_NONBLOCK | os.O_CLOEXEC)
     except OSError:
         return None
+    facts = os.fstat(number)
+    if not stat.S_ISREG(facts.st_mode) or facts.st_size > most:
+        os.close(number)
+        return None
     with open(number, "rb") as file:
-        facts = os.fstat(number)
-        if not stat.S_ISREG(facts.st_mode) or facts.st_size > most:
-            return None
         data = file.read(most + 1)
     return data if len(data) <= most else None
 
