@@ -151,13 +151,28 @@ class FolderFiles:
         for path in self.branch_paths():
             if regular_bytes(path) == recording:
                 return path.stem
-        first = time.strftime(f"{kind} %Y-%m-%d %H.%M.%S")
-        name, number = first, 1
-        while os.path.lexists(self.branch_file(name)):
-            number += 1
-            name = f"{first} {number}"
+        name = self.free_name(time.strftime(f"{kind} %Y-%m-%d %H.%M.%S"))
         self.put_branch(name, recording)
         return name
+
+    def free_name(self, wanted):
+        """This name, or where it isn't free, with the first number behind it that makes it so."""
+        name, number = wanted, 1
+        while name in OWN_NAMES or os.path.lexists(self.branch_file(name)):
+            number += 1
+            name = f"{wanted} {number}"
+        return name
+
+    def free_own_names(self):
+        """Gives branches that an earlier version let have the studio's own names others. Only before the studio has
+        recordings of its own there; with a journal they are those of one that was killed.
+        """
+        if os.path.lexists(self.folder / "journal"):
+            return
+        for name in OWN_NAMES:
+            path = self.folder / f"{name}.w4rec"
+            if regular_bytes(path) is not None:
+                os.rename(path, self.branch_file(self.free_name(name)))
 
     def remove_branch(self, name):
         """Removes a branch, and nothing else that may have its name."""

@@ -50,6 +50,7 @@ class LiveSession:
         self.room = asyncio.Semaphore(AT_ONCE)
         self.ended = None  # why the process is gone, as text
         self.on_end = None  # called once it is gone
+        self.on_note = None  # called with what the user should read
 
     async def start(self):
         """Starts the process on the recording as it was last saved. A refusal says what the program said."""

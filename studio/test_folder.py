@@ -98,15 +98,14 @@ def test_branches_are_removed_and_no_more():
 
 
 def test_the_folder_has_the_recording_s_rights():
-    for wanted in (0o600, 0o640):
-        studio = WatchedStudio()
-        studio.recording.chmod(wanted)
-        with studio:
-            client = Client(studio)
-            assert client.ask("branches", "POST", name="mine")[0] == 200
+    with WatchedStudio() as studio:
+        client = Client(studio)
+        for name, wanted in (("private", 0o600), ("shared", 0o640)):
+            studio.recording.chmod(wanted)
+            assert client.ask("branches", "POST", name=name)[0] == 200
             assert client.ask("watches", "POST", json.dumps([WATCH]).encode())[0] == 200
-            for name in ("mine.w4rec", "watches.json"):
-                assert mode(studio.folder / name) == wanted, (name, wanted)
+            for file in (f"{name}.w4rec", "watches.json"):
+                assert mode(studio.folder / file) == wanted, (file, wanted)
 
 
 def test_a_removed_folder_is_named():
@@ -129,13 +128,12 @@ def test_a_removed_folder_is_named():
 def test_broken_watches_are_told_and_kept():
     """As a full disk left them to an earlier version."""
     whole = json.dumps([WATCH, WATCH], indent=1)
-    for broken, kept in ((whole[:-20], []), ("[" * 100_000, []), ("null", []), (json.dumps([WATCH, {"address": -1}]), [WATCH])):
-        studio = WatchedStudio()
-        studio.folder.mkdir()
-        path = studio.folder / "watches.json"
-        path.write_text(broken, encoding="utf-8")
-        with studio:
-            client = Client(studio)
+    rows = [(whole[:-20], []), ("[" * 100_000, []), ("null", []), (json.dumps([WATCH, {"address": -1}]), [WATCH])]
+    with WatchedStudio() as studio:
+        client = Client(studio)
+        path, aside = studio.folder / "watches.json", studio.folder / "watches.json.old"
+        for broken, kept in rows:
+            path.write_text(broken, encoding="utf-8")
             status, data = client.ask("watches")
             assert status == 200 and json.loads(data) == kept
             with client.open_page() as page:
@@ -144,23 +142,35 @@ def test_broken_watches_are_told_and_kept():
             assert path.read_text(encoding="utf-8") == broken
             assert client.ask("watches", "POST", json.dumps([WATCH]).encode())[0] == 200
             assert json.loads(path.read_bytes()) == [WATCH]
-            assert path.with_name("watches.json.old").read_text(encoding="utf-8") == broken
+            assert aside.read_text(encoding="utf-8") == broken
+            aside.unlink()
 
 
 def test_watches_that_are_no_plain_file_are_left_alone():
-    for kind in ("link", "pipe", "folder", "huge"):
-        studio = WatchedStudio()
-        studio.folder.mkdir()
+    with WatchedStudio() as studio:
+        client = Client(studio)
         path, outside = studio.folder / "watches.json", studio.recording.with_name("outside")
         outside.write_bytes(json.dumps([WATCH]).encode())
-        make_strange(path, kind, outside)
-        before = facts(path)
-        with studio:
-            client = Client(studio)
+        for kind in ("link", "pipe", "folder", "huge"):
+            make_strange(path, kind, outside)
+            before = facts(path)
             assert client.ask("watches") == (200, b"[]")
             status, text = client.ask("watches", "POST", b"[]")
             assert status == 409 and str(path) in text.decode(), (kind, status, text)
             assert facts(path) == before and outside.read_bytes() == json.dumps([WATCH]).encode()
+            path.rmdir() if kind == "folder" else path.unlink()
+
+
+def test_branches_of_an_earlier_version_keep_their_recordings():
+    """It let them have the names that are the studio's own now."""
+    studio = WatchedStudio()
+    studio.folder.mkdir()
+    for name in ("base", "draft"):
+        (studio.folder / f"{name}.w4rec").write_bytes(OTHER)
+    with studio:
+        client = Client(studio)
+        assert client.list() >= {"base 2", "draft 2"}
+        assert (studio.folder / "base 2.w4rec").read_bytes() == (studio.folder / "draft 2.w4rec").read_bytes() == OTHER
 
 
 def make_strange(path, kind, outside):

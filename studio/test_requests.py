@@ -1,6 +1,6 @@
 """Tests of requests and connections that no browser makes: each gets an answer, and none harms the session."""
 import asyncio
-import json
+import contextlib
 import os
 import signal
 import socket
@@ -8,9 +8,10 @@ import struct
 import threading
 import time
 
+import http_request
 from browser import TOP, wait_until
 from raw_client import TEXT, Client, WatchedStudio, read_answer
-from recordings import CART, RIGHT, frame, garden_frames, recording
+from recordings import RIGHT, frame, garden_frames, recording
 from test_protocol import MASK, masked_frame
 
 ENDLESS = TOP / "cases/inputs/carts/endless-loop.wasm"
@@ -128,8 +129,6 @@ def is_closed_at_once(client):
             return connection.recv(1) == b""
         except ConnectionError:
             return True
-        except TimeoutError:
-            return False
         except socket.timeout:
             return False
 
@@ -153,30 +152,33 @@ def test_a_lack_of_descriptors_is_no_flood():
         assert len(studio.said()) < 1000
 
 
-def test_a_request_that_stays_unfinished_ends():
-    with WatchedStudio() as studio:
-        client = Client(studio)
-        with client.connect() as connection, client.connect() as bodied_one:
-            connection.settimeout(2 * SOON)
-            bodied_one.settimeout(2 * SOON)
-            connection.sendall(client.head()[:-2])
-            bodied_one.sendall(client.head("compare", "POST", {"Content-Length": "9"}) + b"W4RC")
-            assert read_answer(connection)[0] == 408 and read_answer(bodied_one)[0] == 408
-        assert studio.said() == ""
-
-
-def test_an_idle_connection_ends():
-    """The time is made shorter, as a minute is long for a test."""
-    import http_request
-
-    async def ask():
-        http_request.IDLE = 0.05
-        return await asyncio.wait_for(http_request.read_request(asyncio.StreamReader(), None), SOON)
-    idle = http_request.IDLE
+@contextlib.contextmanager
+def short_times():
+    """A minute, and ten seconds, are long for a test."""
+    times = http_request.IDLE, http_request.BEGUN
+    assert times == (60, 10)
+    http_request.IDLE, http_request.BEGUN = 0.1, 0.05
     try:
-        assert idle == 60 and asyncio.run(ask()) is None
+        yield
     finally:
-        http_request.IDLE = idle
+        http_request.IDLE, http_request.BEGUN = times
+
+
+def test_who_does_not_ask_in_time_is_left():
+    """One that asks for nothing gets nothing, and one that has begun is told."""
+    async def read(data):
+        reader = asyncio.StreamReader()
+        reader.feed_data(data)
+        return await asyncio.wait_for(http_request.read_request(reader, lambda request: None), SOON)
+    with short_times():
+        assert asyncio.run(read(b"")) is None
+        for begun in (b"G", b"GET / HTTP/1.1\r\n", b"POST / HTTP/1.1\r\nContent-Length: 9\r\n\r\nW4RC"):
+            try:
+                asyncio.run(read(begun))
+            except http_request.BadRequest as fault:
+                assert fault.status == 408
+                continue
+            raise AssertionError(begun)
 
 
 # What isn't WebSocket, and the code with which the connection is closed.
@@ -242,35 +244,35 @@ def count_bytes(connection, received):
         pass
 
 
-def ask_for_more_than_is_read(page):
-    """Asks for 180 megabytes of images."""
-    page.greeting()
-    page.send("\n".join(["film 1 240 1"] * 40))
+MORE_THAN_FITS = "\n".join(["film 1 240 1"] * 8)  # 37 megabytes of images
+EDIT = f"set 60 {RIGHT} 0 0 0 32767 32767 0"
+EDITED = recording(FRAMES[:60] + [frame(RIGHT)] + FRAMES[61:])
 
 
 def test_a_page_that_does_not_read_is_dropped():
     with WatchedStudio() as studio:
         client = Client(studio)
         with client.open_page("frozen") as frozen:
-            ask_for_more_than_is_read(frozen)
+            frozen.greeting()
+            frozen.send(MORE_THAN_FITS)
             assert client.ask("branches", "POST", name="meanwhile")[0] == 200
             assert client.list() >= {"meanwhile"}
             with client.open_page("other") as page:
                 assert page.greeting()["last_page"] == "frozen"
-                assert page.ask(f"set 60 {RIGHT} 0 0 0 32767 32767 0") == b"" and page.ask("save") == b""
-        assert studio.recording.read_bytes() == recording(FRAMES[:60] + [frame(RIGHT)] + FRAMES[61:])
+                assert page.ask(EDIT) == b"" and page.ask("save") == b""
+        assert studio.recording.read_bytes() == EDITED
         assert studio.said() == ""
 
 
 def test_a_page_that_does_not_read_does_not_hold_up_the_end():
     with WatchedStudio() as studio, Client(studio).open_page() as frozen:
         frozen.greeting()
-        assert frozen.ask(f"set 60 {RIGHT} 0 0 0 32767 32767 0") == b""
-        frozen.send("\n".join(["film 1 240 1"] * 40))
+        assert frozen.ask(EDIT) == b""
+        frozen.send(MORE_THAN_FITS)
         time.sleep(1)
         studio.process.terminate()
         assert studio.process.wait(SOON) == 0
-        assert studio.recording.read_bytes() == recording(FRAMES[:60] + [frame(RIGHT)] + FRAMES[61:])
+        assert studio.recording.read_bytes() == EDITED
         assert studio.said() == ""
 
 
@@ -316,7 +318,7 @@ def slow_studio(frames):
 
 def test_a_page_that_goes_leaves_its_orders():
     """While the program computes it sends more than fits into pipes; another page comes at once, and has all of it."""
-    edits = [f"set {number} {number % 256} 0 0 0 0 0 0" for number in range(10)] * 2000
+    edits = [f"set {number} {number % 256} 0 0 0 0 0 0" for number in range(10)] * 200
     with slow_studio(10) as studio:
         client = Client(studio)
         with client.open_page() as page:
@@ -328,6 +330,23 @@ def test_a_page_that_goes_leaves_its_orders():
             assert page.ask("save") == b""
         wanted = [frame(number, mouse=(0, 0, 0)) for number in range(10)]
         assert studio.recording.read_bytes() == recording(wanted, ENDLESS, SLOW_BUDGET)
+
+
+def test_a_page_that_sends_more_than_is_taken_waits():
+    """What the server has of it is bounded, while the program computes."""
+    megabyte = masked_frame(b"#" * (1 << 20))
+    with slow_studio(120) as studio, Client(studio).open_page() as page:
+        page.greeting()
+        page.send("state 100")
+        page.connection.settimeout(2)
+        sent = 0
+        with contextlib.suppress(socket.timeout):
+            while sent < 40:
+                page.connection.sendall(megabyte)
+                sent += 1
+        assert sent < 40, "nothing held it up"
+        for process in studio.children("serve"):
+            os.kill(process, signal.SIGKILL)
 
 
 def test_what_is_computed_for_the_page_ends_with_the_studio():
