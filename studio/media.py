@@ -52,12 +52,17 @@ def film_with_sound(files, first, last):
         sound, joined = pathlib.Path(room, "sound.wav"), pathlib.Path(room, "film.mp4")
         sound.write_bytes(wave(files, first, last))
         with start("frames", files.cart, files.draft, files.font, first, last) as images:
-            joining = programs.start(
-                ["ffmpeg", "-y", "-loglevel", "error", "-f", "image2pipe", "-framerate", "60", "-c:v", "ppm",
-                 "-i", "-", "-i", sound, "-vf", SIZE, "-pix_fmt", "yuv420p", joined],
-                stdin=images.stdout, stderr=subprocess.PIPE)
-            errors = joining.communicate()[1]
+            status, errors = join(images.stdout, sound, joined)
             images.kill()
-        if joining.returncode:
-            raise Refusal(errors.decode("utf-8", "replace").strip() or "ffmpeg failed")
+        if status:
+            raise Refusal(errors or f"ffmpeg failed (status {status})")
         return joined.read_bytes()
+
+
+def join(images, sound, joined):
+    """Runs ffmpeg; its status, and what it says."""
+    words = ["ffmpeg", "-y", "-loglevel", "error", "-f", "image2pipe", "-framerate", "60", "-c:v", "ppm", "-i", "-",
+             "-i", sound, "-vf", SIZE, "-pix_fmt", "yuv420p", joined]
+    with programs.start(words, stdin=images, stderr=subprocess.PIPE) as made:
+        _, errors = made.communicate()
+    return made.returncode, errors.decode("utf-8", "replace").strip()

@@ -4,7 +4,7 @@ another program, and without sound.
 import struct
 import zlib
 
-from recording_files import Refusal
+from refusal import Refusal
 
 SIDE, SCALE, RATE = 160, 4, 60  # pixels of an image's side, of a pixel's side in the film; frames a second
 HEADER = b"P6\n160 160\n255\n"  # before the pixels that `frames` writes of each place

@@ -4,13 +4,13 @@ another program has changed it without that one being kept. Of a program that wa
 import os
 import pathlib
 import tempfile
-import time
 
+from folder_files import FolderFiles
 from journal import read_left
 from programs import run_program
 from recording_files import is_same
 from refusal import Refusal
-from whole_files import put_whole, regular_bytes
+from whole_files import put_whole
 
 LONGEST_SCRIPT = 1 << 20  # bytes that `w4 edit` takes
 
@@ -73,29 +73,15 @@ class Saving:
             self.known = current
             return None
         if current is not None and (self.known is None or not is_same(current, self.known)):
-            name = self.keep_branch("found", current)
+            name = FolderFiles(self.files).keep("found", current)
             note = (f"another program had changed {self.files.recording}: that recording is the branch {name}, and "
                     "the file has what is edited here")
         elif current is not None and not self.has_kept_opened:
-            self.keep_branch("opened", current)
+            FolderFiles(self.files).keep("opened", current)
         room = self.files.folder if self.files.folder.is_dir() else None
         put_whole(self.files.recording, recording, self.files.mode(), room)
         self.known, self.has_kept_opened = recording, True
         return note
-
-    def keep_branch(self, kind, recording):
-        """Keeps a recording as a branch, unless one has its bytes; the branch's name."""
-        folder = self.files.folder
-        for path in sorted(folder.glob("*.w4rec")):
-            if path not in (self.files.base, self.files.draft) and regular_bytes(path) == recording:
-                return path.stem
-        first = time.strftime(f"{kind} %Y-%m-%d %H.%M.%S")
-        name, number = first, 1
-        while os.path.lexists(folder / f"{name}.w4rec"):
-            number += 1
-            name = f"{first} {number}"
-        put_whole(folder / f"{name}.w4rec", recording, self.files.mode())
-        return name
 
     def save_left(self):
         """Saves what a studio that was killed has left; what the user should read of that, None where nothing was."""

@@ -6,6 +6,7 @@ import os
 import signal
 
 import programs
+from folder_files import FolderFiles
 from folder_lock import FolderLock
 from guard import Guard
 from journal import Journal
@@ -98,6 +99,7 @@ class StudioProcess:
         files, words = self.files, self.words
         files.check_readable()
         self.lock.claim()
+        FolderFiles(files).free_own_names()
         self.saving = Saving(files, None)
         if note := await asyncio.to_thread(self.saving.save_left):
             say(f"{files.recording}: {note}")

@@ -24,12 +24,16 @@ class Writer:
 
     def __init__(self):
         self.sent = b""
+        self.transport = self
 
     def write(self, data):
         self.sent += data
 
     async def drain(self):
         """Nothing waits."""
+
+    def get_write_buffer_size(self):
+        return 0
 
     def is_closing(self):
         return False
