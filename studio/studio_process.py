@@ -19,7 +19,7 @@ from saving import Saving, put_elsewhere, replayed
 from services import Services
 from web_server import WebServer
 
-QUIET = 0.5  # seconds that an end may take until something is said of it
+QUIET = 2  # seconds that an end may take until something is said of it
 HUNG_UP = 5  # seconds that the program has where the terminal is gone, and nobody can ask for more
 LONGEST_SHOWN = 60  # letters of an order in a message
 UNSAVED = 1  # the status where the recording isn't saved

@@ -185,19 +185,24 @@ def make_strange(path, kind, outside):
             huge.truncate(HUGE)
 
 
+def kept(studio):
+    """What the folder has, but for the draft, which the program writes."""
+    return {path.name: path.read_bytes() for path in studio.folder.iterdir() if path.name != "draft.w4rec"}
+
+
 def test_a_failed_write_leaves_what_was_there():
     """A file may have no more than so many bytes, as where a disk is full."""
     watches = json.dumps([WATCH]).encode()
     with WatchedStudio() as studio:
         client = Client(studio)
         assert client.ask("watches", "POST", watches)[0] == 200
-        before = {path.name: path.read_bytes() for path in studio.folder.iterdir()}
+        before = kept(studio)
         resource.prlimit(studio.process.pid, resource.RLIMIT_FSIZE, (1000, 1000))
         status, text = client.ask("watches", "POST", json.dumps([WATCH] * 100).encode())
         assert status == 409 and str(studio.folder / "watches.json") in text.decode()
         status, text = client.ask("branches", "POST", name="big")
         assert status == 409 and studio.folder.name in text.decode()
-        assert {path.name: path.read_bytes() for path in studio.folder.iterdir()} == before
+        assert kept(studio) == before
         assert client.ask("watches", "POST", b"[]")[0] == 200
         assert studio.said() == ""
 
