@@ -88,6 +88,7 @@ class WebServer:
         self.host = ""
         self.listener = None
         self.page = None
+        self.last_page = None  # the name that the page gave itself which was connected last
         self.tasks = set()
 
     async def start(self, port):
@@ -173,8 +174,9 @@ class WebServer:
             await page.close()
             return
         self.page = page
+        last_page, self.last_page = self.last_page, request.query.get("page")
         try:
-            await self.carry(page)
+            await self.carry(page, last_page)
         finally:
             self.page = None
             await self.save_quietly()
@@ -187,13 +189,13 @@ class WebServer:
             waited += LOOK
         return not self.page
 
-    async def carry(self, page):
+    async def carry(self, page, last_page):
         """Takes the page's orders, of which a message may have several lines."""
         self.session.on_end = lambda why: self.spawn(page.send_text(f"ended {why}"))
         try:
             if self.session.ended is not None:
                 await self.session.start()
-            await page.send_text("hello " + json.dumps(self.services.greeting()))
+            await page.send_text("hello " + json.dumps({**self.services.greeting(), "last_page": last_page}))
             answers = PageAnswers(page)
             while True:
                 for line in (await page.receive()).decode("utf-8", "replace").split("\n"):
