@@ -96,7 +96,7 @@ def test_a_watch_is_asked_for_again_after_a_refusal(studio, page):
     assert page.value(f"{VALUE}.textContent") == "…"
     refuse(page)
     page.wait(f"{VALUE}.textContent === '2'")
-    assert page.value("document.querySelector('#watch-pane .refusal').hidden")
+    page.wait("document.querySelector('#watch-pane .refusal').hidden")
 
 
 def test_one_refused_watch_leaves_the_others(studio, page):
@@ -106,9 +106,9 @@ def test_one_refused_watch_leaves_the_others(studio, page):
         studio.watches.add(160, 1, "refused")""")
     watch_hops(page)
     page.go_to(121)
-    page.wait("studio.watches.list[1].values.size === 120")
-    assert page.value("document.querySelector('#watch-pane .refusal').textContent") == "watch: no frame"
-    assert page.value("studio.watches.list[0].values.size") == 1
+    page.wait("[2, 60, 121].every((place) => studio.watches.list[1].values.has(place))")
+    page.wait("document.querySelector('#watch-pane .refusal').textContent === 'watch: no frame'")
+    assert page.value("[...studio.watches.list[0].values.keys()]") == [0, 121]
 
 
 def open_panes(page):
@@ -163,8 +163,8 @@ def test_refused_facts_are_asked_for_again(studio, page):
         refuse(page, word)
         page.script("studio.session.change('', [{ kind: 'set', at: 0, input: studio.session.inputs[1] }])")
         page.wait(f"{there} && {gone} === null")
-        page.wait("document.querySelector('#units-pane > .refusal').textContent"
-                  f" === 'frames 0 to 59: {word}: no frame'")
+        text = "document.querySelector('#units-pane > .refusal').textContent"
+        page.wait(f"{text}.startsWith('frames 0 to ') && {text}.endsWith(': {word}: no frame')")
         refuse(page)
         page.wait(f"{fact}.units > 0 && {fact}.schedule")
         page.wait("document.querySelector('#units-pane > .refusal').hidden")
@@ -256,10 +256,10 @@ def test_a_failed_fetch_leaves_branches_usable(studio, page):
 
 def open_with_watches(page, address, text):
     """Opens the page where the server answers with this text for the stored watches."""
-    source = """
+    source = """{
         const fetch = window.fetch;
         window.fetch = async (name, options = {}) => (
-            name === "watches" && !options.method ? new Response(%r) : fetch(name, options))"""
+            name === "watches" && !options.method ? new Response(%r) : fetch(name, options)); }"""
     run = page.driver.execute_cdp_cmd
     added = run("Page.addScriptToEvaluateOnNewDocument", {"source": source % text})
     try:

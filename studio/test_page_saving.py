@@ -26,7 +26,7 @@ def test_it_is_saved_while_recording(studio, page):
     page.go_to(240)
     page.keys("r")
     page.wait("studio.recorder.isRecording")
-    turn_keys(page, "keydown", ["ArrowRight"])
+    pressed = turn_keys(page, "keydown", ["ArrowRight"])
     page.wait("saves.all >= 2 && saves.now === 0", patience=40)
     assert page.value("studio.recorder.isRecording")
     saved = frames_of_file(studio)
@@ -34,7 +34,8 @@ def test_it_is_saved_while_recording(studio, page):
     page.wait(f"studio.session.count >= {saved + 60}", patience=40)
     assert page.value("saves.most") == 1 and page.value("saves.all") <= 3 + page.value("studio.session.count") / 120
     page.keys("escape")
-    assert saved_frames(studio, page)[241:-1] == [frame(RIGHT)] * (page.value("studio.session.count") - 242)
+    end = page.value("studio.session.count")
+    assert saved_frames(studio, page)[240:] == [frame(0)] * (pressed - 240) + [frame(RIGHT)] * (end - pressed)
 
 
 HOLD_SAVES = """
