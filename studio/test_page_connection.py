@@ -1,4 +1,4 @@
-"""Tests of a connection that is lost: it is made anew, what wasn't answered is asked again, and no edit is lost."""
+"""Tests of a connection that is lost: it is made anew, what wasn't answered is asked again, no edit is lost."""
 import hashlib
 
 from browser import Page
@@ -11,7 +11,7 @@ FAULT = "document.getElementById('fault-text').textContent"
 ISN_T_FAULTY = "document.getElementById('fault').hidden"
 CUT = "studio.session.connection.socket.close()"
 HOLD_OFF = """
-    const { connection } = studio.session, reopen = connection.reopen.bind(connection);
+    const { connection } = studio.session, reopen = connection.reopen?.bind(connection);
     connection.reopen = (pause) => { window.comeBack = () => reopen(pause); }"""
 
 
@@ -29,12 +29,14 @@ def test_edits_without_a_connection_are_made_once_it_is_there(studio, page):
     frames = garden_frames()
     page.go_to(70)
     page.script("studio.saver.noteEdit = () => {}")
-    page.script("studio.session.connection.addEventListener('again', (event) => { window.again = event.detail; })")
+    page.script("const { connection } = studio.session;"
+                "connection.addEventListener('again', (event) => { window.again = event.detail; })")
     page.click_cell(60, "1")
     page.script(HOLD_OFF)
     lose(page)
     page.keys("i", "delete", "2")
     page.click_cell(5, "→")
+    assert page.value("document.getElementById('undo-button').disabled") is False
     page.script("comeBack()")
     wait_for_return(page)
     assert page.value("again.last_page === studio.session.connection.page && again.last_page.length >= 16")
@@ -66,8 +68,8 @@ def test_what_was_not_answered_is_asked_again_in_turn(studio, page):
         connection.askText("watch 8472 4 119 122").then((text) => answers.push(text));
         connection.askText("show 241").catch((refusal) => answers.push(refusal.message))""")
     page.wait("answers.length === 4", patience=30)
-    assert page.value("answers") == ["film", "set 3 0 0 0 0 32767 32767 0\n", "watch 8472 1 1 2 2\n",
-                                     "show: no frame"]
+    texts = ["set 3 0 0 0 0 32767 32767 0\n", "watch 8472 1 1 2 2\n", "show: no frame"]
+    assert page.value("answers") == ["film", *texts]
     images = of_frames("frames", garden_frames(), 0, 40)
     wanted = [list(hashlib.sha256(images[at:at + IMAGE]).digest()) for at in range(0, len(images), IMAGE)]
     hashes = page.driver.execute_async_script("Promise.all(pieces).then(arguments[0])")
@@ -181,6 +183,29 @@ def test_what_another_page_left_is_shown_and_the_own_copy_is_offered(studio, pag
     check_saved(studio, page, changed(frames, 60, frame(RIGHT)))
 
 
+def test_a_page_waits_while_another_one_has_the_session(studio, page):
+    page.script(HOLD_OFF)
+    lose(page)
+    page.click_cell(60, "1")
+    driver = page.driver
+    first = driver.current_window_handle
+    driver.switch_to.new_window("tab")
+    other = driver.current_window_handle
+    Page(driver).open(studio.address)
+    driver.switch_to.window(first)
+    try:
+        page.script("comeBack()")
+        page.wait(f"{FAULT}.startsWith('this session is in use by another page; close that one; ')", patience=30)
+    finally:
+        driver.switch_to.window(other)
+        driver.close()
+        driver.switch_to.window(first)
+    page.script("comeBack()")
+    wait_for_return(page)
+    page.wait(ISN_T_FAULTY)
+    assert page.value("studio.session.inputs[60].pads[0]") == garden_frames()[60][0]
+
+
 def test_a_page_whose_server_is_gone_offers_what_was_not_saved(studio, page):
     catch_download(page)
     page.script("studio.saver.saveIn = () => {}")
@@ -190,7 +215,10 @@ def test_a_page_whose_server_is_gone_offers_what_was_not_saved(studio, page):
     page.click_cell(60, "1")
     page.wait(f"{FAULT}.startsWith(\"the studio's server is gone; start it again\")", patience=30)
     assert offered_text(page) == script_of(changed(garden_frames(), 60, frame(RIGHT)))
-    assert page.value(FAULT).endswith("The inputs of this page are in the file game.inputs.txt, a link beside the buttons")
+    leaving = "const leaving = new Event('beforeunload', { cancelable: true });"
+    assert page.script(leaving + "window.dispatchEvent(leaving); return leaving.defaultPrevented")
+    told = page.value(FAULT)
+    assert told.endswith("The inputs of this page are in the file game.inputs.txt, a link beside the buttons")
 
 
 # The browser's log has a line where the server is gone.

@@ -21,7 +21,7 @@ def refuse(page, *words):
 
 
 def hold(page, *words):
-    """From now on answers of orders of these words alone are late; what came is given away by the next call."""
+    """From now on answers of orders of these words alone are held; the next call lets go what came."""
     page.script("""
         const [words] = arguments, { connection } = studio.session;
         window.ask ??= connection.ask.bind(connection);
@@ -92,8 +92,9 @@ def test_a_watch_is_asked_for_again_after_a_refusal(studio, page):
     page.wait(f"{VALUE}.textContent === '0'")
     refuse(page, "page", "watch")
     page.script("studio.selection.moveTo(121, false)")
-    page.wait("document.querySelector('#watch-pane .refusal').textContent === 'page: no frame'")
+    page.wait("studio.player.shown === 121")
     assert page.value(f"{VALUE}.textContent") == "…"
+    page.wait("document.querySelector('#watch-pane .refusal').textContent === 'page: no frame'")
     refuse(page)
     page.wait(f"{VALUE}.textContent === '2'")
     page.wait("document.querySelector('#watch-pane .refusal').hidden")
@@ -102,7 +103,8 @@ def test_a_watch_is_asked_for_again_after_a_refusal(studio, page):
 def test_one_refused_watch_leaves_the_others(studio, page):
     page.script("""
         const { connection } = studio.session, ask = connection.ask.bind(connection);
-        connection.ask = (line, options) => ask(line.startsWith("watch 160 ") ? "watch 0 1 36001 36001" : line, options);
+        const isRefused = (line) => line.startsWith("watch 160 ");
+        connection.ask = (line, options) => ask(isRefused(line) ? "watch 0 1 36001 36001" : line, options);
         studio.watches.add(160, 1, "refused")""")
     watch_hops(page)
     page.go_to(121)
@@ -148,8 +150,8 @@ def test_a_refused_order_leaves_the_other_panes(studio, page):
     for (word, tell), place in zip(tells.items(), PLACES):
         refuse(page, word)
         page.script("studio.selection.moveTo(arguments[0], false)", place)
-        page.wait(tell)
         check_panes(page, place, traces, but=word)
+        page.wait(tell)
         refuse(page)
         check_panes(page, place, traces)
 
@@ -224,7 +226,8 @@ def test_a_failed_fetch_names_what_failed_and_what_to_do(studio, page):
     rows = "select other rows, or fewer, and try again"
     silent = "the studio's server didn't answer"
     assert fault_after(page, "shift+f") == f"no film was made: {silent}; {rows}"
-    assert fault_after(page, "shift+w") == fault_after(page, "shift+h") == f"no sound was made: {silent}; {rows}"
+    for key in ("shift+w", "shift+h"):
+        assert fault_after(page, key) == f"no sound was made: {silent}; {rows}"
     assert fault_after(page, "shift+s") == f"no copy was made: {silent}; try again"
     page.script("mend()")
     fail_fetches(page, "return new Response(\"those places aren't there\", { status: 409 })")
@@ -244,7 +247,8 @@ def test_a_failed_fetch_leaves_branches_usable(studio, page):
             "document.querySelector('#branch-form button').click()")
     page.script(make)
     page.wait(f"{compared} === \"no branch was made: {silent}; try again, or under another name\"", patience=30)
-    press = "[...document.querySelectorAll('#branch-table button')].find((one) => one.textContent === '{}').click()"
+    buttons = "[...document.querySelectorAll('#branch-table button')]"
+    press = buttons + ".find((one) => one.textContent === '{}').click()"
     page.script(press.format("Compare"))
     page.wait(f"{compared} === \"nothing was compared: {silent}; try again, or choose another recording\"")
     page.script(press.format("Go to"))
@@ -275,8 +279,9 @@ def test_stored_watches_can_t_stop_the_page(studio, page):
         assert open_with_watches(page, studio.address, text) == []
         assert page.value(f"{note}.includes(\"the stored watches can't be read\")"), text
     good = '{"address": 65532, "width": 4, "name": "last"}'
-    others = ['null', '3', '{"address": 65533, "width": 4, "name": "past"}', '{"address": -1, "width": 1, "name": ""}',
-              '{"address": "160", "width": 1, "name": "text"}', '{"address": 0, "width": 3, "name": "three"}']
+    others = ['null', '3', '{"address": 65533, "width": 4, "name": "past"}',
+              '{"address": -1, "width": 1, "name": ""}', '{"address": "160", "width": 1, "name": "text"}',
+              '{"address": 0, "width": 3, "name": "three"}']
     assert open_with_watches(page, studio.address, f"[{', '.join([*others, good])}]") == [[65532, 4, "last"]]
     assert page.value(f"{note}.includes(\"6 of 7 stored watches can't be read\")")
     page.go_to(60)

@@ -32,7 +32,8 @@ def test_it_is_saved_while_recording(studio, page):
     saved = frames_of_file(studio)
     assert saved > 250
     page.wait(f"studio.session.count >= {saved + 60}", patience=40)
-    assert page.value("saves.most") == 1 and page.value("saves.all") <= 3 + page.value("studio.session.count") / 120
+    assert page.value("saves.most") == 1
+    assert page.value("saves.all") <= 3 + page.value("studio.session.count") / 120
     page.keys("escape")
     end = page.value("studio.session.count")
     assert saved_frames(studio, page)[240:] == [frame(0)] * (pressed - 240) + [frame(RIGHT)] * (end - pressed)
@@ -95,11 +96,11 @@ def test_a_bad_line_of_a_text_is_named_and_nothing_is_lost(studio, page):
     page.keys("e")
     text = f"{GOOD}\n# a comment\n1 0 0 0 300 300\n{GOOD}\n"
     set_text(page, text)
+    assert page.value("[document.getElementById('text-dialog').open, studio.session.done.length]") == [True, 0]
     assert page.value("document.getElementById('text-refusal').textContent") == (
         "nothing was changed: line 3 isn't an input: it has 6 numbers, and an input has 7")
     area = "(({ value, selectionStart: from, selectionEnd: to }) => [value, value.slice(from, to)])"
     assert page.value(f"{area}(document.getElementById('text-area'))") == [text, "1 0 0 0 300 300"]
-    assert page.value("[document.getElementById('text-dialog').open, studio.session.done.length]") == [True, 0]
     set_text(page, text.replace("300 300", "300 300 2"))
     assert not page.value("document.getElementById('text-dialog').open")
     one = frame(1, mouse=(AWAY, AWAY, 0))
@@ -129,7 +130,8 @@ def test_what_is_wrong_with_a_pasted_line_is_said(studio, page):
         "delete 7": '"delete" isn\'t a number from 0 to 255',
     }
     for line, fault in faults.items():
-        page.script("studio.rowActs.paste(arguments[0], false)", f"{GOOD}\r\n\r\ninsert 5 {GOOD} reset\r\n{line}\r\n")
+        text = f"{GOOD}\r\n\r\ninsert 5 {GOOD} reset\r\n{line}\r\n"
+        page.script("studio.rowActs.paste(arguments[0], false)", text)
         assert page.value(SPOKEN) == f"nothing was pasted: line 4 isn't an input: {fault}"
     assert page.value("studio.session.done.length") == 0
     check_saved(studio, page, garden_frames())

@@ -39,8 +39,9 @@ async function isServerThere() {
 // `isOnce`: done twice it would do something else. `isFirst`: it is asked before the connection is used
 // again. What a disk holds may read like a refusal, so an order may say that it `cannotBeRefused`.
 class Asked {
-  constructor(line, { onPiece = null, cannotBeRefused = false, isEdit = false, isOnce = false, isFirst = false }) {
-    Object.assign(this, { line, onPiece, cannotBeRefused, isEdit, isOnce, isFirst });
+  constructor(line, options) {
+    const usual = { onPiece: null, cannotBeRefused: false, isEdit: false, isOnce: false, isFirst: false };
+    Object.assign(this, usual, options, { line });
     this.pieces = [];
     this.passed = 0; // pieces that `onPiece` got, also before the connection was lost
     this.answer = new Promise((resolve, reject) => { Object.assign(this, { resolve, reject }); });
@@ -128,7 +129,8 @@ export class Connection extends EventTarget {
   send(orders) {
     if (!orders.length) return;
     this.waiting.push(...orders);
-    if (this.socket.readyState === WebSocket.OPEN) this.socket.send(orders.map(({ line }) => line).join("\n"));
+    const isThere = this.socket.readyState === WebSocket.OPEN; // else it is asked again once it is lost
+    if (isThere) this.socket.send(orders.map(({ line }) => line).join("\n"));
   }
 
   // The text of an answer that is waited for before the connection is used again.

@@ -57,7 +57,7 @@ function inputOf(words) {
   return { pads: numbers.slice(0, 4), x, y, mouse, reset: words.length > NUMBERS };
 }
 
-// Inputs of lines, each an input or an order `set K ..` or `insert K ..`. A line that is neither is a BadLine.
+// Inputs of lines, each an input or an order `set K ..` or `insert K ..`. One that is neither is a BadLine.
 export function parseInputs(text) {
   const inputs = [];
   text.split("\n").forEach((line, at) => {

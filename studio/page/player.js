@@ -47,6 +47,7 @@ export class Player extends EventTarget {
   unfollow() {
     this.isFollowing = false;
     if (this.shown !== this.place) this.picture.ask();
+    else this.tell("shown");
   }
 
   async fetchPicture() {

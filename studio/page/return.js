@@ -23,6 +23,9 @@ export class Return {
     connection.hasCopy = true;
     connection.addEventListener("again", (event) => this.meet(event.detail));
     connection.addEventListener("ended", (event) => this.leave(event.detail));
+    window.addEventListener("beforeunload", (event) => {
+      if (session.isDirty && !connection.isReady) event.preventDefault(); // the browser asks first
+    });
   }
 
   async meet({ last_page: lastPage }) {
@@ -30,10 +33,11 @@ export class Return {
     const { connection } = session;
     try {
       const inputs = await session.readInputs((line) => connection.askFirst(line));
-      if (lastPage === connection.page || areSame(inputs, session.inputs)) session.bringUp(inputs);
+      const isOwn = lastPage === connection.page || areSame(inputs, session.inputs);
+      if (isOwn) session.bringUp(inputs);
       else this.giveIn(inputs);
     } catch (refusal) {
-      if (!(refusal instanceof Refusal)) throw refusal; // a refusal: it is lost once more, and met again
+      if (!(refusal instanceof Refusal)) throw refusal; // else it is lost once more, and met again
     }
   }
 
@@ -41,8 +45,8 @@ export class Return {
     this.stop();
     this.offer();
     this.session.giveIn(inputs);
-    this.note(`${OTHERS}. What this page had is in the file ${this.fileName}, a link beside the buttons: copy `
-      + "its text and paste it over all rows to have it back");
+    this.note(`${OTHERS}. What this page had is in the file ${this.fileName}, a link beside the buttons: to `
+      + "have it back, select all rows, press E, and set that text");
   }
 
   // Nothing is answered any more, so that edits that weren't saved may be nowhere else.

@@ -129,14 +129,16 @@ export class RowActs {
     this.replace(`autofire ${column.name}`, (input, at) => withPressed(input, column, at % (on + off) < on));
   }
 
-  // The selected inputs become those of the text; more are inserted behind, fewer take the rest out. Nothing is
-  // changed where a line isn't an input (a BadLine), or more come than fit (a TooMany).
+  // The selected inputs become those of the text; more are inserted behind, fewer take the rest out. Nothing
+  // is changed where a line isn't an input (a BadLine), or more come than fit (a TooMany).
   setText(text) {
     const inputs = parseInputs(text);
     const [first, end] = this.selection.range;
     const selected = end - first;
     const room = FRAME_LIMIT - this.session.count + selected;
-    if (inputs.length > room) throw new TooMany(`${inputs.length} inputs don't fit: there is room for ${room}`);
+    if (inputs.length > room) {
+      throw new TooMany(`${inputs.length} inputs don't fit: there is room for ${room}`);
+    }
     const changes = inputs.map((input, number) => (
       { kind: number < selected ? "set" : "insert", at: first + number, input }));
     for (let number = inputs.length; number < selected; number += 1) {

@@ -20,7 +20,8 @@ export class Search {
     this.found = null;
     this.line = new RefusalLine(this.pane);
     this.valuesAt = null; // the place whose values are shown
-    this.values = new Refresher(() => this.updateValues(), { pause: 60, tell: (refusal) => this.note(refusal) });
+    const tell = (refusal) => this.note(refusal);
+    this.values = new Refresher(() => this.updateValues(), { pause: 60, tell });
     this.listen();
   }
 

@@ -214,7 +214,8 @@ export class Session extends EventTarget {
   // The page never sends an edit that is refused; should one be, its copy is made anew.
   async refused(refusal) {
     if (refusal instanceof Ended) return;
-    this.tell("fault", { text: `an edit was refused (${refusal.message}); the inputs were read again` });
+    const text = `an edit was refused (${refusal.message}); the inputs were read again`;
+    this.tell("fault", { text });
     await this.load();
   }
 

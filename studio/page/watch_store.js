@@ -1,5 +1,5 @@
-// The watches as they are stored beside the recording. What isn't a watch is left out: another version, a full
-// disk or a hand may have written the file.
+// The watches as they are stored beside the recording. What isn't a watch is left out: another version, a
+// full disk or a hand may have written the file.
 import { request } from "./services.js";
 import { Refusal } from "./refusals.js";
 
@@ -31,7 +31,8 @@ export async function storedWatches(complain) {
     }
     const watches = rows.filter(isWatch);
     const others = rows.length - watches.length;
-    if (others) complain(`${others} of ${rows.length} stored watches can't be read, and aren't shown; ${KEPT}`);
+    const some = `${others} of ${rows.length} stored watches`;
+    if (others) complain(`${some} can't be read, and aren't shown; ${KEPT}`);
     return watches;
   } catch (refusal) {
     if (!(refusal instanceof Refusal)) throw refusal;

@@ -32,7 +32,7 @@ export class Watches {
     const pause = () => (player.isFollowing ? 0 : PAUSE); // each recorded frame has its value
     this.work = new Refresher(() => this.update(), { pause, tell: (refusal) => line.show(refusal) });
     const tell = (refusal) => { if (refusal) say(refusal.message); };
-    this.storing = new Refresher(() => storeWatches(this.list), { tell }); // so that the last is what stays
+    this.storing = new Refresher(() => storeWatches(this.list), { tell }); // so that the last one stays
     this.list = list.map((watch) => ({ ...watch, values: new Map() }));
     this.rows = [];
     this.listen();
