@@ -84,6 +84,24 @@ def test_a_save_that_is_refused_is_told_and_tried_again(studio, page):
     page.wait("document.getElementById('fault').hidden")
 
 
+def test_a_refusal_that_names_a_file_is_one(studio, page):
+    why = f"/home/someone/{'recordings/' * 6}game.w4rec can't be written: No space left on device"
+    page.script("""
+        const [text] = arguments, { socket } = studio.session.connection, send = socket.send.bind(socket);
+        const receive = (data) => socket.dispatchEvent(new MessageEvent("message", { data }));
+        socket.send = (lines) => {
+            if (lines !== "save") return send(lines);
+            receive(new TextEncoder().encode(text).buffer);
+            receive("end"); }
+        studio.keeper.isPaused = studio.facts.isPaused = () => true;""", f"refused {why}\n")
+    page.wait("!studio.session.connection.waiting.length")
+    page.script("studio.session.edits += 1; studio.session.save()")
+    page.wait("!document.getElementById('fault').hidden", patience=30)
+    told = page.value("document.getElementById('fault-text').textContent")
+    assert told == f"not saved: save: {why}; it is tried again in a while"
+    assert page.value(SAVED) == "not saved yet"
+
+
 def set_text(page, text):
     page.script("""
         document.getElementById('text-area').value = arguments[0];
