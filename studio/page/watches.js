@@ -10,6 +10,7 @@ const PLOTTED = 120; // places
 const HEIGHT = 24;
 const UNKNOWN = "…";
 const PAUSE = 60; // milliseconds
+const SAMPLE = 100; // milliseconds between values while recording, which they mustn't hold up
 
 function addressName(address) {
   return `0x${hexadecimal(address, 4)}`;
@@ -29,7 +30,8 @@ export class Watches {
     this.form = document.getElementById("watch-form");
     this.body = document.querySelector("#watch-table tbody");
     const line = new RefusalLine(this.pane);
-    const pause = () => (player.isFollowing ? 0 : PAUSE); // each recorded frame has its value
+    const pause = () => (player.isFollowing ? SAMPLE : PAUSE);
+    this.sampled = 0; // the last place whose value was asked for while recording
     this.work = new Refresher(() => this.update(), { pause, tell: (refusal) => line.show(refusal) });
     const tell = (refusal) => { if (refusal) say(refusal.message); };
     this.storing = new Refresher(() => storeWatches(this.list), { tell }); // so that the last one stays
@@ -125,10 +127,16 @@ export class Watches {
     const { place } = this.player;
     for (const { watch, value } of this.rows) {
       const isKnown = watch.values.has(place);
-      const text = isKnown ? String(watch.values.get(place)) : UNKNOWN;
+      const text = isKnown ? String(watch.values.get(place)) : this.unknownText(watch);
       if (value.textContent !== text) value.textContent = text;
       value.title = isKnown ? "" : `not known yet at place ${place}`;
     }
+  }
+
+  // While recording, a number of a place before is told with that place.
+  unknownText({ values }) {
+    const isTold = this.player.isFollowing && values.has(this.sampled);
+    return isTold ? `${UNKNOWN} ${values.get(this.sampled)} at ${this.sampled}` : UNKNOWN;
   }
 
   // Each watch is asked for alone: one that is refused leaves the others theirs.
@@ -159,19 +167,26 @@ export class Watches {
   async fetch(watch, place) {
     const { player } = this;
     if (player.isPlaying) await this.fetchAhead(watch, place);
-    else if (player.isFollowing) await this.fetchFrom(watch, place, place);
+    else if (player.isFollowing) await this.fetchSample(watch, player.shown);
     else if (player.shown === place) {
       await this.fetchValue(watch, place);
       await this.fetchFrom(watch, Math.max(0, place - PLOTTED + 1), place);
     }
   }
 
-  // Up to two of the player's stretches ahead, one at a time.
+  // Up to two of the player's stretches ahead, where less than one is known.
   async fetchAhead(watch, place) {
     const { stretch } = this.player;
-    const first = firstUnknown(watch.values, place, Math.min(place + 2 * stretch, this.session.count));
-    if (first === null || first - place > stretch) return;
-    await this.fetchFrom(watch, first, Math.min(first + stretch, this.session.count));
+    const last = Math.min(place + 2 * stretch, this.session.count);
+    const first = firstUnknown(watch.values, place, last);
+    if (first !== null && first - place <= stretch) await this.fetchFrom(watch, first, last);
+  }
+
+  // Of the picture's place, which is a little behind the recorder's.
+  async fetchSample(watch, place) {
+    if (place < 0 || place > this.session.count) return;
+    await this.fetchValue(watch, place);
+    this.sampled = place;
   }
 
   // Memory as a whole serves all watches, and other panes.
