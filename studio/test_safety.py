@@ -77,7 +77,7 @@ def test_a_killed_server_loses_nothing(studio, page):
     studio.process.kill()
     studio.process.wait()
     studio.wait_for_file(recording(EDITED))
-    page.wait("!document.getElementById('fault').hidden")
+    page.wait("document.getElementById('fault').textContent.includes('gone')")
     page.script("document.getElementById('fault-button').click()")
     assert page.value("document.getElementById('fault').hidden")
 

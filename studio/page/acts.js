@@ -1,5 +1,6 @@
 // All acts of the page, each with its keys, for the dispatch of keys, the buttons and the page of keys.
-import { BUTTONS, isSame, spokenInput } from "./input.js";
+import { BUTTONS, BadLine, isSame, spokenInput } from "./input.js";
+import { TooMany } from "./row_acts.js";
 import { request, download } from "./services.js";
 
 const SECOND = 60;
@@ -14,6 +15,14 @@ function focus(name) {
   const field = document.getElementById(name);
   field.focus();
   if (field.select) field.select();
+}
+
+function selectLine(area, number) {
+  const before = area.value.split("\n").slice(0, number - 1);
+  const start = before.reduce((length, line) => length + line.length + 1, 0);
+  const end = area.value.indexOf("\n", start);
+  area.focus();
+  area.setSelectionRange(start, end < 0 ? area.value.length : end);
 }
 
 function click(name) {
@@ -213,14 +222,31 @@ export class Acts {
   editText() {
     const area = document.getElementById("text-area");
     area.value = this.rowActs.selectedText;
-    this.ask("text-dialog", () => this.rowActs.setText(area.value));
+    document.getElementById("text-refusal").textContent = "";
+    this.ask("text-dialog", () => this.setText(area));
+  }
+
+  // A text that isn't inputs stays in the dialog, with its bad line selected.
+  setText(area) {
+    try {
+      this.rowActs.setText(area.value);
+      return true;
+    } catch (fault) {
+      if (!(fault instanceof BadLine || fault instanceof TooMany)) throw fault;
+      document.getElementById("text-refusal").textContent = `nothing was changed: ${fault.message}`;
+      if (fault instanceof BadLine) selectLine(area, fault.number);
+      return false;
+    }
   }
 
   // The work is done when the form is submitted, so that the next key finds it done: that the dialog has
-  // closed is told in a later task. The handler takes the place of the last one, which a cancel left.
+  // closed is told in a later task. Where the work is false it stays open. The handler takes the place of
+  // the last one, which a cancel left.
   ask(name, work) {
     const dialog = document.getElementById(name);
-    dialog.querySelector("form").onsubmit = ({ submitter }) => { if (submitter.value === "set") work(); };
+    dialog.querySelector("form").onsubmit = (event) => {
+      if (event.submitter.value === "set" && work() === false) event.preventDefault();
+    };
     dialog.showModal();
     if (document.activeElement.select && dialog.id !== "text-dialog") document.activeElement.select();
   }
@@ -255,11 +281,10 @@ export class Acts {
     this.say(`making a ${FILES[kind]}`);
     try {
       await this.session.settled();
-      const response = await request(kind, query);
-      const type = response.headers.get("Content-Type");
-      const name = this.recordingName + ENDINGS[type];
-      await download(response, name);
-      this.say(`${name} is made${type === "image/png" ? SILENT : ""}`);
+      const blob = await request(kind, query, { read: "blob" });
+      const name = this.recordingName + ENDINGS[blob.type];
+      download(blob, name);
+      this.say(`${name} is made${blob.type === "image/png" ? SILENT : ""}`);
     } catch (refusal) {
       this.say(`no ${FILES[kind]} was made`);
       this.fault(refusal.message);
@@ -282,8 +307,7 @@ export class Acts {
     this.player.pause();
     try {
       await this.session.settled();
-      const response = await request("wave", this.stretch());
-      await this.sound.hear(await response.arrayBuffer());
+      await this.sound.hear(await request("wave", this.stretch(), { read: "arrayBuffer" }));
     } catch (refusal) {
       this.fault(refusal.message);
     }

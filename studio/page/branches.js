@@ -31,7 +31,7 @@ export class Branches {
   // Shows the branches, after what is done to them. One request goes after another, so that no list is shown
   // over a newer one.
   list(query, options) {
-    const ask = async () => this.show(await (await request("branches", query, options)).json());
+    const ask = async () => this.show(JSON.parse(await request("branches", query, options)));
     this.listed = this.listed.catch(() => {}).then(ask);
     return this.listed;
   }
@@ -73,7 +73,7 @@ export class Branches {
 
   // The recording becomes the branch, as one step that can be undone.
   async goTo(name) {
-    const inputs = parseInputs(await (await request("branch", { name })).text());
+    const inputs = parseInputs(await request("branch", { name }));
     this.player.pause();
     this.session.change(`go to branch ${name}`, changesBetween(this.session.inputs, inputs));
     this.say(`the recording is that of branch ${name}`);
@@ -94,7 +94,7 @@ export class Branches {
   async compare(title, query, body = null) {
     this.compared.textContent = "comparing";
     await this.session.settled();
-    const lines = await (await request("compare", query, { method: "POST", body })).text();
+    const lines = await request("compare", query, { method: "POST", body });
     this.compared.replaceChildren(this.table(title, lines.trim().split("\n").map((line) => line.split(" "))));
   }
 

@@ -1,12 +1,20 @@
-// The connection to `w4 serve`: orders go out as lines, and each has exactly one answer, in turn.
-
-export class Refusal extends Error {}
+// The connection to `w4 serve`: orders go out as lines, and each has exactly one answer, in turn. Where the
+// connection is lost it is made anew, and what wasn't answered is asked once more.
+import { Ended, Refusal } from "./refusals.js";
+import { delay } from "./refresher.js";
 
 const GONE = "the studio's server is gone; start it again and open the address that it prints";
+const LOST = "the connection to the studio's server is lost";
+const IN_USE = "this session is in use by another page";
 const REFUSED = "refused ";
+const SHORT = 1000; // bytes that a refusal has at most, which may name a file; images and pages have more
+const SECOND = 1000;
+const QUICK_TRIES = 5; // each a second after the one before; then slower
+const SLOWEST = 10; // seconds between tries
+const UNANSWERED_MOST = 3; // tries in a row that nobody answers, after which the server is gone
 
 function refusalOf(pieces) {
-  if (pieces.length !== 1 || pieces[0].length > 40) return null;
+  if (pieces.length !== 1 || pieces[0].length > SHORT) return null;
   const text = decode(pieces[0]);
   return text.startsWith(REFUSED) && text.endsWith("\n") ? text.slice(REFUSED.length).trim() : null;
 }
@@ -15,61 +23,181 @@ export function decode(bytes) {
   return new TextDecoder("latin1").decode(bytes);
 }
 
+// Whether the page's address is answered by its own server. One that is slow is there.
+async function isServerThere() {
+  try {
+    const { ok, status } = await fetch("icon.svg", {
+      cache: "no-store", signal: AbortSignal.timeout(SLOWEST * SECOND),
+    });
+    return ok || status >= 500;
+  } catch (error) {
+    return error.name === "TimeoutError";
+  }
+}
+
+// An order, and who waits for its answer. `isEdit`: the page's copy of the inputs has what it does.
+// `isOnce`: done twice it would do something else. `isFirst`: it is asked before the connection is used
+// again. What a disk holds may read like a refusal, so an order may say that it `cannotBeRefused`.
+class Asked {
+  constructor(line, options) {
+    const usual = { onPiece: null, cannotBeRefused: false, isEdit: false, isOnce: false, isFirst: false };
+    Object.assign(this, usual, options, { line });
+    this.pieces = [];
+    this.passed = 0; // pieces that `onPiece` got, also before the connection was lost
+    this.answer = new Promise((resolve, reject) => { Object.assign(this, { resolve, reject }); });
+  }
+
+  refuse(cause) {
+    this.reject(new Refusal(`${this.line.split(" ")[0]}: ${cause}`));
+  }
+
+  takePiece(piece) {
+    this.pieces.push(this.onPiece && piece.length > SHORT ? new Uint8Array(0) : piece);
+    if (!this.onPiece || this.pieces.length <= this.passed || refusalOf([piece]) !== null) return;
+    this.passed += 1;
+    this.onPiece(piece);
+  }
+
+  takeEnd() {
+    const cause = this.cannotBeRefused ? null : refusalOf(this.pieces);
+    if (cause === null) this.resolve(this.pieces);
+    else this.refuse(cause);
+  }
+
+  // The connection was lost before the end; whether it is to be asked anew.
+  isAskedAnew() {
+    this.pieces = [];
+    if (this.isEdit) this.resolve([]);
+    else if (this.isOnce || this.isFirst) this.refuse("the connection was lost before its answer came");
+    else return true;
+    return false;
+  }
+}
+
 export class Connection extends EventTarget {
   constructor(address) {
     super();
-    this.waiting = [];
-    this.lines = [];
+    this.page = crypto.randomUUID(); // tells the server which page comes back
+    this.address = new URL(address);
+    this.address.searchParams.set("page", this.page);
+    this.waiting = []; // orders that were sent
+    this.unsent = [];
     this.isOpen = false;
-    this.socket = new WebSocket(address);
+    this.isHeld = false; // whether orders wait until the page's copy and the program's are the same
+    this.hasGreeted = false;
+    this.hasCopy = false; // whether somebody compares copies where the connection is there again
+    this.tries = 0; // since the connection was lost
+    this.unanswered = 0; // tries in a row
+    this.open();
+  }
+
+  open() {
+    this.cause = LOST;
+    this.socket = new WebSocket(this.address);
     this.socket.binaryType = "arraybuffer";
     this.socket.addEventListener("message", (event) => this.receive(event.data));
-    this.socket.addEventListener("close", () => this.end(GONE));
+    this.socket.addEventListener("close", () => this.lose());
   }
 
   // Asks for an order's answer: a promise of its pieces. `onPiece` gets each as it comes.
-  // What a disk holds may read like a refusal, so an order may say that it can't be refused.
-  ask(line, { onPiece = null, cannotBeRefused = false } = {}) {
-    return new Promise((resolve, reject) => {
-      this.waiting.push({ line, onPiece, cannotBeRefused, pieces: [], resolve, reject });
-      this.lines.push(line);
-      if (this.lines.length === 1) queueMicrotask(() => this.flush());
-    });
+  ask(line, options = {}) {
+    const asked = new Asked(line, options);
+    if (this.reason) asked.reject(new Ended(this.reason));
+    else if (asked.isEdit && !this.isReady) asked.resolve([]); // the copies are compared later
+    else this.put(asked);
+    return asked.answer;
   }
 
   async askText(line, options) {
     return (await this.ask(line, options)).map(decode).join("");
   }
 
+  put(asked) {
+    this.unsent.push(asked);
+    if (this.unsent.length === 1) queueMicrotask(() => this.flush());
+  }
+
+  get isReady() {
+    return this.isOpen && !this.isHeld;
+  }
+
   // Orders of one moment go as one message.
   flush() {
-    const isOpen = this.isOpen && this.socket.readyState === WebSocket.OPEN;
-    if (isOpen) this.socket.send(this.lines.join("\n"));
-    this.lines = [];
+    if (this.isReady) this.send(this.unsent.splice(0));
+  }
+
+  send(orders) {
+    if (!orders.length) return;
+    this.waiting.push(...orders);
+    const isThere = this.socket.readyState === WebSocket.OPEN; // else it is asked again once it is lost
+    if (isThere) this.socket.send(orders.map(({ line }) => line).join("\n"));
+  }
+
+  // The text of an answer that is waited for before the connection is used again.
+  async askFirst(line) {
+    const asked = new Asked(line, { isFirst: true });
+    this.send([asked]);
+    return (await asked.answer).map(decode).join("");
+  }
+
+  // Copy and program are the same once these edits are made. Then what waits is asked.
+  goOn(edits, onRefusal) {
+    const made = edits.map((line) => new Asked(line, { isEdit: true }));
+    for (const { answer } of made) answer.catch(onRefusal);
+    this.isHeld = false;
+    this.unsent.unshift(...made);
+    this.flush();
+    this.dispatchEvent(new CustomEvent("found"));
   }
 
   receive(data) {
-    if (typeof data !== "string") this.takePiece(new Uint8Array(data));
-    else if (data === "end") this.takeEnd();
-    else if (data === "in use") this.end("this session is in use by another page; close that one and reload");
+    if (this.reason) return;
+    if (typeof data !== "string") this.waiting[0].takePiece(new Uint8Array(data));
+    else if (data === "end") this.waiting.shift().takeEnd();
+    else if (data === "in use") this.noteUse();
+    else if (data.startsWith("note ")) this.dispatchEvent(new CustomEvent("note", { detail: data.slice(5) }));
     else if (data.startsWith("ended ")) this.end(`the program has ended: ${data.slice(6)}. Reload to go on`);
-    else if (data.startsWith("hello ")) {
-      this.isOpen = true;
-      this.dispatchEvent(new CustomEvent("hello", { detail: JSON.parse(data.slice(6)) }));
+    else if (data.startsWith("hello ")) this.greet(JSON.parse(data.slice(6)));
+  }
+
+  noteUse() {
+    this.cause = IN_USE;
+    if (!this.hasGreeted) this.end(`${IN_USE}; close that one and reload`);
+  }
+
+  greet(greeting) {
+    const isFirst = !this.hasGreeted;
+    this.isHeld = this.hasCopy;
+    Object.assign(this, { isOpen: true, hasGreeted: true, tries: 0, unanswered: 0 });
+    if (isFirst) this.dispatchEvent(new CustomEvent("hello", { detail: greeting }));
+    else if (this.hasCopy) this.dispatchEvent(new CustomEvent("again", { detail: greeting }));
+    else this.goOn([]);
+  }
+
+  // The socket has closed.
+  lose() {
+    if (this.reason) return;
+    if (!this.hasGreeted) {
+      this.end(GONE);
+      return;
     }
+    this.isOpen = false;
+    this.tries += 1;
+    this.unsent.unshift(...this.waiting.splice(0).filter((asked) => asked.isAskedAnew()));
+    const pause = Math.min(SLOWEST, Math.max(1, this.tries - QUICK_TRIES));
+    const what = this.cause === IN_USE ? "close that one; this page tries again" : "it is made anew";
+    const when = pause === 1 ? "in a second" : `in ${pause} seconds`;
+    this.dispatchEvent(new CustomEvent("lost", { detail: `${this.cause}; ${what} ${when}` }));
+    this.reopen(pause);
   }
 
-  takePiece(piece) {
-    const asked = this.waiting[0];
-    if (asked.onPiece) asked.onPiece(piece);
-    asked.pieces.push(asked.onPiece && piece.length > 40 ? new Uint8Array(0) : piece);
-  }
-
-  takeEnd() {
-    const asked = this.waiting.shift();
-    const cause = asked.cannotBeRefused ? null : refusalOf(asked.pieces);
-    if (cause === null) asked.resolve(asked.pieces);
-    else asked.reject(new Refusal(`${asked.line.split(" ")[0]}: ${cause}`));
+  async reopen(pause) {
+    await delay(pause * SECOND);
+    const isThere = await isServerThere();
+    this.unanswered = isThere ? 0 : this.unanswered + 1;
+    if (this.unanswered === UNANSWERED_MOST) this.end(GONE);
+    else if (isThere) this.open();
+    else this.reopen(1);
   }
 
   // Nothing more will come. The first reason is the one that counts.
@@ -77,6 +205,7 @@ export class Connection extends EventTarget {
     if (this.reason) return;
     this.reason = why;
     this.isOpen = false;
+    for (const { reject } of [...this.waiting.splice(0), ...this.unsent.splice(0)]) reject(new Ended(why));
     this.dispatchEvent(new CustomEvent("ended", { detail: why }));
   }
 }

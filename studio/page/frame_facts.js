@@ -2,7 +2,9 @@
 // is asked for in stretches, for the rows that are seen, and only where kept places are known to be true,
 // so that it is cheap.
 import { Refresher } from "./refresher.js";
-import { Refusal, decode } from "./connection.js";
+import { Refusal } from "./refusals.js";
+import { RefusalLine } from "./refusal_line.js";
+import { decode } from "./connection.js";
 import { parseSchedule } from "./tones.js";
 
 const STRETCH = 60;
@@ -21,7 +23,9 @@ export class FrameFacts extends EventTarget {
     this.facts = [];
     this.knowsUnits = true;
     this.seen = [0, 0];
-    this.work = new Refresher(() => this.fetchSeen(), 20);
+    this.refused = []; // of frames that are to be asked for again
+    const line = new RefusalLine(document.getElementById("units-pane"));
+    this.work = new Refresher(() => this.fetchSeen(), { pause: 20, tell: (refusal) => line.show(refusal) });
     this.isPaused = () => false;
     session.addEventListener("edited", (event) => this.forget(event.detail.from));
     session.addEventListener("kept", () => this.work.ask());
@@ -45,6 +49,7 @@ export class FrameFacts extends EventTarget {
 
   forget(from) {
     if (this.facts.length > from) this.facts.length = from;
+    this.refused = this.refused.filter((stretch) => stretch.end <= from);
     this.work.ask();
   }
 
@@ -64,18 +69,34 @@ export class FrameFacts extends EventTarget {
   }
 
   async fetchSeen() {
-    const stretch = this.isPaused() ? null : this.missing();
-    if (!stretch) return;
-    const [from, end] = stretch;
+    if (this.isPaused()) return;
+    const stretch = this.missing();
+    if (stretch) await this.fetchStretch(stretch);
+    else if (this.refused.length) this.forgetRefused();
+  }
+
+  // What was refused leaves the rest as it is, and is asked for again once all else is there.
+  async fetchStretch([from, end]) {
     const facts = [];
     for (let frame = from; frame < end; frame += 1) facts.push({ units: null, start: null, schedule: null });
     const claim = this.session.claim(end);
-    await Promise.all([this.fetchTones(from, end, facts), this.fetchUnits(from, end, facts)]);
-    if (this.session.release(claim)) {
+    const fetches = [this.fetchTones(from, end, facts), this.fetchUnits(from, end, facts)];
+    const failed = (await Promise.allSettled(fetches)).filter(({ status }) => status === "rejected");
+    const isTrue = this.session.release(claim);
+    for (const { reason } of failed) if (!(reason instanceof Refusal)) throw reason;
+    if (isTrue) {
       facts.forEach((fact, at) => { this.facts[from + at] = fact; });
+      for (const { reason } of failed) this.refused.push({ from, end, reason });
       this.dispatchEvent(new Event("change"));
     }
-    this.work.ask();
+    this.work.goOn();
+  }
+
+  forgetRefused() {
+    const [{ from, end, reason }] = this.refused;
+    for (const { from: first, end: last } of this.refused) this.facts.fill(undefined, first, last);
+    this.refused = [];
+    throw new Refusal(`frames ${from} to ${end - 1}: ${reason.message}`);
   }
 
   async fetchTones(from, end, facts) {
@@ -98,8 +119,8 @@ export class FrameFacts extends EventTarget {
       const lines = (await this.session.connection.askText(`units ${from} ${end}`)).trim().split("\n");
       lines.forEach((line, at) => Object.assign(facts[at], unitsOf(line)));
     } catch (refusal) {
-      if (!(refusal instanceof Refusal)) throw refusal;
-      this.knowsUnits = !refusal.message.endsWith("no order");
+      if (!(refusal instanceof Refusal) || !refusal.message.endsWith("no order")) throw refusal;
+      this.knowsUnits = false;
     }
   }
 }

@@ -1,5 +1,6 @@
 // Memory as hexadecimal, with what has changed since the place before.
 import { Refresher } from "./refresher.js";
+import { RefusalLine } from "./refusal_line.js";
 import { hexadecimal, letter, parseAddress } from "./memory_page.js";
 
 const BYTES = 16; // a row
@@ -14,7 +15,8 @@ export class HexadecimalView {
     this.output = document.getElementById("hexadecimal");
     this.field = document.getElementById("hexadecimal-address");
     this.address = 0;
-    this.work = new Refresher(() => this.update(), 60);
+    this.line = new RefusalLine(this.pane);
+    this.work = new Refresher(() => this.update(), { pause: 60, tell: (refusal) => this.note(refusal) });
     this.pane.addEventListener("toggle", () => this.work.ask());
     player.addEventListener("shown", () => this.work.ask());
     this.listen();
@@ -37,6 +39,12 @@ export class HexadecimalView {
       event.stopPropagation();
       this.moveTo(this.address + MOVES[event.key] * BYTES);
     });
+  }
+
+  // What was shown before isn't the memory of this place.
+  note(refusal) {
+    if (refusal) this.output.replaceChildren();
+    this.line.show(refusal);
   }
 
   moveTo(address) {

@@ -10,6 +10,7 @@ export const BUTTONS = [
 ];
 export const FRAME_LIMIT = 36000;
 export const AWAY = 32767; // where a mouse stands that isn't used
+const LONGEST_LINE = 1024; // as the program's own; a longer one is no input, and isn't quoted whole
 
 const NO_PADS = Object.freeze([0, 0, 0, 0]);
 export const EMPTY = Object.freeze({ pads: NO_PADS, x: AWAY, y: AWAY, mouse: 0, reset: false });
@@ -19,28 +20,54 @@ export function inputText(input) {
   return input.reset ? `${numbers} reset` : numbers;
 }
 
-// The input of words as `32 0 0 0 32767 32767 0 reset`; null where they aren't one.
-export function parseInput(words) {
-  const reset = words.length === 8 && words[7] === "reset";
-  if (words.length !== 7 && !reset) return null;
-  const numbers = words.slice(0, 7).map((word) => (/^-?\d{1,5}$/.test(word) ? Number(word) : NaN));
-  const isByte = (number) => number >= 0 && number <= 255;
-  const isCoordinate = (number) => number >= -32768 && number <= 32767;
-  const [pads, [x, y], mouse] = [numbers.slice(0, 4), numbers.slice(4, 6), numbers[6]];
-  if (![...pads, mouse].every(isByte) || ![x, y].every(isCoordinate)) return null;
-  return { pads, x, y, mouse, reset };
+// A line of a text isn't an input; the message has its number and what is wrong with it.
+export class BadLine extends Error {
+  constructor(number, fault) {
+    super(`line ${number} isn't an input: ${fault}`);
+    this.number = number; // the first line is 1
+  }
 }
 
-// Inputs of lines, each an input or an order `set K ..` or `insert K ..`; null where a line is neither.
+const NUMBERS = 7; // of an input: four gamepads, the mouse's x, y and buttons
+const BYTE = { least: 0, most: 255 };
+const COORDINATE = { least: -32768, most: 32767 };
+const RANGES = [BYTE, BYTE, BYTE, BYTE, COORDINATE, COORDINATE, BYTE];
+
+// What is wrong with a word of an input; null where it is right.
+function faultOfWord(word, place) {
+  if (place === NUMBERS) return word === "reset" ? null : `"${word}" isn't the word reset`;
+  const { least, most } = RANGES[place];
+  const number = Number(word);
+  if (/^-?\d{1,5}$/.test(word) && number >= least && number <= most) return null;
+  return `"${word}" isn't a number from ${least} to ${most}`;
+}
+
+// What is wrong with words that should be as `32 0 0 0 32767 32767 0 reset`; null where they are.
+function faultOfWords(words) {
+  const checked = words.slice(0, NUMBERS + 1);
+  const faults = checked.map(faultOfWord).filter((fault) => fault !== null);
+  if (faults.length) return faults[0];
+  if (words.length < NUMBERS) return `it has ${words.length} numbers, and an input has ${NUMBERS}`;
+  return words.length > checked.length ? `"${words[checked.length]}" is a word too many` : null;
+}
+
+function inputOf(words) {
+  const numbers = words.slice(0, NUMBERS).map(Number);
+  const [x, y, mouse] = numbers.slice(4);
+  return { pads: numbers.slice(0, 4), x, y, mouse, reset: words.length > NUMBERS };
+}
+
+// Inputs of lines, each an input or an order `set K ..` or `insert K ..`. One that is neither is a BadLine.
 export function parseInputs(text) {
   const inputs = [];
-  for (const line of text.split("\n")) {
-    const words = line.split(/\s+/).filter(Boolean);
-    if (!words.length || words[0].startsWith("#")) continue;
-    const input = parseInput(/^(set|insert)$/.test(words[0]) ? words.slice(2) : words);
-    if (!input) return null;
-    inputs.push(input);
-  }
+  text.split("\n").forEach((line, at) => {
+    const words = line.slice(0, LONGEST_LINE).split(/\s+/).filter(Boolean);
+    if (!words.length || words[0].startsWith("#")) return;
+    const parts = /^(set|insert)$/.test(words[0]) ? words.slice(2) : words;
+    const fault = faultOfWords(parts);
+    if (fault !== null) throw new BadLine(at + 1, fault);
+    inputs.push(inputOf(parts));
+  });
   return inputs;
 }
 

@@ -2,6 +2,7 @@
 // nothing else is done. A place is then never far from a kept one, and the roll shows which are known to be
 // true.
 import { delay } from "./refresher.js";
+import { Ended, Refusal } from "./refusals.js";
 
 export const KEPT_EVERY = 60;
 const KEPT_MOST = 1024;
@@ -9,6 +10,7 @@ const REST = 100; // milliseconds between looks for work
 const FAR = 600; // frames from a place that is known to one that is approached by strides
 const QUICK = 50; // milliseconds of a stride that may be longer the next time
 const SLOW = 200;
+const REFUSED = 2000; // milliseconds after an order that was refused
 
 export class Keeper {
   constructor(session) {
@@ -23,8 +25,20 @@ export class Keeper {
   async run() {
     while (!this.session.connection.reason) {
       const isBusy = this.isPaused() || performance.now() - this.lastEdit < REST;
-      const didWork = !isBusy && (await this.step());
+      const didWork = !isBusy && (await this.tryStep());
       if (!didWork) await delay(REST);
+    }
+  }
+
+  // An order that is refused doesn't end the keeping.
+  async tryStep() {
+    try {
+      return await this.step();
+    } catch (refusal) {
+      if (refusal instanceof Ended) return false;
+      if (!(refusal instanceof Refusal)) reportError(refusal);
+      await delay(REFUSED);
+      return false;
     }
   }
 

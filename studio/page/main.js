@@ -12,6 +12,8 @@ import { MemoryPages } from "./memory_page.js";
 import { PlaceTexts } from "./place_texts.js";
 import { Player } from "./player.js";
 import { Recorder } from "./recorder.js";
+import { Ended } from "./refusals.js";
+import { Return } from "./return.js";
 import { Roll } from "./roll.js";
 import { RollPointer } from "./roll_pointer.js";
 import { RowActs } from "./row_acts.js";
@@ -21,7 +23,8 @@ import { Search } from "./search.js";
 import { Selection } from "./selection.js";
 import { Session } from "./session.js";
 import { Sound } from "./sound.js";
-import { Watches, storedWatches } from "./watches.js";
+import { storedWatches } from "./watch_store.js";
+import { Watches } from "./watches.js";
 
 function element(name) {
   return document.getElementById(name);
@@ -38,6 +41,19 @@ function fault(text) {
 
 function closeFault() {
   element("fault").hidden = true;
+}
+
+// What should be read and needn't be acted on: it stays until it is closed.
+function note(text) {
+  const line = document.createElement("li");
+  line.textContent = text;
+  element("note-list").append(line);
+  element("note").hidden = false;
+}
+
+function closeNote() {
+  element("note-list").replaceChildren();
+  element("note").hidden = true;
 }
 
 const TWICE = 200; // milliseconds; Chromium makes two events of one Ctrl+Shift+V
@@ -98,11 +114,13 @@ async function joinParts(session, greeting) {
   const roll = new Roll({ session, player, selection, facts });
   const rowActs = new RowActs({ session, player, selection, roll, say });
   const pages = new MemoryPages(session);
-  const watches = new Watches({ session, player, pages, list: await storedWatches(), say });
+  const watches = new Watches({ session, player, pages, list: await storedWatches(note), say });
   const parts = {
     session, player, selection, roll, rowActs, recorder, controllers, sound, keeper, facts, pages, watches,
-    say, fault, closeFault, recordingName: greeting.recording.split("/").pop().replace(/\.w4rec$/, ""),
+    say, note, fault, closeFault,
+    recordingName: greeting.recording.split("/").pop().replace(/\.w4rec$/, ""),
   };
+  new Return(parts);
   new RollPointer(roll);
   new Search(parts);
   new HexadecimalView(parts);
@@ -127,6 +145,7 @@ async function begin(connection, greeting) {
   const session = new Session(connection);
   session.addEventListener("fault", (event) => fault(event.detail.text));
   session.addEventListener("saved", closeFault);
+  listenToConnection(connection);
   await session.load();
   const parts = await joinParts(session, greeting);
   window.studio = parts; // for who looks in from the browser's console, and for tests
@@ -138,8 +157,14 @@ async function begin(connection, greeting) {
   if (!session.count) say("there are no frames yet: press R (Record), and play with the arrows, X and Z");
 }
 
+function listenToConnection(connection) {
+  connection.addEventListener("lost", (event) => fault(event.detail));
+  connection.addEventListener("found", closeFault);
+}
+
 function connect() {
   element("fault-button").addEventListener("click", closeFault);
+  element("note-button").addEventListener("click", closeNote);
   const address = new URL("session", location.href);
   address.protocol = "ws:";
   const connection = new Connection(address);
@@ -147,7 +172,11 @@ function connect() {
     begin(connection, event.detail).catch((error) => fault(error.message));
   });
   connection.addEventListener("ended", (event) => fault(event.detail));
-  window.addEventListener("unhandledrejection", (event) => fault(event.reason.message));
+  connection.addEventListener("note", (event) => note(event.detail));
+  window.addEventListener("unhandledrejection", (event) => {
+    if (event.reason instanceof Ended) event.preventDefault(); // that is told already
+    else fault(event.reason.message);
+  });
 }
 
 connect();

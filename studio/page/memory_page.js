@@ -13,12 +13,14 @@ export class MemoryPages {
     for (const kept of [...this.pages.keys()]) if (kept > place) this.pages.delete(kept);
   }
 
-  // A promise is what is kept, so that who asks at once asks once.
+  // A promise is what is kept, so that who asks at once asks once. One that was refused is asked for anew.
   at(place) {
     if (!this.pages.has(place)) {
       const [oldest] = this.pages.keys();
       if (this.pages.size >= KEPT_PAGES) this.pages.delete(oldest);
-      this.pages.set(place, this.session.askAt(`page ${place}`, place).then(([page]) => page));
+      const page = this.session.askAt(`page ${place}`, place).then(([bytes]) => bytes);
+      this.pages.set(place, page);
+      page.catch(() => { if (this.pages.get(place) === page) this.pages.delete(place); });
     }
     return this.pages.get(place);
   }

@@ -1,5 +1,6 @@
 // What else is known of the place shown: its state, traces, disk and units.
 import { Refresher } from "./refresher.js";
+import { RefusalLine } from "./refusal_line.js";
 import { hexadecimal, letter } from "./memory_page.js";
 
 const BYTES = 16; // of the disk in a row
@@ -19,58 +20,63 @@ function diskText(bytes) {
 export class PlaceTexts {
   constructor({ session, player, facts, selection }) {
     Object.assign(this, { session, player, facts, selection });
-    this.panes = { traces: this.pane("traces"), disk: this.pane("disk"), units: this.pane("units") };
     this.stateLine = document.getElementById("state-line");
-    this.work = new Refresher(() => this.update(), 100);
-    player.addEventListener("shown", () => this.work.ask());
+    this.showState();
+    this.showInPane("traces", (place) => this.tracesText(place));
+    this.showInPane("disk", (place) => this.diskText(place));
+    this.showInPane("units", (place) => this.unitsText(place));
     facts.addEventListener("change", () => this.updateHeavy());
     this.updateHeavy(); // some may be known already
   }
 
-  pane(name) {
+  // Each text has its own work, so that one that is refused leaves the others theirs.
+  follow(update, tell) {
+    const work = new Refresher(async () => {
+      const place = this.player.shown;
+      if (place >= 0 && place <= this.session.count) await update(place);
+    }, { pause: 100, tell });
+    this.player.addEventListener("shown", () => work.ask());
+    return work;
+  }
+
+  showState() {
+    const { session, stateLine } = this;
+    this.follow(async (place) => {
+      const text = await session.state(place);
+      stateLine.textContent = text.slice(0, text.lastIndexOf(" kept"));
+      stateLine.classList.toggle("heavy", !text.includes("halt running"));
+    }, (refusal) => { if (refusal) stateLine.textContent = refusal.message; });
+  }
+
+  // In a pane that is open. What it showed before isn't the text of a place that is refused.
+  showInPane(name, textOf) {
     const pane = document.getElementById(`${name}-pane`);
-    pane.addEventListener("toggle", () => this.work.ask());
-    return { pane, output: document.getElementById(name) };
+    const output = document.getElementById(name);
+    const line = new RefusalLine(pane);
+    const work = this.follow(async (place) => {
+      if (pane.open) output.textContent = await textOf(place);
+    }, (refusal) => {
+      if (refusal) output.textContent = "";
+      line.show(refusal);
+    });
+    pane.addEventListener("toggle", () => work.ask());
   }
 
-  async update() {
-    const place = this.player.shown;
-    if (place < 0 || place > this.session.count) return;
-    const updates = [this.updateState, this.updateTraces, this.updateDisk, this.updateUnits];
-    await Promise.all(updates.map((update) => update.call(this, place)));
-  }
-
-  async updateState(place) {
-    const text = await this.session.state(place);
-    this.stateLine.textContent = text.slice(0, text.lastIndexOf(" kept"));
-    this.stateLine.classList.toggle("heavy", !text.includes("halt running"));
-  }
-
-  async updateTraces(place) {
-    const { pane, output } = this.panes.traces;
-    if (!pane.open) return;
+  async tracesText(place) {
     const text = await this.session.connection.askText(`traces ${place} ${place}`);
     const lines = text.split("\n").slice(1).filter(Boolean).map((line) => line.replace(/^trace /, ""));
-    output.textContent = lines.join("\n") || `nothing was traced in the frame that led to place ${place}`;
+    return lines.join("\n") || `nothing was traced in the frame that led to place ${place}`;
   }
 
-  async updateDisk(place) {
-    const { pane, output } = this.panes.disk;
-    if (!pane.open) return;
+  async diskText(place) {
     const pieces = await this.session.askAt(`disk ${place}`, place, { cannotBeRefused: true });
-    output.textContent = diskText(pieces[0] || new Uint8Array(0));
-  }
-
-  async updateUnits(place) {
-    const { pane, output } = this.panes.units;
-    if (!pane.open) return;
-    if (place === 0) output.textContent = "no frame has led to place 0";
-    else if (!this.facts.knowsUnits) output.textContent = "this w4 doesn't know the order units";
-    else output.textContent = await this.unitsText(place);
+    return diskText(pieces[0] || new Uint8Array(0));
   }
 
   // Of the frame that led to the place; the roll may know it already.
   async unitsText(place) {
+    if (place === 0) return "no frame has led to place 0";
+    if (!this.facts.knowsUnits) return "this w4 doesn't know the order units";
     const frame = place - 1;
     const { units, start } = this.facts.of(frame) || (await this.facts.fetchOne(frame));
     const { budget } = this.facts;

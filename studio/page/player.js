@@ -19,7 +19,7 @@ export class Player extends EventTarget {
     this.isPlaying = false;
     this.isFollowing = false; // whether the recorder leads
     this.film = null;
-    this.picture = new Refresher(() => this.fetchPicture());
+    this.picture = new Refresher(() => this.fetchPicture(), { tell: (refusal) => this.notePicture(refusal) });
     session.addEventListener("edited", (event) => this.noteEdit(event.detail.from));
     sound.addEventListener("change", () => { if (this.isPlaying) this.restartFilm(); });
   }
@@ -47,6 +47,7 @@ export class Player extends EventTarget {
   unfollow() {
     this.isFollowing = false;
     if (this.shown !== this.place) this.picture.ask();
+    else this.tell("shown");
   }
 
   async fetchPicture() {
@@ -57,6 +58,11 @@ export class Player extends EventTarget {
     const [image] = await this.session.askAt(`show ${place}`, place);
     if (this.isPlaying) return;
     this.showImage(place, image);
+  }
+
+  notePicture(refusal) {
+    const text = refusal && `there is no picture of place ${this.place}: ${refusal.message}`;
+    if (refusal) this.session.tell("fault", { text });
   }
 
   showImage(place, image) {
@@ -104,13 +110,26 @@ export class Player extends EventTarget {
     if (this.isPlaying) this.restartFilm();
   }
 
+  get stretch() {
+    return this.speed > 4 ? FAST_STRETCH : STRETCH * Math.max(1, this.speed);
+  }
+
   restartFilm() {
     if (this.film) this.film.stop();
-    const withSound = this.speed === 1 && this.sound.isOn;
-    const stretch = this.speed > 4 ? FAST_STRETCH : STRETCH * Math.max(1, this.speed);
-    this.sound.begin(this.place + 1);
-    this.film = new Film(this.session, this.keeper, this.place, stretch, withSound ? this.sound : null);
+    const sound = this.speed === 1 && this.sound.isOn ? this.sound : null;
+    const { session, keeper, place, stretch } = this;
+    this.sound.begin(place + 1);
+    const film = new Film({ session, keeper, place, stretch, sound });
+    film.onRefusal = (refusal) => { if (film === this.film) this.noteFilm(refusal); };
+    this.film = film;
     this.clock = null;
+  }
+
+  // Without images it can't play on.
+  noteFilm(refusal) {
+    this.pause();
+    const text = `playing stopped at place ${this.place}: ${refusal.message}; play again to try again`;
+    this.session.tell("fault", { text });
   }
 
   // The clock stands still while nothing has come yet.

@@ -1,6 +1,7 @@
 // Records live from the place shown, at 60 frames a second: over the inputs that are there, or inserting.
 import { EMPTY, FRAME_LIMIT } from "./input.js";
 import { KEPT_EVERY } from "./keeper.js";
+import { Refusal } from "./refusals.js";
 import { parseSchedule } from "./tones.js";
 
 const FRAME = 1000 / 60;
@@ -81,14 +82,22 @@ export class Recorder extends EventTarget {
   async fetchPlace(place) {
     this.pictures += 1;
     if (this.sound.isOn) this.fetchSound(place);
-    const [image] = await this.session.askAt(`show ${place}`, place);
-    this.pictures -= 1;
-    this.player.showImage(place, image);
+    try {
+      const [image] = await this.session.askAt(`show ${place}`, place);
+      this.player.showImage(place, image);
+    } catch (refusal) {
+      if (!(refusal instanceof Refusal)) throw refusal;
+      this.session.tell("fault", { text: `there is no picture of place ${place}: ${refusal.message}` });
+    } finally {
+      this.pictures -= 1;
+    }
     if (this.isRecording && place % ROLLING === 0) this.keep(place);
   }
 
+  // A frame whose sound is refused is silent.
   async fetchSound(place) {
-    this.sound.add(parseSchedule(await this.session.connection.askText(`tones ${place} ${place}`)));
+    const text = await this.session.connection.askText(`tones ${place} ${place}`).catch(() => null);
+    if (text !== null) this.sound.add(parseSchedule(text));
   }
 
   keep(place) {

@@ -1,6 +1,8 @@
 // What is done to the rows that are selected: by keys, buttons and the clipboard.
 import { canBePressed, isPressed, withPressed } from "./cells.js";
-import { EMPTY, FRAME_LIMIT, inputText, parseInputs, withButton, hasButton } from "./input.js";
+import { BadLine, EMPTY, FRAME_LIMIT, inputText, parseInputs, withButton, hasButton } from "./input.js";
+
+export class TooMany extends Error {}
 
 function frames(count) {
   return count === 1 ? "a frame" : `${count} frames`;
@@ -90,24 +92,34 @@ export class RowActs {
   }
 
   paste(text, isOver) {
-    const inputs = parseInputs(text);
-    if (!inputs || !inputs.length) {
-      this.say("the clipboard has no inputs");
-      return;
-    }
+    const inputs = this.inputsOfClipboard(text);
+    if (!inputs) return;
     const [first] = this.selection.range;
     const label = `paste ${frames(inputs.length)}`;
     if (isOver) this.setFrom(first, inputs, label);
     else this.insertAt(first, inputs, label);
   }
 
+  // Null, and told, where there is none, or a line isn't one: then nothing is pasted.
+  inputsOfClipboard(text) {
+    try {
+      const inputs = parseInputs(text);
+      if (inputs.length) return inputs;
+      this.say("the clipboard has no inputs");
+    } catch (fault) {
+      if (!(fault instanceof BadLine)) throw fault;
+      this.say(`nothing was pasted: ${fault.message}`);
+    }
+    return null;
+  }
+
   // Over the rest, and on behind its end.
   setFrom(first, inputs, label) {
     const there = this.session.count - first;
-    const changes = inputs.slice(0, FRAME_LIMIT - first).map((input, number) => (
-      { kind: number < there ? "set" : "insert", at: first + number, input }));
-    this.session.change(label, changes);
-    this.say(label);
+    const fitting = inputs.slice(0, FRAME_LIMIT - first);
+    this.session.change(label, fitting.map((input, number) => (
+      { kind: number < there ? "set" : "insert", at: first + number, input })));
+    this.say(fitting.length < inputs.length ? `a recording has at most ${FRAME_LIMIT} frames` : label);
   }
 
   // ---- patterns and text
@@ -117,15 +129,16 @@ export class RowActs {
     this.replace(`autofire ${column.name}`, (input, at) => withPressed(input, column, at % (on + off) < on));
   }
 
-  // The selected inputs become those of the text; more are inserted behind, fewer take the rest out.
+  // The selected inputs become those of the text; more are inserted behind, fewer take the rest out. Nothing
+  // is changed where a line isn't an input (a BadLine), or more come than fit (a TooMany).
   setText(text) {
     const inputs = parseInputs(text);
-    if (!inputs) {
-      this.say("a line of the text isn't an input; nothing was changed");
-      return;
-    }
     const [first, end] = this.selection.range;
     const selected = end - first;
+    const room = FRAME_LIMIT - this.session.count + selected;
+    if (inputs.length > room) {
+      throw new TooMany(`${inputs.length} inputs don't fit: there is room for ${room}`);
+    }
     const changes = inputs.map((input, number) => (
       { kind: number < selected ? "set" : "insert", at: first + number, input }));
     for (let number = inputs.length; number < selected; number += 1) {

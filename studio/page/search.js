@@ -1,9 +1,12 @@
 // The search of memory: it begins with all addresses, and keeps those whose values changed as is said.
 import { Refresher } from "./refresher.js";
+import { Ended, Refusal } from "./refusals.js";
+import { RefusalLine } from "./refusal_line.js";
 import { valueAt } from "./memory_page.js";
 
 const SHOWN = 200; // rows of the list
 const SCREEN = [160, 6560]; // the picture's bytes, which change with all that moves
+const UNKNOWN = "…";
 
 export class Search {
   constructor({ session, player, pages, watches, say }) {
@@ -15,20 +18,25 @@ export class Search {
     this.value = document.getElementById("is-value");
     this.withScreen = document.getElementById("search-screen");
     this.found = null;
-    this.values = new Refresher(() => this.updateValues(), 60);
+    this.line = new RefusalLine(this.pane);
+    this.valuesAt = null; // the place whose values are shown
+    const tell = (refusal) => this.note(refusal);
+    this.values = new Refresher(() => this.updateValues(), { pause: 60, tell });
     this.listen();
   }
 
   listen() {
     for (const button of this.pane.querySelectorAll("[data-search]")) {
-      button.addEventListener("click", () => this.narrow(button.dataset.search));
+      button.addEventListener("click", () => this.tryToNarrow(button.dataset.search));
     }
     document.getElementById("is-form").addEventListener("submit", (event) => {
       event.preventDefault();
-      this.narrow("is");
+      this.tryToNarrow("is");
     });
     this.withScreen.addEventListener("change", () => { if (this.all) this.show(); });
+    this.player.addEventListener("place", () => this.hideOldValues());
     this.player.addEventListener("shown", () => this.values.ask());
+    this.session.addEventListener("edited", ({ detail }) => this.noteEdit(detail.from));
     this.pane.addEventListener("toggle", () => this.values.ask());
   }
 
@@ -38,18 +46,30 @@ export class Search {
     return kind === "is" ? `is ${place} ${Number(this.value.value)}` : `${kind} ${place}`;
   }
 
+  async tryToNarrow(kind) {
+    try {
+      await this.narrow(kind);
+    } catch (refusal) {
+      if (refusal instanceof Ended) return;
+      if (!(refusal instanceof Refusal)) throw refusal;
+      this.text.textContent = `the search didn't go on (${refusal.message}); start it again`;
+    }
+  }
+
   async narrow(kind) {
     if (kind === "is" && !/^\d{1,10}$/.test(this.value.value.trim())) {
       this.say("a value is a number in decimal");
       return;
     }
-    if (kind === "start") this.searchedWidth = Number(this.width.value);
-    else if (this.found === null) {
+    if (kind !== "start" && this.found === null) {
       this.say("start a search first");
       return;
     }
     const { place } = this.player;
-    await this.session.askAt(this.orderOf(kind), place);
+    const width = Number(this.width.value);
+    // Asked twice it would compare a place with itself.
+    await this.session.askAt(this.orderOf(kind), place, { isOnce: kind !== "start" });
+    if (kind === "start") this.searchedWidth = width;
     await this.list(kind, place);
   }
 
@@ -77,6 +97,7 @@ export class Search {
   buildRows() {
     this.cells = this.found.slice(0, SHOWN).map((address) => ({ address, value: null }));
     this.body.replaceChildren(...this.cells.map((cell) => this.buildRow(cell)));
+    this.valuesAt = null;
     this.values.ask();
   }
 
@@ -85,6 +106,7 @@ export class Search {
     row.insertCell().textContent = cell.address;
     cell.value = row.insertCell();
     cell.value.className = "number";
+    cell.value.textContent = UNKNOWN;
     const button = document.createElement("button");
     button.textContent = "Watch";
     button.setAttribute("aria-label", `Watch address ${cell.address}`);
@@ -100,5 +122,28 @@ export class Search {
     for (const { address, value } of this.cells) {
       value.textContent = valueAt(page, address, this.searchedWidth);
     }
+    this.valuesAt = place;
+    this.hideOldValues();
+  }
+
+  // While playing and recording they are those of a moment ago.
+  hideOldValues() {
+    const { isPlaying, isFollowing, place } = this.player;
+    if (!isPlaying && !isFollowing && this.valuesAt !== place) this.hideValues();
+  }
+
+  hideValues() {
+    if (this.valuesAt === null) return;
+    this.valuesAt = null;
+    for (const { value } of this.cells) value.textContent = UNKNOWN;
+  }
+
+  noteEdit(from) {
+    if (this.valuesAt > from) this.hideValues();
+  }
+
+  note(refusal) {
+    if (refusal) this.hideValues();
+    this.line.show(refusal);
   }
 }

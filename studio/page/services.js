@@ -1,18 +1,41 @@
-// What the server makes beside the session's orders. A refusal's text says why.
+// What the server makes beside the session's orders. A refusal says what wasn't made, why, and what to do.
+import { Refusal } from "./refusals.js";
 
-export async function request(name, query = {}, options = {}) {
+const UNANSWERED = "the studio's server didn't answer";
+const FAILED = {
+  "GET film": ["no film was made", "select other rows, or fewer, and try again"],
+  "GET wave": ["no sound was made", "select other rows, or fewer, and try again"],
+  "GET recording": ["no copy was made", "try again"],
+  "POST compare": ["nothing was compared", "try again, or choose another recording"],
+  "GET branches": ["the branches weren't read", "close and open this pane to try again"],
+  "POST branches": ["no branch was made", "try again, or under another name"],
+  "DELETE branches": ["the branch wasn't removed", "close and open this pane to see which there are"],
+  "GET branch": ["the branch wasn't read", "close and open this pane to see which there are"],
+  "GET watches": ["the stored watches weren't read", "reload to try again"],
+  "POST watches": ["the watches weren't stored", "change one to try again"],
+};
+
+// The answer's body, read as text, a blob or an array buffer.
+export async function request(name, query = {}, { read = "text", ...options } = {}) {
   const words = new URLSearchParams(query).toString();
-  const response = await fetch(words ? `${name}?${words}` : name, options);
-  if (!response.ok) throw new Error((await response.text()) || `the server answered ${response.status}`);
-  return response;
+  const [what, remedy] = FAILED[`${options.method || "GET"} ${name}`];
+  let why = UNANSWERED;
+  try {
+    const response = await fetch(words ? `${name}?${words}` : name, options);
+    if (response.ok) return await response[read]();
+    why = (await response.text()) || `the studio's server answered ${response.status}`;
+  } catch (fault) {
+    if (!(fault instanceof TypeError)) throw fault;
+  }
+  throw new Refusal(`${what}: ${why}; ${remedy}`);
 }
 
 // Gives the user bytes as a file. The link stays, for where the browser holds a download back, as it does
 // with one that comes long after the key.
-export async function download(response, name) {
+export function download(blob, name) {
   const link = document.getElementById("made");
   if (link.href) URL.revokeObjectURL(link.href);
-  link.href = URL.createObjectURL(await response.blob());
+  link.href = URL.createObjectURL(blob);
   link.download = name;
   link.textContent = name;
   link.hidden = false;

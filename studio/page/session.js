@@ -3,6 +3,8 @@
 // recording stay the same.
 import { decode } from "./connection.js";
 import { inputText, isSame, parseInputs } from "./input.js";
+import { Refresher } from "./refresher.js";
+import { Ended } from "./refusals.js";
 
 function orderOf(change) {
   const { kind, at, input } = change;
@@ -40,20 +42,57 @@ export class Session extends EventTarget {
     this.done = [];
     this.undone = [];
     this.group = null;
-    this.isDirty = false;
+    this.edits = 0; // how many were made, and how many of these what was saved has
+    this.savedEdits = 0;
+    this.saving = new Refresher(() => this.saveOnce()); // one after another
   }
 
   get count() {
     return this.inputs.length;
   }
 
+  get isDirty() {
+    return this.edits !== this.savedEdits;
+  }
+
   async load() {
-    const state = await this.connection.askText("state 0");
+    this.replaceInputs(await this.readInputs((line) => this.connection.askText(line)));
+  }
+
+  // The inputs that the program has.
+  async readInputs(ask) {
+    const state = await ask("state 0");
     this.noteState(state);
-    const count = Number(state.split(" ")[3]);
-    this.inputs = parseInputs(await this.connection.askText(`inputs 0 ${count}`));
-    this.trusted = 0;
+    return parseInputs(await ask(`inputs 0 ${state.split(" ")[3]}`));
+  }
+
+  // The copy is made anew; the history was one of the inputs before.
+  replaceInputs(inputs) {
+    Object.assign(this, { inputs, done: [], undone: [], group: null });
+    this.doubtAbove(0);
+    this.tell("history", {});
     this.tell("edited", { from: 0 });
+  }
+
+  // ---- the connection was lost, and is there again
+
+  // The copy is what counts: the program's inputs become it.
+  bringUp(inputs) {
+    const changes = changesBetween(inputs, this.inputs);
+    if (changes.length) {
+      this.edits += 1;
+      this.doubtAbove(changes[0].at);
+      this.tell("kept", {});
+      this.tell("unsaved", {});
+    }
+    this.connection.goOn(changes.map(orderOf), (refusal) => this.refused(refusal));
+  }
+
+  // What the program has is what counts.
+  giveIn(inputs) {
+    this.savedEdits = this.edits;
+    this.replaceInputs(inputs);
+    this.connection.goOn([]);
   }
 
   tell(name, detail) {
@@ -153,14 +192,14 @@ export class Session extends EventTarget {
   apply(changes) {
     const inverses = changes.map((change) => this.applyOne(change));
     const from = Math.min(...changes.map((change) => change.at));
-    this.isDirty = true;
+    this.edits += 1;
     this.tell("edited", { from });
     return inverses;
   }
 
   applyOne(change) {
     const { kind, at, input } = change;
-    this.connection.ask(orderOf(change)).catch((refusal) => this.refused(refusal));
+    this.connection.ask(orderOf(change), { isEdit: true }).catch((refusal) => this.refused(refusal));
     this.doubtAbove(at);
     if (kind === "insert") {
       this.inputs.splice(at, 0, input);
@@ -174,9 +213,9 @@ export class Session extends EventTarget {
 
   // The page never sends an edit that is refused; should one be, its copy is made anew.
   async refused(refusal) {
-    this.tell("fault", { text: `an edit was refused (${refusal.message}); the inputs were read again` });
-    this.done = [];
-    this.undone = [];
+    if (refusal instanceof Ended) return;
+    const text = `an edit was refused (${refusal.message}); the inputs were read again`;
+    this.tell("fault", { text });
     await this.load();
   }
 
@@ -207,14 +246,23 @@ export class Session extends EventTarget {
     if (!this.connection.reason) await this.connection.ask("");
   }
 
-  async save() {
-    this.isDirty = false;
+  // Saves; where that is being done already, once more behind it.
+  save() {
+    this.saving.ask();
+  }
+
+  // What is edited after the order isn't saved by it.
+  async saveOnce() {
+    const { edits } = this;
     try {
       await this.connection.ask("save");
-      this.tell("saved", {});
     } catch (refusal) {
-      this.isDirty = true;
-      this.tell("fault", { text: `not saved: ${refusal.message}` });
+      if (refusal instanceof Ended) throw refusal;
+      this.tell("unsaved", { isRefused: true });
+      this.tell("fault", { text: `not saved: ${refusal.message}; it is tried again in a while` });
+      return;
     }
+    this.savedEdits = edits;
+    this.tell("saved", {});
   }
 }
