@@ -10,8 +10,6 @@ import stat
 
 from refusal import Refusal
 
-OWN_NAMES = ("lock", "base.w4rec", "draft.w4rec", "journal")  # of files that aren't the user's
-
 
 def arguments_of(process):
     """The command line of a process, as bytes."""
@@ -49,6 +47,16 @@ def is_server(arguments):
     return b"serve" not in arguments and not any(word.endswith(b"guard.py") for word in arguments)
 
 
+def remove_remains(files):
+    """Removes what a killed studio has left of files that it was about to replace. Only who holds the lock may."""
+    names = "|".join(map(re.escape, ("journal", "watches.json", files.recording.name)))
+    remains = re.compile(rf"\.({names}|.+\.w4rec)\.[a-z0-9_]{{8}}|draft\.w4rec\.new[0-9]{{1,4}}")
+    for path in list(files.folder.iterdir()):
+        if remains.fullmatch(path.name):
+            with contextlib.suppress(OSError):
+                path.unlink()
+
+
 class FolderLock:
     """The folder of a recording, once it is this studio's own."""
 
@@ -73,7 +81,7 @@ class FolderLock:
                 self.number = number
             else:  # the studio that had it has just ended, and removed its folder
                 os.close(number)
-        self.remove_remains()
+        remove_remains(self.files)
 
     def make_folder(self):
         """Whoever may read the recording may read what is in the folder."""
@@ -123,15 +131,6 @@ class FolderLock:
         ids = " ".join(str(process) for process, _ in found)
         return (f"a studio that was killed had {self.files.recording} open, and its edits are being saved by process "
                 f"{ids}: try again in some seconds. 'kill -9 {ids}' ends that at once, and the next start saves them")
-
-    def remove_remains(self):
-        """Removes what a killed studio has left of files that it was about to replace."""
-        names = "|".join(map(re.escape, (*OWN_NAMES, self.files.recording.name, "watches.json")))
-        remains = re.compile(rf"\.({names})\.[a-z0-9_]{{8}}|draft\.w4rec\.new[0-9]{{1,4}}")
-        for path in list(self.folder.iterdir()):
-            if remains.fullmatch(path.name):
-                with contextlib.suppress(OSError):
-                    path.unlink()
 
     def release(self):
         """Lets others in. A folder that was made and has nothing but the lock goes."""

@@ -18,6 +18,7 @@ import time
 import journal
 import messages
 import programs
+from folder_lock import remove_remains
 from recording_files import RecordingFiles
 from refusal import Refusal
 from saving import Saving
@@ -104,6 +105,8 @@ def save(files):
                      f"{files.recording} tries again")
         return
     journal.Journal(files).remove()
+    with contextlib.suppress(OSError):
+        remove_remains(files)
     if note:
         messages.say(f"{files.recording}: {note}")
 

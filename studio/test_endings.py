@@ -68,13 +68,29 @@ def test_a_killed_server_leaves_no_orphan_and_no_edit_unsaved():
 
 
 def test_a_killed_server_of_an_idle_program_leaves_no_edit_unsaved(studio):
-    assert PlainPage(studio.address).ask(EDIT) == b""
+    page = PlainPage(studio.address)
+    assert page.ask(EDIT) == b""
     ids = studio.program_and_guard()
     studio.process.kill()
     studio.process.wait()
     wait_until(lambda: not any(map(is_there, ids)), "they end by themselves", SOON)
     assert studio.recording.read_bytes() == recording(EDITED)
     assert sorted(path.name[:7] for path in studio.folder.iterdir()) == ["lock", "opened "]
+
+
+def test_a_server_that_is_killed_while_it_saves_leaves_no_edit_unsaved():
+    for delay in (0, 0.002, 0.005, 0.01, 0.02, 0.04):
+        with Studio() as studio:
+            page = PlainPage(studio.address)
+            assert page.ask(EDIT) == b""
+            ids = studio.program_and_guard()
+            page.give("save")
+            time.sleep(delay)
+            studio.process.kill()
+            studio.process.wait()
+            wait_until(lambda ids=ids: not any(map(is_there, ids)), "they end by themselves", SOON)
+            assert studio.recording.read_bytes() == recording(EDITED), delay
+            assert sorted(path.name[:7] for path in studio.folder.iterdir()) == ["lock", "opened "], delay
 
 
 def test_where_all_are_killed_the_next_start_saves():

@@ -60,7 +60,7 @@ def test_one_recording_under_two_names_is_one(studio):
     link.symlink_to(studio.recording.name)
     around = studio.recording.parent / "inner" / ".." / studio.recording.name
     (studio.recording.parent / "inner").mkdir()
-    for name in (studio.recording, link, around):
+    for name in (link, around, studio.recording):
         line = refusal_of(studio.cart, name)
         process = studio.process.pid
         assert line == (f"studio: another studio has {studio.recording.resolve()} open, process {process}: end it by "
@@ -321,8 +321,8 @@ def test_a_journal_without_its_base_is_not_lost():
 
 def waits_for_ever(room):
     """A program in the place of w4 that never answers."""
-    path = pathlib.Path(room, "waits")
-    path.write_text("#!/bin/sh\nexec sleep 1000\n", encoding="utf-8")
+    path, begun_file = pathlib.Path(room, "waits"), pathlib.Path(room, "begun")
+    path.write_text(f"#!/bin/sh\n: >'{begun_file}'\nexec sleep 1000\n", encoding="utf-8")
     path.chmod(0o755)
     return path
 
@@ -335,11 +335,11 @@ def test_a_signal_during_the_start_gives_a_line():
             process = subprocess.Popen([STUDIO / "run", "--no-browser", GARDEN / "cart.wasm", path],
                                        env=dict(os.environ, W4=str(waits_for_ever(room))), stdout=subprocess.PIPE,
                                        stderr=subprocess.PIPE, text=True)
-            wait_until((pathlib.Path(room, "game.w4rec.studio") / "draft.w4rec").exists, "it begins")
+            wait_until(pathlib.Path(room, "begun").exists, "it begins")
             process.send_signal(number)
             written, said = process.communicate(timeout=SOON)
             assert (process.returncode, written, said) == (1, "", "studio: ended before it began\n")
-            assert sorted(os.listdir(room)) == ["game.w4rec", "waits"]
+            assert sorted(os.listdir(room)) == ["begun", "game.w4rec", "waits"]
 
 
 def test_a_full_standard_error_hides_no_failure():
