@@ -1,5 +1,5 @@
-"""The folder beside a recording: branches, which are other recordings, and watches. It may come out of an archive, or be
-another user's: what isn't what it should be there is left alone, and told.
+"""The folder beside a recording: branches, which are other recordings, and watches. It may come out of an
+archive, or be another user's: what isn't what it should be there is left alone, and told.
 """
 import contextlib
 import json
@@ -57,23 +57,23 @@ class FolderFiles:
         except OSError:
             is_there = False
         if not is_there:
-            raise Refusal(f"the folder {self.folder} is gone, where branches and watches are kept: end the studio, and "
-                          "start it again")
+            raise Refusal(f"the folder {self.folder} is gone, where branches and watches are kept: end the "
+                          "studio, and start it again")
 
     def note(self):
         """What the user should read of files that were left out; None where there is nothing."""
         names = [f"{name} ({cause})" for name, cause in sorted(self.left_out.items())]
         more = f" and {len(names) - TOLD} more" if len(names) > TOLD else ""
-        texts = [f"no branches, and left alone in {self.folder}: {', '.join(names[:TOLD])}{more}"] if names else []
-        return "; ".join(texts + ([self.watch_fault] if self.watch_fault else [])) or None
+        left_out = f"no branches, and left alone in {self.folder}: {', '.join(names[:TOLD])}{more}"
+        return "; ".join(filter(None, (left_out if names else None, self.watch_fault))) or None
 
     # ---- branches
 
     def branch_file(self, name):
         """The file of a branch. A name is plain, so that it can't lead out of the folder."""
         if not NAME.fullmatch(name) or len(name.encode("utf-8", "replace")) > LONGEST_NAME:
-            raise Refusal(f"a branch can't have the name '{name[:80]}': one has letters, digits, spaces and . , + - _, "
-                          f"at most 80, and {LONGEST_NAME} bytes")
+            raise Refusal(f"a branch can't have the name '{name[:80]}': one has letters, digits, spaces and "
+                          f". , + - _, at most 80, and {LONGEST_NAME} bytes")
         if name in OWN_NAMES:
             raise Refusal(f"a branch can't have the name {name}, which is the studio's own: choose another")
         return self.folder / f"{name}.w4rec"
@@ -120,8 +120,8 @@ class FolderFiles:
                 self.left_out[path.name] = cause
                 continue
             with contextlib.suppress(FileNotFoundError):
-                time_changed = os.lstat(path).st_mtime
-                rows.append({"name": path.stem, "frames": len(parse_recording(data)[1]), "time": time_changed})
+                rows.append({"name": path.stem, "frames": len(parse_recording(data)[1]),
+                             "time": os.lstat(path).st_mtime})
         return sorted(rows, key=lambda row: -row["time"])
 
     def branch_paths(self):
@@ -139,7 +139,8 @@ class FolderFiles:
         self.need_folder()
         path = self.branch_file(name)
         if os.path.lexists(path):
-            raise Refusal(f"there is a branch {name} already, or another file named {path}: choose another name")
+            raise Refusal(f"there is a branch {name} already, or another file named {path}: choose another "
+                          "name")
         return path
 
     def put_branch(self, name, recording):
@@ -147,7 +148,7 @@ class FolderFiles:
         put_whole(self.new_branch_file(name), recording, self.files.mode())
 
     def keep(self, kind, recording):
-        """Makes a branch of a recording unless one has its bytes; the branch's name, of the kind and the time."""
+        """Makes a branch of a recording unless one has its bytes; its name, of the kind and the time."""
         for path in self.branch_paths():
             if regular_bytes(path) == recording:
                 return path.stem
@@ -164,8 +165,8 @@ class FolderFiles:
         return name
 
     def free_own_names(self):
-        """Gives branches that an earlier version let have the studio's own names others. Only before the studio has
-        recordings of its own there; with a journal they are those of one that was killed.
+        """Renames branches that have the studio's own names, as an earlier version let them. Only before the
+        studio has recordings of its own there; with a journal they are those of one that was killed.
         """
         if os.path.lexists(self.folder / "journal"):
             return
@@ -191,8 +192,8 @@ class FolderFiles:
             return []
         text = regular_bytes(self.watches_file, LONGEST_WATCHES)
         if text is None:
-            self.watch_fault = (f"{self.watches_file} is no plain file of watches, and is left alone: move it away, so that "
-                                "watches can be stored")
+            self.watch_fault = (f"{self.watches_file} is no plain file of watches, and is left alone: move "
+                                "it away, so that watches can be stored")
             return []
         watches, has_others = parse_watches(text)
         if has_others:
@@ -208,10 +209,12 @@ class FolderFiles:
         self.need_folder()
         watches, has_others = parse_watches(text)
         if has_others:
-            raise Refusal("no watches are stored: each has an address in the memory, 1, 2 or 4 bytes, and a name")
+            raise Refusal("no watches are stored: each has an address of the memory, 1, 2 or 4 bytes, and a "
+                          "name")
         data = (json.dumps(watches, indent=1) + "\n").encode()
         if len(data) > LONGEST_WATCHES:
-            raise Refusal(f"no watches are stored: {self.watches_file} would be longer than {LONGEST_WATCHES} bytes")
+            raise Refusal(f"no watches are stored: {self.watches_file} would have more than "
+                          f"{LONGEST_WATCHES} bytes")
         self.make_way_for_watches()
         put_whole(self.watches_file, data, self.files.mode())
 

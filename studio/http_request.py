@@ -1,5 +1,5 @@
-"""Reads requests of HTTP/1.1 (RFC 9112). Who asks is judged before the body is read, and whatever is wrong with a request
-has a status and a sentence.
+"""Reads requests of HTTP/1.1 (RFC 9112). Who asks is judged before the body is read, and whatever is wrong
+with a request has a status and a sentence.
 """
 import asyncio
 import re
@@ -84,7 +84,7 @@ async def read_rest(reader, start, judge):
 
 
 async def read_request(reader, judge):
-    """The next request of a connection, None where there is none. `judge` refuses it before its body is read."""
+    """The next request of a connection, or None. `judge` may refuse it before its body is read."""
     try:
         start = await asyncio.wait_for(reader.readexactly(1), IDLE)
     except (asyncio.IncompleteReadError, asyncio.TimeoutError):
@@ -98,7 +98,9 @@ async def read_request(reader, judge):
 
 
 async def drop_rest(reader):
-    """Reads what still comes, as an answer may be lost where a connection is closed with bytes that nobody read."""
+    """Reads what still comes: where a connection is closed with bytes that nobody read, its last answer may
+    be lost.
+    """
     async def read_all():
         while await reader.read(BLOCK):
             pass

@@ -1,6 +1,6 @@
-"""What pages have sent and the session hasn't taken yet. The program may compute for long, so it takes orders when it has
-room; the server goes on reading, since it wouldn't see otherwise that a page is gone. Only a page that has sent more
-than the longest message waits.
+"""What pages have sent and the session hasn't taken yet. The program may compute for long, so the session
+takes orders when it has room; the server goes on reading, since else it wouldn't see that a page is gone. Only
+where more than the longest message waits, a page has to wait too.
 """
 import asyncio
 

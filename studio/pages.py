@@ -1,4 +1,4 @@
-"""The page's connection: its orders go to the session, and the answers to it. At most one page is there at a time."""
+"""The page's connection: its orders go to the session, and the answers to it. There is one page at a time."""
 import asyncio
 import contextlib
 import json
@@ -45,9 +45,10 @@ class PageAnswers(Receiver):
 
 def check_upgrade(request):
     """Refuses what is no opening of a page's connection; what the page calls itself, or None."""
-    if request.headers.get("upgrade", "").lower() != "websocket" or not request.headers.get("sec-websocket-key"):
+    headers = request.headers
+    if headers.get("upgrade", "").lower() != "websocket" or not headers.get("sec-websocket-key"):
         raise BadRequest(400, "no WebSocket")
-    if "origin" not in request.headers:
+    if "origin" not in headers:
         raise BadRequest(403, "this server answers its own page only")
     page_id = request.query.get("page")
     if page_id is not None and not PAGE_ID.fullmatch(page_id):
@@ -89,8 +90,8 @@ class Pages:
             await self.save_quietly()
 
     async def other_leaves(self, page_id):
-        """Whether no page is there, or the one that is goes at once, as one does that is reloaded. One that comes again
-        has lost its earlier connection, even if that looks open.
+        """Whether no page is there, or the one that is goes at once, as one does that is reloaded. One that
+        comes again has lost its earlier connection, even if that looks open.
         """
         if self.page and page_id is not None and page_id == self.last_page:
             self.page.drop()

@@ -1,4 +1,6 @@
-"""For tests without a browser: a studio whose standard error is kept, requests byte by byte, and a page that is none."""
+"""For tests without a browser: a studio whose standard error is kept, requests byte by byte, and what speaks
+like a page.
+"""
 import http.client
 import json
 import pathlib
@@ -39,9 +41,17 @@ class WatchedStudio(Studio):
 
     def children(self, word):
         """Ids of the processes that it has started, and whose command line has a word."""
-        found = subprocess.run(["pgrep", "-P", str(self.process.pid)], stdout=subprocess.PIPE, text=True, check=False)
-        lines = {each: pathlib.Path("/proc", each, "cmdline") for each in found.stdout.split()}
-        return [int(each) for each, line in lines.items() if line.exists() and word.encode() in line.read_bytes().split(b"\0")]
+        words = ["pgrep", "-P", str(self.process.pid)]
+        found = subprocess.run(words, stdout=subprocess.PIPE, text=True, check=False).stdout.split()
+        return [int(each) for each in found if word.encode() in arguments_of(each)]
+
+
+def arguments_of(process):
+    """The command line of a process; nothing where it has ended."""
+    try:
+        return pathlib.Path("/proc", process, "cmdline").read_bytes().split(b"\0")
+    except OSError:
+        return []
 
 
 class Client:
@@ -59,7 +69,7 @@ class Client:
         """The head of a request that the studio answers, if nothing else is named."""
         lines = [f"{method} {self.path + name if path is None else path} HTTP/1.1"]
         for key, value in {"Host": self.host, **dict(headers)}.items():
-            lines += [f"{key}: {each}" for each in (value if isinstance(value, list) else [value]) if each is not None]
+            lines += [f"{key}: {each}" for each in (value if isinstance(value, list) else [value])]
         return "\r\n".join(lines).encode("latin-1") + b"\r\n\r\n"
 
     def answer(self, data):
@@ -99,7 +109,8 @@ class PlainSocket:
         upgrade = {"Origin": f"http://{client.host}", "Upgrade": "websocket", "Connection": "Upgrade",
                    "Sec-WebSocket-Key": KEY, "Sec-WebSocket-Version": "13"}
         self.connection = client.connect()
-        self.connection.sendall(client.head("session" + ("" if page_id is None else f"?page={page_id}"), headers=upgrade))
+        name = "session" if page_id is None else f"session?page={page_id}"
+        self.connection.sendall(client.head(name, headers=upgrade))
         self.stream = self.connection.makefile("rb")
         self.status = int(self.stream.readline().split()[1])
         while self.stream.readline().strip():

@@ -57,7 +57,7 @@ class Services:
         return {"cart": files.cart.name, "recording": str(files.recording), "budget": files.budget}
 
     def look_into_folder(self):
-        """Looks at all that is kept beside the recording, for a page that has just come; what it should be told."""
+        """Looks at what is kept beside the recording, for a page that has just come; what it should be told."""
         self.told = None
         self.folder.read_watches()
         try:
@@ -112,7 +112,7 @@ class Services:
         return "text/plain; charset=utf-8", await asyncio.to_thread(self.comparison, other)
 
     def comparison(self, other):
-        """What `compare` writes. The other recording is given as a file of its own, as a branch may be replaced."""
+        """What `compare` writes. The other recording gets a file of its own, as a branch may be replaced."""
         cart, font = self.files.cart, self.files.font
         with tempfile.NamedTemporaryFile(suffix=".w4rec") as file:
             file.write(other)

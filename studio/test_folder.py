@@ -1,4 +1,4 @@
-"""Tests of the folder beside the recording: what stands there that shouldn't, and what is left where a write fails."""
+"""Tests of the folder beside the recording: what shouldn't be there, and what is left where a write fails."""
 import json
 import os
 import resource
@@ -9,6 +9,7 @@ from recordings import frame, garden_frames, recording
 
 OTHER = recording(garden_frames()[:5])
 WATCH = {"address": 160, "width": 2, "name": "hops"}
+NAMING = [("DELETE", "branches"), ("GET", "branch"), ("POST", "branches"), ("POST", "compare")]  # of a branch
 HUGE = 6 << 30  # bytes; the file has none of them on the disk
 
 
@@ -23,7 +24,7 @@ def facts(path):
 
 
 def fill_with_strange_things(folder, outside):
-    """Puts into a folder what an archive, or another user, may have put there; the names of what can't be a branch."""
+    """Puts into a folder what an archive may have put there; the names of what is no branch."""
     folder.mkdir()
     (folder / "good.w4rec").write_bytes(OTHER)
     outside.write_bytes(OTHER)
@@ -47,7 +48,7 @@ def test_strange_things_in_the_folder_are_left_alone():
         client = Client(studio)
         assert "good" in client.list() and not client.list() & set(strange)
         for name in strange:
-            for method, request in (("DELETE", "branches"), ("GET", "branch"), ("POST", "branches"), ("POST", "compare")):
+            for method, request in NAMING:
                 status, text = client.ask(request, method, name=name)
                 assert status == 409 and name in text.decode(), (method, request, name, status, text)
         assert {name: facts(studio.folder / f"{name}.w4rec") for name in strange} == before
@@ -66,8 +67,8 @@ def test_the_page_is_told_what_was_left_out():
         with client.open_page() as page:
             page.greeting()
             note = page.next_note()
-            for part in (str(studio.folder), "pipe.w4rec (no plain file)", "link.w4rec (a link)", "a:b.w4rec (no name",
-                         "huge.w4rec (longer than a recording)"):
+            for part in (str(studio.folder), "pipe.w4rec (no plain file)", "link.w4rec (a link)",
+                         "a:b.w4rec (no name", "huge.w4rec (longer than a recording)"):
                 assert part in note, (part, note)
             (studio.folder / "late.w4rec").write_bytes(b"W4RC")
             client.list()
@@ -128,7 +129,8 @@ def test_a_removed_folder_is_named():
 def test_broken_watches_are_told_and_kept():
     """As a full disk left them to an earlier version."""
     whole = json.dumps([WATCH, WATCH], indent=1)
-    rows = [(whole[:-20], []), ("[" * 100_000, []), ("null", []), (json.dumps([WATCH, {"address": -1}]), [WATCH])]
+    in_part = json.dumps([WATCH, {"address": -1}])
+    rows = [(whole[:-20], []), ("[" * 100_000, []), ("null", []), (in_part, [WATCH])]
     with WatchedStudio() as studio:
         client = Client(studio)
         path, aside = studio.folder / "watches.json", studio.folder / "watches.json.old"
@@ -170,7 +172,8 @@ def test_branches_of_an_earlier_version_keep_their_recordings():
     with studio:
         client = Client(studio)
         assert client.list() >= {"base 2", "draft 2"}
-        assert (studio.folder / "base 2.w4rec").read_bytes() == (studio.folder / "draft 2.w4rec").read_bytes() == OTHER
+        for name in ("base", "draft"):
+            assert (studio.folder / f"{name} 2.w4rec").read_bytes() == OTHER
 
 
 def make_strange(path, kind, outside):

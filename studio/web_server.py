@@ -107,7 +107,7 @@ class WebServer:
             self.writers.discard(writer)
 
     async def answer_all(self, reader, writer):
-        """Answers the requests of a connection. One that can't be understood, or is somebody else's, is the last."""
+        """Answers the requests of a connection. One that is wrong, or somebody else's, is the last."""
         try:
             while request := await http_request.read_request(reader, self.judge):
                 if not await self.answer(request, reader, writer):

@@ -10,7 +10,7 @@ GOING_AWAY, WRONG, WRONG_KIND, NO_TEXT, TOO_LONG = 1001, 1002, 1003, 1007, 1009 
 KEY_TAIL = b"258EAFA5-E914-47DA-95CA-C5AB0DC85B11"
 LONGEST_MESSAGE = 1 << 22  # bytes; a recording's inputs as orders have some 2,500,000
 LONGEST_CONTROL = 125
-BEHIND = 1 << 16  # bytes that wait for the other side, above which is waited for it; no more than the loop's own
+BEHIND = 1 << 16  # bytes not sent yet above which is waited for the other side; the loop's own bound
 UNREAD = 10  # seconds after which a side that doesn't read is dropped
 
 
@@ -53,7 +53,7 @@ class WebSocket:
         self.reader, self.writer = reader, writer
 
     async def send(self, kind, data):
-        """Sends a message, and waits while the other side is behind. One that doesn't read at all is dropped."""
+        """Sends a message, and waits while the other side is behind. One that doesn't read is dropped."""
         if self.writer.is_closing():
             raise ConnectionResetError
         self.writer.write(framed(kind, data))
@@ -69,7 +69,7 @@ class WebSocket:
         await self.send(TEXT, text.encode("utf-8", "replace"))
 
     async def receive_frame(self, room):
-        """Kind, whether it is the last of its message, and bytes, which are no more than there is room for."""
+        """Kind, whether it is the last of its message, and bytes, no more of them than there is room for."""
         first, second = await self.reader.readexactly(2)
         kind, is_last, length = first & 0x0F, bool(first & 0x80), second & 0x7F
         is_control = kind in (CLOSE, PING, PONG)
