@@ -82,7 +82,7 @@ class WatchedProgram:
         """Ends it, at once where it doesn't end by itself."""
         if not self.has_ended(PATIENCE):
             with contextlib.suppress(ProcessLookupError):
-                os.kill(self.process_id, signal.SIGKILL)
+                os.killpg(self.process_id, signal.SIGKILL)
             self.has_ended(PATIENCE)
 
 

@@ -7,6 +7,8 @@ the orders of the journal, so that whoever waits for an answer sees a pause and 
 import asyncio
 import collections
 import contextlib
+import os
+import signal
 
 import messages
 from asked_orders import CANNOT_WRITE, Asked, DraftAnswer, HistoryAnswer, Receiver, SaveAnswer, WholeAnswer
@@ -74,7 +76,7 @@ class LiveSession:
         self.errors = asyncio.create_task(self.process.stderr.read())
         self.ask_all(up)
         if self.is_killed:
-            self.process.kill()
+            self.kill_process()
         if self.is_ending:
             self.process.stdin.close()
 
@@ -110,8 +112,13 @@ class LiveSession:
     def kill(self):
         """Ends the program at once. The journal has what it was told."""
         self.is_ending = self.is_killed = True
-        with contextlib.suppress(AttributeError, ProcessLookupError):
-            self.process.kill()
+        self.kill_process()
+
+    def kill_process(self):
+        """Kills the process, and what a launcher may have started; that is a group of its own."""
+        if self.process and self.process.returncode is None:
+            with contextlib.suppress(ProcessLookupError):
+                os.killpg(self.process.pid, signal.SIGKILL)
 
     @property
     def at_work(self):
@@ -245,9 +252,7 @@ class LiveSession:
                 else:
                     await self.pass_end()
         except (asyncio.IncompleteReadError, OSError, ValueError, IndexError):
-            # A pipe that breaks is the end of a process as well, which may be gone by now.
-            with contextlib.suppress(ProcessLookupError):
-                self.process.kill()
+            self.kill_process()  # a pipe that breaks is the end of a process as well
 
     async def pass_end(self):
         asked = self.waiting.popleft()

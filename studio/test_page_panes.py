@@ -1,7 +1,7 @@
 """Tests of panes whose orders are late or refused: no old number is shown, and the others go on."""
 from recordings import RIGHT, frame, garden_frames, image
 from test_edits import turn_keys
-from test_parts import HOPS, texts_of_places, wait_for_stored_watch
+from test_parts import HOPS, make_branch, texts_of_places, wait_for_stored_watch
 
 VALUE = "document.querySelector('#watch-table td.number')"
 PLACES = {60: "0", 61: "1", 120: "1", 121: "2"}  # hops of the garden's recording
@@ -266,7 +266,7 @@ def test_a_failed_fetch_names_what_failed_and_what_to_do(studio, page):
 
 def test_a_failed_fetch_leaves_branches_usable(studio, page):
     open_panes(page)
-    page.wait("document.querySelector('#branch-table tbody tr')")
+    make_branch(page, "first")
     compared = "document.getElementById('compared').textContent"
     silent = "the studio's server didn't answer"
     fail_fetches(page, "throw new TypeError('Failed to fetch')")

@@ -3,6 +3,7 @@ import contextlib
 import os
 import pathlib
 import signal
+import stat
 import subprocess
 
 from browser import PATIENCE, STUDIO, wait_until
@@ -44,3 +45,14 @@ def refusal_of(*words, **more):
     assert ran.returncode != 0 and not ran.stdout, ran
     assert "Traceback" not in ran.stderr, ran.stderr
     return ran.stderr.strip()
+
+
+def elsewhere(studio):
+    """An environment whose folder for temporary files is one of the studio's room."""
+    room = pathlib.Path(studio.room.name, "elsewhere")
+    room.mkdir()
+    return dict(os.environ, TMPDIR=str(room))
+
+
+def mode_of(path):
+    return stat.S_IMODE(os.lstat(path).st_mode)
