@@ -35,11 +35,13 @@ tells_version() {
 
 # Words that match no command, by their first, by their number, and by a number among them.
 hints() {
-    for words in '' walk 'check' "check $cart $cart" "blank $cart 0" "blank $cart x" "make 4294967296" \
+    run ./w4
+    ended 2 'w4: usage' 'w4: ./w4 --help shows the commands' && [ "$(wc -l <err)" = 2 ] && [ ! -s out ] || return 1
+    for words in check "check $cart $cart" "blank $cart 0" "blank $cart x" 'make 4294967296' \
         "frames $cart examples/garden/game.w4rec examples/first/font.bin 2 1"; do
         # shellcheck disable=SC2086
         run ./w4 $words
-        ended 2 'w4: usage' 'w4: ./w4 --help shows the commands' && [ "$(wc -l <err)" = 2 ] && [ ! -s out ] || return 1
+        ended 2 'w4: usage' "w4: it is ./w4 ${words%% *} " && [ "$(wc -l <err)" = 2 ] && [ ! -s out ] || return 1
     done
     run ./w4 check absent
     ended 7 && [ "$(cat err)" = 'w4: cannot read' ]
@@ -187,7 +189,7 @@ try_shipped() {
     try "a second start gives them too" edits_right ./w4
     try "--help, -h and help show each command of README" helps
     try "--version tells version, kit, sum of the sources and of the program" tells_version
-    try "after a usage error the launcher says where help is" hints
+    try "after a usage error the launcher says what the command takes" hints
     try "the program takes the launcher's place" becomes_the_program
     try "newer times alone change nothing" runs_with_newer_times
     try "each changed source is told" tells_changes
