@@ -169,6 +169,15 @@ refuses_with_words() {
     ended 1 "$prefix/share/w4/studio/run" './install' && run ./install --remove "$prefix" && [ ! -e "$prefix" ]
 }
 
+# The manual has the forms of README's tables, the launcher's own too, and its statuses.
+manual_has_all() {
+    run release/manual w4p
+    is_silent && mv out w4.1 || return 1
+    sed -n '/^## The commands/,/^## /s/^| `\([a-z][^ `]*\)\([^`]*\)` .*/.BR "w4p \1" "\2"/p' README.md >rows
+    echo '.BR "w4p studio" " CART [REC] [FONT]"' >wanted
+    [ "$(grep -cxFf rows w4.1)" = "$(wc -l <rows)" ] && grep -qxFf wanted w4.1 && grep -q '^.SS Exit status' w4.1
+}
+
 manual_is_clean() {
     release/manual w4 >w4.1 || return 1
     run "$@" w4.1
@@ -199,6 +208,7 @@ try_installed() {
     try "a list that leads elsewhere removes nothing" refuses_forged_lists
     try "links that stand in the way are not followed" follows_no_links
     try "a refusal says which file, and what to do" refuses_with_words
+    try "the manual has every command" manual_has_all
     try_manual mandoc -T lint -W warning
     try_manual groff -man -Tutf8 -ww -z
 }
