@@ -63,9 +63,9 @@ END
     kill -TERM $studio
     wait $studio
     status=$?
-    ended 0 && grep -qx 'all is there' fetched && [ -d edited-here.w4rec.studio ] || return 1
+    ended 0 && grep -qx 'all is there' fetched && [ ! -e edited-here.w4rec.studio ] || return 1
     [ "$1" = ./w4 ] || [ -z "$(find "$prefix/share" -name __pycache__)" ] || return 1
-    rm -rf edited-here.w4rec edited-here.w4rec.studio
+    rm edited-here.w4rec
 }
 
 opens_the_studio() {

@@ -46,6 +46,12 @@ def act(words, process, terminal):
         process.send_signal(signal.Signals[words.send])
 
 
+def take_terminal(side):
+    """Makes a terminal the controlling one of a new session, in which Ctrl-C does what it does in a shell."""
+    signal.signal(signal.SIGINT, signal.SIG_DFL)
+    fcntl.ioctl(side, termios.TIOCSCTTY, 0)
+
+
 def main():
     parser = argparse.ArgumentParser()
     parser.add_argument("--type")
@@ -55,7 +61,7 @@ def main():
     terminal, side = pty.openpty()
     # The command is the first process of a session whose terminal it is, so that Ctrl-C reaches it.
     process = subprocess.Popen(words.command, stderr=side, start_new_session=True, restore_signals=True,
-                               preexec_fn=lambda: fcntl.ioctl(side, termios.TIOCSCTTY, 0))
+                               preexec_fn=lambda: take_terminal(side))
     os.close(side)
     said = []
     reader = threading.Thread(target=read_all, args=(terminal, said))
