@@ -39,7 +39,7 @@ WITH_BULK void *memmove(void *to, const void *from, size_t size) {
 WITH_BULK void *memset(void *to, int value, size_t size) {
     if (size >= LONG) return __builtin_memset(to, value, size), to;
     uint8_t *target = to;
-    uint64_t repeated = 0x0101010101010101 * (uint8_t)value;
+    uint64_t repeated = (uint64_t)0x0101010101010101 * (uint8_t)value;
     size_t at = 0;
     for (; at + WORD <= size; at += WORD) *(word *)(target + at) = repeated;
     for (; at < size; at++) target[at] = (uint8_t)value;

@@ -55,7 +55,7 @@ void *malloc(size_t size) {
         kept[class] = *(void **)block;
         return block;
     }
-    size_t bytes = FRONT + size_of(class);
+    size_t bytes = (FRONT + size_of(class) + FRONT - 1) / FRONT * FRONT;
     if (!has_room(bytes)) return NULL;
     block = top + FRONT;
     top += bytes;

@@ -26,7 +26,11 @@ typedef __SIZE_TYPE__ size_t;
 #endif
 
 /* The program's memory has 32 bits in the end, so an address or a length is passed to the host as one number. */
+#ifdef __wasm__
 typedef uint32_t address;
+#else
+typedef uintptr_t address;
+#endif
 
 static inline address address_of(const void *at) {
     return (address)(uintptr_t)at;

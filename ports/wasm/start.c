@@ -17,15 +17,15 @@ static struct {
     uint8_t bytes[UNWOUND];
 } unwound __attribute__((aligned(16)));
 
-FOR_HOST(unwind_at) void *unwind_at(void) {
+FOR_HOST(unwind_at) address unwind_at(void) {
     unwound.next = address_of(unwound.bytes);
     unwound.end = address_of(unwound.bytes + UNWOUND);
-    return &unwound;
+    return address_of(&unwound);
 }
 
-FOR_HOST(args_at) char *args_at(address size) {
+FOR_HOST(args_at) address args_at(address size) {
     words = malloc(size);
-    return words;
+    return address_of(words);
 }
 
 FOR_HOST(run) int run(int count) {
