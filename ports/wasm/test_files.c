@@ -13,9 +13,9 @@ int64_t shim_readlink(const char *, char *, size_t);
 int shim_open(const char *, int, ...), shim_close(int), shim_ftruncate(int, int64_t), shim_fchmod(int, unsigned);
 int shim_fsync(int), shim_fdatasync(int), shim_flock(int, int), shim_rename(const char *, const char *);
 int shim_unlink(const char *), shim_statx(int, const char *, int, unsigned, void *);
-int shim_create(uint64_t *, const void *, void *(*)(void *), void *), shim_join(uint64_t, void **);
-int shim_detach(uint64_t);
-uint64_t shim_self(void);
+int shim_pthread_create(uint64_t *, const void *, void *(*)(void *), void *), shim_pthread_join(uint64_t, void **);
+int shim_pthread_detach(uint64_t);
+uint64_t shim_pthread_self(void);
 void *shim_memcpy(void *, const void *, size_t), *shim_memmove(void *, const void *, size_t);
 void *shim_memset(void *, int, size_t);
 int shim_memcmp(const void *, const void *, size_t);
@@ -166,16 +166,16 @@ static void try_answers(void) {
 static uint64_t seen[3];
 
 static void *inner(void *given) {
-    seen[1] = shim_self();
+    seen[1] = shim_pthread_self();
     return given;
 }
 
 static void *outer(void *given) {
     uint64_t thread;
     void *result;
-    seen[0] = shim_self();
-    if (shim_create(&thread, NULL, inner, (char *)given + 1) || shim_join(thread, &result)) return NULL;
-    seen[2] = shim_self();
+    seen[0] = shim_pthread_self();
+    if (shim_pthread_create(&thread, NULL, inner, (char *)given + 1) || shim_pthread_join(thread, &result)) return NULL;
+    seen[2] = shim_pthread_self();
     return result;
 }
 
@@ -183,14 +183,14 @@ static void try_threads(void) {
     uint64_t threads[70];
     void *result;
     int made = 0;
-    count(shim_create(threads, NULL, outer, buffer) == 0 && shim_join(threads[0], &result) == 0 && result == buffer + 1,
+    count(shim_pthread_create(threads, NULL, outer, buffer) == 0 && shim_pthread_join(threads[0], &result) == 0 && result == buffer + 1,
           "a thread that makes a thread, and what they return");
-    count(seen[0] && seen[1] && seen[0] != seen[1] && seen[0] == seen[2] && shim_self() == 0, "each has a number");
+    count(seen[0] && seen[1] && seen[0] != seen[1] && seen[0] == seen[2] && shim_pthread_self() == 0, "each has a number");
     for (; made < 70; made++)
-        if (shim_create(threads + made, NULL, inner, buffer)) break;
+        if (shim_pthread_create(threads + made, NULL, inner, buffer)) break;
     count(made == 64, "there is an end of threads that aren't joined");
-    for (int k = 0; k < made; k++) shim_detach(threads[k]);
-    count(shim_create(threads, NULL, inner, buffer) == 0, "what was left is made again");
+    for (int k = 0; k < made; k++) shim_pthread_detach(threads[k]);
+    count(shim_pthread_create(threads, NULL, inner, buffer) == 0, "what was left is made again");
 }
 
 /* Copies, fills and comparisons against the C library's, at each length and distance about the limits. */
