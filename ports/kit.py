@@ -15,6 +15,10 @@ class Refusal(Exception):
     """What can't be done, and what to do about it."""
 
 
+class Absent(Refusal):
+    """A tool that isn't there, and what brings it."""
+
+
 def run(command, **how):
     """Runs a command. Returns what it wrote, on both streams; a Refusal where it fails."""
     command = [str(word) for word in command]
@@ -83,8 +87,12 @@ class Kit:
         run([self.folder / "bin/rattle-link", "--target", LINUX, "--toolchain", self.toolchain, "-o", to, made, *own_c])
 
 
+def is_there():
+    return shutil.which("rt") is not None
+
+
 def find():
-    """The kit whose command `rt` is on the PATH, or None where there is none."""
-    if not shutil.which("rt"):
-        return None
+    """The kit whose command `rt` is on the PATH."""
+    if not is_there():
+        raise Absent("there is no command rt: docs/CONTRIBUTING.md says how the toolchain is installed")
     return Kit(pathlib.Path(run(["rt", "doc"]).strip()).parent)
