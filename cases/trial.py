@@ -25,19 +25,37 @@ class Unable(Exception):
 
 
 class Runs:
-    """The processes that run, so that all can be ended."""
+    """Runs of a program. The processes are known, so that all can be ended."""
 
-    def __init__(self):
+    measures_time = True
+
+    def __init__(self, program):
+        self.program = program
         self.lock = threading.Lock()
         self.pids = set()
 
-    def run(self, command, folder, **streams):
-        """How a program ends, as a shell says it, and the processor time that it took with those that it waited for.
+    def command(self, words):
+        """What starts the program with these words in a process of its own."""
+        return [self.program, *words]
 
-        It has the signals as the launcher leaves them, since cases/run has them so (see `run`).
-        """
+    def run_words(self, words, folder, source, out, err):
+        """Runs the program in a folder, its standard streams being files of these names. Returns what `run` does."""
+        return self.run(self.command(words), folder, source, out, err)
+
+    def run(self, command, folder, source, out, err):
+        """How a program ends, as a shell says it, and the processor time that it took with those that it waited for."""
+        # a folder can't be opened as a file by Python, and is given to some runs
+        source_number = os.open(source, os.O_RDONLY)
+        try:
+            with open(out, "wb") as out_file, open(err, "wb") as err_file:
+                return self.wait_for(command, cwd=folder, stdin=source_number, stdout=out_file, stderr=err_file)
+        finally:
+            os.close(source_number)
+
+    def wait_for(self, command, **how):
+        """As `run`. The program has the signals as the launcher leaves them, since cases/run has them so."""
         with self.lock:
-            process = subprocess.Popen(command, cwd=folder, restore_signals=False, **streams)
+            process = subprocess.Popen(command, restore_signals=False, **how)
             self.pids.add(process.pid)
         timed_out = threading.Event()
         watch = threading.Timer(PATIENCE, lambda: (timed_out.set(), os.kill(process.pid, signal.SIGKILL)))
@@ -59,8 +77,8 @@ class Runs:
 class Measures:
     """The processor time that the program takes with the words by which others are measured, each measured once."""
 
-    def __init__(self, runs, program, room):
-        self.runs, self.program, self.room = runs, program, room
+    def __init__(self, runs, room):
+        self.runs, self.room = runs, room
         self.lock = threading.Lock()
         self.seconds = {}
 
@@ -68,8 +86,7 @@ class Measures:
         with self.lock:
             if words not in self.seconds:
                 folder = furnished(pathlib.Path(self.room, f"measure-{len(self.seconds)}"))
-                quiet = dict.fromkeys(("stdin", "stdout", "stderr"), subprocess.DEVNULL)
-                status, seconds = self.runs.run([self.program, *case_files.words_of(words)], folder, **quiet)
+                status, seconds = self.runs.run_words(case_files.words_of(words), folder, *[os.devnull] * 3)
                 self.seconds[words] = seconds if status == 0 else 0
             return self.seconds[words]
 
@@ -100,9 +117,9 @@ def look(path):
 class Trial:
     """A run of a case: the text of its line `args`, and the number of that line."""
 
-    def __init__(self, case, line, text, program, runs, measures):
+    def __init__(self, case, line, text, runs, measures):
         self.case, self.line, self.text = case, line, text
-        self.program, self.runs, self.measures = program, runs, measures
+        self.runs, self.measures = runs, measures
 
     def result(self, room):
         """What is wrong, or nothing, after a run in this room; Unable where it can't be tried."""
@@ -162,22 +179,18 @@ class Trial:
 
     def run(self):
         """Runs the program, by a client where its case sends lines. Returns how it ended, and what it took."""
-        case = self.case
-        command = [self.program, *case_files.words_of(self.text)]
+        case, words = self.case, case_files.words_of(self.text)
+        for name in ("out", "err", "saved"):
+            (self.room / name).touch()
+        streams = case.in_file or os.devnull, case.out_to or self.room / "out", case.err_to or self.room / "err"
+        if case.file_limit is None and case.sent is None:
+            return self.runs.run_words(words, self.at, *streams)
+        command = self.runs.command(words)
         if case.file_limit is not None:
             command = [*UNDER_A_LIMIT, str(case.file_limit), *command]
         if case.sent is not None:
             command = [CASES / "live_client", self.room / "sent", str(case.hangs_up), self.room / "saved", *command]
-        for name in ("out", "err", "saved"):
-            (self.room / name).touch()
-        # a folder can't be opened as a file by Python, and is given to some runs
-        source = os.open(case.in_file or os.devnull, os.O_RDONLY)
-        out_path, err_path = case.out_to or self.room / "out", case.err_to or self.room / "err"
-        try:
-            with open(out_path, "wb") as out, open(err_path, "wb") as err:
-                return self.runs.run(command, self.at, stdin=source, stdout=out, stderr=err)
-        finally:
-            os.close(source)
+        return self.runs.run(command, self.at, *streams)
 
     def faults(self, before, seconds):
         case, faults = self.case, []
@@ -193,7 +206,7 @@ class Trial:
             faults.append("OUT was not made")
         if "saved" in case.wanted:
             faults.append(self.difference("saved", self.room / "saved"))
-        if case.within:
+        if case.within and self.runs.measures_time:
             faults.append(self.too_long(seconds))
         return [fault for fault in faults if fault]
 
@@ -252,7 +265,7 @@ class Trial:
         for path in named:
             if path and path.is_file() and path.stat().st_size:
                 shutil.copy(path, folder / "inputs")
-        again = " ".join(shlex.quote(os.fsdecode(word)) for word in [os.fsencode(self.program), *words])
+        again = " ".join(shlex.quote(os.fsdecode(word)) for word in self.runs.command(words))
         (folder / "what").write_text(
             f"{self.case.shows}\n{'; '.join(faults)}\nstatus {self.status}, wanted {self.case.status}\n\n"
             f"in got/at, after putting OUT as it was before:\n    {again}\n", errors="backslashreplace")
