@@ -11,8 +11,14 @@
  */
 
 /** @typedef {{ place: number, inputs: number, halt: string, disk: number, kept: number[] }} State */
-/** Units that were taken, or `trap`, `spent` or `halted`. @typedef {number | string} Taken */
-/** What a frame took, and what its reset took, where it has one. @typedef {{ frame: number, taken: Taken, start: Taken | null }} Units */
+/**
+ * Units that were taken, or `trap`, `spent` or `halted`.
+ * @typedef {number | string} Taken
+ */
+/**
+ * What a frame took, and what its reset took, where it has one.
+ * @typedef {{ frame: number, taken: Taken, start: Taken | null }} Units
+ */
 
 const UNUSED = 32767;
 const PADS = 4;

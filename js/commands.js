@@ -15,7 +15,10 @@ import { moduleOf } from "./module.js";
  * @property {AbortSignal} [signal] gives the command up; in this thread only before it has begun
  */
 
-/** A file that is text may be given so. @param {Bytes | string} bytes */
+/**
+ * A file that is text may be given so.
+ * @param {Bytes | string} bytes
+ */
 function fileOf(bytes) {
   return typeof bytes === "string" ? new TextEncoder().encode(bytes) : bytesOf(bytes);
 }
@@ -26,7 +29,8 @@ function fileOf(bytes) {
  * @param {Record<string, Bytes | string>} files
  * @param {RunOptions} [options]
  */
-export async function run(words, files, { module, worker = true, signal } = {}) {
+export async function run(words, files, options = {}) {
+  const { module, worker = true, signal } = options;
   signal?.throwIfAborted();
   const given = Object.fromEntries(Object.entries(files).map(([name, bytes]) => [name, fileOf(bytes)]));
   const compiled = await moduleOf(module);
@@ -51,10 +55,17 @@ async function done(words, files, options, most = 0) {
 /** @type {(...given: Parameters<typeof done>) => Promise<Uint8Array>} */
 const output = async (...given) => (await done(...given)).output;
 
-/** The files of a run, by the words of the table. @param {RunOf} given */
+/**
+ * The files of a run, by the words of the table.
+ * @param {RunOf} given
+ */
 const runOf = ({ cart, recording, font }) => ({ CART: cart, REC: recording, FONT: font });
 
-/** `ok`, where the cart is accepted. @param {{ cart: Bytes }} given @param {RunOptions} [options] */
+/**
+ * `ok`, where the cart is accepted.
+ * @param {{ cart: Bytes }} given
+ * @param {RunOptions} [options]
+ */
 export function check({ cart }, options) {
   return output(["check", "CART"], { CART: cart }, options);
 }
@@ -80,27 +91,47 @@ export async function edit({ script, ...given }, options) {
   return { answers: result.output, recording: result.files.OUT };
 }
 
-/** The images of places. @param {RunOf & { from: number, to: number }} given @param {RunOptions} [options] */
+/**
+ * The images of places.
+ * @param {RunOf & { from: number, to: number }} given
+ * @param {RunOptions} [options]
+ */
 export function frames({ from, to, ...given }, options) {
   return output(["frames", "CART", "REC", "FONT", from, to], runOf(given), options);
 }
 
-/** The schedule of all places. @param {RunOf} given @param {RunOptions} [options] */
+/**
+ * The schedule of all places.
+ * @param {RunOf} given
+ * @param {RunOptions} [options]
+ */
 export function tones(given, options) {
   return output(["tones", "CART", "REC", "FONT"], runOf(given), options);
 }
 
-/** The lines that the cart traced, of all places. @param {RunOf} given @param {RunOptions} [options] */
+/**
+ * The lines that the cart traced, of all places.
+ * @param {RunOf} given
+ * @param {RunOptions} [options]
+ */
 export function trace(given, options) {
   return output(["trace", "CART", "REC", "FONT"], runOf(given), options);
 }
 
-/** The bytes of the disk at a place. @param {RunOf & { place: number }} given @param {RunOptions} [options] */
+/**
+ * The bytes of the disk at a place.
+ * @param {RunOf & { place: number }} given
+ * @param {RunOptions} [options]
+ */
 export function disk({ place, ...given }, options) {
   return output(["disk", "CART", "REC", "FONT", place], runOf(given), options);
 }
 
-/** What the reset and each frame took of their budgets. @param {RunOf} given @param {RunOptions} [options] */
+/**
+ * What the reset and each frame took of their budgets.
+ * @param {RunOf} given
+ * @param {RunOptions} [options]
+ */
 export function units(given, options) {
   return output(["units", "CART", "REC", "FONT"], runOf(given), options);
 }
@@ -116,12 +147,20 @@ export async function compare({ cart2, recording2, ...given }, options) {
   return (await done(["compare", "CART", "REC", "CART2", "REC2", "FONT"], files, options, 1)).output;
 }
 
-/** A recording, whatever its cart, as one of this cart. @param {{ cart: Bytes, recording: Bytes }} given @param {RunOptions} [options] */
+/**
+ * A recording, whatever its cart, as one of this cart.
+ * @param {{ cart: Bytes, recording: Bytes }} given
+ * @param {RunOptions} [options]
+ */
 export function rebind({ cart, recording }, options) {
   return output(["rebind", "CART", "REC"], { CART: cart, REC: recording }, options);
 }
 
-/** A recording as text. @param {{ recording: Bytes }} given @param {RunOptions} [options] */
+/**
+ * A recording as text.
+ * @param {{ recording: Bytes }} given
+ * @param {RunOptions} [options]
+ */
 export function inputs({ recording }, options) {
   return output(["inputs", "REC"], { REC: recording }, options);
 }
@@ -135,7 +174,11 @@ export function ram({ query, ...given }, options) {
   return output(["ram", "CART", "REC", "FONT", "QUERY"], { ...runOf(given), QUERY: query }, options);
 }
 
-/** The sound of all places, a WAV file. @param {RunOf} given @param {RunOptions} [options] */
+/**
+ * The sound of all places, a WAV file.
+ * @param {RunOf} given
+ * @param {RunOptions} [options]
+ */
 export function wave(given, options) {
   return output(["wave", "CART", "REC", "FONT"], runOf(given), options);
 }
@@ -164,7 +207,11 @@ export function net({ cart, font, budget, log }, options) {
   return output(["net", "CART", "FONT", budget, "LOG"], { CART: cart, FONT: font, LOG: log }, options);
 }
 
-/** Five lines about a large generated cart. @param {{ number: number }} given @param {RunOptions} [options] */
+/**
+ * Five lines about a large generated cart.
+ * @param {{ number: number }} given
+ * @param {RunOptions} [options]
+ */
 export function make({ number }, options) {
   return output(["make", number], {}, options);
 }

@@ -72,6 +72,7 @@ export class Folder {
   /** @param {number} mode @param {Folder | null} parent */
   constructor(mode, parent) {
     this.mode = mode;
+    /** @type {Folder} */
     this.parent = parent ?? this;
   }
 }

@@ -32,17 +32,28 @@ export class Orders {
 
   // ---- edits
 
-  /** Input K becomes this one. @param {number} frame @param {Input} input */
+  /**
+   * Input K becomes this one.
+   * @param {number} frame
+   * @param {Input} input
+   */
   set(frame, input) {
     return this.order(`set ${frame} ${inputText(input)}`, nothing);
   }
 
-  /** Puts an input before input K. @param {number} frame @param {Input} input */
+  /**
+   * Puts an input before input K.
+   * @param {number} frame
+   * @param {Input} input
+   */
   insert(frame, input) {
     return this.order(`insert ${frame} ${inputText(input)}`, nothing);
   }
 
-  /** Removes input K. @param {number} frame */
+  /**
+   * Removes input K.
+   * @param {number} frame
+   */
   delete(frame) {
     return this.order(`delete ${frame}`, nothing);
   }
@@ -59,29 +70,44 @@ export class Orders {
 
   // ---- kept places
 
-  /** Keeps the state of a place. @param {number} place */
+  /**
+   * Keeps the state of a place.
+   * @param {number} place
+   */
   keep(place) {
     return this.order(`keep ${place}`, nothing);
   }
 
-  /** Keeps each multiple. @param {number} every */
+  /**
+   * Keeps each multiple.
+   * @param {number} every
+   */
   keepEvery(every) {
     return this.order(`keep-every ${every}`, nothing);
   }
 
-  /** Stops keeping a place. @param {number} place */
+  /**
+   * Stops keeping a place.
+   * @param {number} place
+   */
   drop(place) {
     return this.order(`drop ${place}`, nothing);
   }
 
-  /** Brings all kept states up to date. @param {number} [workers] */
+  /**
+   * Brings all kept states up to date.
+   * @param {number} [workers]
+   */
   settle(workers = 1) {
     return this.order(`settle ${workers}`, nothing);
   }
 
   // ---- what is at a place
 
-  /** The image of a place, a PPM file. @param {number} place */
+  /**
+   * The image of a place, a PPM file.
+   * @param {number} place
+   */
   show(place) {
     return this.order(`show ${place}`, bytes);
   }
@@ -96,17 +122,28 @@ export class Orders {
     return this.order(`film ${from} ${to} 1`, pieces, options);
   }
 
-  /** The schedule text of each place. @param {number} from @param {number} to the last */
+  /**
+   * The schedule text of each place.
+   * @param {number} from
+   * @param {number} to the last
+   */
   tones(from, to) {
     return this.order(`tones ${from} ${to}`, texts);
   }
 
-  /** The trace text of each place. @param {number} from @param {number} to the last */
+  /**
+   * The trace text of each place.
+   * @param {number} from
+   * @param {number} to the last
+   */
   traces(from, to) {
     return this.order(`traces ${from} ${to}`, texts);
   }
 
-  /** The bytes of the disk at a place. @param {number} place */
+  /**
+   * The bytes of the disk at a place.
+   * @param {number} place
+   */
   async disk(place) {
     // What a disk holds may read like a refusal; `state` is refused where `disk` is.
     const line = `disk ${place}`;
@@ -117,27 +154,44 @@ export class Orders {
     return held;
   }
 
-  /** What is known of a place. @param {number} place */
+  /**
+   * What is known of a place.
+   * @param {number} place
+   */
   state(place) {
     return this.order(`state ${place}`, ({ text }) => stateOf(text));
   }
 
-  /** The 65,536 bytes of memory at a place. @param {number} place */
+  /**
+   * The 65,536 bytes of memory at a place.
+   * @param {number} place
+   */
   page(place) {
     return this.order(`page ${place}`, bytes);
   }
 
-  /** Each global at a place, without a sign: of 64 bits there may be more than a number holds. @param {number} place */
+  /**
+   * Each global at a place, without a sign: of 64 bits there may be more than a number holds.
+   * @param {number} place
+   */
   globals(place) {
     return this.order(`globals ${place}`, ({ text }) => text.trim().split(" ").slice(1).map(BigInt));
   }
 
-  /** Inputs as they are. @param {number} from @param {number} to the one after the last */
+  /**
+   * Inputs as they are.
+   * @param {number} from
+   * @param {number} to the one after the last
+   */
   inputs(from, to) {
     return this.order(`inputs ${from} ${to}`, ({ text }) => inputsOf(text));
   }
 
-  /** What frames take of their budget. @param {number} from @param {number} to the one after the last */
+  /**
+   * What frames take of their budget.
+   * @param {number} from
+   * @param {number} to the one after the last
+   */
   units(from, to) {
     return this.order(`units ${from} ${to}`, (answer) => texts(answer).map(unitsOf));
   }
@@ -155,32 +209,52 @@ export class Orders {
     return this.order(`watch ${address} ${width} ${from} ${to}`, ({ text }) => numbersAfter(text, 2));
   }
 
-  /** Begins a search, with all addresses. @param {number} width @param {number} place */
+  /**
+   * Begins a search, with all addresses.
+   * @param {number} width
+   * @param {number} place
+   */
   start(width, place) {
     return this.order(`start ${width} ${place}`, nothing);
   }
 
-  /** Keeps the addresses with this value. @param {number} place @param {number} value */
+  /**
+   * Keeps the addresses with this value.
+   * @param {number} place
+   * @param {number} value
+   */
   is(place, value) {
     return this.order(`is ${place} ${value}`, nothing);
   }
 
-  /** Keeps those whose value is what it was at the place before. @param {number} place */
+  /**
+   * Keeps those whose value is what it was at the place before.
+   * @param {number} place
+   */
   same(place) {
     return this.order(`same ${place}`, nothing);
   }
 
-  /** Keeps those whose value is another. @param {number} place */
+  /**
+   * Keeps those whose value is another.
+   * @param {number} place
+   */
   changed(place) {
     return this.order(`changed ${place}`, nothing);
   }
 
-  /** Keeps those whose value is more. @param {number} place */
+  /**
+   * Keeps those whose value is more.
+   * @param {number} place
+   */
   more(place) {
     return this.order(`more ${place}`, nothing);
   }
 
-  /** Keeps those whose value is less. @param {number} place */
+  /**
+   * Keeps those whose value is less.
+   * @param {number} place
+   */
   less(place) {
     return this.order(`less ${place}`, nothing);
   }

@@ -11,12 +11,11 @@ export class RealFiles {
   #isWindows;
 
   /**
-   * @param {object} [given]
-   * @param {number[]} [given.streams] the files that are standard input, output and error
-   * @param {any} [given.system] node's module of files
-   * @param {string} [given.platform]
+   * @param {number[]} streams the files that are standard input, output and error
+   * @param {any} system node's module of files
+   * @param {string} platform
    */
-  constructor({ streams = [0, 1, 2], system = fs, platform = process.platform } = {}) {
+  constructor(streams = [0, 1, 2], system = fs, platform = process.platform) {
     this.#streams = streams;
     this.#system = system;
     this.#isWindows = platform === "win32";

@@ -8,7 +8,10 @@ let post = () => {};
 /** @type {Live | null} */
 let live = null;
 
-/** Passes on what the session does. @type {import("./live.js").Listener} */
+/**
+ * Passes on what the session does.
+ * @type {import("./live.js").Listener}
+ */
 const told = {
   began: () => post({ kind: "began" }),
   output: (bytes) => post({ kind: "output", bytes }, [bytes.buffer]),
