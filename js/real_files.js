@@ -4,18 +4,22 @@ import { Fault, OPENING } from "./linux.js";
 
 /** @typedef {import("./program.js").Stat} Stat */
 
+/**
+ * @typedef {object} Given
+ * @property {number[]} [streams] the files that are standard input, output and error
+ * @property {any} [system] node's module of files
+ * @property {string} [platform]
+ */
+
 /** Files of a run that are the system's. */
 export class RealFiles {
   #streams;
   #system;
   #isWindows;
 
-  /**
-   * @param {number[]} streams the files that are standard input, output and error
-   * @param {any} system node's module of files
-   * @param {string} platform
-   */
-  constructor(streams = [0, 1, 2], system = fs, platform = process.platform) {
+  /** @param {Given} given */
+  constructor(given = {}) {
+    const { streams = [0, 1, 2], system = fs, platform = process.platform } = given;
     this.#streams = streams;
     this.#system = system;
     this.#isWindows = platform === "win32";
