@@ -129,7 +129,7 @@ refuses_another_machine() {
     mkdir -p "$room/mac"
     printf '%s\n' '#!/bin/sh' 'echo Darwin arm64' >"$room/mac/uname" && chmod 755 "$room/mac/uname"
     PATH=$room/mac:$PATH run ./w4 check $cart
-    ended 1 'the program is for Linux on x86-64, and this is Darwin arm64'
+    ended 1 'the program is for Linux on x86-64 and on ARM with 64 bits, and this is Darwin arm64'
 }
 
 several_at_once() {
