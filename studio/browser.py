@@ -65,6 +65,8 @@ def in_version_2(data):
 class Studio:
     """A studio that runs on a copy of a recording, or begins one where None is named."""
 
+    kind = "server"
+
     def __init__(self, cart=GARDEN / "cart.wasm", recording=GARDEN / "game.w4rec", font=FONT):
         self.room = tempfile.TemporaryDirectory()
         self.cart, self.font = cart, font
@@ -98,10 +100,26 @@ class Studio:
         self.process.terminate()
         return self.process.wait(PATIENCE)
 
+    def other(self, cart, recording):
+        """Another studio of this kind."""
+        return Studio(cart, recording)
+
+    def saved(self):
+        """The bytes of the recording as it was saved last; None where it wasn't yet."""
+        return self.recording.read_bytes() if self.recording.exists() else None
+
+    def branch(self, name):
+        """The bytes of a branch, None where there is none."""
+        path = self.recording.with_name(f"{self.recording.name}.studio") / f"{name}.w4rec"
+        return path.read_bytes() if path.exists() else None
+
+    def stored_watches(self):
+        path = self.recording.with_name(f"{self.recording.name}.studio") / "watches.json"
+        return path.read_text() if path.exists() else ""
+
     def wait_for_file(self, wanted):
         """Waits until the recording has these bytes; what is the same in version 1 isn't written anew."""
-        wait_until(lambda: self.recording.exists() and in_version_2(self.recording.read_bytes()) == wanted,
-                   "the file isn't what was to be saved")
+        wait_until(lambda: in_version_2(self.saved() or b"") == wanted, "the file isn't what was to be saved")
 
     def __enter__(self):
         return self.start()
@@ -160,6 +178,13 @@ class Page:
         return self.driver.execute_async_script(
             "const [order, done] = arguments;"
             "studio.session.connection.askText(order).then(done, (fault) => done(fault.message))", order)
+
+    def made(self, name, first, last):
+        """The bytes that are made of a stretch of places, beside the session's orders."""
+        return bytes(self.driver.execute_async_script(
+            "const [name, from, to, done] = arguments;"
+            "studio.session.connection.host.request(name, { from, to }, {}).then((answer) => answer.arrayBuffer())"
+            ".then((data) => done(Array.from(new Uint8Array(data))))", name, first, last))
 
     def wait(self, expression, patience=PATIENCE):
         """Waits until an expression of the page holds."""

@@ -8,6 +8,7 @@ import tempfile
 
 import media
 import programs
+import run_file
 from folder_files import FolderFiles
 from refusal import Refusal
 
@@ -37,7 +38,7 @@ class Services:
             ("DELETE", "branches"): self.remove_branch, ("GET", "branch"): self.branch_text,
             ("GET", "recording"): self.recording, ("POST", "compare"): self.compare,
             ("GET", "watches"): self.watches, ("POST", "watches"): self.store_watches,
-            ("GET", "wave"): self.wave, ("GET", "film"): self.film,
+            ("GET", "wave"): self.wave, ("GET", "film"): self.film, ("GET", "run"): self.run_in_one_file,
         }
 
     def knows(self, method, name):
@@ -134,3 +135,8 @@ class Services:
         first, last = stretch(request)
         await self.session.save()
         return await asyncio.to_thread(media.film, self.files, first, last)
+
+    async def run_in_one_file(self, request):
+        """The whole run as a page that plays it."""
+        await self.session.save()
+        return "text/html", await asyncio.to_thread(run_file.of_files, self.files)

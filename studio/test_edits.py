@@ -1,6 +1,5 @@
 """Tests of the piano roll: inputs are edited by mouse and keys; pictures and the saved file follow."""
-from browser import Studio
-from recordings import AWAY, BUTTON, RIGHT, frame, garden_frames, image, recording
+from recordings import AWAY, BUTTON, CART, RIGHT, frame, garden_frames, image, recording
 
 
 def changed(frames, at, new):
@@ -241,7 +240,7 @@ def test_recording_inserts_and_plays_a_real_gamepad(studio, page):
 
 
 def test_a_recording_is_begun_from_nothing(studio, page):
-    with Studio(recording=None) as other:
+    with studio.other(CART, None) as other:
         page.open(other.address)
         assert page.value("studio.session.count") == 0
         page.wait("document.getElementById('spoken').textContent.includes('press R')")

@@ -18,7 +18,7 @@ HOLD_OFF = """
 def lose(page):
     """The page's socket is closed, and the page finds that out."""
     page.script(CUT)
-    page.wait(f"{FAULT}.startsWith(\"the connection to the studio's server is lost\")", patience=30)
+    page.wait(f"{FAULT}.startsWith(studio.session.connection.host.lost)", patience=30)
 
 
 def wait_for_return(page):
@@ -223,3 +223,8 @@ def test_a_page_whose_server_is_gone_offers_what_was_not_saved(studio, page):
 
 # The browser's log has a line where the server is gone.
 WITH_FAULTS = (test_a_page_whose_server_is_gone_offers_what_was_not_saved,)
+
+# A page without a server has its recording for itself as long as it is open.
+SERVER_ONLY = (test_what_another_page_left_is_shown_and_the_own_copy_is_offered,
+               test_a_page_waits_while_another_one_has_the_session,
+               test_a_page_whose_server_is_gone_offers_what_was_not_saved)

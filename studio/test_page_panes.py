@@ -234,11 +234,16 @@ def test_a_search_goes_on_after_a_refusal(studio, page):
 
 
 def fail_fetches(page, answer):
-    """The server answers nothing, or what the page's code says, until `mend()`."""
+    """Who runs the program answers nothing, or what the page's code says, until `mend()`."""
     page.script(f"""
-        const fetch = window.fetch;
-        window.fetch = async () => {{ {answer} }};
-        window.mend = () => {{ window.fetch = fetch; }}""")
+        const {{ host }} = studio.session.connection, request = host.request.bind(host);
+        host.request = async () => {{ {answer} }};
+        window.mend = () => {{ host.request = request; }}""")
+
+
+def silence(page):
+    """What is told where nothing is answered."""
+    return page.value("studio.session.connection.host.name") + " didn't answer"
 
 
 def fault_after(page, key):
@@ -251,7 +256,7 @@ def fault_after(page, key):
 def test_a_failed_fetch_names_what_failed_and_what_to_do(studio, page):
     fail_fetches(page, "throw new TypeError('Failed to fetch')")
     rows = "select other rows, or fewer, and try again"
-    silent = "the studio's server didn't answer"
+    silent = silence(page)
     assert fault_after(page, "shift+f") == f"no film was made: {silent}; {rows}"
     for key in ("shift+w", "shift+h"):
         assert fault_after(page, key) == f"no sound was made: {silent}; {rows}"
@@ -268,7 +273,7 @@ def test_a_failed_fetch_leaves_branches_usable(studio, page):
     open_panes(page)
     make_branch(page, "first")
     compared = "document.getElementById('compared').textContent"
-    silent = "the studio's server didn't answer"
+    silent = silence(page)
     fail_fetches(page, "throw new TypeError('Failed to fetch')")
     make = ("document.getElementById('branch-name').value = 'one';"
             "document.querySelector('#branch-form button').click()")
@@ -324,3 +329,7 @@ def test_a_broken_file_of_watches_can_t_stop_the_page(studio, page):
     assert page.value("studio.watches.list.length") == 0
     watch_hops(page)
     wait_for_stored_watch(studio, "hops")
+
+
+# The page has no file of watches; what stands in their place there, test_published.py breaks.
+SERVER_ONLY = (test_stored_watches_can_t_stop_the_page, test_a_broken_file_of_watches_can_t_stop_the_page)

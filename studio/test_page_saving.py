@@ -9,7 +9,7 @@ GOOD = "1 0 0 0 32767 32767 0"
 
 def frames_of_file(studio):
     """How many frames the recording's file has, in version 2."""
-    return (len(studio.recording.read_bytes()) - 47) // 10
+    return (len(studio.saved()) - 47) // 10
 
 
 def test_it_is_saved_while_recording(studio, page):

@@ -7,7 +7,7 @@ import shutil
 import struct
 
 import moving_png
-from browser import TOP, Missing, Page, Studio, wait_until
+from browser import TOP, Missing, Page, wait_until
 from recordings import CART, RIGHT, frame, garden_frames, image, of_frames, recording
 
 HOPS = 8472  # where the garden counts hops, in four bytes
@@ -75,7 +75,7 @@ def test_a_far_place_is_approached_and_left(studio, page):
     frames = [frame(RIGHT if at % 100 < 50 else 16) for at in range(3000)]
     long = studio.recording.with_name("long.w4rec")
     long.write_bytes(recording(frames))
-    with Studio(CART, long) as other:
+    with studio.other(CART, long) as other:
         page.open(other.address)
         page.script("""
             studio.keeper.isPaused = () => true;
@@ -196,8 +196,7 @@ def test_search_finds_the_hop_counter(studio, page):
 
 
 def wait_for_stored_watch(studio, name):
-    stored = studio.recording.with_name("game.w4rec.studio") / "watches.json"
-    wait_until(lambda: stored.exists() and name in stored.read_text(), f"the watch {name} is stored")
+    wait_until(lambda: name in studio.stored_watches(), f"the watch {name} is stored")
 
 
 def test_watches_show_the_value_of_the_place(studio, page):
@@ -267,14 +266,11 @@ def test_sound_is_heard_while_playing_and_cut_out_as_wav(studio, page):
     page.keys("m", "space")
     page.wait("window.isHeard && studio.sound.context.state === 'running'")
     page.keys("escape")
-    data = page.driver.execute_async_script("""
-        const done = arguments[arguments.length - 1];
-        fetch("wave?from=61&to=80").then((answer) => answer.arrayBuffer())
-            .then((data) => done(Array.from(new Uint8Array(data))))""")
+    data = page.made("wave", 61, 80)
     whole = of_frames("wave", garden_frames())
     samples = whole[44 + 61 * PLACE_SOUND:44 + 81 * PLACE_SOUND]
-    assert bytes(data[44:]) == samples and any(samples)
-    assert bytes(data[:44]) == (b"RIFF" + struct.pack("<I", len(samples) + 36) + whole[8:40]
+    assert data[44:] == samples and any(samples)
+    assert data[:44] == (b"RIFF" + struct.pack("<I", len(samples) + 36) + whole[8:40]
                                 + struct.pack("<I", len(samples)))
 
 
@@ -307,7 +303,7 @@ def test_frames_near_the_budget_are_marked(studio, page):
     most = max(int(line.split()[2]) for line in lines if line)
     low = studio.recording.with_name("low.w4rec")
     low.write_bytes(recording(garden_frames(), budget=most))
-    with Studio(CART, low) as other:
+    with studio.other(CART, low) as other:
         page.open(other.address)
         units = [int(line.split()[2]) for line in page.answer("units 0 30").split("\n") if line]
         page.wait("studio.facts.of(29)")
@@ -321,7 +317,7 @@ def test_a_trap_is_told_where_it_was(studio, page):
     cart = TOP / "cases/inputs/carts/pixels-then-a-trap.wasm"
     trapped = studio.recording.with_name("trapped.w4rec")
     trapped.write_bytes(recording([frame(0)] * 3, cart))
-    with Studio(cart, trapped) as other:
+    with studio.other(cart, trapped) as other:
         page.open(other.address)
         page.go_to(3)
         page.wait("document.getElementById('heavy-frames').textContent === 'frame 0: trap'")
@@ -366,8 +362,7 @@ def test_branches_are_made_gone_back_to_and_compared(studio, page):
     page.keys("control+z")
     page.wait_for_picture()
     assert page.image() == image(edited, 70)
-    branch = studio.recording.with_name("game.w4rec.studio") / "two hops.w4rec"
-    assert branch.read_bytes() == recording(frames)
+    assert studio.branch("two hops") == recording(frames)
 
 
 def test_it_is_compared_with_another_file(studio, page):
@@ -405,11 +400,8 @@ def press_in_row(page, name, button):
 def test_a_film_is_made(studio, page):
     if not shutil.which("ffmpeg"):
         raise Missing("ffmpeg isn't installed")
-    data = page.driver.execute_async_script("""
-        const done = arguments[arguments.length - 1];
-        fetch("film?from=61&to=80").then((answer) => answer.arrayBuffer())
-            .then((data) => done(Array.from(new Uint8Array(data))))""")
-    assert bytes(data[4:8]) == b"ftyp" and len(data) > 2000
+    data = page.made("film", 61, 80)
+    assert data[4:8] == b"ftyp" and len(data) > 2000
 
 
 def test_a_film_without_another_program_has_each_frame(studio, page):
@@ -457,7 +449,7 @@ def test_equal_images_of_a_film_stand_longer(studio, page):
 
 
 def test_files_have_the_recording_s_name_and_stay_as_a_link(studio, page):
-    ending = "mp4" if shutil.which("ffmpeg") else "png"
+    ending = "webm" if studio.kind == "page" else "mp4" if shutil.which("ffmpeg") else "png"
     page.go_to(60)
     page.keys("shift+arrow_down")
     names = {"shift+w": "game.wav", "shift+s": "game.copy.w4rec", "shift+f": f"game.{ending}"}
@@ -508,7 +500,7 @@ def test_light_and_dark(studio, page):
 def test_only_the_rows_that_are_seen_are_drawn(studio, page):
     long = studio.recording.with_name("long.w4rec")
     long.write_bytes(recording([frame(RIGHT if at % 100 < 50 else 0) for at in range(36000)]))
-    with Studio(CART, long) as other:
+    with studio.other(CART, long) as other:
         other_page = Page(page.driver)
         other_page.open(other.address)
         rows = other_page.driver.execute_async_script("""
@@ -522,3 +514,8 @@ def test_only_the_rows_that_are_seen_are_drawn(studio, page):
         assert 10 < rows < 200
         assert other_page.value("studio.roll.firstRow") == 20000
         page.driver.get("about:blank")
+
+
+# What is the server's own, or a module of the page that both have; of films, test_published.py has the other's.
+SERVER_ONLY = (test_a_film_is_made, test_a_film_without_another_program_has_each_frame,
+               test_equal_images_of_a_film_stand_longer, test_sound_of_the_page_follows_the_program)

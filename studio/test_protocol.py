@@ -90,3 +90,7 @@ def test_refused_orders_leave_the_session_in_turn(studio, page):
     assert page.answer("") == ""
     assert page.answer("# a comment") == ""
     assert page.answer("state 0").startswith("state 0 of 240 halt running disk 0 kept 0")
+
+
+SERVER_ONLY = (test_messages_of_each_length_are_received, test_messages_in_parts_and_pings,
+               test_what_is_no_message_ends_the_connection, test_messages_of_each_length_are_sent)

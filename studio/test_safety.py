@@ -21,7 +21,7 @@ def test_a_reload_has_what_was_saved(studio, page):
     page.open(studio.address)
     page.go_to(70)
     assert page.image() == image(EDITED, 70)
-    assert studio.recording.read_bytes() == recording(EDITED)
+    assert studio.saved() == recording(EDITED)
 
 
 def do_not_save_after_a_while(page):
@@ -157,3 +157,16 @@ def test_only_this_machine_is_listened_to(studio, page):
 
 # The browser's log has a line where the server is gone, or a page is told to go.
 WITH_FAULTS = (test_a_killed_server_loses_nothing, test_a_second_page_is_told, test_the_server_saves_when_it_is_ended)
+
+# What a server does for a file; test_published.py has what the browser does.
+SERVER_ONLY = (
+    test_it_is_saved_when_the_page_is_lost,
+    test_it_is_saved_when_the_page_closes,
+    test_what_was_opened_is_kept_as_a_branch,
+    test_a_killed_server_loses_nothing,
+    test_a_killed_program_goes_on,
+    test_the_server_saves_when_it_is_ended,
+    test_a_second_page_is_told,
+    test_nobody_else_is_answered,
+    test_only_this_machine_is_listened_to,
+)

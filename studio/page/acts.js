@@ -4,11 +4,12 @@ import { TooMany } from "./row_acts.js";
 import { request, download } from "./services.js";
 
 const SECOND = 60;
-const FILES = { film: "film", wave: "WAV file", recording: "copy" };
+const FILES = { film: "film", wave: "WAV file", recording: "copy", run: "page that plays it" };
 const ENDINGS = {
-  "video/mp4": ".mp4", "image/png": ".png", "audio/wav": ".wav", "application/octet-stream": ".copy.w4rec",
+  "video/mp4": ".mp4", "video/webm": ".webm", "image/png": ".png", "audio/wav": ".wav", "text/html": ".html",
+  "application/octet-stream": ".copy.w4rec",
 };
-const SILENT = ": a moving picture for a browser, without sound, since ffmpeg isn't installed";
+const SILENT = ": a moving picture for a browser, without sound; with ffmpeg, or in a browser that encodes, it has one";
 const BUTTON_KEYS = { 16: ["A"], 32: ["D"], 64: ["W"], 128: ["S"], 1: ["1"], 2: ["2"] };
 
 function focus(name) {
@@ -113,6 +114,7 @@ export class Acts {
       act("branch", ["B"], "make a branch", () => this.openBranches()),
       act("save-recording", ["Shift+S"], "save a copy of the recording", () => this.saveCopy()),
       act("save-film", ["Shift+F"], "save a film of the selected rows, or of all", () => this.saveFilm()),
+      act("save-run", ["Shift+P"], "save the run as a page in one file, which plays it", () => this.saveRun()),
     ];
   }
 
@@ -293,6 +295,10 @@ export class Acts {
 
   saveCopy() {
     return this.saveAs("recording", {});
+  }
+
+  saveRun() {
+    return this.saveAs("run", {});
   }
 
   saveFilm() {

@@ -1,14 +1,13 @@
-// The connection to `w4 serve`: orders go out as lines, and each has exactly one answer, in turn. Where the
-// connection is lost it is made anew, and what wasn't answered is asked once more.
+// The connection to `w4 serve`, whoever runs it: orders go out as lines, and each has exactly one answer, in
+// turn. Where the connection is lost it is made anew, and what wasn't answered is asked once more.
 import { Ended, Refusal } from "./refusals.js";
 import { delay } from "./refresher.js";
 
-const GONE = "the studio's server is gone; start it again and open the address that it prints";
-const LOST = "the connection to the studio's server is lost";
 const IN_USE = "this session is in use by another page";
 const REFUSED = "refused ";
 const SHORT = 1000; // bytes that a refusal has at most, which may name a file; images and pages have more
-const SECOND = 1000;
+const SECOND = 1000; // milliseconds
+const OPEN = 1; // the state of a socket that takes orders
 const QUICK_TRIES = 5; // each a second after the one before; then slower
 const SLOWEST = 10; // seconds between tries
 const UNANSWERED_MOST = 3; // tries in a row that nobody answers, after which the server is gone
@@ -23,16 +22,9 @@ export function decode(bytes) {
   return new TextDecoder("latin1").decode(bytes);
 }
 
-// Whether the page's address is answered by its own server. One that is slow is there.
-async function isServerThere() {
-  try {
-    const { ok, status } = await fetch("icon.svg", {
-      cache: "no-store", signal: AbortSignal.timeout(SLOWEST * SECOND),
-    });
-    return ok || status >= 500;
-  } catch (error) {
-    return error.name === "TimeoutError";
-  }
+function randomName() {
+  const bytes = crypto.getRandomValues(new Uint8Array(16));
+  return Array.from(bytes, (byte) => byte.toString(16).padStart(2, "0")).join("");
 }
 
 // An order, and who waits for its answer. `isEdit`: the page's copy of the inputs has what it does.
@@ -75,11 +67,11 @@ class Asked {
 }
 
 export class Connection extends EventTarget {
-  constructor(address) {
+  // The host runs the program: it opens a socket, or what is like one, and says whether it is still there.
+  constructor(host) {
     super();
-    this.page = crypto.randomUUID(); // tells the server which page comes back
-    this.address = new URL(address);
-    this.address.searchParams.set("page", this.page);
+    this.host = host;
+    this.page = randomName(); // tells the host which page comes back
     this.waiting = []; // orders that were sent
     this.unsent = [];
     this.isOpen = false;
@@ -92,9 +84,8 @@ export class Connection extends EventTarget {
   }
 
   open() {
-    this.cause = LOST;
-    this.socket = new WebSocket(this.address);
-    this.socket.binaryType = "arraybuffer";
+    this.cause = this.host.lost;
+    this.socket = this.host.open(this.page);
     this.socket.addEventListener("message", (event) => this.receive(event.data));
     this.socket.addEventListener("close", () => this.lose());
   }
@@ -129,7 +120,7 @@ export class Connection extends EventTarget {
   send(orders) {
     if (!orders.length) return;
     this.waiting.push(...orders);
-    const isThere = this.socket.readyState === WebSocket.OPEN; // else it is asked again once it is lost
+    const isThere = this.socket.readyState === OPEN; // else it is asked again once it is lost
     if (isThere) this.socket.send(orders.map(({ line }) => line).join("\n"));
   }
 
@@ -178,7 +169,7 @@ export class Connection extends EventTarget {
   lose() {
     if (this.reason) return;
     if (!this.hasGreeted) {
-      this.end(GONE);
+      this.end(this.host.gone);
       return;
     }
     this.isOpen = false;
@@ -193,9 +184,9 @@ export class Connection extends EventTarget {
 
   async reopen(pause) {
     await delay(pause * SECOND);
-    const isThere = await isServerThere();
+    const isThere = await this.host.isThere();
     this.unanswered = isThere ? 0 : this.unanswered + 1;
-    if (this.unanswered === UNANSWERED_MOST) this.end(GONE);
+    if (this.unanswered === UNANSWERED_MOST) this.end(this.host.gone);
     else if (isThere) this.open();
     else this.reopen(1);
   }

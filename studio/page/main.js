@@ -8,6 +8,7 @@ import { FrameFacts } from "./frame_facts.js";
 import { HexadecimalView } from "./hexadecimal_view.js";
 import { Keeper } from "./keeper.js";
 import { Keys } from "./keys.js";
+import { followLink } from "./link.js";
 import { MemoryPages } from "./memory_page.js";
 import { PlaceTexts } from "./place_texts.js";
 import { Player } from "./player.js";
@@ -21,6 +22,7 @@ import { Saver } from "./saver.js";
 import { Screen } from "./screen.js";
 import { Search } from "./search.js";
 import { Selection } from "./selection.js";
+import { answerBy } from "./services.js";
 import { Session } from "./session.js";
 import { Sound } from "./sound.js";
 import { storedWatches } from "./watch_store.js";
@@ -126,7 +128,8 @@ async function joinParts(session, greeting) {
   new HexadecimalView(parts);
   new PlaceTexts(parts);
   new Branches(parts);
-  parts.saver = new Saver(session, player, recorder, element("saved"));
+  if (greeting.keeps === false) element("saved").textContent = "kept nowhere: save a copy (Shift+S)";
+  else parts.saver = new Saver(session, player, recorder, element("saved"));
   new Controls(parts);
   parts.acts = new Keys(new Acts(parts).all());
   keeper.isPaused = () => player.isPlaying || recorder.isRecording;
@@ -135,6 +138,7 @@ async function joinParts(session, greeting) {
   recorder.addEventListener("change", () => facts.work.ask());
   listenToClipboard(rowActs);
   listenToTheme(parts);
+  followLink(player);
   player.picture.ask();
   return parts;
 }
@@ -162,12 +166,12 @@ function listenToConnection(connection) {
   connection.addEventListener("found", closeFault);
 }
 
-function connect() {
+// Opens the page on what a host runs.
+export function open(host) {
   element("fault-button").addEventListener("click", closeFault);
   element("note-button").addEventListener("click", closeNote);
-  const address = new URL("session", location.href);
-  address.protocol = "ws:";
-  const connection = new Connection(address);
+  answerBy(host);
+  const connection = new Connection(host);
   connection.addEventListener("hello", (event) => {
     begin(connection, event.detail).catch((error) => fault(error.message));
   });
@@ -178,5 +182,3 @@ function connect() {
     else fault(event.reason.message);
   });
 }
-
-connect();

@@ -1,11 +1,11 @@
-// What the server makes beside the session's orders. A refusal says what wasn't made, why, and what to do.
+// What the host makes beside the session's orders. A refusal says what wasn't made, why, and what to do.
 import { Refusal } from "./refusals.js";
 
-const UNANSWERED = "the studio's server didn't answer";
 const FAILED = {
   "GET film": ["no film was made", "select other rows, or fewer, and try again"],
   "GET wave": ["no sound was made", "select other rows, or fewer, and try again"],
   "GET recording": ["no copy was made", "try again"],
+  "GET run": ["no page was made", "try again"],
   "POST compare": ["nothing was compared", "try again, or choose another recording"],
   "GET branches": ["the branches weren't read", "close and open this pane to try again"],
   "POST branches": ["no branch was made", "try again, or under another name"],
@@ -15,15 +15,20 @@ const FAILED = {
   "POST watches": ["the watches weren't stored", "change one to try again"],
 };
 
+let host = null; // who answers
+
+export function answerBy(other) {
+  host = other;
+}
+
 // The answer's body, read as text, a blob or an array buffer.
 export async function request(name, query = {}, { read = "text", ...options } = {}) {
-  const words = new URLSearchParams(query).toString();
   const [what, remedy] = FAILED[`${options.method || "GET"} ${name}`];
-  let why = UNANSWERED;
+  let why = `${host.name} didn't answer`;
   try {
-    const response = await fetch(words ? `${name}?${words}` : name, options);
+    const response = await host.request(name, query, options);
     if (response.ok) return await response[read]();
-    why = (await response.text()) || `the studio's server answered ${response.status}`;
+    why = (await response.text()) || `${host.name} answered ${response.status}`;
   } catch (fault) {
     if (!(fault instanceof TypeError)) throw fault;
   }

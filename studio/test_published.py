@@ -1,0 +1,1 @@
+"""Tests of the studio as a static page."""

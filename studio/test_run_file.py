@@ -1,0 +1,1 @@
+"""Tests of a run in one file."""
