@@ -1,4 +1,5 @@
 """For test, measurement and picture of the studio: a studio in a folder of its own, and a real Chromium."""
+import contextlib
 import os
 import pathlib
 import shutil
@@ -154,6 +155,18 @@ def open_chromium(width=1500, height=900, tries=3):
         if tries == 1:
             raise
         return open_chromium(width, height, tries - 1)
+
+
+@contextlib.contextmanager
+def in_tab(driver):
+    """A tab that is closed at the end; the one before is gone back to."""
+    before = driver.current_window_handle
+    driver.switch_to.new_window("tab")
+    try:
+        yield
+    finally:
+        driver.close()
+        driver.switch_to.window(before)
 
 
 class Page:

@@ -12,6 +12,7 @@ import tempfile
 import threading
 import urllib.parse
 
+import publishing
 from browser import FONT, GARDEN, STUDIO, wait_until
 
 NUMBERS = itertools.count(1)
@@ -93,7 +94,19 @@ class PublishedStudio:
     @property
     def address(self):
         """The page's address, another one each time, so that the browser loads it anew."""
-        return f"{self.files.address}?{next(NUMBERS)}#{urllib.parse.urlencode(self.names)}"
+        return f"{self.bare_address}#{urllib.parse.urlencode(self.names)}"
+
+    @property
+    def bare_address(self):
+        """The same without a link: what is kept opens, or the example."""
+        return f"{self.files.address}?{next(NUMBERS)}"
+
+    def put_version(self, name, data):
+        """Puts another version of the page in this one's place, in which a file has other bytes."""
+        files = publishing.contents()
+        files[name] = data
+        (self.folder / name).write_bytes(data)
+        (self.folder / publishing.WORKER).write_text(publishing.service_worker(files), encoding="utf-8")
 
     def other(self, cart, recording):
         """Another studio of this kind."""

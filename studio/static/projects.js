@@ -35,19 +35,25 @@ export class Projects {
 
   async failure(words, files) {
     const { status, error, output } = await this.program.run(words, files);
-    return { why: status ? error.trim() : null, output };
+    return { why: status ? error.trim().replace(/^w4: \w+: /, "") : null, output };
   }
 
   // A recording without frames; a refusal says why the cart isn't one.
   async blankOf(cart) {
     const { why, output } = await this.failure(["blank", "CART", String(BUDGET)], { CART: cart.bytes });
-    if (why) throw new Refusal(`${cart.name} is no cart that can be run: ${why}`);
+    if (why) throw new Refusal(`${cart.name} is no cart that can be run (w4 says: ${why})`);
     return output;
+  }
+
+  async checkRecording(recording) {
+    const { why } = await this.failure(["inputs", "REC"], { REC: recording.bytes });
+    if (why) throw new Refusal(`${recording.name} is no whole recording (w4 says: ${why})`);
   }
 
   // The project of files { kind, name, bytes }, of which some may be absent; `old` has what is open now.
   async make(files, old = null) {
     const font = files.font ? files.font.bytes : await this.fontOf(old);
+    if (files.recording) await this.checkRecording(files.recording);
     const cart = files.cart || await this.cartFor(files.recording, old);
     const blank = await this.blankOf(cart);
     const recording = files.recording || (files.cart ? this.newRecording(cart, blank) : this.recordingOf(old));
