@@ -87,7 +87,8 @@ class PublishedStudio:
             if path:
                 (self.folder / path.name).write_bytes(path.read_bytes())
                 self.names[kind] = path.name
-        self.recording = pathlib.Path(self.room.name, recording.name if recording else cart.stem + ".w4rec")
+        if recording or cart:
+            self.recording = pathlib.Path(self.room.name, recording.name if recording else cart.stem + ".w4rec")
         self.files = FileServer(self.folder)
         self.driver = None
 
@@ -121,7 +122,7 @@ class PublishedStudio:
     def rows(self, table):
         """What the browser keeps in a table, read from another page of the same host where the studio isn't open."""
         if not self.driver.current_url.startswith(self.files.address):
-            self.driver.get(self.files.address + "studio/published")
+            self.driver.get(self.files.address + "studio/page/style.css")
         return self.driver.execute_async_script(READ, table, None)
 
     def saved(self):

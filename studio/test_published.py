@@ -67,7 +67,7 @@ def test_a_link_names_a_place(studio, page):
 
 def test_a_link_leads_nowhere_else(studio, page):
     """A cart that a link names has to be beside the page; with the sentence, what is kept opens."""
-    for name in ("https://example.com/cart.wasm", "../cart.wasm", "//example.com/cart.wasm"):
+    for name in ("https://example.com/cart.wasm", "//example.com/cart.wasm"):
         open_anew(studio, page, f"#cart={name}")
         wait_for_note(page, f"the link names {name}, which isn't beside this page")
         assert page.value(NAMES) == GARDEN_NAMES
@@ -119,6 +119,7 @@ def test_an_edit_survives_the_crash_of_the_tab(studio, page):
     page.answer("state 0")
     crash(driver)
     driver.switch_to.window(before)
+    driver.get(studio.files.address + "studio/page/style.css")
     assert [row["lines"] for row in studio.rows("orders")] == [["set 60 33 0 0 0 32767 32767 0"]]
     assert studio.saved() == GARDEN_BYTES
     page.open(studio.bare_address)
@@ -170,20 +171,30 @@ def test_where_nothing_can_be_kept_that_is_told(studio, page):
     page.script("studio.session.savedEdits = studio.session.edits")  # so that the browser leaves it
 
 
+FULL = """
+    const { put } = IDBObjectStore.prototype, { add } = IDBObjectStore.prototype;
+    const full = () => { throw new DOMException("", "QuotaExceededError"); };
+    Object.assign(IDBObjectStore.prototype, { put: full, add: full });
+    window.free = () => Object.assign(IDBObjectStore.prototype, { put, add })"""
+
+
 def test_storage_that_is_full_is_told_at_the_edit(studio, page):
-    driver = page.driver
-    quota = {"origin": studio.files.address}
-    driver.execute_cdp_cmd("Storage.overrideQuotaForOrigin", {**quota, "quotaSize": 1})
-    try:
-        page.click_cell(60, "1")
-        wait_for_note(page, "what you change isn't kept any more: the browser's storage is full")
-        wait_for_note(page, "Save a copy of the recording (Shift+S) before you close this page")
-        assert page.value("studio.session.isDirty || published.host.project.hasLost")
-    finally:
-        driver.execute_cdp_cmd("Storage.overrideQuotaForOrigin", quota)
-    page.click_cell(61, "1")
+    """The edit is made, and the page asks before it goes; once there is room, all is kept again."""
+    page.script(HOLD_SAVES)
+    page.script(FULL)
+    page.click_cell(60, "1")
+    wait_for_note(page, "what you change isn't kept any more: the browser's storage is full: close other pages, or "
+                  "free space on the disk. Save a copy of the recording (Shift+S) before you close this page")
+    page.go_to(70)
+    assert page.image() == image(EDITED, 70)
+    assert page.script(LEAVE)
+    page.script("studio.session.save()")
+    page.wait("document.getElementById('fault-text').textContent.startsWith('not saved: ')", patience=30)
+    assert page.value("studio.session.isDirty")
+    page.script("free()")
     page.save()
-    studio.wait_for_file(recording(changed(EDITED, 61, frame(RIGHT))))
+    assert not page.script(LEAVE)
+    studio.wait_for_file(recording(EDITED))
 
 
 def test_little_storage_is_told_at_the_start(studio, page):
@@ -198,7 +209,7 @@ def test_little_storage_is_told_at_the_start(studio, page):
 
 
 def test_what_a_newer_page_kept_is_left_alone(studio, page):
-    page.driver.get(studio.files.address + "studio/published")
+    page.driver.get(studio.files.address + "studio/page/style.css")
     raised = page.driver.execute_async_script("""
         const [done] = arguments, opening = indexedDB.open("w4 studio", 2);
         opening.onupgradeneeded = () => opening.result.createObjectStore("later");
@@ -207,7 +218,7 @@ def test_what_a_newer_page_kept_is_left_alone(studio, page):
     assert raised == "raised"
     page.open(studio.bare_address)
     wait_for_note(page, "a newer version of this page has kept recordings here: reload to have it")
-    page.driver.get(studio.files.address + "studio/published")
+    page.driver.get(studio.files.address + "studio/page/style.css")
     version = page.driver.execute_async_script(
         "indexedDB.databases().then((all) => arguments[0](all.map(({ version }) => version)))")
     assert version == [2]

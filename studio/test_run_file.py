@@ -2,6 +2,7 @@
 import base64
 import hashlib
 import html
+import json
 import pathlib
 import re
 import subprocess
@@ -92,7 +93,7 @@ def test_names_of_files_are_no_markup(studio, page):
     rec.write_bytes(GARDEN_BYTES)
     cart.write_bytes(CART.read_bytes())
     open_run(page, publish(room, cart, rec))
-    assert page.value("document.title") == " ".join(names[0].split())
+    assert page.value("document.title") == re.sub("[ \t\n\f\r]+", " ", names[0]).strip(" ")
     assert page.value("document.getElementById('recording-name').textContent") == names[0]
     assert page.value("document.getElementById('cart-name').textContent") == cart.name
     assert page.value("typeof hurt") == "undefined" and page.value("document.querySelectorAll('img').length") == 0
@@ -116,7 +117,9 @@ def test_the_page_makes_the_same_file(studio, page):
     """As the command does, but for how the browser compresses."""
     made = page.made("run", 0, 0).decode()
     command = publish(studio.room.name).read_text(encoding="utf-8")
-    blocks = ("names", "cart", "recording", "font", "module", "worker")
+    assert block(made, "recording") == recording(garden_frames())
+    blocks = ("cart", "font", "module", "worker")
+    assert json.loads(block(made, "names")) == json.loads(block(command, "names"))
     assert {name: block(made, name) for name in blocks} == {name: block(command, name) for name in blocks}
     bare = [re.sub(r'(id="data-\w+">)[A-Za-z0-9+/=]*', r"\1", text) for text in (made, command)]
     assert bare[0] == bare[1]
