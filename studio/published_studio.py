@@ -50,6 +50,10 @@ class Files(http.server.SimpleHTTPRequestHandler):
         """A test's output has the test's lines alone."""
 
     def do_GET(self):
+        if self.path == "/favicon.ico":  # browsers ask for it beside pages that name none
+            self.send_response(204)
+            self.end_headers()
+            return
         self.server.asked.append(self.path)
         if self.server.is_down:
             self.close_connection = True
