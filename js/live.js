@@ -64,7 +64,7 @@ export class Live {
     this.#house = filesOf({ [CART]: cart, [RECORDING]: recording, [FONT]: font }, {
       input: (to) => this.#inbox.read(to),
       output: (bytes) => this.#hold(bytes),
-      error: (bytes) => this.#errors.push(bytes),
+      error: (bytes) => this.#errors.push(bytes.slice()),
     });
     // Nothing but OUT takes another's name.
     const rename = this.#house.rename.bind(this.#house);
@@ -116,7 +116,7 @@ export class Live {
 
   /** @param {Uint8Array} bytes */
   #hold(bytes) {
-    this.#held.push(bytes);
+    this.#held.push(bytes.slice());
     this.#heldBytes += bytes.length;
     if (this.#heldBytes >= MOST_HELD) this.#flush();
   }

@@ -11,8 +11,8 @@ import { Folder, Link, PlainFile } from "./memory_entries.js";
  * The standard streams of a run.
  * @typedef {object} Streams
  * @property {(to: Uint8Array) => number | null} input how many bytes came, 0 at the end, null where none has come yet
- * @property {(bytes: Uint8Array) => void} output
- * @property {(bytes: Uint8Array) => void} error
+ * @property {(bytes: Uint8Array) => void} output gets bytes of the program's memory, which stand until it returns
+ * @property {(bytes: Uint8Array) => void} error likewise
  */
 
 const MAY_READ = 0o400;
@@ -212,7 +212,7 @@ export class MemoryFiles {
   /** @param {number} file @param {Uint8Array} from */
   write(file, from) {
     if (file === 1 || file === 2) {
-      this.#streams[file === 1 ? "output" : "error"](from.slice());
+      this.#streams[file === 1 ? "output" : "error"](from);
       return from.length;
     }
     const opened = this.#opened(file);
