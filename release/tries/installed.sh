@@ -26,6 +26,8 @@ installs_what_carts_need() {
         [ -x "$share/examples/rust/build" ] && [ -x "$share/studio/run" ] && [ ! -x "$share/examples/c/apples.c" ] || return 1
     run "$prefix/bin/w4" frames "$share/examples/apples/cart.wasm" "$share/examples/apples/game.w4rec" "$share/font.bin" 9 9
     is_silent && [ "$(wc -c <out)" = 76815 ] || return 1
+    run "$share/studio/publish" --run "$share/examples/garden/cart.wasm" "$share/examples/garden/game.w4rec" run.html &&
+        ended 0 && [ "$(wc -c <run.html)" -gt 300000 ] || return 1
     ! find "$share" -name 'test*' -o -name 'measure*' -o -name browser.py -o -name '*.pyc' | grep . || return 1
     mkdir -p "$room/empty" && cd "$room/empty" || return 1
     PATH=$prefix/bin:$PATH runs_the_examples
