@@ -10,6 +10,7 @@ import published_studio
 import recordings
 
 PLACES = 600
+IMAGE = 76_815  # bytes
 TURNS = 9
 ORDERS = 1000
 WHEN_READY = """
@@ -51,11 +52,12 @@ def ready(page, studio):
     return times
 
 
-def native(studio, recording):
-    """Seconds that the shipped program takes for the images."""
-    words = [browser.program(), "frames", studio.cart, recording, studio.font, "1", str(PLACES)]
+def native(studio, recording, output):
+    """Seconds that the shipped program takes for the images, and for handing them to this process by a pipe."""
+    words = [browser.TOP / "release/w4", "frames", studio.cart, recording, studio.font, "1", str(PLACES)]
     start = time.monotonic()
-    subprocess.run(words, stdout=subprocess.DEVNULL, check=True)
+    made = subprocess.run(words, stdout=output, check=True)
+    assert made.stdout is None or len(made.stdout) == PLACES * IMAGE
     return time.monotonic() - start
 
 
@@ -63,14 +65,15 @@ def print_frames(page, studio, name):
     """Both programs in turn, each a time, so that what else the machine does falls on both."""
     recording = pathlib.Path(studio.room.name, "played.w4rec")
     recording.write_bytes(studio.folder.joinpath(studio.names["recording"]).read_bytes())
-    pairs = []
+    rows = []
     for _ in range(TURNS):
         took, length = page.driver.execute_async_script(FRAMES, PLACES)
-        assert length == PLACES * 76_815, length
-        pairs.append((took / 1000, native(studio, recording)))
-    here, there = (statistics.median(times) for times in zip(*pairs))
-    print(f"frames of {PLACES} places of {name}: {here:.3f} s in the worker, {there:.3f} s by release/w4 as it is "
-          f"started by a shell: {here / there:.2f} times")
+        assert length == PLACES * IMAGE, length
+        rows.append((took / 1000, native(studio, recording, subprocess.PIPE),
+                     native(studio, recording, subprocess.DEVNULL)))
+    here, there, nowhere = (statistics.median(times) for times in zip(*rows))
+    print(f"frames of {PLACES} places of {name}: {here:.3f} s in the worker, {there:.3f} s by release/w4 through a pipe, "
+          f"{nowhere:.3f} s to /dev/null: {here / there:.2f} and {here / nowhere:.2f} times")
 
 
 def print_playing(page, playing):
