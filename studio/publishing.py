@@ -20,13 +20,15 @@ FRAME = "studio/run_frame.html"
 WORKER = "service_worker.js"
 POLICY = ("default-src 'self'; script-src 'self' 'wasm-unsafe-eval'; img-src 'self' blob: data:; media-src blob:; "
           "object-src 'none'; base-uri 'none'; form-action 'none'")
+START = "studio/static/start.js"
 HEAD = """<meta http-equiv="Content-Security-Policy" content="{policy}">
 <link rel="icon" href="studio/page/icon.svg">
 <link rel="stylesheet" href="studio/page/style.css">
 <link rel="stylesheet" href="studio/static/style.css">
 <link rel="preload" href="js/w4.wasm" as="fetch" type="application/wasm" crossorigin>
-<script type="module" src="studio/static/start.js"></script>
+{preloads}<script type="module" src="{start}"></script>
 """
+PRELOAD = '<link rel="modulepreload" href="{}">\n'  # all at once, and not each after the one that imports it
 OWN_HEAD = re.compile(r'<link rel="icon".*?<script type="module" src="start\.js"></script>\n', re.DOTALL)
 MODULES = re.compile(r'^(?:import|export)\s[^"\n]*?(?:\{[^}]*\}\s*from\s*)?"(\.{1,2}/[^"]+)";', re.MULTILINE)
 
@@ -48,14 +50,15 @@ def index():
     page = (STUDIO / "page/index.html").read_text(encoding="utf-8")
     if len(OWN_HEAD.findall(page)) != 1 or page.count("</body>") != 1:
         raise Refusal("studio/page/index.html has another head than studio/publish knows")
-    head = HEAD.format(policy=POLICY)
+    preloads = "".join(PRELOAD.format(name) for name in modules_of(START) if name != START)
+    head = HEAD.format(policy=POLICY, preloads=preloads, start=START)
     opening = (STUDIO / "static/opening.html").read_text(encoding="utf-8")
     return OWN_HEAD.sub(lambda _: head, page).replace("</body>", opening + "</body>")
 
 
 def contents():
     """The bytes of each file of the page but the worker that keeps them, by its name in the folder."""
-    modules = modules_of("studio/static/start.js", "js/worker.js")
+    modules = modules_of(START, "js/worker.js")
     copied = [*modules, *EXAMPLE, "studio/page/icon.svg", "studio/page/style.css",
               "studio/static/style.css"]
     if not run_file.MODULE.is_file():
