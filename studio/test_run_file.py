@@ -63,6 +63,10 @@ def test_a_run_is_scrubbed_and_shows_its_inputs(studio, page):
     pressed = garden_frames()[70][0]
     shown = page.value("document.querySelectorAll('#gamepads .pressed').length")
     assert shown == bin(pressed).count("1")
+    pressed_color = page.value("getComputedStyle(document.querySelector('#gamepads .pressed')).fill")
+    lane = "document.getElementById('timeline').getContext('2d').getImageData(%s - 3, 8, 1, 1).data"
+    middle = page.value("run.view.timeline.middle")
+    assert page.value(f"'rgb(' + Array.from({lane % middle}).slice(0, 3).join(', ') + ')'") == pressed_color
     page.keys("arrow_left", "arrow_left")
     page.wait("run.player.shown === 68")
     assert shown_image(page) == image(garden_frames(), 68)

@@ -1,5 +1,6 @@
 // Paints the rows of the piano roll that are seen.
 import { isPressed } from "./cells.js";
+import { Colors } from "./colors.js";
 import { AWAY } from "./input.js";
 
 export const ROW = 18;
@@ -14,6 +15,7 @@ export class RollPainter {
     this.canvas = canvas;
     this.roll = roll;
     this.context = canvas.getContext("2d", { alpha: false });
+    this.palette = new Colors(COLORS);
   }
 
   resize(width, height) {
@@ -31,22 +33,6 @@ export class RollPainter {
     this.context.textBaseline = "middle";
   }
 
-  // A canvas takes no colour by its name in the style sheet; the body's text colour resolves each.
-  readColors() {
-    const theme = document.documentElement.dataset.theme || "";
-    const name = `${theme} ${matchMedia("(prefers-color-scheme: dark)").matches}`;
-    if (name === this.themeName) return;
-    this.themeName = name;
-    const probe = document.createElement("span");
-    document.body.append(probe);
-    this.colors = {};
-    for (const color of COLORS) {
-      probe.style.color = `var(${color})`;
-      this.colors[color] = getComputedStyle(probe).color;
-    }
-    probe.remove();
-  }
-
   box(color, x, y, width, height) {
     this.context.fillStyle = this.colors[color];
     this.context.fillRect(x, y, width, height);
@@ -59,7 +45,7 @@ export class RollPainter {
   }
 
   paint(top) {
-    this.readColors();
+    this.colors = this.palette.read();
     this.box("--panel", 0, 0, this.width, this.high);
     this.kept = new Set(this.roll.session.kept);
     const first = Math.floor(top / ROW);

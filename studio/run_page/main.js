@@ -100,7 +100,7 @@ async function show(connection, files, names) {
   tellFacts(files, names, session.count);
   followLink(parts.player);
   parts.player.picture.ask();
-  element("play-button").focus();
+  element("play-button").focus({ preventScroll: true });
 }
 
 async function begin() {

@@ -1,8 +1,10 @@
 // A strip of the inputs around the place shown, a lane for each button that the run uses. Dragging it goes to
 // other places.
+import { Colors } from "../page/colors.js";
 import { BUTTONS } from "../page/input.js";
 import { usedPads } from "./gamepads.js";
 
+const COLORS = ["--line", "--cursor", "--pressed", "--quiet"];
 const COLUMN = 4; // pixels of a frame
 const LANE = 12;
 const LABEL = 30; // pixels of a lane's name
@@ -26,6 +28,7 @@ export class Timeline {
     Object.assign(this, { canvas, inputs, goTo });
     this.lanes = lanesOf(inputs);
     this.context = canvas.getContext("2d");
+    this.palette = new Colors(COLORS);
     this.place = 0;
     this.listen();
     new ResizeObserver(() => this.resize()).observe(canvas);
@@ -76,15 +79,14 @@ export class Timeline {
 
   draw() {
     const { context, width, height } = this;
-    const style = getComputedStyle(this.canvas);
-    const color = (name) => style.getPropertyValue(name);
+    this.colors = this.palette.read();
     context.clearRect(0, 0, width, height);
-    context.fillStyle = color("--line");
+    context.fillStyle = this.colors["--line"];
     for (const x of this.ends()) context.fillRect(x, 0, 1, height);
     context.font = "10px system-ui, sans-serif";
     context.textBaseline = "middle";
-    this.lanes.forEach((lane, at) => this.drawLane(lane, EDGE + LANE * at, color));
-    context.fillStyle = color("--cursor");
+    this.lanes.forEach((lane, at) => this.drawLane(lane, EDGE + LANE * at));
+    context.fillStyle = this.colors["--cursor"];
     context.fillRect(this.middle - 1, 0, 2, height);
   }
 
@@ -94,16 +96,16 @@ export class Timeline {
       .filter((x) => x >= LABEL && x < this.width);
   }
 
-  drawLane(lane, y, color) {
+  drawLane(lane, y) {
     const { context, place } = this;
     const first = Math.max(0, place - Math.floor((this.middle - LABEL) / COLUMN));
     const end = Math.min(this.inputs.length, place + Math.ceil((this.width - this.middle) / COLUMN));
-    context.fillStyle = color("--pressed");
+    context.fillStyle = this.colors["--pressed"];
     for (let at = first; at < end; at += 1) {
       const x = this.middle + COLUMN * (at - place);
       if (lane.isOn(this.inputs[at])) context.fillRect(x, y + 1, COLUMN, LANE - 3);
     }
-    context.fillStyle = color("--quiet");
+    context.fillStyle = this.colors["--quiet"];
     context.fillText(lane.title, EDGE, y + LANE / 2);
   }
 }
